@@ -1,0 +1,32 @@
+//! `fr_bench audit`.
+ghost use Rattle.fr_trace.specs.Audit.{Audits};
+
+use fr_trace::error::TraceError;
+use std::alloc::Global;
+use std::io::{Read, Write};
+
+/// Reads a trace to its end and writes its report (own profile).
+///
+/// The report is kept in memory first and then written at once, so that nothing is written of a
+/// report that isn't whole. The refusals are those of the trace; `Memory` also where memory for the
+/// report was refused, and `Write` where the writer failed, which may have taken a part by then.
+/// Every other refusal leaves the writer as it was.
+pub fn audit<R: Read, W: Write>(
+    alloc: Global,
+    reader: &mut R,
+    writer: &mut W,
+) -> Result<(), TraceError>
+    ensures { Audits (R.remaining reader.old) (W.contents writer.old) (W.contents writer.new) result }
+{
+    let mut report = Vec::new(alloc);
+    match fr_trace::audit::audit(alloc, reader, &mut report) {
+        Ok(()) => {}
+        // A list of bytes fails to take more for want of memory alone.
+        Err(TraceError::Write) => return Err(TraceError::Memory),
+        Err(refusal) => return Err(refusal),
+    }
+    match writer.write_all(report.as_slice()) {
+        Ok(()) => Ok(()),
+        Err(_) => Err(TraceError::Write),
+    }
+}

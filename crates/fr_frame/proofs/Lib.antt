@@ -1,0 +1,9 @@
+pub mod BitLemmas
+pub mod CoveredLemmas
+pub mod DecodingLemmas
+pub mod DivisionLemmas
+pub mod FieldLemmas
+pub mod LoopLemmas
+pub mod NumberLemmas
+pub mod ReadingLemmas
+pub mod SpellingLemmas

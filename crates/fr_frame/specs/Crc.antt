@@ -1,0 +1,59 @@
+-- The two cyclic redundancy checks of a frame, as long division of a list of bits (chapter 4, which gives them as a
+-- register that takes one bit after another).
+use Rattle.std.specs.Prelude.{ℕ, zero, suc, Bool, true, false, List, [], ◌∷◌, ◌++◌, length, drop, replicate, if◌then◌else◌}
+use Rattle.fr_frame.specs.Bits.{bits_of, bits_of_bytes}
+use Rattle.fr_slots.specs.declared.channel.Channel.{Channel}
+use Rattle.fr_slots.specs.declared.channel.Channel.TheVariants.{A, B}
+
+-- the xor of two bits
+abbrev pub differ : Bool → Bool → Bool
+differ true true = false
+differ true false = true
+differ false true = true
+differ false false = false
+
+-- the bits, with a mask xored onto the front of them
+unfoldable pub xor_front : List Bool → List Bool → List Bool
+xor_front [] bits = bits
+xor_front (m ∷ mask) [] = []
+xor_front (m ∷ mask) (bit ∷ bits) = differ m bit ∷ xor_front mask bits
+
+-- One step of the division. Where the first bit is 1, the divisor is xored onto the front, which makes that bit 0. Then the
+-- first bit is dropped.
+unfoldable pub divide_once : List Bool → List Bool → List Bool
+divide_once divisor [] = []
+divide_once divisor (bit ∷ bits) = drop 1 (if bit then xor_front divisor (bit ∷ bits) else bit ∷ bits)
+
+-- that many steps
+unfoldable pub divide : List Bool → ℕ → List Bool → List Bool
+divide divisor zero bits = bits
+divide divisor (suc steps) bits = divide divisor steps (divide_once divisor bits)
+
+-- The check of a message. Behind the message stand as many zeros as the check is wide, and the initial value, which is as
+-- wide, is xored onto the front. Each step drops one bit, so after as many steps as the message has bits the check is what
+-- remains. The divisor is the polynomial with its leading 1, one bit wider than the check.
+abbrev pub remainder : List Bool → List Bool → List Bool → List Bool
+remainder divisor initial message =
+    divide divisor (length message) (xor_front initial (message ++ replicate (length initial) false))
+
+-- ---- the header CRC: 11 bits
+
+-- x^11 + x^9 + x^8 + x^7 + x^2 + 1, the leading 1 written out
+abbrev pub header_divisor : List Bool
+header_divisor = true ∷ bits_of 11 0x385
+
+abbrev pub header_check : List Bool → List Bool
+header_check message = remainder header_divisor (bits_of 11 0x01A) message
+
+-- ---- the frame CRC: 24 bits, from an initial value for each channel, so that no frame passes on the other one
+
+-- the polynomial with the low bits 0x5D6DCB, the leading 1 written out
+abbrev pub frame_divisor : List Bool
+frame_divisor = true ∷ bits_of 24 0x5D6DCB
+
+abbrev pub initial_of : Channel → ℕ
+initial_of A = 0xFEDCBA
+initial_of B = 0xABCDEF
+
+abbrev pub frame_check : Channel → List ℕ → List Bool
+frame_check channel bytes = remainder frame_divisor (bits_of 24 (initial_of channel)) (bits_of_bytes bytes)

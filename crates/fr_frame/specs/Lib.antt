@@ -1,0 +1,9 @@
+pub mod Bits
+pub mod Crc
+pub mod Decoding
+pub mod Fields
+pub mod Header
+pub mod Payload
+pub mod Refusal
+pub mod Register
+pub mod Spelling

@@ -1,0 +1,87 @@
+//! Frames read from their bytes.
+
+ghost use Rattle.std.specs.Prelude.{◌≡◌, ◌<◌, ◌≤◌, ◌^◌, ◌*◌, length, IfOk};
+ghost use Rattle.std.specs.Result.{result_err, result_ok};
+ghost use Rattle.fr_frame.specs.Bits.{bits_of, bits_of_bytes};
+ghost use Rattle.fr_frame.specs.Decoding.{decoded, fields_of};
+ghost use Rattle.fr_frame.specs.Fields.{Fields};
+ghost use Rattle.fr_frame.specs.Refusal.{refusal};
+ghost use Rattle.fr_frame.specs.Spelling.{Spells};
+
+use crate::crc::{crc_of_header, crc24};
+use crate::frame::Frame;
+use crate::payload::Payload;
+use fr_slots::channel::Channel;
+use fr_slots::numbers::Cycle;
+
+/// Why bytes are no frame on a channel, in the order in which it is tested.
+#[derive(Clone, Copy, Debug, PartialEq, Eq)]
+pub enum DecodeError {
+    /// Fewer than 8 bytes, which a header and a trailer have together.
+    TooShort,
+    /// More or fewer bytes than the payload length in the header asks for.
+    LengthMismatch,
+    /// The header CRC isn't that of the header's covered bits.
+    HeaderCrc,
+    /// The trailer isn't the frame CRC that the bytes before it have on this channel.
+    FrameCrc,
+}
+
+/// The frame that the bytes spell on this channel (chapter 4). The reserved bit of the header is
+/// ignored, the payload of a null frame is kept as it came, and a frame ID of 0 is let through.
+pub fn decode(bytes: &[u8], channel: Channel) -> Result<Frame, DecodeError>
+    ensures refused { result_err result ≡ refusal channel bytes.now }
+    ensures value { result_ok result ≡ decoded channel bytes.now }
+    ensures found { IfOk result (λ f. Spells f channel bytes.now) }
+    // What is spelled so is read.
+    ensures only { (f : Fields) → Spells f channel bytes.now → result ≡ Ok f }
+{
+    frame_from(bytes, channel)
+}
+
+/// The same, with the clauses from which the others follow.
+fn frame_from(bytes: &[u8], channel: Channel) -> Result<Frame, DecodeError>
+    ensures refused { result_err result ≡ refusal channel bytes.now }
+    ensures read { IfOk result (λ f. f ≡ fields_of bytes.now) }
+{
+    if bytes.len() < 8 {
+        return Err(DecodeError::TooShort);
+    }
+    let header = number_from(&bytes[..5]);
+    let words = (header >> 17 & 0x7f) as usize;
+    if bytes.len() != 8 + 2 * words {
+        return Err(DecodeError::LengthMismatch);
+    }
+    let covered = (header >> 17 & 0xf_ffff) as u32;
+    let stored = (header >> 6 & 0x7ff) as u16;
+    if stored != crc_of_header(covered) {
+        return Err(DecodeError::HeaderCrc);
+    }
+    let body = &bytes[..bytes.len() - 3];
+    let last = number_from(&bytes[bytes.len() - 3..]);
+    if last != u64::from(crc24(body, channel)) {
+        return Err(DecodeError::FrameCrc);
+    }
+    Ok(Frame {
+        preamble: header >> 38 & 1 == 1,
+        has_data: header >> 37 & 1 == 1,
+        sync: header >> 36 & 1 == 1,
+        startup: header >> 35 & 1 == 1,
+        id: (header >> 24 & 0x7ff) as u16,
+        payload: Payload::of(&body[5..]),
+        cycle: Cycle::from_bits((header & 0x3f) as u8),
+    })
+}
+
+/// At most eight bytes as one number, the first byte highest.
+fn number_from(bytes: &[u8]) -> u64
+    requires { length bytes.now ≤ 8 }
+    ensures bits { bits_of (8 * length bytes.now) result ≡ bits_of_bytes bytes.now }
+    ensures fits { result < 2 ^ (8 * length bytes.now) }
+{
+    let mut number: u64 = 0;
+    for byte in bytes {
+        number = number << 8 | u64::from(*byte);
+    }
+    number
+}

@@ -1,0 +1,61 @@
+//! Frames, and the bytes in which they are sent.
+
+ghost use Rattle.std.specs.Prelude.{◌≡◌};
+
+use crate::payload::Payload;
+use arrayvec::ArrayVec;
+use fr_slots::numbers::Cycle;
+use std::marker::Model;
+
+/// What is sent on a channel in one slot: at most the 262 bytes of the longest frame.
+pub type Bytes = ArrayVec<u8, 262>;
+
+/// What a frame says (chapter 4).
+#[derive(Debug, Drop, PartialEq, Eq)]
+pub struct Frame {
+    /// The payload preamble indicator, which is carried and not looked at.
+    pub preamble: bool,
+    /// The null frame indicator: true of a data frame, false where the payload has no valid data.
+    pub has_data: bool,
+    /// The sync frame indicator.
+    pub sync: bool,
+    /// The startup frame indicator.
+    pub startup: bool,
+    /// The frame ID, 0 to 2047: the slot in which the frame is sent. No slot has ID 0, but it can
+    /// be spelled.
+    pub id: u16,
+    /// The payload, also that of a null frame.
+    pub payload: Payload,
+    /// The cycle count.
+    pub cycle: Cycle,
+}
+
+impl Model for Frame {
+    ghost use Rattle.std.specs.Prelude.{◌<◌, ◌^◌};
+    ghost use Rattle.fr_frame.specs.Fields.{Fields};
+
+    ghost Value = { Fields };
+
+    ghost view = { λ f. record { preamble = f.preamble; has_data = f.has_data; sync = f.sync; startup = f.startup; id = f.id; payload = f.payload; cycle = f.cycle } };
+
+    ghost invariant = { λ f. f.id < 2 ^ 11 };
+
+    ghost inverse = { λ f. record { preamble = f.preamble; has_data = f.has_data; sync = f.sync; startup = f.startup; id = f.id; payload = f.payload; cycle = f.cycle } };
+}
+
+impl Frame {
+    /// Another frame that says the same.
+    pub fn duplicate(&self) -> Frame
+        ensures { result ≡ self.now }
+    {
+        Frame {
+            preamble: self.preamble,
+            has_data: self.has_data,
+            sync: self.sync,
+            startup: self.startup,
+            id: self.id,
+            payload: self.payload.duplicate(),
+            cycle: self.cycle,
+        }
+    }
+}

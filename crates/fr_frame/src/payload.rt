@@ -1,0 +1,90 @@
+//! The payload of a frame.
+
+ghost use Rattle.std.specs.Prelude.{◌≡◌, ◌≤◌, length, IfOk};
+ghost use Rattle.std.specs.Result.{result_err};
+ghost use Rattle.fr_frame.specs.Payload.{IsPayload, payload_refusal};
+
+use arrayvec::ArrayVec;
+use std::marker::Model;
+
+/// Why bytes are no payload.
+#[derive(Clone, Copy, Debug, PartialEq, Eq)]
+pub enum FrameError {
+    /// More than 254 bytes.
+    PayloadTooLong,
+    /// An odd number of bytes, where a payload is counted in words of two.
+    OddPayload,
+}
+
+/// The bytes that a frame carries: 0 to 127 words of two bytes (chapter 4).
+#[derive(Debug, Drop, PartialEq, Eq)]
+pub struct Payload {
+    bytes: ArrayVec<u8, 254>,
+}
+
+impl Model for Payload {
+    ghost use Rattle.std.specs.Prelude.{ℕ, List};
+    ghost use Rattle.fr_frame.specs.Payload.{IsPayload};
+
+    ghost Value = { List ℕ };
+
+    ghost view = { λ p. p.bytes.items };
+
+    ghost invariant = { λ p. IsPayload p.bytes.items };
+
+    ghost inverse = { λ items. record { bytes = record { items = items } } };
+}
+
+impl Payload {
+    /// The payload of these bytes. It is refused as too long above 254 bytes, and else as odd
+    /// where the bytes make no whole words.
+    pub fn from_slice(bytes: &[u8]) -> Result<Payload, FrameError>
+        ensures refusal { result_err result ≡ payload_refusal bytes.now }
+        ensures value { IfOk result (λ p. p ≡ bytes.now) }
+    {
+        if bytes.len() > 254 {
+            return Err(FrameError::PayloadTooLong);
+        }
+        if bytes.len() % 2 == 1 {
+            return Err(FrameError::OddPayload);
+        }
+        Ok(Payload::of(bytes))
+    }
+
+    /// The payload of bytes that are known to be one.
+    pub(crate) fn of(bytes: &[u8]) -> Payload
+        requires { IsPayload bytes.now }
+        ensures { result ≡ bytes.now }
+    {
+        Payload {
+            bytes: collected(bytes),
+        }
+    }
+
+    /// Another payload of the same bytes.
+    pub fn duplicate(&self) -> Payload
+        ensures { result ≡ self.now }
+    {
+        Payload::of(self.as_slice())
+    }
+
+    /// The bytes, of which there are an even number, at most 254.
+    pub fn as_slice(&self) -> &[u8]
+        ensures value { result.now ≡ self.now }
+        ensures is_payload { IsPayload self.now }
+    {
+        self.bytes.as_slice()
+    }
+}
+
+/// These bytes in an array that has room for them.
+fn collected<const N: usize>(bytes: &[u8]) -> ArrayVec<u8, N>
+    requires { length bytes.now ≤ N }
+    ensures { result.items ≡ bytes.now }
+{
+    let mut kept = ArrayVec::new();
+    let outcome = kept.try_extend_from_slice(bytes);
+    let fits = outcome.is_ok();
+    prove!(fits);
+    kept
+}

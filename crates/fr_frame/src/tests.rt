@@ -1,0 +1,125 @@
+//! Outside vectors: CRCs and frames with their bytes.
+
+ghost use Rattle.std.specs.Prelude.{◌<◌, ◌^◌};
+
+use super::crc::{crc11, crc24, header_crc};
+use super::decode::{DecodeError, decode};
+use super::frame::Frame;
+use super::payload::{FrameError, Payload};
+use fr_slots::channel::Channel;
+use fr_slots::numbers::Cycle;
+use std::test::Fail;
+
+/// A data frame without any other indicator.
+fn data_frame(id: u16, payload: &[u8], cycle: u8) -> Result<Frame, FrameError>
+    requires id_fits { id < 2 ^ 11 }
+    requires cycle_fits { cycle < 64 }
+{
+    Ok(Frame {
+        preamble: false,
+        has_data: true,
+        sync: false,
+        startup: false,
+        id,
+        payload: Payload::from_slice(payload)?,
+        cycle: Cycle::from_bits(cycle),
+    })
+}
+
+/// The frame of ID 2 with one word, as it is sent on channel A.
+const ONE_WORD_ON_A: [u8; 10] = [0x20, 0x02, 0x03, 0xc1, 0x40, 0x0a, 0x0b, 0xa3, 0x22, 0x17];
+
+#[test]
+fn crcs_of_the_digits(rt: HostRuntime) -> Result<(), Fail> {
+    let digits = b"123456789";
+    assert_eq!(rt; crc24(digits, Channel::A), 0x7979BD);
+    assert_eq!(rt; crc24(digits, Channel::B), 0x1F23B8);
+    let mut bits = [false; 72];
+    for i in 0..72usize {
+        bits[i] = digits[i / 8] >> (7 - i % 8) & 1 == 1;
+    }
+    assert_eq!(rt; crc11(&bits), 0x5A3);
+    Ok(())
+}
+
+#[test]
+fn a_frame_without_payload(rt: HostRuntime) -> Result<(), Fail> {
+    let frame = data_frame(1, &[], 0)?;
+    assert_eq!(rt; header_crc(&frame), 0x69F);
+    let bytes = [0x20, 0x01, 0x01, 0xa7, 0xc0, 0xd0, 0x5e, 0xea];
+    assert_eq!(rt; decode(&bytes, Channel::A)?, frame);
+    Ok(())
+}
+
+#[test]
+fn the_longest_frame(rt: HostRuntime) -> Result<(), Fail> {
+    let frame = data_frame(2047, &[0; 254], 63)?;
+    assert_eq!(rt; header_crc(&frame), 0x135);
+    let mut bytes = [0u8; 262];
+    bytes[0] = 0x27;
+    bytes[1] = 0xff;
+    bytes[2] = 0xfe;
+    bytes[3] = 0x4d;
+    bytes[4] = 0x7f;
+    let trailer = crc24(&bytes[..259], Channel::A).to_be_bytes();
+    bytes[259] = trailer[1];
+    bytes[260] = trailer[2];
+    bytes[261] = trailer[3];
+    assert_eq!(rt; decode(&bytes, Channel::A)?, frame);
+    Ok(())
+}
+
+#[test]
+fn a_frame_is_spelled_for_its_channel(rt: HostRuntime) -> Result<(), Fail> {
+    let frame = data_frame(2, &[0x0a, 0x0b], 0)?;
+    assert_eq!(rt; header_crc(&frame), 0x705);
+    let on_b = [0x20, 0x02, 0x03, 0xc1, 0x40, 0x0a, 0x0b, 0x85, 0xa2, 0xc6];
+    assert_eq!(rt; decode(&ONE_WORD_ON_A, Channel::A)?, frame.duplicate());
+    assert_eq!(rt; decode(&on_b, Channel::B)?, frame);
+    assert_eq!(rt;
+        decode(&ONE_WORD_ON_A, Channel::B),
+        Err(DecodeError::FrameCrc)
+    );
+    Ok(())
+}
+
+#[test]
+fn the_reserved_bit_is_ignored(rt: HostRuntime) -> Result<(), Fail> {
+    let bytes = [0xa0, 0x02, 0x03, 0xc1, 0x40, 0x0a, 0x0b, 0xa3, 0xb4, 0x04];
+    let frame = data_frame(2, &[0x0a, 0x0b], 0)?;
+    assert_eq!(rt; decode(&bytes, Channel::A)?, frame);
+    Ok(())
+}
+
+#[test]
+fn bytes_that_are_no_frame(rt: HostRuntime) -> Result<(), Fail> {
+    assert_eq!(rt;
+        decode(&ONE_WORD_ON_A[..7], Channel::A),
+        Err(DecodeError::TooShort)
+    );
+    let more_promised = [0x20, 0x02, 0x03, 0xc1, 0x40, 0x00, 0x00, 0x00];
+    assert_eq!(rt;
+        decode(&more_promised, Channel::A),
+        Err(DecodeError::LengthMismatch)
+    );
+    // Where both the length and the header CRC are wrong, it is the length that is named.
+    let both_wrong = [0x20, 0x02, 0x03, 0xc0, 0x40, 0x00, 0x00, 0x00];
+    assert_eq!(rt;
+        decode(&both_wrong, Channel::A),
+        Err(DecodeError::LengthMismatch)
+    );
+    let bad_header = [0x20, 0x02, 0x03, 0xc0, 0x40, 0x0a, 0x0b, 0xa3, 0x22, 0x17];
+    assert_eq!(rt;
+        decode(&bad_header, Channel::A),
+        Err(DecodeError::HeaderCrc)
+    );
+    Ok(())
+}
+
+#[test]
+fn a_payload_keeps_its_bytes(rt: HostRuntime) -> Result<(), Fail> {
+    let payload = Payload::from_slice(&[0x0a, 0x0b])?;
+    assert_eq!(rt; payload.as_slice(), [0x0a, 0x0b].as_slice());
+    assert_eq!(rt; payload.duplicate(), payload);
+    Ok(())
+}

@@ -1,0 +1,176 @@
+-- Worked journals: what is offered, what became of the commits, and what was received.
+use Rattle.std.proofs.Common.{◌≡◌, ℕ, false, List, [], ◌∷◌, ◌++◌, Option, Some, None, refl}
+use Rattle.std.specs.Prelude.{option_map}
+use Rattle.fr_frame.specs.Bits.{bits_of, number_of}
+use Rattle.fr_frame.specs.Crc.{xor_front, divide_once, divide}
+use Rattle.fr_frame.specs.Decoding.{decoded}
+use Rattle.fr_interface.specs.declared.entry.Entry.{Entry}
+use Rattle.fr_interface.specs.declared.entry.Entry.TheVariants.{Commit, Pop, Fetch, Observe}
+use Rattle.fr_interface.specs.declared.entry.Offered.{Offered}
+use Rattle.fr_interface.specs.declared.entry.Offered.TheVariants.{Nothing, Null, Data}
+use Rattle.fr_interface.specs.declared.entry.Origin.{Origin}
+use Rattle.fr_interface.specs.Arrivals.{moves, oldest, queue_length, queue_lost}
+use Rattle.fr_interface.specs.Fate.{fates_from, TallyOf, tally_of}
+use Rattle.fr_interface.specs.Held.{held, origin_of}
+use Rattle.fr_interface.specs.Offers.{offered, admitting_from, ownership}
+use Rattle.fr_slots.specs.Admission.{CycleClass}
+use Rattle.fr_slots.specs.declared.channel.Channel.{Channel}
+use Rattle.fr_slots.specs.declared.channel.Channel.TheVariants as channel
+use Rattle.fr_slots.specs.declared.channel.Channels.{Channels}
+use Rattle.fr_slots.specs.declared.channel.Channels.TheVariants as channels
+use Rattle.fr_slots.specs.declared.filter.Filter.{Filter}
+use Rattle.fr_slots.specs.declared.plan.Buffer.{Buffer}
+use Rattle.fr_slots.specs.declared.plan.Mode.{Mode}
+use Rattle.fr_slots.specs.declared.plan.Mode.TheVariants.{Event, State}
+use Rattle.fr_slots.specs.declared.plan.Own.{Own}
+use Rattle.fr_slots.specs.declared.plan.Queue.{Queue}
+use Rattle.fr_slots.specs.History.{last_after, each_after}
+use Rattle.fr_slots.specs.Parameters.{Parameters}
+use Rattle.fr_slots.specs.Plans.{Plan}
+use Rattle.fr_slots.specs.Windows.{Opportunity, static_window}
+use Rattle.fr_status.specs.declared.seen.Seen.{Seen}
+use Rattle.fr_status.specs.declared.seen.Seen.TheVariants.{Silence, Bytes}
+use Rattle.fr_status.specs.Status.{frame_in}
+
+-- ---- plans and windows
+
+abbrev every_cycle : CycleClass
+every_cycle = record { base = 0; repetition = 1 }
+
+abbrev slot_on : ℕ → Channels → Filter
+slot_on slot among = record { slot = slot; channels = among; cycles = every_cycle }
+
+abbrev plan_with : ℕ → List Own → List Buffer → Option Queue → Plan
+plan_with latest owned buffers queue =
+    record { tasks = 1; latest_a = latest; latest_b = 0; host_entries = 8; slot_entries = 8; owned = owned; buffers = buffers; queue = queue }
+
+-- static slot 1 on both channels, and a transmit buffer for it
+abbrev sender : Mode → Plan
+sender mode =
+    plan_with 0 (record { slot = 1; channels = channels.Both; sync = false; startup = false } ∷ [])
+    (record { mode = mode; filter = slot_on 1 channels.Both; words = None; preamble = false } ∷ []) None
+
+-- what is offered in slot 1 of a cycle, on both channels
+abbrev offers_in : Mode → List Entry → ℕ → Offered × Offered
+offers_in mode entries cycle =
+    (offered (sender mode) entries (static_window cycle cycle 1) channel.A, offered (sender mode) entries (static_window cycle cycle 1) channel.B)
+
+-- ---- commits
+
+abbrev two_commits : List Entry
+two_commits = Commit 0 0 (0 ∷ 1 ∷ []) ∷ Commit 0 0 (0 ∷ 2 ∷ []) ∷ []
+
+-- the second is fetched, and then a third is made
+abbrev three_commits : List Entry
+three_commits = two_commits ++ Fetch (static_window 0 0 1) (Data 1) (Data 1) ∷ Commit 0 0 (0 ∷ 3 ∷ []) ∷ []
+
+-- the third is fetched in the next cycle
+abbrev all_fetched : List Entry
+all_fetched = three_commits ++ Observe 0 Silence Silence ∷ Fetch (static_window 1 1 1) (Data 3) (Data 3) ∷ Observe 1 Silence Silence ∷ []
+
+abbrev tally : ℕ → ℕ → ℕ → ℕ → TallyOf
+tally committed sent overwritten pending = record { committed = committed; sent = sent; overwritten = overwritten; pending = pending }
+
+-- one commit, fetched at once
+abbrev one_fetched : List Entry
+one_fetched = Commit 0 0 (0 ∷ 1 ∷ []) ∷ Fetch (static_window 0 0 1) (Data 0) (Data 0) ∷ Observe 0 Silence Silence ∷ []
+
+-- an event buffer offers its last commit until it is sent, and then a null frame in a static slot
+pub an_event_commit_is_offered_once : (offers_in Event two_commits 0 ≡ (Data 1, Data 1)) × (offers_in Event three_commits 1 ≡ (Data 3, Data 3)) × (offers_in Event all_fetched 2 ≡ (Null, Null)) × (offers_in Event one_fetched 1 ≡ (Null, Null))
+unfolding last_after admitting_from ownership
+an_event_commit_is_offered_once = (refl, refl, refl, refl)
+
+-- a state buffer offers its last commit, sent or not
+pub a_state_commit_is_offered_again : (offers_in State two_commits 0 ≡ (Data 1, Data 1)) × (offers_in State three_commits 1 ≡ (Data 3, Data 3)) × (offers_in State all_fetched 2 ≡ (Data 3, Data 3))
+unfolding last_after admitting_from ownership
+a_state_commit_is_offered_again = (refl, refl, refl)
+
+-- a commit that goes out on both channels, and in a further cycle again, is sent once
+pub both_channels_send_one_commit : (tally_of 0 two_commits ≡ tally 2 0 1 1) × (tally_of 0 three_commits ≡ tally 3 1 1 1) × (tally_of 0 all_fetched ≡ tally 3 2 1 0) × (tally_of 0 (all_fetched ++ Fetch (static_window 2 2 1) (Data 3) (Data 3) ∷ []) ≡ tally 3 2 1 0)
+unfolding fates_from
+both_channels_send_one_commit = (refl, refl, refl, refl)
+
+-- ---- the latest minislot
+
+-- an event buffer for dynamic slot 8 on channel A
+abbrev dynamic_sender : ℕ → Plan
+dynamic_sender latest = plan_with latest [] (record { mode = Event; filter = slot_on 8 channels.A; words = Some 4; preamble = false } ∷ []) None
+
+-- minislot 5, at which A opens slot 8
+abbrev at_five : Opportunity
+at_five = record { number = 0; cycle = 0; minislot = 5; a = Some 8; b = None }
+
+abbrev one_commit : List Entry
+one_commit = Commit 0 0 (1 ∷ 2 ∷ 3 ∷ 4 ∷ 5 ∷ 6 ∷ 7 ∷ 8 ∷ []) ∷ []
+
+abbrev offered_at_five : ℕ → Offered
+offered_at_five latest = offered (dynamic_sender latest) one_commit at_five channel.A
+
+-- a dynamic transmission may begin at the latest minislot itself and not after it, where the commit stays pending
+pub a_transmission_begins_at_the_latest_minislot : (offered_at_five 5 ≡ Data 0) × (offered_at_five 4 ≡ Nothing) × (offered_at_five 0 ≡ Nothing) × (tally_of 0 (one_commit ++ Fetch at_five Nothing Nothing ∷ []) ≡ tally 1 0 0 1)
+unfolding last_after admitting_from ownership fates_from
+a_transmission_begins_at_the_latest_minislot = (refl, refl, refl, refl)
+
+-- ---- frames received in static slot 2, which has one word
+
+abbrev one_word : Parameters
+one_word = record { static_slots = 3; minislots = 4; static_words = 1; static_mt = 20; minislot_mt = 5; symbol_mt = 0; nit_mt = 10; cycle_mt = 90; idle = 0; words_per_minislot = 5 }
+
+abbrev seen_bytes : List ℕ → Seen
+seen_bytes bytes = Bytes (record { items = bytes })
+
+abbrev data_on_a : Seen
+data_on_a = seen_bytes (0x20 ∷ 0x02 ∷ 0x03 ∷ 0xc1 ∷ 0x40 ∷ 0x0a ∷ 0x0b ∷ 0xa3 ∷ 0x22 ∷ 0x17 ∷ [])
+
+abbrev data_on_b : Seen
+data_on_b = seen_bytes (0x20 ∷ 0x02 ∷ 0x03 ∷ 0xc1 ∷ 0x40 ∷ 0x0a ∷ 0x0b ∷ 0x85 ∷ 0xa2 ∷ 0xc6 ∷ [])
+
+abbrev null_on_a : Seen
+null_on_a = seen_bytes (0x00 ∷ 0x02 ∷ 0x03 ∷ 0xc1 ∷ 0x40 ∷ 0x00 ∷ 0x00 ∷ 0xd8 ∷ 0x20 ∷ 0x38 ∷ [])
+
+-- where the content of a receive buffer for slot 2 on both channels comes from, once this was seen
+abbrev held_from : Seen → Seen → Option Origin
+held_from a b = option_map origin_of (held one_word (slot_on 2 channels.Both) (Fetch (static_window 0 0 2) Nothing Nothing ∷ Observe 0 a b ∷ []))
+
+abbrev from_entry : ℕ → Channel → Option Origin
+from_entry entry channel = Some (record { entry = entry; channel = channel })
+
+-- A's data frame where A has one, and else B's; a null frame is no data frame
+pub channel_a_comes_first : (held_from data_on_a data_on_b ≡ from_entry 1 channel.A) × (held_from Silence data_on_b ≡ from_entry 1 channel.B) × (held_from null_on_a data_on_b ≡ from_entry 1 channel.B) × (held_from null_on_a Silence ≡ None)
+unfolding last_after frame_in decoded bits_of number_of xor_front divide_once divide
+channel_a_comes_first = (refl, refl, refl, refl)
+
+-- ---- the queue
+
+-- two frames of slot 2 on channel A
+abbrev short_queue : Queue
+short_queue = record { capacity = 2; first = 2; last = 2; channels = channels.A; cycles = every_cycle }
+
+abbrev receiver : Plan
+receiver = plan_with 0 [] [] (Some short_queue)
+
+abbrev round : ℕ → List ℕ → List Entry
+round cycle bytes = Fetch (static_window cycle cycle 2) Nothing Nothing ∷ Observe cycle (seen_bytes bytes) Silence ∷ []
+
+abbrev three_arrived : List Entry
+three_arrived =
+    round 0 (0x20 ∷ 0x02 ∷ 0x03 ∷ 0xc1 ∷ 0x40 ∷ 0x00 ∷ 0x01 ∷ 0xd2 ∷ 0x33 ∷ 0x05 ∷ [])
+    ++ round 1 (0x20 ∷ 0x02 ∷ 0x03 ∷ 0xc1 ∷ 0x41 ∷ 0x00 ∷ 0x02 ∷ 0x3c ∷ 0xea ∷ 0x0c ∷ [])
+    ++ round 2 (0x20 ∷ 0x02 ∷ 0x03 ∷ 0xc1 ∷ 0x42 ∷ 0x00 ∷ 0x03 ∷ 0x7a ∷ 0x36 ∷ 0x3b ∷ [])
+
+abbrev popped_from : List Entry → Option Origin
+popped_from entries = option_map origin_of (oldest 2 (moves one_word receiver short_queue entries))
+
+abbrev one_popped : List Entry
+one_popped = three_arrived ++ Pop 0 (from_entry 3 channel.A) ∷ []
+
+abbrev two_popped : List Entry
+two_popped = one_popped ++ Pop 0 (from_entry 5 channel.A) ∷ []
+
+abbrev three_popped : List Entry
+three_popped = two_popped ++ Pop 0 None ∷ []
+
+-- of three frames the first is overwritten: pops answer the second, the third and none, and then it is empty and has lost one
+pub queue_overwrites_the_oldest : (popped_from three_arrived ≡ from_entry 3 channel.A) × (popped_from one_popped ≡ from_entry 5 channel.A) × (popped_from two_popped ≡ None) × (queue_length 2 (moves one_word receiver short_queue three_popped) ≡ 0) × (queue_lost one_word receiver short_queue three_popped ≡ 1)
+unfolding last_after each_after frame_in decoded bits_of number_of xor_front divide_once divide
+queue_overwrites_the_oldest = (refl, refl, refl, refl, refl)

@@ -1,0 +1,37 @@
+use Rattle.std.proofs.Common.{◌≡◌, Option, ap, arith, rules, Some, sym, subst, ◌∙◌, option_map, true, length, ◌≤◌, ◌^◌}
+use Rattle.std.specs.Prelude.{IsSomeAnd}
+use Rattle.fr_interface.specs.declared.entry.Origin.{Origin}
+use Rattle.fr_interface.specs.Entries.{IsOrigin}
+use Rattle.fr_interface.specs.Held.{held, origin_of}
+use Rattle.fr_interface.specs.Legal.{buffer_at}
+use Rattle.fr_interface.proofs.HeldPlaceLemmas.{origin_fits}
+use Rattle.fr_slots.specs.declared.plan.Buffer.{Buffer}
+use Rattle.fr_slots.specs.Plans.{is_receive}
+use Rattle.fr_slots.proofs.HistoryLemmas.{AllAfter-snoc}
+use Rattle.fr_interface.proofs.interface.Interface.read.Goals as goal
+
+pub invariant_of-self : goal.invariant_of-self
+invariant_of-self c =
+    let legal = c.self.invariant.legal in
+    let params = c.self.inside.params in
+    let plan = c.self.inside.plan in
+    let entries = c.self.inside.journal.entries in
+    let filter = c.in-Some.line.filter in
+    let from_is : c.origin_in-from.result ≡ option_map origin_of (held params filter entries) = c.origin_in-from.ensures ∙ ap (option_map origin_of) (c.held-held.ensures ∙ ap (held params filter) c.entries.ensures.value) in
+    let few : length entries ≤ 2 ^ 32 = omega (arith, c.entries.ensures.few) in
+    let there : buffer_at plan c.args.buffer ≡ Some c.in-Some.line = sym c.buffer_at.ensures ∙ c.in-Some.is in
+    rw c.push_host.ensures (record {
+      host_limit = c.self.invariant.host_limit;
+      slot_limit = c.self.invariant.slot_limit;
+      legal = record {
+        params_are = legal.params_are;
+        plan_is = legal.plan_is;
+        receives = legal.receives;
+        entries_are = AllAfter-snoc _ _ _ legal.entries_are (c.number.ensures.fits, c.ranges.buffer.fits, subst IsOrigin (sym from_is) (origin_fits params filter entries few));
+        legal = AllAfter-snoc _ _ _ legal.legal (record {
+          task_is = omega (arith, c.number.ensures.value, c.tasks.ensures.value);
+          receives = subst (λ (o : Option Buffer). IsSomeAnd o (λ b. (is_receive b.mode ≡ true) × (c.origin_in-from.result ≡ option_map origin_of (held params b.filter entries)))) (sym there) (search rules, from_is);
+          room = omega (arith, c.host_room.ensures, c.self.invariant.host_limit);
+        });
+      };
+    })

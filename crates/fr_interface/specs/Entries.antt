@@ -1,0 +1,59 @@
+-- Which entries are of the host, and which numbers and bytes an entry may have.
+use Rattle.std.specs.Prelude.{◌≡◌, ℕ, ◌<◌, ◌≤◌, ◌^◌, Bool, true, false, not, List, length, slice_index, Option, Some, None}
+use Rattle.fr_frame.specs.Payload.{IsPayload}
+use Rattle.fr_interface.specs.declared.entry.Entry.{Entry}
+use Rattle.fr_interface.specs.declared.entry.Entry.TheVariants.{Commit, Read, Pop, Fetch, Observe}
+use Rattle.fr_interface.specs.declared.entry.Offered.{Offered}
+use Rattle.fr_interface.specs.declared.entry.Offered.TheVariants as offered
+use Rattle.fr_interface.specs.declared.entry.Origin.{Origin}
+use Rattle.fr_slots.specs.Windows.{Opportunity, IsInRange}
+use Rattle.fr_status.specs.declared.seen.Seen.{Seen}
+use Rattle.fr_status.specs.declared.seen.Seen.TheVariants as seen
+
+-- ---- the host's and the controller's
+
+abbrev pub is_host : Entry → Bool
+is_host (Commit task buffer payload) = true
+is_host (Read task buffer from) = true
+is_host (Pop task from) = true
+is_host (Fetch window a b) = false
+is_host (Observe window a b) = false
+
+abbrev pub is_slot : Entry → Bool
+is_slot e = not (is_host e)
+
+-- ---- ranges
+
+abbrev pub AreBytes : List ℕ → Type 0
+AreBytes bytes = (place : ℕ) → slice_index bytes place < 256
+
+abbrev pub IsOrigin : Option Origin → Type 0
+IsOrigin None = Unit {0}
+IsOrigin (Some origin) = origin.entry < 2 ^ 32
+
+abbrev pub IsOffered : Offered → Type 0
+IsOffered offered.Nothing = Unit {0}
+IsOffered offered.Null = Unit {0}
+IsOffered (offered.Data commit) = commit < 2 ^ 32
+
+-- at most as many bytes as the longest frame has
+abbrev pub IsSeen : Seen → Type 0
+IsSeen seen.Silence = Unit {0}
+IsSeen seen.Own = Unit {0}
+IsSeen seen.Conflict = Unit {0}
+IsSeen seen.Noise = Unit {0}
+IsSeen seen.Overrun = Unit {0}
+IsSeen (seen.Bytes bytes) = (length bytes.items ≤ 262) × AreBytes bytes.items
+
+pub record IsFetched (window : Opportunity) (a b : Offered) : Type 0 where
+  pub window_is : IsInRange window
+  pub a_fits : IsOffered a
+  pub b_fits : IsOffered b
+
+-- the numbers and bytes of an entry are those that its parts can have
+abbrev pub IsEntry : Entry → Type 0
+IsEntry (Commit task buffer payload) = (task < 8) × (buffer < 256) × IsPayload payload × AreBytes payload
+IsEntry (Read task buffer from) = (task < 8) × (buffer < 256) × IsOrigin from
+IsEntry (Pop task from) = (task < 8) × IsOrigin from
+IsEntry (Fetch window a b) = IsFetched window a b
+IsEntry (Observe window a b) = (window < 2 ^ 32) × IsSeen a × IsSeen b

@@ -1,0 +1,100 @@
+-- The fate of each commit, and the tally of a buffer (own profile).
+use Rattle.std.specs.Prelude.{ℕ, ◌+◌, ◌==◌, Bool, true, false, ◌||◌, List, [], ◌∷◌, ◌++◌, length, drop, Option, Some, None, if◌then◌else◌, count_by}
+use Rattle.std.specs.List.{list_any}
+use Rattle.std.specs.Option.{option_and_then}
+use Rattle.fr_interface.specs.declared.entry.Entry.{Entry}
+use Rattle.fr_interface.specs.declared.entry.Entry.TheVariants.{Commit, Read, Pop, Fetch, Observe}
+use Rattle.fr_interface.specs.declared.entry.Offered.{Offered}
+use Rattle.fr_interface.specs.declared.entry.Offered.TheVariants.{Nothing, Null, Data}
+use Rattle.fr_slots.specs.History.{last_after, each_after}
+
+-- ---- commits
+
+abbrev pub is_commit_on : ℕ → Entry → Bool
+is_commit_on buffer (Commit task b payload) = b == buffer
+is_commit_on buffer (Read task b from) = false
+is_commit_on buffer (Pop task from) = false
+is_commit_on buffer (Fetch window a b) = false
+is_commit_on buffer (Observe window a b) = false
+
+abbrev pub commit_on : ℕ → List Entry → Entry → Option ℕ
+commit_on buffer before e = if is_commit_on buffer e then Some (length before) else None
+
+-- the number of the last commit on a buffer
+abbrev pub last_commit : ℕ → List Entry → Option ℕ
+last_commit buffer entries = last_after (commit_on buffer) [] entries
+
+-- ---- what became of a commit, by the entries behind it
+
+abbrev pub is_data_of : ℕ → Offered → Bool
+is_data_of commit Nothing = false
+is_data_of commit Null = false
+is_data_of commit (Data entry) = entry == commit
+
+-- a fetch that hands this commit to the bus, on one channel or on both
+abbrev pub sends : ℕ → Entry → Bool
+sends commit (Commit task buffer payload) = false
+sends commit (Read task buffer from) = false
+sends commit (Pop task from) = false
+sends commit (Fetch window a b) = is_data_of commit a || is_data_of commit b
+sends commit (Observe window a b) = false
+
+pub data Fate : Type 0 where
+  sent : Fate
+  overwritten : Fate
+  pending : Fate
+
+-- A commit is sent where a later fetch hands it to the bus; else it is overwritten where a later commit on its buffer
+-- stands; else it is pending.
+abbrev pub fate_of : ℕ → ℕ → List Entry → Fate
+fate_of buffer commit later =
+    if list_any (sends commit) later then sent
+    else if list_any (is_commit_on buffer) later then overwritten
+    else pending
+
+-- the fate of each commit on a buffer, in the order of the commits; the first entry has this number
+unfoldable pub fates_from : ℕ → ℕ → List Entry → List Fate
+fates_from buffer number [] = []
+fates_from buffer number (e ∷ later) =
+    (if is_commit_on buffer e then fate_of buffer number later ∷ [] else []) ++ fates_from buffer (number + 1) later
+
+abbrev pub fates : ℕ → List Entry → List Fate
+fates buffer entries = fates_from buffer 0 entries
+
+abbrev pub is_sent : Fate → Bool
+is_sent sent = true
+is_sent overwritten = false
+is_sent pending = false
+
+abbrev pub is_overwritten : Fate → Bool
+is_overwritten sent = false
+is_overwritten overwritten = true
+is_overwritten pending = false
+
+abbrev pub is_pending : Fate → Bool
+is_pending sent = false
+is_pending overwritten = false
+is_pending pending = true
+
+pub record TallyOf : Type 0 where
+  pub committed : ℕ
+  pub sent : ℕ
+  pub overwritten : ℕ
+  pub pending : ℕ
+
+-- how many commits on a buffer met each fate
+abbrev pub tally_of : ℕ → List Entry → TallyOf
+tally_of buffer entries = record {
+  committed = length (fates buffer entries);
+  sent = count_by is_sent (fates buffer entries);
+  overwritten = count_by is_overwritten (fates buffer entries);
+  pending = count_by is_pending (fates buffer entries);
+}
+
+-- ---- the last commit, where it is pending
+
+abbrev pub if_pending : ℕ → List Entry → ℕ → Option ℕ
+if_pending buffer entries commit = if is_pending (fate_of buffer commit (drop (commit + 1) entries)) then Some commit else None
+
+abbrev pub pending_commit : ℕ → List Entry → Option ℕ
+pending_commit buffer entries = option_and_then (if_pending buffer entries) (last_commit buffer entries)

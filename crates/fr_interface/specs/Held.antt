@@ -1,0 +1,60 @@
+-- What a receive buffer holds: the last valid data frame that it admitted (chapter 9; channel A before B is own profile).
+use Rattle.std.specs.Prelude.{ℕ, Bool, List, [], length, Option, Some, None, if◌then◌else◌, option_map}
+use Rattle.std.specs.Option.{option_and_then, option_or}
+use Rattle.fr_frame.specs.Fields.{Fields}
+use Rattle.fr_interface.specs.declared.entry.Arrival.{Arrival}
+use Rattle.fr_interface.specs.declared.entry.Entry.{Entry}
+use Rattle.fr_interface.specs.declared.entry.Entry.TheVariants.{Commit, Read, Pop, Fetch, Observe}
+use Rattle.fr_interface.specs.declared.entry.Origin.{Origin}
+use Rattle.fr_interface.specs.Offers.{admits_window}
+use Rattle.fr_interface.specs.OpenWindow.{open_window}
+use Rattle.fr_slots.specs.declared.channel.Channel.{Channel}
+use Rattle.fr_slots.specs.declared.channel.Channel.TheVariants.{A, B}
+use Rattle.fr_slots.specs.declared.filter.Filter.{Filter}
+use Rattle.fr_slots.specs.History.{last_after}
+use Rattle.fr_slots.specs.Parameters.{Parameters}
+use Rattle.fr_slots.specs.Windows.{Opportunity, slot_of}
+use Rattle.fr_status.specs.declared.seen.Seen.{Seen}
+use Rattle.fr_status.specs.Status.{frame_in}
+
+-- a null frame is no data frame
+abbrev pub with_data : Fields → Option Fields
+with_data f = if f.has_data then Some f else None
+
+-- The valid data frame that was seen on a channel of a window. A channel without a slot has none.
+abbrev pub data_frame_seen : Parameters → Opportunity → Channel → Seen → Option Fields
+data_frame_seen params window channel seen =
+    option_and_then with_data (option_and_then (λ slot. frame_in params window.cycle slot channel seen) (slot_of window channel))
+
+abbrev pub arrival_of : ℕ → Channel → Fields → Arrival
+arrival_of number channel frame = record { origin = record { entry = number; channel = channel }; frame = frame }
+
+-- what an observe of this number brings to a filter on a channel
+abbrev pub arrival_on : Parameters → Filter → ℕ → Opportunity → Channel → Seen → Option Arrival
+arrival_on params filter number window channel seen =
+    if admits_window filter window channel then option_map (arrival_of number channel) (data_frame_seen params window channel seen) else None
+
+-- what it brings on both: A's frame where A has one
+abbrev pub arrival_in : Parameters → Filter → ℕ → Seen → Seen → Opportunity → Option Arrival
+arrival_in params filter number a b window = option_or (arrival_on params filter number window A a) (arrival_on params filter number window B b)
+
+-- what the entry of this number brings, where this window is open before it
+abbrev pub arrival_by : Parameters → Filter → ℕ → Option Opportunity → Entry → Option Arrival
+arrival_by params filter number window (Commit task buffer payload) = None
+arrival_by params filter number window (Read task buffer from) = None
+arrival_by params filter number window (Pop task from) = None
+arrival_by params filter number window (Fetch w a b) = None
+arrival_by params filter number window (Observe w a b) = option_and_then (arrival_in params filter number a b) window
+
+abbrev pub arrival_at : Parameters → Filter → List Entry → Entry → Option Arrival
+arrival_at params filter before e = arrival_by params filter (length before) (open_window before) e
+
+-- what a receive buffer with this filter holds after some entries
+abbrev pub held : Parameters → Filter → List Entry → Option Arrival
+held params filter entries = last_after (arrival_at params filter) [] entries
+
+abbrev pub origin_of : Arrival → Origin
+origin_of arrival = arrival.origin
+
+abbrev pub frame_of : Arrival → Fields
+frame_of arrival = arrival.frame

@@ -1,0 +1,90 @@
+-- Which journals are legal for given parameters and a given plan.
+use Rattle.std.specs.Prelude.{◌≡◌, ℕ, ◌+◌, ◌*◌, ◌≤◌, ◌<◌, ◌==◌, nat_lt, nat_le, Bool, true, false, not, ◌&&◌, List, [], length, slice_get, Option, Some, None, if◌then◌else◌, count_by, IfSome, IsSomeAnd, option_map}
+use Rattle.fr_interface.specs.Arrivals.{moves, oldest}
+use Rattle.fr_interface.specs.declared.entry.Entry.{Entry}
+use Rattle.fr_interface.specs.declared.entry.Entry.TheVariants.{Commit, Read, Pop, Fetch, Observe}
+use Rattle.fr_interface.specs.declared.entry.Offered.{Offered}
+use Rattle.fr_interface.specs.declared.entry.Origin.{Origin}
+use Rattle.fr_interface.specs.Entries.{is_host, is_slot, IsEntry}
+use Rattle.fr_interface.specs.Held.{held, origin_of}
+use Rattle.fr_interface.specs.Offers.{offered}
+use Rattle.fr_interface.specs.OpenWindow.{open_window, last_number}
+use Rattle.fr_slots.specs.declared.channel.Channel.TheVariants as channel
+use Rattle.fr_slots.specs.declared.plan.Buffer.{Buffer}
+use Rattle.fr_slots.specs.declared.plan.Queue.{Queue}
+use Rattle.fr_slots.specs.History.{AllAfter}
+use Rattle.fr_slots.specs.Parameters.{Parameters}
+use Rattle.fr_slots.specs.Plans.{Plan, is_receive}
+use Rattle.fr_slots.specs.Windows.{Opportunity, is_static}
+
+-- ---- calls of the host
+
+abbrev pub buffer_at : Plan → ℕ → Option Buffer
+buffer_at plan buffer = slice_get plan.buffers buffer
+
+-- a static frame has the cluster's words, and a dynamic one its buffer's
+abbrev pub words_of : Parameters → Option ℕ → ℕ
+words_of params None = params.static_words
+words_of params (Some words) = words
+
+pub record IsLegalCommit (params : Parameters) (plan : Plan) (before : List Entry) (task buffer : ℕ) (payload : List ℕ) : Type 0 where
+  pub task_is : task < plan.tasks
+  pub transmits : IsSomeAnd (buffer_at plan buffer) (λ b. (is_receive b.mode ≡ false) × (length payload ≡ 2 * words_of params b.words))
+  pub room : count_by is_host before < plan.host_entries
+
+pub record IsLegalRead (params : Parameters) (plan : Plan) (before : List Entry) (task buffer : ℕ) (from : Option Origin) : Type 0 where
+  pub task_is : task < plan.tasks
+  pub receives : IsSomeAnd (buffer_at plan buffer) (λ b. (is_receive b.mode ≡ true) × (from ≡ option_map origin_of (held params b.filter before)))
+  pub room : count_by is_host before < plan.host_entries
+
+pub record IsLegalPop (params : Parameters) (plan : Plan) (before : List Entry) (task : ℕ) (from : Option Origin) : Type 0 where
+  pub task_is : task < plan.tasks
+  pub queued : IsSomeAnd plan.queue (λ q. from ≡ option_map origin_of (oldest q.capacity (moves params plan q before)))
+  pub room : count_by is_host before < plan.host_entries
+
+-- ---- calls of the controller
+
+abbrev pub static_slot_fits : Parameters → Option ℕ → Bool
+static_slot_fits params None = true
+static_slot_fits params (Some slot) = nat_le slot params.static_slots
+
+abbrev pub dynamic_slot_fits : Parameters → Option ℕ → Bool
+dynamic_slot_fits params None = true
+dynamic_slot_fits params (Some slot) = nat_lt params.static_slots slot
+
+-- The window is one of the cluster's: a static slot is no higher than the last, a minislot no higher than the last, and a
+-- dynamic slot is above the static ones.
+abbrev pub window_fits : Parameters → Opportunity → Bool
+window_fits params window =
+    if is_static window then static_slot_fits params window.a && static_slot_fits params window.b
+    else nat_le window.minislot params.minislots && dynamic_slot_fits params window.a && dynamic_slot_fits params window.b
+
+pub record IsLegalFetch (params : Parameters) (plan : Plan) (before : List Entry) (window : Opportunity) (a b : Offered) : Type 0 where
+  pub closed : open_window before ≡ None
+  pub fits : window_fits params window ≡ true
+  pub later : IfSome (last_number before) (λ n. n < window.number)
+  pub room : count_by is_slot before + 2 ≤ plan.slot_entries
+  pub offer_a : a ≡ offered plan before window channel.A
+  pub offer_b : b ≡ offered plan before window channel.B
+
+-- an observe belongs to the window of the fetch before it
+abbrev pub IsLegalObserve : List Entry → ℕ → Type 0
+IsLegalObserve before window = IsSomeAnd (open_window before) (λ w. w.number ≡ window)
+
+-- ---- journals
+
+-- an entry is legal after those before it
+abbrev pub IsLegal : Parameters → Plan → List Entry → Entry → Type 0
+IsLegal params plan before (Commit task buffer payload) = IsLegalCommit params plan before task buffer payload
+IsLegal params plan before (Read task buffer from) = IsLegalRead params plan before task buffer from
+IsLegal params plan before (Pop task from) = IsLegalPop params plan before task from
+IsLegal params plan before (Fetch window a b) = IsLegalFetch params plan before window a b
+IsLegal params plan before (Observe window a b) = IsLegalObserve before window
+
+-- each entry is legal after those before it
+abbrev pub IsLegalJournal : Parameters → Plan → List Entry → Type 0
+IsLegalJournal params plan entries = AllAfter (IsLegal params plan) [] entries
+
+-- the numbers and bytes of each entry are in their ranges
+abbrev pub AreEntries : List Entry → Type 0
+AreEntries entries = AllAfter (λ before e. IsEntry e) [] entries

@@ -1,0 +1,163 @@
+-- What a node offers in a window, decided by the entries before the fetch (chapter 5; the modes are own profile).
+use Rattle.std.specs.Prelude.{◌≡◌, ℕ, ◌+◌, ◌*◌, ◌==◌, nat_le, Bool, true, false, not, ◌&&◌, ◌||◌, List, [], ◌∷◌, length, replicate, slice_get, Option, Some, None, is_some, if◌then◌else◌}
+use Rattle.std.specs.Option.{option_and_then, unwrap_or}
+use Rattle.arrayvec.specs.ArrayVec.{ArrayVec}
+use Rattle.fr_frame.specs.Fields.{Fields}
+use Rattle.fr_frame.specs.Spelling.{SpellsCanonically}
+use Rattle.fr_interface.specs.declared.entry.Entry.{Entry}
+use Rattle.fr_interface.specs.declared.entry.Entry.TheVariants.{Commit, Read, Pop, Fetch, Observe}
+use Rattle.fr_interface.specs.declared.entry.Offered.{Offered}
+use Rattle.fr_interface.specs.declared.entry.Offered.TheVariants.{Nothing, Null, Data}
+use Rattle.fr_interface.specs.Fate.{last_commit, pending_commit}
+use Rattle.fr_slots.specs.Admission.{includes, cycle_admitted}
+use Rattle.fr_slots.specs.declared.channel.Channel.{Channel}
+use Rattle.fr_slots.specs.declared.channel.Channel.TheVariants as channel
+use Rattle.fr_slots.specs.declared.filter.Filter.{Filter}
+use Rattle.fr_slots.specs.declared.plan.Buffer.{Buffer}
+use Rattle.fr_slots.specs.declared.plan.Mode.{Mode}
+use Rattle.fr_slots.specs.declared.plan.Mode.TheVariants as mode
+use Rattle.fr_slots.specs.declared.plan.Own.{Own}
+use Rattle.fr_slots.specs.Parameters.{Parameters}
+use Rattle.fr_slots.specs.Plans.{Plan, filter_admits, is_receive}
+use Rattle.fr_slots.specs.Windows.{Opportunity, slot_of, is_static}
+
+-- ---- which buffer, and whether it may begin
+
+abbrev pub admits_slot : Filter → ℕ → Channel → Option ℕ → Bool
+admits_slot f cycle channel None = false
+admits_slot f cycle channel (Some slot) = filter_admits f cycle slot channel
+
+-- the filter admits the slot that the window has on the channel
+abbrev pub admits_window : Filter → Opportunity → Channel → Bool
+admits_window f window channel = admits_slot f window.cycle channel (slot_of window channel)
+
+pub record Numbered : Type 0 where
+  pub number : ℕ
+  pub buffer : Buffer
+
+abbrev pub is_admitting : Buffer → Opportunity → Channel → Bool
+is_admitting b window channel = not (is_receive b.mode) && admits_window b.filter window channel
+
+-- The first transmit buffer that admits the window on the channel, where the first of these buffers has this number. A
+-- plan without fault has no second one.
+unfoldable pub admitting_from : ℕ → List Buffer → Opportunity → Channel → Option Numbered
+admitting_from number [] window channel = None
+admitting_from number (b ∷ buffers) window channel =
+    if is_admitting b window channel then Some (record { number = number; buffer = b }) else admitting_from (number + 1) buffers window channel
+
+abbrev pub admitting : Plan → Opportunity → Channel → Option Numbered
+admitting plan window channel = admitting_from 0 plan.buffers window channel
+
+abbrev pub latest_of : Plan → Channel → ℕ
+latest_of plan channel.A = plan.latest_a
+latest_of plan channel.B = plan.latest_b
+
+-- a dynamic transmission begins no later than at the channel's latest minislot
+abbrev pub may_begin : Plan → Opportunity → Channel → Bool
+may_begin plan window channel = is_static window || nat_le window.minislot (latest_of plan channel)
+
+-- ---- which commit
+
+-- in event mode the last commit where it is pending, in state mode the last commit
+abbrev pub ready : Mode → ℕ → List Entry → Option ℕ
+ready mode.Event buffer entries = pending_commit buffer entries
+ready mode.State buffer entries = last_commit buffer entries
+ready mode.Receive buffer entries = None
+
+abbrev pub commit_offered : Plan → List Entry → Opportunity → Channel → Option ℕ
+commit_offered plan entries window channel =
+    if may_begin plan window channel
+    then option_and_then (λ t. ready t.buffer.mode t.number entries) (admitting plan window channel)
+    else None
+
+-- ---- the offer
+
+abbrev pub is_owned_at : ℕ → Channel → Own → Bool
+is_owned_at slot channel own = own.slot == slot && includes own.channels channel
+
+-- the ownership line for a slot on a channel
+unfoldable pub ownership : List Own → ℕ → Channel → Option Own
+ownership [] slot channel = None
+ownership (own ∷ owned) slot channel = if is_owned_at slot channel own then Some own else ownership owned slot channel
+
+abbrev pub owns : Plan → Opportunity → Channel → ℕ → Bool
+owns plan window channel slot = is_static window && is_some (ownership plan.owned slot channel)
+
+abbrev pub data_or : Offered → Option ℕ → Offered
+data_or otherwise None = otherwise
+data_or otherwise (Some commit) = Data commit
+
+abbrev pub offered_at : Plan → List Entry → Opportunity → Channel → Option ℕ → Offered
+offered_at plan entries window channel None = Nothing
+offered_at plan entries window channel (Some slot) =
+    data_or (if owns plan window channel slot then Null else Nothing) (commit_offered plan entries window channel)
+
+-- What the node offers on a channel: nothing where the channel has no slot; the data of its admitting buffer where that
+-- offers a commit; else a null frame in a static slot that it owns, and nothing elsewhere.
+abbrev pub offered : Plan → List Entry → Opportunity → Channel → Offered
+offered plan entries window channel = offered_at plan entries window channel (slot_of window channel)
+
+-- ---- the frame of an offer
+
+abbrev pub payload_in : Option Entry → List ℕ
+payload_in (Some (Commit task buffer payload)) = payload
+payload_in e = []
+
+-- the payload of the commit of this number
+abbrev pub payload_of : List Entry → ℕ → List ℕ
+payload_of entries commit = payload_in (slice_get entries commit)
+
+abbrev pub sync_of : Option Own → Bool
+sync_of None = false
+sync_of (Some own) = own.sync
+
+abbrev pub startup_of : Option Own → Bool
+startup_of None = false
+startup_of (Some own) = own.startup
+
+abbrev pub preamble_of : Option Numbered → Bool
+preamble_of None = false
+preamble_of (Some t) = t.buffer.preamble
+
+-- sync and startup frame indicators come from the ownership line of a static slot
+abbrev pub line_of : Plan → Opportunity → Channel → ℕ → Option Own
+line_of plan window channel slot = if is_static window then ownership plan.owned slot channel else None
+
+-- a null frame carries zeros, as many as a static frame has
+abbrev pub null_frame : Parameters → Plan → Opportunity → Channel → ℕ → Fields
+null_frame params plan window channel slot = record {
+  preamble = false;
+  has_data = false;
+  sync = sync_of (line_of plan window channel slot);
+  startup = startup_of (line_of plan window channel slot);
+  id = slot;
+  payload = replicate (2 * params.static_words) 0;
+  cycle = window.cycle;
+}
+
+abbrev pub data_frame_of : Plan → List Entry → Opportunity → Channel → ℕ → ℕ → Fields
+data_frame_of plan entries window channel slot commit = record {
+  preamble = preamble_of (admitting plan window channel);
+  has_data = true;
+  sync = sync_of (line_of plan window channel slot);
+  startup = startup_of (line_of plan window channel slot);
+  id = slot;
+  payload = payload_of entries commit;
+  cycle = window.cycle;
+}
+
+abbrev pub frame_of_offer : Parameters → Plan → List Entry → Opportunity → Channel → ℕ → Offered → Option Fields
+frame_of_offer params plan entries window channel slot Nothing = None
+frame_of_offer params plan entries window channel slot Null = Some (null_frame params plan window channel slot)
+frame_of_offer params plan entries window channel slot (Data commit) = Some (data_frame_of plan entries window channel slot commit)
+
+abbrev pub frame_offered : Parameters → Plan → List Entry → Opportunity → Channel → Option Fields
+frame_offered params plan entries window channel =
+    option_and_then (λ slot. frame_of_offer params plan entries window channel slot (offered plan entries window channel)) (slot_of window channel)
+
+-- these bytes, or none, are what goes to the bus for this frame, or none
+abbrev pub IsHandedOut : Channel → Option Fields → Option (ArrayVec ℕ) → Type 0
+IsHandedOut channel None None = Unit {0}
+IsHandedOut channel (Some frame) (Some bytes) = SpellsCanonically frame channel bytes.items
+IsHandedOut channel None (Some bytes) = ⊥
+IsHandedOut channel (Some frame) None = ⊥

@@ -1,0 +1,28 @@
+-- The window that is open after some entries: a fetch opens it, and an observe closes it.
+use Rattle.std.specs.Prelude.{ℕ, List, [], Option, Some, None}
+use Rattle.std.specs.Option.{option_and_then}
+use Rattle.fr_interface.specs.declared.entry.Entry.{Entry}
+use Rattle.fr_interface.specs.declared.entry.Entry.TheVariants.{Commit, Read, Pop, Fetch, Observe}
+use Rattle.fr_slots.specs.History.{last_after}
+use Rattle.fr_slots.specs.Windows.{Opportunity}
+
+abbrev pub window_mark : List Entry → Entry → Option (Option Opportunity)
+window_mark before (Commit task buffer payload) = None
+window_mark before (Read task buffer from) = None
+window_mark before (Pop task from) = None
+window_mark before (Fetch window a b) = Some (Some window)
+window_mark before (Observe window a b) = Some None
+
+abbrev pub open_window : List Entry → Option Opportunity
+open_window entries = option_and_then (λ w. w) (last_after window_mark [] entries)
+
+abbrev pub fetched_number : List Entry → Entry → Option ℕ
+fetched_number before (Commit task buffer payload) = None
+fetched_number before (Read task buffer from) = None
+fetched_number before (Pop task from) = None
+fetched_number before (Fetch window a b) = Some window.number
+fetched_number before (Observe window a b) = None
+
+-- the number of the last window that was fetched
+abbrev pub last_number : List Entry → Option ℕ
+last_number entries = last_after fetched_number [] entries

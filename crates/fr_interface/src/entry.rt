@@ -1,0 +1,133 @@
+//! The entries of a journal.
+
+ghost use Rattle.std.specs.Prelude.{◌≡◌};
+
+use fr_frame::frame::Frame;
+use fr_frame::payload::Payload;
+use fr_slots::channel::Channel;
+use fr_slots::numbers::TaskId;
+use fr_slots::window::Window;
+use fr_status::seen::Seen;
+
+/// Where a received frame comes from: an entry that observed a window, and one of its channels.
+#[derive(Clone, Copy, Debug, PartialEq, Eq)]
+pub struct Origin {
+    /// The number of the entry, from 0.
+    pub entry: u32,
+    pub channel: Channel,
+}
+
+/// A valid data frame that arrived, and where it comes from.
+#[derive(Debug, Drop, PartialEq, Eq)]
+pub struct Arrival {
+    pub origin: Origin,
+    pub frame: Frame,
+}
+
+/// Where the content of a buffer comes from.
+#[derive(Clone, Copy, Debug, PartialEq, Eq)]
+pub enum Source {
+    /// The commit of this number, in a transmit buffer.
+    Commit(u32),
+    /// A frame of this origin, in a receive buffer.
+    Observed(Origin),
+}
+
+/// What a fetch handed to the bus on a channel.
+#[derive(Clone, Copy, Debug, PartialEq, Eq)]
+pub enum Offered {
+    /// No frame.
+    Nothing,
+    /// A null frame.
+    Null,
+    /// A data frame with the payload of the commit of this number.
+    Data(u32),
+}
+
+/// An entry of a journal: one accepted call. Entries are numbered from 0 in their order.
+///
+/// Commits, reads and pops are the host's, fetches and observes the controller's (chapter 9).
+#[derive(Debug, Drop, PartialEq, Eq)]
+pub enum Entry {
+    /// A task gave a payload to a transmit buffer.
+    Commit {
+        task: TaskId,
+        buffer: u8,
+        payload: Payload,
+    },
+    /// A task read a receive buffer, and got the frame of this origin, or none from an empty buffer.
+    Read {
+        task: TaskId,
+        buffer: u8,
+        from: Option<Origin>,
+    },
+    /// A task took the oldest frame of the receive queue, which had this origin, or got none from an
+    /// empty queue.
+    Pop {
+        task: TaskId,
+        from: Option<Origin>,
+    },
+    /// The controller opened a window, and handed this to the bus.
+    Fetch {
+        window: Window,
+        a: Offered,
+        b: Offered,
+    },
+    /// The controller closed the window of this number, in which it had seen this.
+    Observe {
+        window: u32,
+        a: Seen,
+        b: Seen,
+    },
+}
+
+impl Entry {
+    ghost use Rattle.std.specs.Prelude.{◌≡◌};
+    ghost use Rattle.fr_interface.specs.Entries.{is_host};
+
+    /// Whether the entry is the host's.
+    pub fn is_host(&self) -> bool
+        ensures { result ≡ is_host self.now }
+    {
+        match self {
+            Entry::Commit { .. } | Entry::Read { .. } | Entry::Pop { .. } => true,
+            Entry::Fetch { .. } | Entry::Observe { .. } => false,
+        }
+    }
+
+    /// Another entry of the same content.
+    pub fn duplicate(&self) -> Entry
+        ensures { result ≡ self.now }
+    {
+        match self {
+            Entry::Commit {
+                task,
+                buffer,
+                payload,
+            } => Entry::Commit {
+                task: *task,
+                buffer: *buffer,
+                payload: payload.duplicate(),
+            },
+            Entry::Read { task, buffer, from } => Entry::Read {
+                task: *task,
+                buffer: *buffer,
+                from: *from,
+            },
+            Entry::Pop { task, from } => Entry::Pop {
+                task: *task,
+                from: *from,
+            },
+            Entry::Fetch { window, a, b } => Entry::Fetch {
+                window: *window,
+                a: *a,
+                b: *b,
+            },
+            Entry::Observe { window, a, b } => Entry::Observe {
+                window: *window,
+                a: a.duplicate(),
+                b: b.duplicate(),
+            },
+        }
+    }
+}

@@ -1,0 +1,329 @@
+//! The calls of a host interface (chapter 9).
+
+ghost use Rattle.std.specs.Prelude.{◌≡◌, option_map};
+ghost use Rattle.fr_interface.specs.Held.{frame_of, origin_of};
+ghost use Rattle.fr_interface.specs.Entries.{AreBytes, IsSeen};
+ghost use Rattle.fr_interface.specs.State.{is_not_above};
+ghost use Rattle.fr_interface.specs.Legal.{buffer_at, window_fits, static_slot_fits, dynamic_slot_fits};
+ghost use Rattle.fr_slots.specs.Plans.{is_receive};
+ghost use Rattle.fr_slots.specs.Windows.{IsInRange, IsSlotOrNone};
+
+use crate::entry::{Arrival, Entry, Offered, Origin, Source};
+use crate::errors::{HostError, InterfaceError, SlotError};
+use crate::journal::Journal;
+use crate::scan::{held, opening_of};
+use fr_frame::frame::{Bytes, Frame};
+use fr_slots::channel::Channel;
+use fr_slots::numbers::{SlotId, TaskId};
+use fr_slots::params::Params;
+use fr_slots::plan::{Buffer, Mode, NodePlan};
+use fr_slots::window::Window;
+use fr_status::seen::Seen;
+use std::alloc::Global;
+use std::marker::Model;
+
+/// What a fetch hands to the bus: the bytes of a frame for each channel, or nothing.
+#[derive(Debug, Drop, PartialEq, Eq)]
+pub struct Offer {
+    pub a: Option<Bytes>,
+    pub b: Option<Bytes>,
+}
+
+/// The interface between the tasks of a host and a controller.
+#[derive(Drop)]
+pub struct Interface {
+    params: Params,
+    plan: NodePlan,
+    journal: Journal,
+}
+
+impl Model for Interface {
+    ghost use Rattle.fr_interface.specs.State.{State};
+
+    ghost Value = { State };
+
+    ghost use Rattle.fr_interface.specs.InterfaceFields.{state_in, IsLawful};
+
+    ghost view = { state_in };
+
+    ghost invariant = { IsLawful };
+}
+
+impl Interface {
+    ghost use Rattle.std.specs.Prelude.{◌≡◌, [], IfOk, OnOk, OnErr, option_map};
+    ghost use Rattle.std.specs.Result.{result_err};
+    ghost use Rattle.fr_interface.specs.declared.entry.Entry.TheVariants as entries;
+    ghost use Rattle.fr_interface.specs.Held.{frame_of, origin_of};
+    ghost use Rattle.fr_interface.specs.Offers.{frame_offered, offered, IsHandedOut};
+    ghost use Rattle.fr_interface.specs.State.{with_entry, received_by, source_of, read_refusal, fetch_refusal, observe_refusal, IsReceivePlan, IsLegalInterface};
+
+    /// An interface with an empty journal, for which it reserves all the room that the plan asks for.
+    ///
+    /// Today it is made for plans with at most one buffer, a receive buffer, and nothing else.
+    pub fn new(alloc: Global, params: &Params, plan: &NodePlan) -> Result<Interface, InterfaceError>
+        requires { IsReceivePlan plan.now }
+        ensures { IfOk result (λ i. i ≡ record { params = params.now; plan = plan.now; entries = [] }) }
+    {
+        let host = u32::from(plan.host_entries());
+        let journal = Journal::with_limits(alloc, host, plan.slot_entries())?;
+        Ok(Interface {
+            params: params.duplicate(),
+            plan: plan.duplicate(),
+            journal,
+        })
+    }
+
+    /// Reads a receive buffer for a task: the last valid data frame that the buffer admitted, if any.
+    ///
+    /// Refused, in this order, with `UnknownTask`, `UnknownBuffer`, `NotReceive` for a transmit buffer,
+    /// and `HostFull` where the journal has no room for the read.
+    pub fn read(&mut self, task: TaskId, buffer: u8) -> Result<Option<Frame>, HostError>
+        ensures refusal { result_err result ≡ read_refusal self.old task buffer }
+        ensures answer { IfOk result (λ frame. frame ≡ option_map frame_of (received_by self.old buffer)) }
+        ensures accepted { OnOk result (self.new ≡ with_entry self.old (entries.Read task buffer (option_map origin_of (received_by self.old buffer)))) }
+        ensures refused { OnErr result (self.new ≡ self.old) }
+    {
+        if task.number() >= self.plan.tasks() {
+            return Err(HostError::UnknownTask);
+        }
+        let Some(line) = buffer_at(&self.plan, buffer) else {
+            return Err(HostError::UnknownBuffer);
+        };
+        if !is_receive(line.mode) {
+            return Err(HostError::NotReceive);
+        }
+        if self.journal.host_room() == 0 {
+            return Err(HostError::HostFull);
+        }
+        let held = held(&self.params, &line.filter, self.journal.entries());
+        let from = origin_in(&held);
+        self.journal.push_host(Entry::Read { task, buffer, from });
+        Ok(frame_in(held))
+    }
+
+    /// Opens a window, and hands out what the node sends in it.
+    ///
+    /// Refused, in this order, with `NotObserved` where a fetched window is open, `BadWindow` for a window
+    /// that the parameters don't have, `WindowOrder` for a number that isn't above that of the window
+    /// before, and `SlotFull` where the journal has room for fewer than two further slot entries.
+    pub fn fetch(&mut self, window: &Window) -> Result<Offer, SlotError>
+        ensures refusal { result_err result ≡ fetch_refusal self.old window.now }
+        ensures offer_a { IfOk result (λ o. IsHandedOut Channel.A (frame_offered self.old.params self.old.plan self.old.entries window.now Channel.A) o.a) }
+        ensures offer_b { IfOk result (λ o. IsHandedOut Channel.B (frame_offered self.old.params self.old.plan self.old.entries window.now Channel.B) o.b) }
+        ensures accepted { OnOk result (self.new ≡ with_entry self.old (entries.Fetch window.now (offered self.old.plan self.old.entries window.now Channel.A) (offered self.old.plan self.old.entries window.now Channel.B))) }
+        ensures refused { OnErr result (self.new ≡ self.old) }
+    {
+        let opening = opening_of(self.journal.entries());
+        if opening.window.is_some() {
+            return Err(SlotError::NotObserved);
+        }
+        if !fits(&self.params, window) {
+            return Err(SlotError::BadWindow);
+        }
+        if is_not_above(window.number, opening.last) {
+            return Err(SlotError::WindowOrder);
+        }
+        if self.journal.slot_room() < 2 {
+            return Err(SlotError::SlotFull);
+        }
+        self.journal.push_slot(Entry::Fetch {
+            window: kept_window(window),
+            a: Offered::Nothing,
+            b: Offered::Nothing,
+        });
+        Ok(Offer { a: None, b: None })
+    }
+
+    /// Closes the window of this number, in which this was seen on channels A and B. It always finds room.
+    ///
+    /// Refused with `NotFetched` where no window is open, and then with `WrongWindow` where another is.
+    pub fn observe(&mut self, number: u32, a: &Seen, b: &Seen) -> Result<(), SlotError>
+        ensures refusal { result_err result ≡ observe_refusal self.old number }
+        ensures accepted { OnOk result (self.new ≡ with_entry self.old (entries.Observe number a.now b.now)) }
+        ensures refused { OnErr result (self.new ≡ self.old) }
+    {
+        let opening = opening_of(self.journal.entries());
+        let Some(window) = opening.window else {
+            return Err(SlotError::NotFetched);
+        };
+        if window.number != number {
+            return Err(SlotError::WrongWindow);
+        }
+        self.journal.push_slot(Entry::Observe {
+            window: number,
+            a: kept(a),
+            b: kept(b),
+        });
+        Ok(())
+    }
+
+    /// Where what the buffer holds comes from. None for an empty buffer, and for one that the plan
+    /// doesn't have.
+    pub fn held(&self, buffer: u8) -> Option<Source>
+        ensures { result ≡ source_of self.now buffer }
+    {
+        let line = buffer_at(&self.plan, buffer)?;
+        if !is_receive(line.mode) {
+            return None;
+        }
+        let arrival = held(&self.params, &line.filter, self.journal.entries())?;
+        Some(Source::Observed(arrival.origin))
+    }
+
+    /// The frame that a receive buffer holds, and where it comes from. None for an empty buffer, for a
+    /// transmit buffer, and for one that the plan doesn't have.
+    pub fn received(&self, buffer: u8) -> Option<Arrival>
+        ensures { result ≡ received_by self.now buffer }
+    {
+        let line = buffer_at(&self.plan, buffer)?;
+        if !is_receive(line.mode) {
+            return None;
+        }
+        held(&self.params, &line.filter, self.journal.entries())
+    }
+
+    /// The journal, which holds each accepted call.
+    pub fn journal(&self) -> &Journal
+        ensures entries { result.now.entries ≡ self.now.entries }
+        ensures limits { (result.now.host_limit ≡ self.now.plan.host_entries) × (result.now.slot_limit ≡ self.now.plan.slot_entries) }
+        ensures legal { IsLegalInterface self.now }
+    {
+        &self.journal
+    }
+
+    /// The parameters that the interface was made with.
+    pub fn params(&self) -> &Params
+        ensures value { result.now ≡ self.now.params }
+        ensures legal { IsLegalInterface self.now }
+    {
+        &self.params
+    }
+
+    /// The plan that the interface was made with.
+    pub fn plan(&self) -> &NodePlan
+        ensures value { result.now ≡ self.now.plan }
+        ensures legal { IsLegalInterface self.now }
+    {
+        &self.plan
+    }
+}
+
+/// A slot of a window is a slot.
+fn slot_number(slot: Option<SlotId>) -> Option<u16>
+    ensures { IsSlotOrNone slot }
+{
+    match slot {
+        Some(slot) => Some(slot.number()),
+        None => None,
+    }
+}
+
+/// The window once more, in the ranges of its type.
+fn kept_window(window: &Window) -> Window
+    ensures value { result ≡ window.now }
+    ensures fits { IsInRange window.now }
+{
+    let _number = window.number;
+    let _cycle = window.cycle.number();
+    let _a = slot_number(window.a);
+    let _b = slot_number(window.b);
+    *window
+}
+
+/// The number of bytes, each of which is a byte.
+fn count_of(bytes: &[u8]) -> usize
+    ensures { AreBytes bytes.now }
+{
+    bytes.len()
+}
+
+/// What was seen, once more, in the ranges of its type.
+fn kept(seen: &Seen) -> Seen
+    ensures value { result ≡ seen.now }
+    ensures fits { IsSeen seen.now }
+{
+    match seen {
+        Seen::Bytes(bytes) => {
+            let _count = count_of(bytes.as_slice());
+            seen.duplicate()
+        }
+        _ => seen.duplicate(),
+    }
+}
+
+/// The buffer of this number.
+fn buffer_at(plan: &NodePlan, buffer: u8) -> Option<Buffer>
+    ensures { result ≡ buffer_at plan.now buffer }
+{
+    plan.buffers().get(buffer as usize).copied()
+}
+
+/// Where a frame that arrived comes from.
+fn origin_in(arrival: &Option<Arrival>) -> Option<Origin>
+    ensures { result ≡ option_map origin_of arrival.now }
+{
+    match arrival {
+        Some(arrival) => Some(arrival.origin),
+        None => None,
+    }
+}
+
+/// The frame that arrived.
+fn frame_in(arrival: Option<Arrival>) -> Option<Frame>
+    ensures { result ≡ option_map frame_of arrival }
+{
+    match arrival {
+        Some(arrival) => Some(arrival.frame),
+        None => None,
+    }
+}
+
+fn is_receive(mode: Mode) -> bool
+    ensures { result ≡ is_receive mode }
+{
+    match mode {
+        Mode::Receive => true,
+        Mode::Event | Mode::State => false,
+    }
+}
+
+/// Whether the parameters have the window.
+fn fits(params: &Params, window: &Window) -> bool
+    ensures { result ≡ window_fits params.now window.now }
+{
+    if window.is_static() {
+        static_slot_fits(params, window.a) && static_slot_fits(params, window.b)
+    } else {
+        window.minislot <= params.minislots
+            && dynamic_slot_fits(params, window.a)
+            && dynamic_slot_fits(params, window.b)
+    }
+}
+
+fn static_slot_fits(params: &Params, slot: Option<SlotId>) -> bool
+    ensures { result ≡ static_slot_fits params.now slot }
+{
+    match slot {
+        Some(slot) => slot.number() <= params.static_slots,
+        None => true,
+    }
+}
+
+fn dynamic_slot_fits(params: &Params, slot: Option<SlotId>) -> bool
+    ensures { result ≡ dynamic_slot_fits params.now slot }
+{
+    match slot {
+        Some(slot) => params.static_slots < slot.number(),
+        None => true,
+    }
+}
+
+/// Whether a window's number isn't above that of the last one.
+fn is_not_above(number: u32, last: Option<u32>) -> bool
+    ensures { result ≡ is_not_above number last }
+{
+    match last {
+        Some(last) => number <= last,
+        None => false,
+    }
+}

@@ -1,0 +1,123 @@
+//! A journal, which takes all its memory when it is made.
+
+ghost use Rattle.std.specs.Prelude.{◌≡◌, ◌<◌, ◌≤◌, ◌∷◌, [], ◌++◌, IfOk, IsTrue, ◌↔◌, false, length, slice_get};
+ghost use Rattle.fr_interface.specs.Entries.{is_host};
+ghost use Rattle.fr_interface.specs.Kept.{host_room, slot_room, IsWithin};
+
+use crate::entry::Entry;
+use std::alloc::{AllocError, Global};
+use std::marker::Model;
+
+/// The entries of an interface, of which there are at most as many as its limits (own profile).
+#[derive(Drop)]
+pub struct Journal {
+    host_limit: u32,
+    slot_limit: u32,
+    host_count: u32,
+    slot_count: u32,
+    entries: Vec<Entry>,
+}
+
+impl Model for Journal {
+    ghost use Rattle.fr_interface.specs.Kept.{Kept};
+
+    ghost Value = { Kept };
+
+    ghost use Rattle.fr_interface.specs.JournalFields.{kept_in, IsCounted};
+
+    ghost view = { kept_in };
+
+    ghost invariant = { IsCounted };
+}
+
+impl Journal {
+    /// A journal without entries, and with room reserved for all that it may have.
+    ///
+    /// `host` and `slot` are its limits, at most 16384 and 65536 entries.
+    pub fn with_limits(alloc: Global, host: u32, slot: u32) -> Result<Journal, AllocError>
+        requires host_limit { host ≤ 16384 }
+        requires slot_limit { slot ≤ 65536 }
+        ensures { IfOk result (λ j. j ≡ record { host_limit = host; slot_limit = slot; entries = [] }) }
+    {
+        let entries = Vec::with_capacity(alloc, (host + slot) as usize)?;
+        Ok(Journal {
+            host_limit: host,
+            slot_limit: slot,
+            host_count: 0,
+            slot_count: 0,
+            entries,
+        })
+    }
+
+    /// How many entries of the host still fit.
+    pub fn host_room(&self) -> u32
+        ensures { result ≡ host_room self.now }
+    {
+        self.host_limit - self.host_count
+    }
+
+    /// How many entries of the controller still fit.
+    pub fn slot_room(&self) -> u32
+        ensures { result ≡ slot_room self.now }
+    {
+        self.slot_limit - self.slot_count
+    }
+
+    /// Appends an entry of the host, in the room that was reserved.
+    #[tactic(auto, using(crate::proofs::KindLemmas::kinds_fill))]
+    pub fn push_host(&mut self, entry: Entry)
+        requires kind { IsTrue (is_host entry) }
+        requires room { 0 < host_room self.old }
+        ensures { self.new ≡ record self.old { entries = self.old.entries ++ entry ∷ [] } }
+    {
+        self.entries.push_reserved(entry);
+        self.host_count += 1;
+    }
+
+    /// Appends an entry of the controller, in the room that was reserved.
+    #[tactic(auto, using(crate::proofs::KindLemmas::kinds_fill))]
+    pub fn push_slot(&mut self, entry: Entry)
+        requires kind { is_host entry ≡ false }
+        requires room { 0 < slot_room self.old }
+        ensures { self.new ≡ record self.old { entries = self.old.entries ++ entry ∷ [] } }
+    {
+        self.entries.push_reserved(entry);
+        self.slot_count += 1;
+    }
+
+    /// The number of entries.
+    #[tactic(auto, using(crate::proofs::KindLemmas::kinds_fill))]
+    pub fn len(&self) -> u32
+        ensures value { result ≡ length self.now.entries }
+        ensures few { result ≤ 81920 }
+    {
+        self.host_count + self.slot_count
+    }
+
+    /// Whether there is no entry.
+    pub fn is_empty(&self) -> bool
+        ensures { IsTrue result ↔ (self.now.entries ≡ []) }
+    {
+        self.entries.is_empty()
+    }
+
+    /// The entry of this number, counted from 0.
+    pub fn get(&self, number: u32) -> Option<Entry>
+        ensures { result ≡ slice_get self.now.entries number }
+    {
+        match self.entries.as_slice().get(number as usize) {
+            Some(entry) => Some(entry.duplicate()),
+            None => None,
+        }
+    }
+
+    /// All entries, in order.
+    #[tactic(auto, using(crate::proofs::KindLemmas::kinds_fill))]
+    pub(crate) fn entries(&self) -> &[Entry]
+        ensures value { result.now ≡ self.now.entries }
+        ensures within { IsWithin self.now }
+        ensures few { length self.now.entries ≤ 81920 }
+    {
+        self.entries.as_slice()
+    }
+}

@@ -1,0 +1,230 @@
+-- The line of an entry, for the entries that are read.
+use Rattle.std.proofs.Common.{◌≡◌, ℕ, ◌≤◌, ◌^◌, inl, inr, true, false, List, [], ◌∷◌, length, codes, Some, refl, sym, ap, ◌∙◌, arith}
+use Rattle.std.specs.Fmt.{decimal}
+use Rattle.std.specs.Str.{bytes_eq}
+use Rattle.fr_interface.specs.declared.entry.Entry.{Entry}
+use Rattle.fr_interface.specs.declared.entry.Entry.TheVariants.{Commit, Read, Pop, Fetch, Observe}
+use Rattle.fr_lines.proofs.PartLemmas.{word_or, from_takes, from_again, offered_takes, offered_again, seen_takes, seen_again}
+use Rattle.fr_lines.proofs.WindowLemmas.{window_takes, window_again}
+use Rattle.fr_lines.proofs.WordLemmas.{number_word, long_word, slot_word, from_plain, offered_plain, seen_plain}
+use Rattle.fr_lines.specs.PartReading.{from_in, offered_in, seen_in, window_in}
+use Rattle.fr_lines.specs.Parts.{optional_number, from_word, offered_word, seen_word}
+use Rattle.fr_lines.specs.Reading.{read_in, fetch_in, observe_in, entry_in}
+use Rattle.fr_lines.specs.Spelled.{IsSpelledEntry}
+use Rattle.fr_lines.specs.Spelling.{entry_words, begin_line, end_line}
+use Rattle.fr_slots.specs.Windows.{IsInRange}
+use Rattle.fr_text.proofs.BindLemmas.{bind_some}
+use Rattle.fr_text.proofs.LineLemmas.{cons_same, line_of-words_of, words_of-line_of, has_no_feed-line_of, length-line_of-le}
+use Rattle.fr_text.proofs.NumberLemmas.{number_takes, number_again}
+use Rattle.fr_text.specs.Plain.{ArePlain, has_no_feed}
+use Rattle.fr_text.specs.Reading.{number_in}
+use Rattle.fr_text.specs.Spaces.{words_of, line_of}
+
+-- ---- what is read is spelled so
+
+read_takes : (words : List (List ℕ)) (e : Entry) → read_in words ≡ Some e → (codes "read" ∷ words ≡ entry_words e) × IsSpelledEntry e
+unfolding read_in
+read_takes [] e h = cc h
+read_takes (a ∷ []) e h = cc h
+read_takes (a ∷ b ∷ []) e h = cc h
+read_takes (a ∷ b ∷ c ∷ []) e h =
+    let (t, ht, h1) = bind_some (number_in 8 a) _ e h in
+    let (n, hn, h2) = bind_some (number_in 64 b) _ e h1 in
+    let (from, hf, h3) = bind_some (from_in c) _ e h2 in
+    let is : Read t n from ≡ e = cc h3 in
+    let task = number_takes 8 a t ht in
+    let buffer = number_takes 64 b n hn in
+    let origin = from_takes c from hf in
+    let low = task.1 in
+    let few = buffer.1 in
+    rw (← is) (cons_same refl (cons_same (sym task.0) (cons_same (sym buffer.0) (cons_same origin.0 refl))), ((low, omega arith, origin.1), few))
+read_takes (a ∷ b ∷ c ∷ d ∷ words) e h = cc h
+
+fetch_takes : (words : List (List ℕ)) (e : Entry) → fetch_in words ≡ Some e → (codes "fetch" ∷ words ≡ entry_words e) × IsSpelledEntry e
+unfolding fetch_in
+fetch_takes [] e h = cc h
+fetch_takes (n ∷ []) e h = cc h
+fetch_takes (n ∷ c ∷ []) e h = cc h
+fetch_takes (n ∷ c ∷ m ∷ []) e h = cc h
+fetch_takes (n ∷ c ∷ m ∷ sa ∷ []) e h = cc h
+fetch_takes (n ∷ c ∷ m ∷ sa ∷ sb ∷ []) e h = cc h
+fetch_takes (n ∷ c ∷ m ∷ sa ∷ sb ∷ oa ∷ []) e h = cc h
+fetch_takes (n ∷ c ∷ m ∷ sa ∷ sb ∷ oa ∷ ob ∷ []) e h =
+    let (w, hw, h1) = bind_some (window_in n c m sa sb) _ e h in
+    let (a, ha, h2) = bind_some (offered_in oa) _ e h1 in
+    let (b, hb, h3) = bind_some (offered_in ob) _ e h2 in
+    let is : Fetch w a b ≡ e = cc h3 in
+    let window = window_takes n c m sa sb w hw in
+    let words = window.0 in
+    let fits = window.1 in
+    let ta = offered_takes oa a ha in
+    let tb = offered_takes ob b hb in
+    rw (← is) (
+      cons_same refl (cons_same words.number_is (cons_same words.cycle_is (cons_same words.minislot_is (cons_same words.slot_a_is (cons_same words.slot_b_is (cons_same ta.0 (cons_same tb.0 refl))))))),
+      record { window_is = fits; a_fits = ta.1; b_fits = tb.1 },
+    )
+fetch_takes (n ∷ c ∷ m ∷ sa ∷ sb ∷ oa ∷ ob ∷ more ∷ words) e h = cc h
+
+observe_takes : (words : List (List ℕ)) (e : Entry) → observe_in words ≡ Some e → (codes "see" ∷ words ≡ entry_words e) × IsSpelledEntry e
+unfolding observe_in
+observe_takes [] e h = cc h
+observe_takes (w ∷ []) e h = cc h
+observe_takes (w ∷ sa ∷ []) e h = cc h
+observe_takes (w ∷ sa ∷ sb ∷ []) e h =
+    let (n, hn, h1) = bind_some (number_in (2 ^ 32) w) _ e h in
+    let (a, ha, h2) = bind_some (seen_in sa) _ e h1 in
+    let (b, hb, h3) = bind_some (seen_in sb) _ e h2 in
+    let is : Observe n a b ≡ e = cc h3 in
+    let window = number_takes (2 ^ 32) w n hn in
+    let ta = seen_takes sa a ha in
+    let tb = seen_takes sb b hb in
+    rw (← is) (cons_same refl (cons_same (sym window.0) (cons_same ta.0 (cons_same tb.0 refl))), (window.1, ta.1, tb.1))
+observe_takes (w ∷ sa ∷ sb ∷ more ∷ words) e h = cc h
+
+taken : (words : List (List ℕ)) (e : Entry) → entry_in words ≡ Some e → (words ≡ entry_words e) × IsSpelledEntry e
+unfolding entry_in
+taken [] e h = cc h
+taken (kind ∷ words) e h =
+    elim (word_or kind (codes "read") (read_in words) _ e h) [
+      | inl read ↦ let t = read_takes words e read.1 in (cons_same read.0 refl ∙ t.0, t.1)
+      | inr h1 ↦
+          elim (word_or kind (codes "fetch") (fetch_in words) _ e h1) [
+            | inl fetch ↦ let t = fetch_takes words e fetch.1 in (cons_same fetch.0 refl ∙ t.0, t.1)
+            | inr h2 ↦
+                elim (word_or kind (codes "see") (observe_in words) _ e h2) [
+                  | inl see ↦ let t = observe_takes words e see.1 in (cons_same see.0 refl ∙ t.0, t.1)
+                  | inr h3 ↦ cc h3
+                ]
+          ]
+    ]
+
+pub entry_takes : (words : List (List ℕ)) (e : Entry) → entry_in words ≡ Some e → words ≡ entry_words e
+entry_takes words e h = (taken words e h).0
+
+-- what is read is in range
+pub entry_fits : (words : List (List ℕ)) (e : Entry) → entry_in words ≡ Some e → IsSpelledEntry e
+entry_fits words e h = (taken words e h).1
+
+pub entry_line_takes : (line : List ℕ) (e : Entry) → entry_in (words_of line) ≡ Some e → line ≡ line_of (entry_words e)
+entry_line_takes line e h = sym (line_of-words_of line) ∙ ap line_of (entry_takes (words_of line) e h)
+
+-- ---- what is spelled so is read
+
+pub entry_again : (e : Entry) → IsSpelledEntry e → entry_in (entry_words e) ≡ Some e
+unfolding entry_in read_in fetch_in observe_in
+entry_again (Commit task buffer payload) fits = absurd fits
+entry_again (Read task buffer from) fits =
+    rw (number_again 8 task fits.0.0 (omega arith), number_again 64 buffer fits.1 (omega arith), from_again from fits.0.2) refl
+entry_again (Pop task from) fits = absurd fits
+entry_again (Fetch window a b) fits =
+    let is : IsInRange window = fits.window_is in
+    rw (window_again window is, offered_again a fits.a_fits, offered_again b fits.b_fits) refl
+entry_again (Observe window a b) fits =
+    rw (number_again (2 ^ 32) window fits.0 (omega arith), seen_again a fits.1, seen_again b fits.2) refl
+
+-- ---- the words are plain
+
+pub entry_plain : (e : Entry) → IsSpelledEntry e → ArePlain (entry_words e)
+entry_plain (Commit task buffer payload) fits = absurd fits
+entry_plain (Read task buffer from) fits =
+    let t = fits.0.0 in
+    let n = fits.1 in (
+      refl,
+      (
+        (number_word 1 task (omega arith) (omega arith) (omega arith)).plain,
+        (
+          (number_word 2 buffer (omega arith) (omega arith) (omega arith)).plain,
+          ((from_plain from fits.0.2).plain, tt),
+        ),
+      ),
+    )
+entry_plain (Pop task from) fits = absurd fits
+entry_plain (Fetch window a b) fits =
+    let c = fits.window_is.cycle_fits in
+    let m = fits.window_is.window_is.minislot_fits in (
+      refl,
+      (
+        (long_word window.number fits.window_is.number_fits).plain,
+        (
+          (number_word 2 window.cycle (omega arith) (omega arith) (omega arith)).plain,
+          (
+            (number_word 4 window.minislot (omega arith) (omega arith) (omega arith)).plain,
+            (
+              (slot_word window.a fits.window_is.slot_a).plain,
+              (
+                (slot_word window.b fits.window_is.slot_b).plain,
+                ((offered_plain a fits.a_fits).plain, ((offered_plain b fits.b_fits).plain, tt)),
+              ),
+            ),
+          ),
+        ),
+      ),
+    )
+entry_plain (Observe window a b) fits =
+    (refl, ((long_word window fits.0).plain, ((seen_plain a fits.1).plain, ((seen_plain b fits.2).plain, tt))))
+
+pub entry_no_feed : (e : Entry) → IsSpelledEntry e → has_no_feed (line_of (entry_words e)) ≡ true
+entry_no_feed e fits = has_no_feed-line_of (entry_words e) (entry_plain e fits)
+
+-- so the line is cut into them
+pub entry_cut : (e : Entry) → IsSpelledEntry e → words_of (line_of (entry_words e)) ≡ entry_words e
+entry_cut (Commit task buffer payload) fits = absurd fits
+entry_cut (Read task buffer from) fits =
+    words_of-line_of (codes "read") (decimal task ∷ decimal buffer ∷ from_word from ∷ []) (entry_plain (Read task buffer from) fits)
+entry_cut (Pop task from) fits = absurd fits
+entry_cut (Fetch window a b) fits =
+    words_of-line_of (codes "fetch") (decimal window.number ∷ decimal window.cycle ∷ decimal window.minislot ∷ optional_number window.a ∷ optional_number window.b ∷ offered_word a ∷ offered_word b ∷ [])
+    (entry_plain (Fetch window a b) fits)
+entry_cut (Observe window a b) fits =
+    words_of-line_of (codes "see") (decimal window ∷ seen_word a ∷ seen_word b ∷ []) (entry_plain (Observe window a b) fits)
+
+pub entry_line_again : (e : Entry) → IsSpelledEntry e → entry_in (words_of (line_of (entry_words e))) ≡ Some e
+entry_line_again e fits = ap entry_in (entry_cut e fits) ∙ entry_again e fits
+
+-- ---- the line is short
+
+pub entry_short : (e : Entry) → IsSpelledEntry e → length (line_of (entry_words e)) ≤ 1200
+entry_short (Commit task buffer payload) fits = absurd fits
+entry_short (Read task buffer from) fits =
+    let t = fits.0.0 in
+    let n = fits.1 in
+    let task_short = (number_word 1 task (omega arith) (omega arith) (omega arith)).short in
+    let buffer_short = (number_word 2 buffer (omega arith) (omega arith) (omega arith)).short in
+    let from_short = (from_plain from fits.0.2).short in
+    let all = length-line_of-le (entry_words (Read task buffer from)) in
+    omega arith
+entry_short (Pop task from) fits = absurd fits
+entry_short (Fetch window a b) fits =
+    let c = fits.window_is.cycle_fits in
+    let m = fits.window_is.window_is.minislot_fits in
+    let number_short = (long_word window.number fits.window_is.number_fits).short in
+    let cycle_short = (number_word 2 window.cycle (omega arith) (omega arith) (omega arith)).short in
+    let minislot_short = (number_word 4 window.minislot (omega arith) (omega arith) (omega arith)).short in
+    let slot_a_short = (slot_word window.a fits.window_is.slot_a).short in
+    let slot_b_short = (slot_word window.b fits.window_is.slot_b).short in
+    let a_short = (offered_plain a fits.a_fits).short in
+    let b_short = (offered_plain b fits.b_fits).short in
+    let all = length-line_of-le (entry_words (Fetch window a b)) in
+    omega arith
+entry_short (Observe window a b) fits =
+    let window_short = (long_word window fits.0).short in
+    let a_short = (seen_plain a fits.1).short in
+    let b_short = (seen_plain b fits.2).short in
+    let all = length-line_of-le (entry_words (Observe window a b)) in
+    omega arith
+
+-- ---- no entry's line begins or ends the entries
+
+pub entry_not_begin : (e : Entry) → bytes_eq (line_of (entry_words e)) begin_line ≡ false
+entry_not_begin (Commit task buffer payload) = refl
+entry_not_begin (Read task buffer from) = refl
+entry_not_begin (Pop task from) = refl
+entry_not_begin (Fetch window a b) = refl
+entry_not_begin (Observe window a b) = refl
+
+pub entry_not_end : (e : Entry) → bytes_eq (line_of (entry_words e)) end_line ≡ false
+entry_not_end (Commit task buffer payload) = refl
+entry_not_end (Read task buffer from) = refl
+entry_not_end (Pop task from) = refl
+entry_not_end (Fetch window a b) = refl
+entry_not_end (Observe window a b) = refl

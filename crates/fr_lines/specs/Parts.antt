@@ -1,0 +1,59 @@
+-- How the parts of a line are spelled. A number is spelled as std's `decimal` says.
+use Rattle.std.specs.Prelude.{ℕ, ◌++◌, Bool, true, false, List, codes, Option, Some, None}
+use Rattle.std.specs.Fmt.{decimal}
+use Rattle.fr_interface.specs.declared.entry.Offered.{Offered}
+use Rattle.fr_interface.specs.declared.entry.Offered.TheVariants as offered
+use Rattle.fr_interface.specs.declared.entry.Origin.{Origin}
+use Rattle.fr_slots.specs.declared.channel.Channel.{Channel}
+use Rattle.fr_slots.specs.declared.channel.Channel.TheVariants as channel
+use Rattle.fr_slots.specs.declared.channel.Channels.{Channels}
+use Rattle.fr_slots.specs.declared.channel.Channels.TheVariants as channels
+use Rattle.fr_status.specs.declared.seen.Seen.{Seen}
+use Rattle.fr_status.specs.declared.seen.Seen.TheVariants as seen
+use Rattle.fr_text.specs.Spelling.{hex_text}
+
+-- what stands where there is nothing
+abbrev pub absent : List ℕ
+absent = codes "-"
+
+abbrev pub flag_word : Bool → List ℕ
+flag_word true = codes "1"
+flag_word false = codes "0"
+
+abbrev pub optional_number : Option ℕ → List ℕ
+optional_number None = absent
+optional_number (Some n) = decimal n
+
+-- ---- channels
+
+abbrev pub channels_word : Channels → List ℕ
+channels_word channels.A = codes "A"
+channels_word channels.B = codes "B"
+channels_word channels.Both = codes "AB"
+
+-- behind the number of an entry
+abbrev pub channel_mark : Channel → List ℕ
+channel_mark channel.A = codes ":A"
+channel_mark channel.B = codes ":B"
+
+-- ---- where a frame comes from, what is offered, and what is seen
+
+abbrev pub origin_word : Origin → List ℕ
+origin_word origin = decimal origin.entry ++ channel_mark origin.channel
+
+abbrev pub from_word : Option Origin → List ℕ
+from_word None = absent
+from_word (Some origin) = origin_word origin
+
+abbrev pub offered_word : Offered → List ℕ
+offered_word offered.Nothing = absent
+offered_word offered.Null = codes "null"
+offered_word (offered.Data commit) = decimal commit
+
+abbrev pub seen_word : Seen → List ℕ
+seen_word seen.Silence = absent
+seen_word seen.Own = codes "own"
+seen_word seen.Conflict = codes "conflict"
+seen_word seen.Noise = codes "noise"
+seen_word seen.Overrun = codes "overrun"
+seen_word (seen.Bytes bytes) = hex_text bytes.items

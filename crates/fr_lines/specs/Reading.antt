@@ -1,0 +1,115 @@
+-- What the words of a line spell, for the lines that are read.
+use Rattle.std.specs.Prelude.{ℕ, ◌^◌, ℤ, pos, false, List, [], ◌∷◌, codes, Option, Some, None, if◌then◌else◌}
+use Rattle.std.specs.Result.{result_ok}
+use Rattle.std.specs.Str.{bytes_eq}
+use Rattle.fr_interface.specs.declared.entry.Entry.{Entry}
+use Rattle.fr_interface.specs.declared.entry.Entry.TheVariants.{Read, Fetch, Observe}
+use Rattle.fr_lines.specs.PartReading.{slot_in, channels_in, cycles_in, from_in, offered_in, seen_in, window_in}
+use Rattle.fr_slots.specs.declared.plan.Buffer.{Buffer}
+use Rattle.fr_slots.specs.declared.plan.Mode.TheVariants.{Receive}
+use Rattle.fr_slots.specs.Plans.{Plan, plan_of}
+use Rattle.fr_text.specs.Reading.{◌>>=◌, number_in}
+
+-- ---- parameters: ten numbers below 2^32, whatever their keys' ranges
+
+unfoldable pub parameter_in : List ℕ → Option ℤ
+parameter_in word = do
+  n ← number_in (2 ^ 32) word
+  Some (pos n)
+
+abbrev pub Five : Type 0
+Five = ℤ × ℤ × ℤ × ℤ × ℤ
+
+-- five numbers, and the words behind them
+unfoldable pub five_in : List (List ℕ) → Option (Five × List (List ℕ))
+five_in (a ∷ b ∷ c ∷ d ∷ e ∷ rest) = do
+  v ← parameter_in a
+  w ← parameter_in b
+  x ← parameter_in c
+  y ← parameter_in d
+  z ← parameter_in e
+  Some ((v, w, x, y, z), rest)
+five_in words = None
+
+-- the value, where no word is left
+abbrev pub at_end : {A : Type 0} → A → List (List ℕ) → Option A
+at_end value [] = Some value
+at_end value (word ∷ words) = None
+
+abbrev pub numbers_of : Five → Five → List ℤ
+numbers_of a b = a.0 ∷ a.1 ∷ a.2 ∷ a.3 ∷ a.4 ∷ b.0 ∷ b.1 ∷ b.2 ∷ b.3 ∷ b.4 ∷ []
+
+unfoldable pub ten_in : List (List ℕ) → Option (List ℤ)
+ten_in words = do
+  first ← five_in words
+  last ← five_in first.1
+  at_end (numbers_of first.0 last.0) last.1
+
+unfoldable pub params_in : List (List ℕ) → Option (List ℤ)
+params_in [] = None
+params_in (kind ∷ words) = if bytes_eq kind (codes "params") then ten_in words else None
+
+-- ---- the plan, with no lines yet
+
+unfoldable pub limits_in : List (List ℕ) → Option Plan
+limits_in (tasks ∷ latest_a ∷ latest_b ∷ host_entries ∷ slot_entries ∷ []) = do
+  t ← number_in 9 tasks
+  a ← number_in 8001 latest_a
+  b ← number_in 8001 latest_b
+  h ← number_in 16385 host_entries
+  s ← number_in 65537 slot_entries
+  result_ok (plan_of t a b h s)
+limits_in words = None
+
+unfoldable pub node_in : List (List ℕ) → Option Plan
+node_in [] = None
+node_in (kind ∷ words) = if bytes_eq kind (codes "node") then limits_in words else None
+
+-- ---- receive buffers
+
+unfoldable pub filter_in : List (List ℕ) → Option Buffer
+filter_in (slot ∷ channels ∷ base ∷ repetition ∷ []) = do
+  s ← slot_in slot
+  c ← channels_in channels
+  cycles ← cycles_in base repetition
+  Some (record { mode = Receive; filter = record { slot = s; channels = c; cycles = cycles }; words = None; preamble = false })
+filter_in words = None
+
+unfoldable pub receive_in : List (List ℕ) → Option Buffer
+receive_in [] = None
+receive_in (kind ∷ words) = if bytes_eq kind (codes "rx") then filter_in words else None
+
+-- ---- entries
+
+unfoldable pub read_in : List (List ℕ) → Option Entry
+read_in (task ∷ buffer ∷ from ∷ []) = do
+  t ← number_in 8 task
+  b ← number_in 64 buffer
+  origin ← from_in from
+  Some (Read t b origin)
+read_in words = None
+
+unfoldable pub fetch_in : List (List ℕ) → Option Entry
+fetch_in (number ∷ cycle ∷ minislot ∷ slot_a ∷ slot_b ∷ offer_a ∷ offer_b ∷ []) = do
+  window ← window_in number cycle minislot slot_a slot_b
+  a ← offered_in offer_a
+  b ← offered_in offer_b
+  Some (Fetch window a b)
+fetch_in words = None
+
+unfoldable pub observe_in : List (List ℕ) → Option Entry
+observe_in (window ∷ seen_a ∷ seen_b ∷ []) = do
+  w ← number_in (2 ^ 32) window
+  a ← seen_in seen_a
+  b ← seen_in seen_b
+  Some (Observe w a b)
+observe_in words = None
+
+-- a read, a fetch or an observe
+unfoldable pub entry_in : List (List ℕ) → Option Entry
+entry_in [] = None
+entry_in (kind ∷ words) =
+    if bytes_eq kind (codes "read") then read_in words
+    else if bytes_eq kind (codes "fetch") then fetch_in words
+    else if bytes_eq kind (codes "see") then observe_in words
+    else None

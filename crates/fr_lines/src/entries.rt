@@ -1,0 +1,104 @@
+//! The lines of entries.
+ghost use Rattle.std.specs.Prelude.{◌≡◌, Some, IfSome};
+ghost use Rattle.fr_interface.specs.declared.entry.Entry.{Entry};
+ghost use Rattle.fr_text.specs.Spaces.{words_of, line_of};
+ghost use Rattle.fr_lines.specs.Reading.{read_in, fetch_in, observe_in, entry_in};
+ghost use Rattle.fr_lines.specs.Spelled.{IsSpelledEntry};
+ghost use Rattle.fr_lines.specs.Spelling.{entry_words};
+
+use crate::parts::{from_of, offered_of, seen_of, task_of, window_of};
+use fr_interface::entry::Entry;
+use fr_text::numbers::number_of;
+use fr_text::words::Words;
+
+/// The read that the words spell.
+#[tactic(auto, unfolding(crate::specs::Reading::read_in))]
+fn read_of(words: &mut Words<'_>) -> Option<Entry>
+    ensures { result ≡ read_in words.old }
+{
+    let task = words.next_word()?;
+    let buffer = words.next_word()?;
+    let from = words.next_word()?;
+    if words.next_word().is_some() {
+        return None;
+    }
+    let task = task_of(task)?;
+    let buffer = number_of(buffer, 64)?;
+    let from = from_of(from)?;
+    Some(Entry::Read {
+        task,
+        buffer: buffer as u8,
+        from,
+    })
+}
+
+/// The fetch that the words spell.
+#[tactic(auto, unfolding(crate::specs::Reading::fetch_in))]
+fn fetch_of(words: &mut Words<'_>) -> Option<Entry>
+    ensures { result ≡ fetch_in words.old }
+{
+    let number = words.next_word()?;
+    let cycle = words.next_word()?;
+    let minislot = words.next_word()?;
+    let slot_a = words.next_word()?;
+    let slot_b = words.next_word()?;
+    let offer_a = words.next_word()?;
+    let offer_b = words.next_word()?;
+    if words.next_word().is_some() {
+        return None;
+    }
+    let window = window_of(number, cycle, minislot, slot_a, slot_b)?;
+    let a = offered_of(offer_a)?;
+    let b = offered_of(offer_b)?;
+    Some(Entry::Fetch { window, a, b })
+}
+
+/// The observe that the words spell.
+#[tactic(auto, unfolding(crate::specs::Reading::observe_in))]
+fn observe_of(words: &mut Words<'_>) -> Option<Entry>
+    ensures { result ≡ observe_in words.old }
+{
+    let window = words.next_word()?;
+    let seen_a = words.next_word()?;
+    let seen_b = words.next_word()?;
+    if words.next_word().is_some() {
+        return None;
+    }
+    let window = number_of(window, 1 << 32)?;
+    let a = seen_of(seen_a)?;
+    let b = seen_of(seen_b)?;
+    Some(Entry::Observe {
+        window: window as u32,
+        a,
+        b,
+    })
+}
+
+/// The entry that the line spells, by its first word.
+#[tactic(auto, unfolding(crate::specs::Reading::entry_in))]
+fn parsed(line: &[u8]) -> Option<Entry>
+    ensures { result ≡ entry_in (words_of line.now) }
+{
+    let mut words = Words::new(line);
+    match words.next_word()? {
+        b"read" => read_of(&mut words),
+        b"fetch" => fetch_of(&mut words),
+        b"see" => observe_of(&mut words),
+        _ => None,
+    }
+}
+
+/// The entry of a line `read`, `fetch` or `see`.
+///
+/// `None` for a line of another form and where a number is out of its range: a task is 0 to 7, a buffer 0 to 63, the
+/// number of a window or of an entry fits 32 bits, a cycle is 0 to 63, a minislot 0 to 8000, a slot 1 to 2047, and at
+/// most 262 bytes were seen. `None` too where the numbers of a fetch are no window: at minislot 0 both channels open
+/// the same slot, and at a minislot above 0 one channel or both open a slot.
+pub fn entry_of(line: &[u8]) -> Option<Entry>
+    ensures found { IfSome result (λ e. line.now ≡ line_of (entry_words e)) }
+    ensures fits { IfSome result IsSpelledEntry }
+    ensures only { (e : Entry) → IsSpelledEntry e → line.now ≡ line_of (entry_words e) → result ≡ Some e }
+    ensures exact { result ≡ entry_in (words_of line.now) }
+{
+    parsed(line)
+}

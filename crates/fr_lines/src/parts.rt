@@ -1,0 +1,204 @@
+//! The parts of which lines are made.
+ghost use Rattle.std.specs.Prelude.{◌≡◌, ◌<◌, ◌^◌};
+ghost use Rattle.fr_text.specs.Reading.{number_in};
+ghost use Rattle.fr_lines.specs.PartReading.{slot_in, optional_slot_in, channels_in, cycles_in, channel_in, origin_in, from_in, offered_in, seen_bytes_in, seen_in, same_slot, window_of, window_in};
+
+use fr_interface::entry::{Offered, Origin};
+use fr_slots::channel::{Channel, Channels};
+use fr_slots::filter::CycleFilter;
+use fr_slots::numbers::{Cycle, SlotId, TaskId};
+use fr_slots::window::Window;
+use fr_status::seen::Seen;
+use fr_text::hexes::bytes_of;
+use fr_text::numbers::number_of;
+
+/// The task that the word spells, 0 to 7.
+pub(crate) fn task_of(word: &[u8]) -> Option<TaskId>
+    ensures { result ≡ number_in 8 word.now }
+{
+    let number = number_of(word, 8)?;
+    TaskId::new(number as u8)
+}
+
+/// The slot that the word spells, 1 to 2047.
+#[tactic(auto, unfolding(crate::specs::PartReading::slot_in))]
+pub(crate) fn slot_of(word: &[u8]) -> Option<SlotId>
+    ensures { result ≡ slot_in word.now }
+{
+    let number = number_of(word, 2048)?;
+    SlotId::new(number as u16)
+}
+
+/// The slot that the word spells, or none for `-`.
+#[tactic(auto, unfolding(crate::specs::PartReading::optional_slot_in))]
+fn optional_slot_of(word: &[u8]) -> Option<Option<SlotId>>
+    ensures { result ≡ optional_slot_in word.now }
+{
+    match word {
+        b"-" => Some(None),
+        _ => {
+            let slot = slot_of(word)?;
+            Some(Some(slot))
+        }
+    }
+}
+
+/// The channels that the word spells.
+#[tactic(auto, unfolding(crate::specs::PartReading::channels_in))]
+pub(crate) fn channels_of(word: &[u8]) -> Option<Channels>
+    ensures { result ≡ channels_in word.now }
+{
+    match word {
+        b"A" => Some(Channels::A),
+        b"B" => Some(Channels::B),
+        b"AB" => Some(Channels::Both),
+        _ => None,
+    }
+}
+
+/// The cycles of this base and this repetition, where these are a lawful filter.
+#[tactic(auto, unfolding(crate::specs::PartReading::cycles_in))]
+pub(crate) fn cycles_of(base: &[u8], repetition: &[u8]) -> Option<CycleFilter>
+    ensures { result ≡ cycles_in base.now repetition.now }
+{
+    let base = number_of(base, 64)?;
+    let repetition = number_of(repetition, 65)?;
+    match CycleFilter::new(base as u8, repetition as u8) {
+        Ok(cycles) => Some(cycles),
+        Err(_) => None,
+    }
+}
+
+/// The channel that stands behind the number of an entry.
+#[tactic(auto, unfolding(crate::specs::PartReading::channel_in))]
+fn channel_of(mark: &[u8]) -> Option<Channel>
+    ensures { result ≡ channel_in mark.now }
+{
+    match mark {
+        b":A" => Some(Channel::A),
+        b":B" => Some(Channel::B),
+        _ => None,
+    }
+}
+
+/// The entry and channel that the word spells.
+#[tactic(auto, unfolding(crate::specs::PartReading::origin_in))]
+fn origin_of(word: &[u8]) -> Option<Origin>
+    ensures { result ≡ origin_in word.now }
+{
+    let (entry, mark) = word.split_at(word.len().saturating_sub(2));
+    let channel = channel_of(mark)?;
+    let entry = number_of(entry, 1 << 32)?;
+    Some(Origin {
+        entry: entry as u32,
+        channel,
+    })
+}
+
+/// The entry and channel that the word spells, or none for `-`.
+#[tactic(auto, unfolding(crate::specs::PartReading::from_in))]
+pub(crate) fn from_of(word: &[u8]) -> Option<Option<Origin>>
+    ensures { result ≡ from_in word.now }
+{
+    match word {
+        b"-" => Some(None),
+        _ => {
+            let origin = origin_of(word)?;
+            Some(Some(origin))
+        }
+    }
+}
+
+/// What the word says that a channel was offered.
+#[tactic(auto, unfolding(crate::specs::PartReading::offered_in))]
+pub(crate) fn offered_of(word: &[u8]) -> Option<Offered>
+    ensures { result ≡ offered_in word.now }
+{
+    match word {
+        b"-" => Some(Offered::Nothing),
+        b"null" => Some(Offered::Null),
+        _ => {
+            let commit = number_of(word, 1 << 32)?;
+            Some(Offered::Data(commit as u32))
+        }
+    }
+}
+
+/// The bytes that the word spells, as what was seen.
+#[tactic(auto, unfolding(crate::specs::PartReading::seen_bytes_in))]
+fn seen_bytes_of(word: &[u8]) -> Option<Seen>
+    ensures { result ≡ seen_bytes_in word.now }
+{
+    let bytes = bytes_of::<262>(word)?;
+    Some(Seen::Bytes(bytes))
+}
+
+/// What the word says that was seen on a channel.
+#[tactic(auto, unfolding(crate::specs::PartReading::seen_in))]
+pub(crate) fn seen_of(word: &[u8]) -> Option<Seen>
+    ensures { result ≡ seen_in word.now }
+{
+    if word == b"-".as_slice() {
+        return Some(Seen::Silence);
+    }
+    if word == b"own".as_slice() {
+        return Some(Seen::Own);
+    }
+    if word == b"conflict".as_slice() {
+        return Some(Seen::Conflict);
+    }
+    if word == b"noise".as_slice() {
+        return Some(Seen::Noise);
+    }
+    if word == b"overrun".as_slice() {
+        return Some(Seen::Overrun);
+    }
+    seen_bytes_of(word)
+}
+
+/// The window of these numbers: at minislot 0 the static slot that both channels open.
+fn window_at(
+    number: u32,
+    cycle: Cycle,
+    minislot: u16,
+    a: Option<SlotId>,
+    b: Option<SlotId>,
+) -> Option<Window>
+    ensures { result ≡ window_of number cycle minislot a b }
+{
+    if minislot != 0 {
+        return Window::dynamic(number, cycle, minislot, a, b);
+    }
+    let a = a?;
+    let b = b?;
+    if a == b {
+        Some(Window::fixed(number, cycle, a))
+    } else {
+        None
+    }
+}
+
+/// The window that these words spell.
+#[tactic(auto, unfolding(crate::specs::PartReading::window_in))]
+pub(crate) fn window_of(
+    number: &[u8],
+    cycle: &[u8],
+    minislot: &[u8],
+    slot_a: &[u8],
+    slot_b: &[u8],
+) -> Option<Window>
+    ensures { result ≡ window_in number.now cycle.now minislot.now slot_a.now slot_b.now }
+{
+    let number = number_of(number, 1 << 32)?;
+    let cycle = number_of(cycle, 64)?;
+    let minislot = number_of(minislot, 8001)?;
+    let a = optional_slot_of(slot_a)?;
+    let b = optional_slot_of(slot_b)?;
+    window_at(
+        number as u32,
+        Cycle::from_bits(cycle as u8),
+        minislot as u16,
+        a,
+        b,
+    )
+}

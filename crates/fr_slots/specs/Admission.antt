@@ -1,0 +1,44 @@
+-- What a filter admits (chapter 9; the division of slots by cycle is that of a cycle filter).
+use Rattle.std.specs.Prelude.{◌≡◌, ℕ, ◌%◌, ◌<◌, ◌==◌, nat_lt, nat_le, not, Bool, true, false, ◌&&◌, List, [], ◌∷◌, Option, Some, None, Result, Ok, Err, if◌then◌else◌}
+use Rattle.std.specs.List.{list_any}
+use Rattle.fr_slots.specs.declared.channel.Channel.{Channel}
+use Rattle.fr_slots.specs.declared.channel.Channel.TheVariants as channel
+use Rattle.fr_slots.specs.declared.channel.Channels.{Channels}
+use Rattle.fr_slots.specs.declared.channel.Channels.TheVariants as channels
+use Rattle.fr_slots.specs.declared.filter.FilterError.{FilterError}
+use Rattle.fr_slots.specs.declared.filter.FilterError.TheVariants.{RepetitionNotPower, BaseTooLarge}
+
+-- the channel is among them
+abbrev pub includes : Channels → Channel → Bool
+includes channels.Both channel = true
+includes channels.A channel.A = true
+includes channels.A channel.B = false
+includes channels.B channel.A = false
+includes channels.B channel.B = true
+
+-- ---- cycles
+
+-- the cycles that leave `base` when they are divided by `repetition`
+pub record CycleClass : Type 0 where
+  pub base : ℕ
+  pub repetition : ℕ
+
+abbrev pub repetitions : List ℕ
+repetitions = 1 ∷ 2 ∷ 4 ∷ 8 ∷ 16 ∷ 32 ∷ 64 ∷ []
+
+abbrev pub is_repetition : ℕ → Bool
+is_repetition n = list_any (λ r. n == r) repetitions
+
+pub record IsCycleClass (c : CycleClass) : Type 0 where
+  pub repetition_is : is_repetition c.repetition ≡ true
+  pub base_below : c.base < c.repetition
+
+-- the class of these two numbers
+abbrev pub cycle_class : ℕ → ℕ → Result CycleClass FilterError
+cycle_class base repetition =
+    if not (is_repetition repetition) then Err RepetitionNotPower
+    else if nat_le repetition base then Err BaseTooLarge
+    else Ok (record { base = base; repetition = repetition })
+
+abbrev pub cycle_admitted : CycleClass → ℕ → Bool
+cycle_admitted c cycle = cycle % c.repetition == c.base

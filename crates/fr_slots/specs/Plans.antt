@@ -1,0 +1,133 @@
+-- What the plan of a node may hold.
+use Rattle.std.specs.Prelude.{◌≡◌, ℕ, ◌≤◌, ◌==◌, nat_lt, nat_le, not, Bool, true, false, ◌&&◌, ◌||◌, List, [], ◌∷◌, ◌++◌, length, Option, Some, None, is_some, Result, Ok, Err, if◌then◌else◌}
+use Rattle.fr_slots.specs.declared.channel.Channel.{Channel}
+use Rattle.fr_slots.specs.declared.filter.Filter.{Filter}
+use Rattle.fr_slots.specs.declared.plan.Own.{Own}
+use Rattle.fr_slots.specs.declared.plan.Mode.{Mode}
+use Rattle.fr_slots.specs.declared.plan.Mode.TheVariants.{Event, State, Receive}
+use Rattle.fr_slots.specs.declared.plan.Buffer.{Buffer}
+use Rattle.fr_slots.specs.declared.plan.Queue.{Queue}
+use Rattle.fr_slots.specs.declared.plan.PlanError.{PlanError}
+use Rattle.fr_slots.specs.declared.plan.PlanError.TheVariants.{OutOfRange, TooMany}
+use Rattle.fr_slots.specs.Admission.{includes, cycle_admitted, IsCycleClass}
+use Rattle.fr_slots.specs.Numbers.{IsSlot}
+
+-- slot, channel and cycle are all the filter's
+abbrev pub filter_admits : Filter → ℕ → ℕ → Channel → Bool
+filter_admits f cycle slot channel = f.slot == slot && includes f.channels channel && cycle_admitted f.cycles cycle
+
+-- the slot is in the queue's range, and channel and cycle are the queue's
+abbrev pub queue_admits : Queue → ℕ → ℕ → Channel → Bool
+queue_admits q cycle slot channel = nat_le q.first slot && nat_le slot q.last && includes q.channels channel && cycle_admitted q.cycles cycle
+
+-- what a node is configured to do
+pub record Plan : Type 0 where
+  pub tasks : ℕ
+  pub latest_a : ℕ
+  pub latest_b : ℕ
+  pub host_entries : ℕ
+  pub slot_entries : ℕ
+  pub owned : List Own
+  pub buffers : List Buffer
+  pub queue : Option Queue
+
+-- ---- limits
+
+abbrev pub most_lines : ℕ
+most_lines = 64
+
+-- no more static slots than any cluster has
+abbrev pub own_fits : Own → Bool
+own_fits o = nat_le o.slot 1023 && (not o.startup || o.sync)
+
+abbrev pub words_fit : Option ℕ → Bool
+words_fit None = true
+words_fit (Some words) = nat_le words 127
+
+abbrev pub is_receive : Mode → Bool
+is_receive Event = false
+is_receive State = false
+is_receive Receive = true
+
+-- a receive buffer has no words and no preamble of its own
+abbrev pub buffer_fits : Buffer → Bool
+buffer_fits b = words_fit b.words && (not (is_receive b.mode) || not (is_some b.words || b.preamble))
+
+abbrev pub queue_fits : Queue → Bool
+queue_fits q = nat_le 1 q.capacity && nat_le q.capacity 256 && nat_le q.first q.last
+
+-- ---- ranges
+
+-- the numbers of a filter are in the ranges of their types
+pub record IsFilter (f : Filter) : Type 0 where
+  pub slot_is : IsSlot f.slot
+  pub cycles_are : IsCycleClass f.cycles
+
+abbrev pub IsBuffer : Buffer → Type 0
+IsBuffer b = IsFilter b.filter
+
+abbrev pub IsOwn : Own → Type 0
+IsOwn o = IsSlot o.slot
+
+pub record IsQueue (q : Queue) : Type 0 where
+  pub first_is : IsSlot q.first
+  pub last_is : IsSlot q.last
+  pub cycles_are : IsCycleClass q.cycles
+
+abbrev pub Each : {X : Type 0} → (X → Type 0) → List X → Type 0
+Each P [] = Unit {0}
+Each P (x ∷ xs) = P x × Each P xs
+
+abbrev pub IsQueueOrNone : Option Queue → Type 0
+IsQueueOrNone None = Unit {0}
+IsQueueOrNone (Some q) = IsQueue q
+
+abbrev pub AllFit : {X : Type 0} → (X → Bool) → List X → Type 0
+AllFit fits [] = Unit {0}
+AllFit fits (x ∷ xs) = (fits x ≡ true) × AllFit fits xs
+
+abbrev pub QueueFits : Option Queue → Type 0
+QueueFits None = Unit {0}
+QueueFits (Some q) = queue_fits q ≡ true
+
+-- a plan that a node may have
+pub record IsPlan (p : Plan) : Type 0 where
+  pub few_tasks : p.tasks ≤ 8
+  pub latest_a_fits : p.latest_a ≤ 8000
+  pub latest_b_fits : p.latest_b ≤ 8000
+  pub some_host_entries : 1 ≤ p.host_entries
+  pub few_host_entries : p.host_entries ≤ 16384
+  pub some_slot_entries : 2 ≤ p.slot_entries
+  pub few_slot_entries : p.slot_entries ≤ 65536
+  pub few_owned : length p.owned ≤ most_lines
+  pub owned_fit : AllFit own_fits p.owned
+  pub owned_are : Each IsOwn p.owned
+  pub few_buffers : length p.buffers ≤ most_lines
+  pub buffers_fit : AllFit buffer_fits p.buffers
+  pub buffers_are : Each IsBuffer p.buffers
+  pub queue_fits : QueueFits p.queue
+  pub queue_is : IsQueueOrNone p.queue
+
+-- ---- making a plan
+
+abbrev pub limits_fit : ℕ → ℕ → ℕ → ℕ → ℕ → Bool
+limits_fit tasks latest_a latest_b host slot =
+    nat_le tasks 8 && nat_le latest_a 8000 && nat_le latest_b 8000 && nat_le 1 host && nat_le host 16384 && nat_le 2 slot && nat_le slot 65536
+
+-- a plan with no lines yet
+abbrev pub empty_plan : ℕ → ℕ → ℕ → ℕ → ℕ → Plan
+empty_plan tasks latest_a latest_b host slot =
+    record { tasks = tasks; latest_a = latest_a; latest_b = latest_b; host_entries = host; slot_entries = slot; owned = []; buffers = []; queue = None }
+
+abbrev pub plan_of : ℕ → ℕ → ℕ → ℕ → ℕ → Result Plan PlanError
+plan_of tasks latest_a latest_b host slot =
+    if limits_fit tasks latest_a latest_b host slot then Ok (empty_plan tasks latest_a latest_b host slot) else Err OutOfRange
+
+abbrev pub buffer_refusal : Plan → Buffer → Option PlanError
+buffer_refusal p b =
+    if not (buffer_fits b) then Some OutOfRange
+    else if nat_le most_lines (length p.buffers) then Some TooMany
+    else None
+
+abbrev pub with_buffer : Plan → Buffer → Plan
+with_buffer p b = record p { buffers = p.buffers ++ b ∷ [] }

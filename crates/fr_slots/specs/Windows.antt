@@ -1,0 +1,48 @@
+-- Windows: one opportunity to send, on both channels (own profile).
+use Rattle.std.specs.Prelude.{◌≡◌, ℕ, ◌≤◌, ◌<◌, ◌^◌, ◌==◌, nat_lt, nat_le, Bool, true, not, ◌&&◌, ◌||◌, Option, Some, None, is_some, if◌then◌else◌}
+use Rattle.fr_slots.specs.declared.channel.Channel.{Channel}
+use Rattle.fr_slots.specs.declared.channel.Channel.TheVariants.{A, B}
+use Rattle.fr_slots.specs.Numbers.{IsSlot}
+
+-- A window of a run: its number, its cycle, the minislot at which it opens, counted from 1, and the slot that each channel
+-- opens. A static window has minislot 0.
+pub record Opportunity : Type 0 where
+  pub number : ℕ
+  pub cycle : ℕ
+  pub minislot : ℕ
+  pub a : Option ℕ
+  pub b : Option ℕ
+
+abbrev pub IsSlotOrNone : Option ℕ → Type 0
+IsSlotOrNone None = Unit {0}
+IsSlotOrNone (Some slot) = IsSlot slot
+
+-- a static window has one slot on both channels, and each window has a slot
+pub record IsOpportunity (w : Opportunity) : Type 0 where
+  pub minislot_fits : w.minislot ≤ 8000
+  pub static_same : w.minislot ≡ 0 → w.a ≡ w.b
+  pub some_slot : (is_some w.a || is_some w.b) ≡ true
+
+-- the numbers of a window are in the ranges of their types
+pub record IsInRange (w : Opportunity) : Type 0 where
+  pub number_fits : w.number < 2 ^ 32
+  pub cycle_fits : w.cycle < 64
+  pub slot_a : IsSlotOrNone w.a
+  pub slot_b : IsSlotOrNone w.b
+  pub window_is : IsOpportunity w
+
+abbrev pub slot_of : Opportunity → Channel → Option ℕ
+slot_of w A = w.a
+slot_of w B = w.b
+
+abbrev pub is_static : Opportunity → Bool
+is_static w = w.minislot == 0
+
+abbrev pub static_window : ℕ → ℕ → ℕ → Opportunity
+static_window number cycle slot = record { number = number; cycle = cycle; minislot = 0; a = Some slot; b = Some slot }
+
+abbrev pub dynamic_window : ℕ → ℕ → ℕ → Option ℕ → Option ℕ → Option Opportunity
+dynamic_window number cycle minislot a b =
+    if nat_le 1 minislot && nat_le minislot 8000 && (is_some a || is_some b)
+    then Some (record { number = number; cycle = cycle; minislot = minislot; a = a; b = b })
+    else None

@@ -1,0 +1,110 @@
+//! Filters by slot, channel and cycle.
+
+ghost use Rattle.std.specs.Prelude.{◌≡◌};
+ghost use Rattle.fr_slots.specs.Admission.{cycle_class, cycle_admitted, includes};
+
+use crate::channel::{Channel, Channels};
+use crate::numbers::{Cycle, SlotId};
+use std::marker::Model;
+
+/// Why a base and a repetition are no cycle filter.
+#[derive(Clone, Copy, Debug, PartialEq, Eq)]
+pub enum FilterError {
+    /// The repetition isn't 1, 2, 4, 8, 16, 32 or 64.
+    RepetitionNotPower,
+    /// The base isn't below the repetition.
+    BaseTooLarge,
+}
+
+/// The cycles that leave the base when their number is divided by the repetition (chapter 9).
+#[derive(Clone, Copy, Debug, PartialEq, Eq)]
+pub struct CycleFilter {
+    base: u8,
+    repetition: u8,
+}
+
+impl Model for CycleFilter {
+    ghost use Rattle.fr_slots.specs.Admission.{CycleClass, IsCycleClass};
+
+    ghost Value = { CycleClass };
+
+    ghost view = { λ f. record { base = f.base; repetition = f.repetition } };
+
+    ghost invariant = { λ f. IsCycleClass (record { base = f.base; repetition = f.repetition }) };
+
+    ghost inverse = { λ c. record { base = c.base; repetition = c.repetition } };
+}
+
+impl Default for CycleFilter {
+    ghost is_default = { λ f. f ≡ record { base = 0; repetition = 1 } };
+
+    /// The filter of every cycle.
+    fn default() -> CycleFilter {
+        CycleFilter {
+            base: 0,
+            repetition: 1,
+        }
+    }
+}
+
+impl CycleFilter {
+    ghost use Rattle.fr_slots.specs.Admission.{IsCycleClass};
+
+    /// The filter of every cycle whose number leaves `base` when divided by `repetition`.
+    ///
+    /// Refused with `RepetitionNotPower` where the repetition isn't 1, 2, 4, 8, 16, 32 or 64, and then
+    /// with `BaseTooLarge` where the base isn't below it.
+    pub fn new(base: u8, repetition: u8) -> Result<CycleFilter, FilterError>
+        ensures { result ≡ cycle_class base repetition }
+    {
+        if !matches!(repetition, 1 | 2 | 4 | 8 | 16 | 32 | 64) {
+            return Err(FilterError::RepetitionNotPower);
+        }
+        if base >= repetition {
+            return Err(FilterError::BaseTooLarge);
+        }
+        Ok(CycleFilter { base, repetition })
+    }
+
+    /// The rest that the admitted cycles leave.
+    pub fn base(self) -> u8
+        ensures value { result ≡ self.base }
+        ensures lawful { IsCycleClass self }
+    {
+        self.base
+    }
+
+    /// Every how many cycles one is admitted: 1, 2, 4, 8, 16, 32 or 64.
+    pub fn repetition(self) -> u8
+        ensures value { result ≡ self.repetition }
+        ensures lawful { IsCycleClass self }
+    {
+        self.repetition
+    }
+
+    /// Whether the cycle is one of these.
+    pub fn admits(self, cycle: Cycle) -> bool
+        ensures { result ≡ cycle_admitted self cycle }
+    {
+        cycle.number() % self.repetition == self.base
+    }
+}
+
+/// The slot, channels and cycles that a buffer is for.
+#[derive(Clone, Copy, Debug, Default, PartialEq, Eq)]
+pub struct Filter {
+    pub slot: SlotId,
+    pub channels: Channels,
+    pub cycles: CycleFilter,
+}
+
+impl Filter {
+    ghost use Rattle.fr_slots.specs.Plans.{filter_admits};
+
+    /// Whether slot, channel and cycle are all the filter's.
+    pub fn admits(self, cycle: Cycle, slot: SlotId, channel: Channel) -> bool
+        ensures { result ≡ filter_admits self cycle slot channel }
+    {
+        self.slot == slot && self.channels.includes(channel) && self.cycles.admits(cycle)
+    }
+}

@@ -1,0 +1,224 @@
+//! The parameters of a cluster.
+
+ghost use Rattle.std.specs.Prelude.{◌≡◌, ◌≤◌, IfOk};
+ghost use Rattle.fr_slots.specs.Parameters.{name_of, admits, least_of, greatest_of, number_at, first_five, last_five, IsWithin, AreFirst, AreLast};
+
+use std::fmt;
+use std::marker::Model;
+
+/// A parameter, as cluster files name it. The order is that of a cluster file's refusals and of a
+/// trace's line `params`.
+#[derive(Clone, Copy, Debug, PartialEq, Eq)]
+pub enum Key {
+    StaticSlots,
+    Minislots,
+    StaticWords,
+    StaticMt,
+    MinislotMt,
+    SymbolMt,
+    NitMt,
+    CycleMt,
+    Idle,
+    WordsPerMinislot,
+}
+
+impl Key {
+    /// The key as cluster files spell it.
+    pub fn name(self) -> &'static str
+        ensures { result.now ≡ name_of self }
+    {
+        match self {
+            Key::StaticSlots => "static_slots",
+            Key::Minislots => "minislots",
+            Key::StaticWords => "static_words",
+            Key::StaticMt => "static_mt",
+            Key::MinislotMt => "minislot_mt",
+            Key::SymbolMt => "symbol_mt",
+            Key::NitMt => "nit_mt",
+            Key::CycleMt => "cycle_mt",
+            Key::Idle => "idle",
+            Key::WordsPerMinislot => "words_per_minislot",
+        }
+    }
+
+    /// The least number in the key's range.
+    pub fn least(self) -> u16
+        ensures { result ≡ least_of self }
+    {
+        match self {
+            Key::StaticSlots => 2,
+            Key::CycleMt => 4,
+            Key::StaticMt | Key::MinislotMt | Key::NitMt | Key::WordsPerMinislot => 1,
+            Key::Minislots | Key::StaticWords | Key::SymbolMt | Key::Idle => 0,
+        }
+    }
+
+    /// The greatest number in the key's range.
+    pub fn greatest(self) -> u16
+        ensures { result ≡ greatest_of self }
+    {
+        match self {
+            Key::StaticSlots => 1023,
+            Key::Minislots => 8000,
+            Key::StaticWords | Key::WordsPerMinislot => 127,
+            Key::StaticMt | Key::SymbolMt | Key::NitMt => 1000,
+            Key::MinislotMt => 100,
+            Key::CycleMt => 20000,
+            Key::Idle => 2,
+        }
+    }
+
+    /// Whether the number is in the key's range.
+    pub fn admits(self, number: i64) -> bool
+        ensures { result ≡ admits self number }
+    {
+        i64::from(self.least()) <= number && number <= i64::from(self.greatest())
+    }
+}
+
+impl fmt::Display for Key {
+    fn fmt<W: fmt::Write>(&self, f: &mut fmt::Formatter<W>) -> fmt::Result {
+        write!(f, "{}", self.name())
+    }
+}
+
+/// Why numbers are no parameters.
+#[derive(Clone, Copy, Debug, PartialEq, Eq)]
+pub enum RangeError {
+    /// The first key, in order, whose number is out of its range.
+    OutOfRange(Key),
+    /// Static slots, minislots, symbol window and network idle time don't fill the cycle.
+    CycleSum,
+}
+
+/// The parameters of a cluster, each in its range, which together fill the cycle (chapter 5; the
+/// ranges and the sum are own profile).
+#[derive(Clone, Copy, Debug, PartialEq, Eq)]
+pub struct Params {
+    /// The number of static slots.
+    pub static_slots: u16,
+    /// The number of minislots of the dynamic segment.
+    pub minislots: u16,
+    /// The payload of a static frame, in words of two bytes.
+    pub static_words: u16,
+    /// The length of a static slot, in macroticks.
+    pub static_mt: u16,
+    /// The length of a minislot, in macroticks.
+    pub minislot_mt: u16,
+    /// The length of the symbol window, in macroticks.
+    pub symbol_mt: u16,
+    /// The length of the network idle time, in macroticks.
+    pub nit_mt: u16,
+    /// The length of the cycle, in macroticks.
+    pub cycle_mt: u16,
+    /// The minislots that stay idle behind a dynamic transmission.
+    pub idle: u16,
+    /// How many words of two bytes a minislot carries.
+    pub words_per_minislot: u16,
+}
+
+impl Model for Params {
+    ghost use Rattle.fr_slots.specs.Parameters.{Parameters};
+
+    ghost Value = { Parameters };
+
+    ghost use Rattle.fr_slots.specs.ParameterFields.{parameters_in, fields_of, AreParameters};
+
+    ghost view = { parameters_in };
+
+    ghost invariant = { AreParameters };
+
+    ghost inverse = { fields_of };
+}
+
+/// The number under the key, where the key admits it.
+#[tactic(auto, unfolding(crate::specs::Parameters::number_at))]
+fn number_at(key: Key, number: i64) -> Result<u16, RangeError>
+    ensures value { result ≡ number_at key number }
+    ensures within { IfOk result (λ n. IsWithin key n) }
+{
+    if key.admits(number) {
+        Ok(number as u16)
+    } else {
+        Err(RangeError::OutOfRange(key))
+    }
+}
+
+/// The numbers under the first five keys.
+#[tactic(auto, unfolding(crate::specs::Parameters::first_five))]
+fn first_five(numbers: &[i64; 10]) -> Result<(u16, u16, u16, u16, u16), RangeError>
+    ensures value { result ≡ first_five numbers.now }
+    ensures within { IfOk result AreFirst }
+{
+    let static_slots = number_at(Key::StaticSlots, numbers[0])?;
+    let minislots = number_at(Key::Minislots, numbers[1])?;
+    let static_words = number_at(Key::StaticWords, numbers[2])?;
+    let static_mt = number_at(Key::StaticMt, numbers[3])?;
+    let minislot_mt = number_at(Key::MinislotMt, numbers[4])?;
+    Ok((
+        static_slots,
+        minislots,
+        static_words,
+        static_mt,
+        minislot_mt,
+    ))
+}
+
+/// The numbers under the last five keys.
+#[tactic(auto, unfolding(crate::specs::Parameters::last_five))]
+fn last_five(numbers: &[i64; 10]) -> Result<(u16, u16, u16, u16, u16), RangeError>
+    ensures value { result ≡ last_five numbers.now }
+    ensures within { IfOk result AreLast }
+{
+    let symbol_mt = number_at(Key::SymbolMt, numbers[5])?;
+    let nit_mt = number_at(Key::NitMt, numbers[6])?;
+    let cycle_mt = number_at(Key::CycleMt, numbers[7])?;
+    let idle = number_at(Key::Idle, numbers[8])?;
+    let words_per_minislot = number_at(Key::WordsPerMinislot, numbers[9])?;
+    Ok((symbol_mt, nit_mt, cycle_mt, idle, words_per_minislot))
+}
+
+impl Params {
+    ghost use Rattle.fr_slots.specs.Parameters.{Parameters, parameters_of, IsParameters};
+
+    /// The parameters that these numbers are, in the order of `Key`.
+    ///
+    /// Refused with `OutOfRange` and the first key whose number is out of range, and then with
+    /// `CycleSum` where `static_slots * static_mt + minislots * minislot_mt + symbol_mt + nit_mt`
+    /// isn't `cycle_mt` (own profile).
+    #[tactic(auto, unfolding(crate::specs::Parameters::parameters_of))]
+    pub fn new(numbers: [i64; 10]) -> Result<Params, RangeError>
+        ensures { result ≡ parameters_of numbers }
+    {
+        let (static_slots, minislots, static_words, static_mt, minislot_mt) = first_five(&numbers)?;
+        let (symbol_mt, nit_mt, cycle_mt, idle, words_per_minislot) = last_five(&numbers)?;
+        let filled = u32::from(static_slots) * u32::from(static_mt)
+            + u32::from(minislots) * u32::from(minislot_mt)
+            + u32::from(symbol_mt)
+            + u32::from(nit_mt);
+        if filled != u32::from(cycle_mt) {
+            return Err(RangeError::CycleSum);
+        }
+        Ok(Params {
+            static_slots,
+            minislots,
+            static_words,
+            static_mt,
+            minislot_mt,
+            symbol_mt,
+            nit_mt,
+            cycle_mt,
+            idle,
+            words_per_minislot,
+        })
+    }
+
+    /// The same parameters once more.
+    pub fn duplicate(&self) -> Params
+        ensures value { result ≡ self.now }
+        ensures lawful { IsParameters self.now }
+    {
+        let _ = &self.static_slots;
+        *self
+    }
+}

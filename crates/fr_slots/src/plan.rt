@@ -1,0 +1,246 @@
+//! The plan of a node: what it owns, its buffers and its queue.
+
+ghost use Rattle.std.specs.Prelude.{◌≡◌, ◌≤◌, length};
+ghost use Rattle.std.specs.Result.{result_err};
+ghost use Rattle.fr_slots.specs.Plans.{buffer_fits, IsBuffer};
+
+use crate::channel::Channels;
+use crate::filter::{CycleFilter, Filter};
+use crate::numbers::SlotId;
+use arrayvec::ArrayVec;
+use std::marker::Model;
+
+/// The most ownership lines, and the most buffers, of a node (own profile).
+pub const LINES: usize = 64;
+
+/// A static slot that a node owns, in every cycle (chapter 5).
+#[derive(Clone, Copy, Debug, Default, PartialEq, Eq)]
+pub struct Own {
+    /// The slot, 1 to 1023.
+    pub slot: SlotId,
+    pub channels: Channels,
+    /// The node's frames there carry the sync frame indicator.
+    pub sync: bool,
+    /// They carry the startup frame indicator too, which only sync frames do.
+    pub startup: bool,
+}
+
+/// What a buffer does (chapter 9; the names are own profile).
+#[derive(Clone, Copy, Debug, Default, PartialEq, Eq)]
+pub enum Mode {
+    /// Sends each commit at most once.
+    Event,
+    /// Sends the last commit at each admitted slot.
+    State,
+    /// Keeps the last valid data frame of an admitted slot.
+    #[default]
+    Receive,
+}
+
+/// A buffer of a node.
+#[derive(Clone, Copy, Debug, Default, PartialEq, Eq)]
+pub struct Buffer {
+    pub mode: Mode,
+    pub filter: Filter,
+    /// The payload of a dynamic transmit buffer in words of two bytes, 0 to 127. A static one has the
+    /// cluster's, and a receive buffer none.
+    pub words: Option<u8>,
+    /// The payload preamble indicator of what is sent.
+    pub preamble: bool,
+}
+
+/// The receive queue of a node (own profile).
+#[derive(Clone, Copy, Debug, PartialEq, Eq)]
+pub struct Queue {
+    /// How many frames it holds, 1 to 256.
+    pub capacity: u16,
+    /// The first slot of its range.
+    pub first: SlotId,
+    /// The last slot of its range, not below the first.
+    pub last: SlotId,
+    pub channels: Channels,
+    pub cycles: CycleFilter,
+}
+
+/// Why a plan or a line of it is refused.
+#[derive(Clone, Copy, Debug, PartialEq, Eq)]
+pub enum PlanError {
+    /// A number is out of its range.
+    OutOfRange,
+    /// There is no room for a further line.
+    TooMany,
+}
+
+/// The plan of a node. It takes no memory.
+#[derive(Drop, Debug)]
+pub struct NodePlan {
+    tasks: u8,
+    latest: [u16; 2],
+    host_entries: u16,
+    slot_entries: u32,
+    owned: ArrayVec<Own, LINES>,
+    buffers: ArrayVec<Buffer, LINES>,
+    queue: Option<Queue>,
+}
+
+impl Model for NodePlan {
+    ghost use Rattle.fr_slots.specs.Plans.{Plan};
+
+    ghost Value = { Plan };
+
+    ghost use Rattle.fr_slots.specs.PlanFields.{plan_in, IsLawful};
+
+    ghost view = { plan_in };
+
+    ghost invariant = { IsLawful };
+}
+
+impl NodePlan {
+    ghost use Rattle.std.specs.Prelude.{◌≡◌, IfOk, OnOk, OnErr, ◌==◌, slice_index};
+    ghost use Rattle.fr_slots.specs.Plans.{IsPlan, plan_of, buffer_refusal, with_buffer};
+
+    /// A plan with no lines yet.
+    ///
+    /// `latest` is the last minislot, counted from 1, at which the node begins a dynamic transmission, on
+    /// channel A and on B, 0 to 8000, where 0 lets it begin none (chapter 5; a value for each channel is
+    /// own profile). `tasks` is the number of host tasks, 0 to 8, and `host_entries` and `slot_entries`
+    /// are the room of its journal, 1 to 16384 and 2 to 65536 (own profile). Refused with `OutOfRange`
+    /// where one of these is out of its range.
+    pub fn new(
+        tasks: u8,
+        latest: [u16; 2],
+        host_entries: u16,
+        slot_entries: u32,
+    ) -> Result<NodePlan, PlanError>
+        ensures { result ≡ plan_of tasks (slice_index latest 0) (slice_index latest 1) host_entries slot_entries }
+    {
+        let [latest_a, latest_b] = latest;
+        if tasks > 8 || latest_a > 8000 || latest_b > 8000 {
+            return Err(PlanError::OutOfRange);
+        }
+        if host_entries < 1 || host_entries > 16384 || slot_entries < 2 || slot_entries > 65536 {
+            return Err(PlanError::OutOfRange);
+        }
+        Ok(NodePlan {
+            tasks,
+            latest,
+            host_entries,
+            slot_entries,
+            owned: ArrayVec::new(),
+            buffers: ArrayVec::new(),
+            queue: None,
+        })
+    }
+
+    /// Adds a buffer behind those that are there; buffers are numbered from 0 in this order.
+    ///
+    /// Refused with `OutOfRange` for more than 127 words and for a receive buffer with words or with the
+    /// preamble, and then with `TooMany` for the 65th buffer; the plan is then unchanged.
+    pub fn add_buffer(&mut self, buffer: Buffer) -> Result<(), PlanError>
+        ensures refusal { result_err result ≡ buffer_refusal self.old buffer }
+        ensures accepted { OnOk result (self.new ≡ with_buffer self.old buffer) }
+        ensures refused { OnErr result (self.new ≡ self.old) }
+    {
+        if !fits(&buffer) {
+            return Err(PlanError::OutOfRange);
+        }
+        if self.buffers.is_full() {
+            return Err(PlanError::TooMany);
+        }
+        self.buffers.push(buffer);
+        Ok(())
+    }
+
+    /// Another plan of the same content.
+    pub fn duplicate(&self) -> NodePlan
+        ensures { result ≡ self.now }
+    {
+        NodePlan {
+            tasks: self.tasks,
+            latest: self.latest,
+            host_entries: self.host_entries,
+            slot_entries: self.slot_entries,
+            owned: collected(self.owned.as_slice()),
+            buffers: collected(self.buffers.as_slice()),
+            queue: self.queue,
+        }
+    }
+
+    /// The number of host tasks, 0 to 8.
+    pub fn tasks(&self) -> u8
+        ensures value { result ≡ self.now.tasks }
+        ensures lawful { IsPlan self.now }
+    {
+        self.tasks
+    }
+
+    /// The host entries that a journal of the node has room for, 1 to 16384.
+    pub fn host_entries(&self) -> u16
+        ensures value { result ≡ self.now.host_entries }
+        ensures lawful { IsPlan self.now }
+    {
+        self.host_entries
+    }
+
+    /// The slot entries that a journal of the node has room for, 2 to 65536.
+    pub fn slot_entries(&self) -> u32
+        ensures value { result ≡ self.now.slot_entries }
+        ensures lawful { IsPlan self.now }
+    {
+        self.slot_entries
+    }
+
+    /// The buffers in order of their numbers.
+    pub fn buffers(&self) -> &[Buffer]
+        ensures value { result.now ≡ self.now.buffers }
+        ensures lawful { IsPlan self.now }
+    {
+        self.buffers.as_slice()
+    }
+
+    /// The ownership lines, in the order in which they were added.
+    pub fn owned(&self) -> &[Own]
+        ensures value { result.now ≡ self.now.owned }
+        ensures lawful { IsPlan self.now }
+    {
+        self.owned.as_slice()
+    }
+
+    /// The receive queue, where the node has one.
+    pub fn queue(&self) -> Option<Queue>
+        ensures value { result ≡ self.now.queue }
+        ensures lawful { IsPlan self.now }
+    {
+        self.queue
+    }
+}
+
+/// These lines, in an array.
+fn collected<T: Copy + Default + Drop, const N: usize>(lines: &[T]) -> ArrayVec<T, N>
+    requires { length lines.now ≤ N }
+    ensures { result.items ≡ lines.now }
+{
+    let mut kept = ArrayVec::new();
+    let outcome = kept.try_extend_from_slice(lines);
+    let fits = outcome.is_ok();
+    prove!(fits);
+    kept
+}
+
+/// Whether a buffer is in range by itself.
+fn fits(buffer: &Buffer) -> bool
+    ensures value { result ≡ buffer_fits buffer.now }
+    ensures ranges { IsBuffer buffer.now }
+{
+    let _slot = buffer.filter.slot.number();
+    let _base = buffer.filter.cycles.base();
+    let few_words = match buffer.words {
+        Some(words) => words <= 127,
+        None => true,
+    };
+    let is_receive = match buffer.mode {
+        Mode::Receive => true,
+        Mode::Event | Mode::State => false,
+    };
+    few_words && (!is_receive || !(buffer.words.is_some() || buffer.preamble))
+}

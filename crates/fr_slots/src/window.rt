@@ -1,0 +1,95 @@
+//! Windows: the opportunities to send.
+
+ghost use Rattle.std.specs.Prelude.{◌≡◌};
+
+use crate::channel::Channel;
+use crate::numbers::{Cycle, SlotId};
+use std::marker::Model;
+
+/// One opportunity to send: a static slot, or a minislot at which a channel opens a slot (own
+/// profile).
+#[derive(Clone, Copy, Debug, PartialEq, Eq)]
+pub struct Window {
+    /// The window's number in its run, from 0.
+    pub number: u32,
+    pub cycle: Cycle,
+    /// The minislot at which it opens, 1 to 8000, or 0 for a static slot.
+    pub minislot: u16,
+    /// The slot that channel A opens, if any.
+    pub a: Option<SlotId>,
+    /// The slot that channel B opens, if any.
+    pub b: Option<SlotId>,
+}
+
+impl Model for Window {
+    ghost use Rattle.fr_slots.specs.Windows.{Opportunity, IsOpportunity};
+
+    ghost Value = { Opportunity };
+
+    ghost view = { λ w. record { number = w.number; cycle = w.cycle; minislot = w.minislot; a = w.a; b = w.b } };
+
+    ghost invariant = { λ w. IsOpportunity (record { number = w.number; cycle = w.cycle; minislot = w.minislot; a = w.a; b = w.b }) };
+
+    ghost inverse = { λ w. record { number = w.number; cycle = w.cycle; minislot = w.minislot; a = w.a; b = w.b } };
+}
+
+impl Window {
+    ghost use Rattle.std.specs.Prelude.{◌≡◌, ◌==◌};
+    ghost use Rattle.fr_slots.specs.Windows.{static_window, dynamic_window, slot_of, is_static};
+
+    /// The window of a static slot, which both channels open together (chapter 5).
+    pub fn fixed(number: u32, cycle: Cycle, slot: SlotId) -> Window
+        ensures { result ≡ static_window number cycle slot }
+    {
+        Window {
+            number,
+            cycle,
+            minislot: 0,
+            a: Some(slot),
+            b: Some(slot),
+        }
+    }
+
+    /// The window of a minislot, counted from 1, at which one channel or both open a slot (own
+    /// profile).
+    ///
+    /// None for minislot 0 or above 8000, and where neither channel has a slot.
+    pub fn dynamic(
+        number: u32,
+        cycle: Cycle,
+        minislot: u16,
+        a: Option<SlotId>,
+        b: Option<SlotId>,
+    ) -> Option<Window>
+        ensures { result ≡ dynamic_window number cycle minislot a b }
+    {
+        if 1 <= minislot && minislot <= 8000 && (a.is_some() || b.is_some()) {
+            Some(Window {
+                number,
+                cycle,
+                minislot,
+                a,
+                b,
+            })
+        } else {
+            None
+        }
+    }
+
+    /// The slot that the channel opens, if any.
+    pub fn slot(&self, channel: Channel) -> Option<SlotId>
+        ensures { result ≡ slot_of self.now channel }
+    {
+        match channel {
+            Channel::A => self.a,
+            Channel::B => self.b,
+        }
+    }
+
+    /// Whether this is the window of a static slot.
+    pub fn is_static(&self) -> bool
+        ensures { result ≡ is_static self.now }
+    {
+        self.minislot == 0
+    }
+}

@@ -1,0 +1,83 @@
+-- The status of a slot on a channel (chapter 6). Which bit a thing seen gives is own profile.
+use Rattle.std.specs.Prelude.{ℕ, ◌+◌, ◌*◌, ◌==◌, nat_le, Bool, true, false, not, ◌&&◌, ◌||◌, length, Option, Some, None, if◌then◌else◌}
+use Rattle.fr_slots.specs.declared.channel.Channel.{Channel}
+use Rattle.fr_slots.specs.Parameters.{Parameters}
+use Rattle.fr_frame.specs.Decoding.{decoded}
+use Rattle.fr_frame.specs.Fields.{Fields}
+use Rattle.fr_status.specs.declared.seen.Seen.{Seen}
+use Rattle.fr_status.specs.declared.seen.Seen.TheVariants.{Silence, Own, Conflict, Noise, Overrun, Bytes}
+use Rattle.fr_status.specs.declared.status.SlotStatus.{SlotStatus}
+
+-- ---- the five bits, each alone
+
+abbrev pub no_bit : SlotStatus
+no_bit = record { valid = false; syntax = false; content = false; boundary = false; conflict = false }
+
+abbrev pub valid_frame : SlotStatus
+valid_frame = record no_bit { valid = true }
+
+abbrev pub syntax_error : SlotStatus
+syntax_error = record no_bit { syntax = true }
+
+abbrev pub content_error : SlotStatus
+content_error = record no_bit { content = true }
+
+abbrev pub boundary_violation : SlotStatus
+boundary_violation = record no_bit { boundary = true }
+
+abbrev pub transmission_conflict : SlotStatus
+transmission_conflict = record no_bit { conflict = true }
+
+-- how many bits are set
+abbrev pub bits_set : SlotStatus → ℕ
+bits_set s = count s.valid + count s.syntax + count s.content + count s.boundary + count s.conflict
+  where
+    count : Bool → ℕ
+    count bit = if bit then 1 else 0
+
+-- ---- the content checks
+
+-- A frame that is right for a static slot: the payload length of all static frames, in words of two bytes, the slot as
+-- frame ID, the cycle as cycle count, and a startup frame is a sync frame.
+abbrev pub fits_static_slot : Parameters → ℕ → ℕ → Fields → Bool
+fits_static_slot params cycle slot f =
+    length f.payload == 2 * params.static_words && f.id == slot && f.cycle == cycle && (f.sync || not f.startup)
+
+-- A frame that is right for a dynamic slot: the slot as frame ID, the cycle as cycle count, neither a sync frame nor a
+-- startup frame, and no null frame.
+abbrev pub fits_dynamic_slot : ℕ → ℕ → Fields → Bool
+fits_dynamic_slot cycle slot f = f.id == slot && f.cycle == cycle && not f.sync && not f.startup && f.has_data
+
+-- the slots up to `static_slots` are static
+abbrev pub passes : Parameters → ℕ → ℕ → Fields → Bool
+passes params cycle slot f =
+    if nat_le slot params.static_slots then fits_static_slot params cycle slot f else fits_dynamic_slot cycle slot f
+
+-- ---- the table
+
+-- of what bytes decode to
+abbrev pub judged : Parameters → ℕ → ℕ → Option Fields → SlotStatus
+judged params cycle slot None = syntax_error
+judged params cycle slot (Some f) = if passes params cycle slot f then valid_frame else content_error
+
+abbrev pub passed : Parameters → ℕ → ℕ → Option Fields → Option Fields
+passed params cycle slot None = None
+passed params cycle slot (Some f) = if passes params cycle slot f then Some f else None
+
+-- The status of a slot of a cycle on a channel where this was seen.
+unfoldable pub status_in : Parameters → ℕ → ℕ → Channel → Seen → SlotStatus
+status_in params cycle slot channel Silence = no_bit
+status_in params cycle slot channel Own = no_bit
+status_in params cycle slot channel Conflict = transmission_conflict
+status_in params cycle slot channel Noise = syntax_error
+status_in params cycle slot channel Overrun = boundary_violation
+status_in params cycle slot channel (Bytes bytes) = judged params cycle slot (decoded channel bytes.items)
+
+-- The frame that came there, if a valid one did.
+unfoldable pub frame_in : Parameters → ℕ → ℕ → Channel → Seen → Option Fields
+frame_in params cycle slot channel Silence = None
+frame_in params cycle slot channel Own = None
+frame_in params cycle slot channel Conflict = None
+frame_in params cycle slot channel Noise = None
+frame_in params cycle slot channel Overrun = None
+frame_in params cycle slot channel (Bytes bytes) = passed params cycle slot (decoded channel bytes.items)

@@ -1,0 +1,131 @@
+//! The status of a slot on a channel, made from what was seen there.
+
+ghost use Rattle.std.specs.Prelude.{◌≡◌, ◌≤◌};
+ghost use Rattle.std.specs.Option.{is_some};
+ghost use Rattle.fr_status.specs.Status.{frame_in, status_in, bits_set, passes, fits_static_slot, fits_dynamic_slot};
+
+use crate::seen::Seen;
+use fr_frame::decode::decode;
+use fr_frame::frame::Frame;
+use fr_slots::channel::Channel;
+use fr_slots::numbers::{Cycle, SlotId};
+use fr_slots::params::Params;
+
+/// The status of a slot on a channel: five bits (chapter 6), of which at most one is set (own
+/// profile).
+#[derive(Clone, Copy, Debug, PartialEq, Eq)]
+pub struct SlotStatus {
+    /// A frame that is right for the slot came, be it a data frame or a null frame.
+    pub valid: bool,
+    /// What came is no frame.
+    pub syntax: bool,
+    /// A frame came that isn't right for the slot.
+    pub content: bool,
+    /// A transmission was too long for its static slot or for the rest of the dynamic segment.
+    pub boundary: bool,
+    /// The node's own transmission met another one.
+    pub conflict: bool,
+}
+
+const NO_BIT: SlotStatus = SlotStatus {
+    valid: false,
+    syntax: false,
+    content: false,
+    boundary: false,
+    conflict: false,
+};
+
+const VALID_FRAME: SlotStatus = SlotStatus {
+    valid: true,
+    ..NO_BIT
+};
+
+const SYNTAX_ERROR: SlotStatus = SlotStatus {
+    syntax: true,
+    ..NO_BIT
+};
+
+const CONTENT_ERROR: SlotStatus = SlotStatus {
+    content: true,
+    ..NO_BIT
+};
+
+const BOUNDARY_VIOLATION: SlotStatus = SlotStatus {
+    boundary: true,
+    ..NO_BIT
+};
+
+const TRANSMISSION_CONFLICT: SlotStatus = SlotStatus {
+    conflict: true,
+    ..NO_BIT
+};
+
+/// The status of a slot of a cycle on a channel where this was seen, and the frame, which is given
+/// exactly if the status is valid (chapter 6; which bit a thing seen gives is own profile).
+///
+/// Bytes that are no frame on this channel are a syntax error. A frame is a content error unless
+/// it has the slot's frame ID and the cycle's count, and in a static slot the payload length of
+/// all static frames, and no startup indicator without the sync indicator; in a dynamic slot
+/// neither of these indicators, and valid data.
+#[tactic(auto, unfolding(crate::specs::Status::status_in, crate::specs::Status::frame_in))]
+pub fn status_of(
+    params: &Params,
+    cycle: Cycle,
+    slot: SlotId,
+    channel: Channel,
+    seen: &Seen,
+) -> (SlotStatus, Option<Frame>)
+    ensures status { result.0 ≡ status_in params.now cycle slot channel seen.now }
+    ensures frame { result.1 ≡ frame_in params.now cycle slot channel seen.now }
+    ensures only_if_valid { result.0.valid ≡ is_some result.1 }
+    ensures at_most_one { bits_set result.0 ≤ 1 }
+{
+    match seen {
+        Seen::Silence | Seen::Own => (NO_BIT, None),
+        Seen::Conflict => (TRANSMISSION_CONFLICT, None),
+        Seen::Noise => (SYNTAX_ERROR, None),
+        Seen::Overrun => (BOUNDARY_VIOLATION, None),
+        Seen::Bytes(bytes) => match decode(bytes.as_slice(), channel) {
+            Ok(frame) => {
+                if passes(params, cycle, slot, &frame) {
+                    (VALID_FRAME, Some(frame))
+                } else {
+                    (CONTENT_ERROR, None)
+                }
+            }
+            Err(_) => (SYNTAX_ERROR, None),
+        },
+    }
+}
+
+/// Whether the frame is right for the slot.
+fn passes(params: &Params, cycle: Cycle, slot: SlotId, frame: &Frame) -> bool
+    ensures { result ≡ passes params.now cycle slot frame.now }
+{
+    if slot.number() <= params.static_slots {
+        fits_static_slot(params, cycle, slot, frame)
+    } else {
+        fits_dynamic_slot(cycle, slot, frame)
+    }
+}
+
+/// Whether the frame is right for a static slot.
+fn fits_static_slot(params: &Params, cycle: Cycle, slot: SlotId, frame: &Frame) -> bool
+    ensures { result ≡ fits_static_slot params.now cycle slot frame.now }
+{
+    frame.payload.as_slice().len() == 2 * usize::from(params.static_words)
+        && frame.id == slot.number()
+        && frame.cycle == cycle
+        && (frame.sync || !frame.startup)
+}
+
+/// Whether the frame is right for a dynamic slot.
+fn fits_dynamic_slot(cycle: Cycle, slot: SlotId, frame: &Frame) -> bool
+    ensures { result ≡ fits_dynamic_slot cycle slot frame.now }
+{
+    frame.id == slot.number()
+        && frame.cycle == cycle
+        && !frame.sync
+        && !frame.startup
+        && frame.has_data
+}

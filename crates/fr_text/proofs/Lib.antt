@@ -1,0 +1,6 @@
+pub mod BindLemmas
+pub mod WordLemmas
+pub mod NumberLemmas
+pub mod HexTextLemmas
+pub mod PlainLemmas
+pub mod LineLemmas

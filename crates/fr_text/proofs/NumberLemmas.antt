@@ -1,0 +1,118 @@
+-- A word is the decimal text of at most one number, and `parse` finds it.
+use Rattle.std.proofs.Common.{◌≡◌, ◌≢◌, ℕ, ◌<◌, ◌≤◌, ◌^◌, ◌&&◌, inl, inr, true, false, List, [], ◌∷◌, length, get_or, Some, None, Result, Ok, Err, refl, sym, ap, ◌∙◌, arith, ltb, leb}
+use Rattle.std.proofs.lemmas.Bool.{and_parts, cases_Bool, cases_lt, ltb-true, lt-ltb, le-leb}
+use Rattle.std.proofs.lemmas.Fmt.{parse-decimal, decimal-digits_value, first_decimal, decimal_digit, digits_decimal, digits_value-decimal, IsAscii-decimal, decimal_nonempty}
+use Rattle.std.proofs.lemmas.Str.{IsUtf8-from_ascii}
+use Rattle.std.proofs.lemmas.Str.Parse.{IsNumeralModel, numerals_by_value, tells_digits, parse_plain, digit_at}
+use Rattle.std.proofs.lemmas.Slice.Eq.{bytes_eq-Decides}
+use Rattle.std.proofs.lemmas.Result.{OkIff-at_ok}
+use Rattle.std.specs.Fmt.{decimal}
+use Rattle.std.specs.Str.{IsUtf8, bytes_eq}
+use Rattle.std.specs.Str.Parse.{AllDigits, digits_value, ParsesUnsigned}
+use Rattle.fr_text.specs.Reading.{number_in}
+
+pub own : IsNumeralModel (AllDigits 10) (digits_value 10)
+own = numerals_by_value (AllDigits 10) tells_digits
+
+-- no number below the bound is spelled so
+pub number_none : (bound : ℕ) (word : List ℕ) → ((n : ℕ) → n < bound → decimal n ≡ word → ⊥) → number_in bound word ≡ None
+unfolding number_in
+number_none bound word none =
+    let n = digits_value 10 word in
+    elim (cases_Bool (bytes_eq (decimal n) word && ltb n bound)) [
+      | inl pass ↦
+          let parts = and_parts (bytes_eq (decimal n) word) (ltb n bound) pass in
+          absurd (none n (ltb-true n bound parts.1) ((bytes_eq-Decides (decimal n) word).0 parts.0))
+      | inr fail ↦ rw fail refl
+    ]
+
+-- this number is spelled so
+pub number_some : (bound : ℕ) (word : List ℕ) (n : ℕ) → n < 2 ^ 64 → n < bound → decimal n ≡ word → number_in bound word ≡ Some n
+unfolding number_in
+number_some bound word n small below same =
+    let value : digits_value 10 word ≡ n = rw (← same) (digits_value-decimal own n small) in
+    rw (value, (bytes_eq-Decides (decimal n) word).1 same, lt-ltb n bound below) refl
+
+-- what is read is spelled so
+pub number_takes : (bound : ℕ) (word : List ℕ) (n : ℕ) → number_in bound word ≡ Some n → (decimal n ≡ word) × (n < bound)
+unfolding number_in
+number_takes bound word n read =
+    let v = digits_value 10 word in
+    elim (cases_Bool (bytes_eq (decimal v) word && ltb v bound)) [
+      | inl pass ↦
+          let parts = and_parts (bytes_eq (decimal v) word) (ltb v bound) pass in
+          let is : v ≡ n = cc (rw pass at read) in
+          rw (← is) ((bytes_eq-Decides (decimal v) word).0 parts.0, ltb-true v bound parts.1)
+      | inr fail ↦ cc (rw fail at read)
+    ]
+
+-- what is spelled so is read
+pub number_again : (bound n : ℕ) → n < bound → bound ≤ 2 ^ 64 → number_in bound (decimal n) ≡ Some n
+number_again bound n below small = number_some bound (decimal n) n (omega arith) below refl
+
+-- a word that begins with another byte than a digit is no number's; the premise is `refl` at a literal
+pub decimal_other : (n : ℕ) (word : List ℕ) → n < 2 ^ 64 → (leb 48 (get_or word 0 0) && leb (get_or word 0 0) 57) ≡ false → bytes_eq (decimal n) word ≡ false
+decimal_other n word small other =
+    elim (cases_Bool (bytes_eq (decimal n) word)) [
+      | inl same ↦
+          let is : decimal n ≡ word = (bytes_eq-Decides (decimal n) word).0 same in
+          let first = digit_at (decimal n) 0 (digits_decimal own n small) (decimal_nonempty n small) in
+          let low : leb 48 (get_or word 0 0) ≡ true = le-leb 48 (get_or word 0 0) (rw is at first.0) in
+          let high : leb (get_or word 0 0) 57 ≡ true = le-leb (get_or word 0 0) 57 (rw is at first.1) in
+          cc (rw (low, high) at other)
+      | inr differ ↦ differ
+    ]
+
+-- ---- what `number_of` finds
+
+-- a decimal text is text
+pub not_text : (bound : ℕ) (word : List ℕ) → bound ≤ 2 ^ 64 → (IsUtf8 word → ⊥) → number_in bound word ≡ None
+not_text bound word small bad =
+    number_none bound word (λ n below same. bad (rw (← same) (IsUtf8-from_ascii (decimal n) (IsAscii-decimal n (omega arith)))))
+
+-- what `parse` refuses is no decimal text
+pub not_parsed : {E : Type 0} (bound : ℕ) (word : List ℕ) (r : Result ℕ E) (e : E) → bound ≤ 2 ^ 64 → ParsesUnsigned 64 10 word r → r ≡ Err e → number_in bound word ≡ None
+not_parsed bound word r e small parses refused =
+    number_none bound word (λ n below same. cc (parse-decimal 64 n word r (omega arith) (omega arith) (sym same) parses, refused))
+
+-- a decimal text begins with a digit
+pub not_sign : (bound : ℕ) (word : List ℕ) → bound ≤ 2 ^ 64 → get_or word 0 0 ≡ 43 → number_in bound word ≡ None
+not_sign bound word small sign =
+    number_none bound word (λ n below same.
+    let lt : n < 2 ^ 64 = omega arith in
+    let first = digit_at (decimal n) 0 (digits_decimal own n lt) (decimal_nonempty n lt) in
+    let plus : get_or (decimal n) 0 0 ≡ 43 = rw same sign in
+    omega arith)
+
+-- and not with a 0 before another
+pub not_padded : (bound : ℕ) (word : List ℕ) → bound ≤ 2 ^ 64 → get_or word 0 0 ≡ 48 → 1 < length word → number_in bound word ≡ None
+not_padded bound word small zero_first long =
+    number_none bound word (λ n below same.
+    let lt : n < 2 ^ 64 = omega arith in
+    let first : get_or (decimal n) 0 0 ≡ 48 = rw same zero_first in
+    elim (cases_lt 0 n) [
+      | inl some ↦ let high = first_decimal n some lt in omega arith
+      | inr none ↦
+          let is : n ≡ 0 = omega arith in
+          let one : decimal n ≡ 48 ∷ [] = rw is (decimal_digit 0 (omega arith)) in
+          let len : length word ≡ 1 = ap length (sym same ∙ one) in
+          omega arith
+    ])
+
+-- a number from the bound on
+pub not_below : {E : Type 0} (bound : ℕ) (word : List ℕ) (r : Result ℕ E) (n : ℕ) → bound ≤ 2 ^ 64 → ParsesUnsigned 64 10 word r → r ≡ Ok n → bound ≤ n → number_in bound word ≡ None
+not_below bound word r n small parses read high =
+    number_none bound word (λ m below same.
+    let is : Ok n ≡ Ok m = sym read ∙ parse-decimal 64 m word r (omega arith) (omega arith) (sym same) parses in
+    let same_number : n ≡ m = cc is in
+    omega arith)
+
+-- what `parse` reads, with no sign and no 0 before it
+pub parsed : {E : Type 0} (bound : ℕ) (word : List ℕ) (r : Result ℕ E) (n : ℕ) → ParsesUnsigned 64 10 word r → r ≡ Ok n → get_or word 0 0 ≢ 43
+    → (get_or word 0 0 ≡ 48 → length word ≤ 1) → n < bound → number_in bound word ≡ Some n
+parsed bound word r n parses read sign padded below =
+    let facts = OkIff-at_ok r _ _ n (parse_plain own 64 word r parses sign) read in
+    let value : n ≡ digits_value 10 word = facts.1 in
+    let text = facts.0 in
+    let canonical : decimal (digits_value 10 word) ≡ word = decimal-digits_value own word text.0 text.1 (λ z. let le = padded z in let some = text.1 in omega arith) text.2 in
+    number_some bound word n (rw value text.2) below (rw value canonical)

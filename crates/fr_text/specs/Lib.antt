@@ -1,0 +1,5 @@
+pub mod Spelling
+pub mod Reading
+pub mod Spaces
+pub mod Words
+pub mod Plain

@@ -1,0 +1,67 @@
+//! The words of a line.
+ghost use Rattle.std.specs.Prelude.{◌≡◌};
+ghost use Rattle.std.specs.List.{position};
+ghost use Rattle.fr_text.specs.Spaces.{is_space};
+
+use std::marker::Model;
+
+/// The words that a line has left. The line is cut at each space, so an empty line has one word, the empty one, and a
+/// word is empty where a space stands beside another or at an end of the line.
+#[derive(Drop)]
+pub struct Words<'a> {
+    rest: &'a [u8],
+    done: bool,
+}
+
+impl<'a> Model for Words<'a> {
+    ghost use Rattle.std.specs.Prelude.{List, ℕ};
+
+    ghost Value = { List (List ℕ) };
+
+    ghost use Rattle.fr_text.specs.Words.{left_of};
+
+    ghost view = { left_of };
+}
+
+impl<'a> Words<'a> {
+    ghost use Rattle.std.specs.Prelude.{◌≡◌, ◌∷◌, [], ◌++◌, option_to_list, option_copied, IfNone};
+    ghost use Rattle.fr_text.specs.Spaces.{words_of};
+
+    /// The words of a line, which is given without its line feed.
+    pub fn new(line: &'a [u8]) -> Words<'a>
+        ensures { result ≡ words_of line.entry.now }
+    {
+        Words {
+            rest: line,
+            done: false,
+        }
+    }
+
+    /// Takes the next word, from left to right. `None` comes when all words are taken, and from then on.
+    pub fn next_word(&mut self) -> Option<&'a [u8]>
+        ensures words { self.old ≡ option_to_list (option_copied result) ++ self.new }
+        ensures end { IfNone result (self.old ≡ []) }
+    {
+        if self.done {
+            return None;
+        }
+        let rest = self.rest;
+        match space_in(rest) {
+            Some(at) => {
+                self.rest = &rest[at + 1..];
+                Some(&rest[..at])
+            }
+            None => {
+                self.done = true;
+                Some(rest)
+            }
+        }
+    }
+}
+
+/// Where the first space stands.
+fn space_in(line: &[u8]) -> Option<usize>
+    ensures { result ≡ position is_space line.now }
+{
+    line.iter().position(|b| *b == b' ')
+}

@@ -1,0 +1,141 @@
+-- The call of an entry that is legal is accepted, and makes that entry again.
+use Rattle.std.proofs.Common.{◌≡◌, ℕ, ◌+◌, ◌*◌, ◌≤◌, ◌<◌, Bool, true, false, not, cond, eqb, leb, ltb, ◌&&◌, List, [], ◌∷◌, length, Option, Some, None, refl, sym, ap, subst, ◌∙◌, arith, option_map, zero, suc}
+use Rattle.std.specs.Prelude.{IfSome, IsSomeAnd, is_some, slice_get, count_by}
+use Rattle.std.specs.Option.{option_and_then}
+use Rattle.std.proofs.lemmas.Bool.{and_parts, eqb-true, eq-eqb, lt-leb, le-ltb}
+use Rattle.fr_interface.specs.declared.entry.Entry.{Entry}
+use Rattle.fr_interface.specs.declared.entry.Entry.TheVariants.{Commit, Read, Pop, Fetch, Observe}
+use Rattle.fr_interface.specs.declared.entry.Offered.{Offered}
+use Rattle.fr_interface.specs.declared.entry.Offered.TheVariants.{Nothing, Null, Data}
+use Rattle.fr_interface.specs.declared.entry.Origin.{Origin}
+use Rattle.fr_interface.specs.Held.{held, origin_of}
+use Rattle.fr_interface.specs.Entries.{is_host, is_slot}
+use Rattle.fr_interface.specs.Legal.{IsLegal, IsLegalRead, IsLegalFetch, IsLegalObserve, buffer_at, window_fits}
+use Rattle.fr_interface.specs.Offers.{offered}
+use Rattle.fr_interface.specs.OpenWindow.{open_window, last_number}
+use Rattle.fr_interface.specs.State.{State, IsReceivePlan, received_by, received_in, read_refusal, unless_receive, fetch_refusal, observe_refusal, unless_open, is_not_above, is_host_full}
+use Rattle.fr_interface.proofs.LegalLemmas.{receives_only}
+use Rattle.fr_slots.specs.declared.channel.Channel.{Channel}
+use Rattle.fr_slots.specs.declared.channel.Channel.TheVariants.{A, B}
+use Rattle.fr_slots.specs.declared.plan.Buffer.{Buffer}
+use Rattle.fr_slots.specs.declared.plan.Queue.{Queue}
+use Rattle.fr_slots.specs.Parameters.{Parameters}
+use Rattle.fr_slots.specs.Plans.{Plan, is_receive}
+use Rattle.fr_slots.specs.Windows.{Opportunity}
+use Rattle.fr_trace.specs.Answers.{same_channel, same_origin, same_offered, same_answer, is_refused, made_by, is_answered, fault_of}
+use Rattle.fr_trace.specs.declared.replay.Fault.{Fault}
+
+-- ---- equal answers
+
+same_channel_is : (made told : Channel) → same_channel made told ≡ true → made ≡ told
+same_channel_is A A h = refl
+same_channel_is A B h = cc h
+same_channel_is B A h = cc h
+same_channel_is B B h = refl
+
+channel_again : (c : Channel) → same_channel c c ≡ true
+channel_again A = refl
+channel_again B = refl
+
+same_origin_is : (made told : Option Origin) → same_origin made told ≡ true → made ≡ told
+same_origin_is None None h = refl
+same_origin_is None (Some told) h = cc h
+same_origin_is (Some made) None h = cc h
+same_origin_is (Some made) (Some told) h =
+    let parts = and_parts (eqb made.entry told.entry) (same_channel made.channel told.channel) h in
+    let entry : made.entry ≡ told.entry = eqb-true made.entry told.entry parts.0 in
+    let channel : made.channel ≡ told.channel = same_channel_is made.channel told.channel parts.1 in
+    λ i. Some (record { entry = entry i; channel = channel i })
+
+origin_again : (o : Option Origin) → same_origin o o ≡ true
+origin_again None = refl
+origin_again (Some o) = rw (eq-eqb o.entry o.entry refl, channel_again o.channel) refl
+
+same_offered_is : (made told : Offered) → same_offered made told ≡ true → made ≡ told
+same_offered_is Nothing Nothing h = refl
+same_offered_is Nothing Null h = cc h
+same_offered_is Nothing (Data told) h = cc h
+same_offered_is Null Nothing h = cc h
+same_offered_is Null Null h = refl
+same_offered_is Null (Data told) h = cc h
+same_offered_is (Data made) Nothing h = cc h
+same_offered_is (Data made) Null h = cc h
+same_offered_is (Data made) (Data told) h = ap (λ (n : ℕ). Data n) (eqb-true made told h)
+
+offered_again : (o : Offered) → same_offered o o ≡ true
+offered_again Nothing = refl
+offered_again Null = refl
+offered_again (Data n) = eq-eqb n n refl
+
+-- an entry whose answers are those of its call is the one that the call makes
+pub made-answered : (s : State) (e : Entry) → is_answered s e ≡ true → made_by s e ≡ e
+made-answered s (Commit task buffer payload) h = refl
+made-answered s (Read task buffer from) h = ap (Read task buffer) (same_origin_is (option_map origin_of (received_by s buffer)) from h)
+made-answered s (Pop task from) h = refl
+made-answered s (Fetch window a b) h =
+    let parts = and_parts (same_offered (offered s.plan s.entries window A) a) (same_offered (offered s.plan s.entries window B) b) h in
+    let offer_a = same_offered_is (offered s.plan s.entries window A) a parts.0 in
+    let offer_b = same_offered_is (offered s.plan s.entries window B) b parts.1 in
+    λ i. Fetch window (offer_a i) (offer_b i)
+made-answered s (Observe window a b) h = refl
+
+-- ---- the calls of legal entries
+
+no_refusal : {E : Type 0} (o : Option E) → o ≡ None → is_some o ≡ false
+no_refusal o h = ap is_some h
+
+-- a legal read
+
+read_receives : (s : State) (o : Option Buffer) (from : Option Origin) → IsSomeAnd o (λ b. (is_receive b.mode ≡ true) × (from ≡ option_map origin_of (held s.params b.filter s.entries))) → is_host_full s ≡ false
+    → (unless_receive s o ≡ None) × (option_map origin_of (option_and_then (received_in s) o) ≡ from)
+read_receives s None from h room = absurd h
+read_receives s (Some b) from h room = (rw (h.0, room) refl, rw h.0 (sym h.1))
+
+legal_read : (s : State) (task buffer : ℕ) (from : Option Origin) → IsLegalRead s.params s.plan s.entries task buffer from
+    → (is_refused s (Read task buffer from) ≡ false) × (is_answered s (Read task buffer from) ≡ true)
+legal_read s task buffer from legal =
+    let few : leb s.plan.tasks task ≡ false = lt-leb s.plan.tasks task legal.task_is in
+    let room : is_host_full s ≡ false = lt-leb s.plan.host_entries (count_by is_host s.entries) legal.room in
+    let there = read_receives s (buffer_at s.plan buffer) from legal.receives room in
+    (no_refusal (read_refusal s task buffer) (rw few there.0), rw there.1 (origin_again from))
+
+-- a legal fetch
+
+not_above : (number : ℕ) (last : Option ℕ) → IfSome last (λ n. n < number) → is_not_above number last ≡ false
+not_above number None h = refl
+not_above number (Some n) h = lt-leb number n h
+
+legal_fetch : (s : State) (window : Opportunity) (a b : Offered) → IsLegalFetch s.params s.plan s.entries window a b
+    → (is_refused s (Fetch window a b) ≡ false) × (is_answered s (Fetch window a b) ≡ true)
+legal_fetch s window a b legal =
+    let above : is_not_above window.number (last_number s.entries) ≡ false = not_above window.number (last_number s.entries) legal.later in
+    let room : ltb s.plan.slot_entries (count_by is_slot s.entries + 2) ≡ false = le-ltb s.plan.slot_entries (count_by is_slot s.entries + 2) legal.room in (
+      no_refusal (fetch_refusal s window) (rw (legal.closed, legal.fits, above, room) refl),
+      rw (← legal.offer_a, ← legal.offer_b, offered_again a, offered_again b) refl,
+    )
+
+-- a legal observe
+
+closes : (number : ℕ) (o : Option Opportunity) → IsSomeAnd o (λ w. w.number ≡ number) → unless_open number o ≡ None
+closes number None h = absurd h
+closes number (Some w) h = rw (eq-eqb w.number number h) refl
+
+-- nothing else is legal where a plan has at most a receive buffer
+
+pub no_transmit : (plan : Plan) (buffer : ℕ) (o : Option Buffer) (P : Buffer → Type 0) → IsReceivePlan plan → buffer_at plan buffer ≡ o → IsSomeAnd o (λ b. (is_receive b.mode ≡ false) × P b) → ⊥
+no_transmit plan buffer None P receives is h = h
+no_transmit plan buffer (Some b) P receives is h = receives_only plan buffer b receives is h.0
+
+pub no_queue : (o : Option Queue) (P : Queue → Type 0) → o ≡ None → IsSomeAnd o P → ⊥
+no_queue None P is h = h
+no_queue (Some q) P is h = cc is
+
+pub legal_accepted : (s : State) (e : Entry) → IsReceivePlan s.plan → IsLegal s.params s.plan s.entries e → (is_refused s e ≡ false) × (is_answered s e ≡ true)
+legal_accepted s (Commit task buffer payload) receives legal = absurd (no_transmit s.plan buffer (buffer_at s.plan buffer) _ receives refl legal.transmits)
+legal_accepted s (Read task buffer from) receives legal = legal_read s task buffer from legal
+legal_accepted s (Pop task from) receives legal = absurd (no_queue s.plan.queue _ receives.no_queue legal.queued)
+legal_accepted s (Fetch window a b) receives legal = legal_fetch s window a b legal
+legal_accepted s (Observe window a b) receives legal = (no_refusal (observe_refusal s window) (closes window (open_window s.entries) legal), refl)
+
+pub no_fault : (s : State) (e : Entry) → IsReceivePlan s.plan → IsLegal s.params s.plan s.entries e → fault_of s e ≡ None
+no_fault s e receives legal = let fine = legal_accepted s e receives legal in rw (fine.0, fine.1) refl

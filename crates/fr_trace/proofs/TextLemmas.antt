@@ -1,0 +1,246 @@
+-- What has been read spells the phase and the front of a line.
+use Rattle.std.proofs.Common.{◌≡◌, ℕ, ◌+◌, ◌==◌, Bool, true, false, List, [], ◌∷◌, ◌++◌, length, Option, Some, None, Result, Ok, Err, codes, refl, sym, ap, subst, ◌∙◌, append_assoc, inl, inr, ◌⊎◌}
+use Rattle.std.specs.Prelude.{ℤ, if◌then◌else◌}
+use Rattle.std.proofs.lemmas.Bool.{cases_Bool, eqb-true}
+use Rattle.std.proofs.lemmas.List.{append-nil, flat_map_more}
+use Rattle.std.proofs.lemmas.Slice.Eq.{bytes_eq-Decides}
+use Rattle.std.specs.List.{flat_map}
+use Rattle.std.specs.Str.{bytes_eq}
+use Rattle.fr_interface.specs.declared.entry.Entry.{Entry}
+use Rattle.fr_interface.specs.State.{State, with_entry}
+use Rattle.fr_lines.specs.Reading.{params_in, node_in, receive_in, entry_in}
+use Rattle.fr_lines.specs.Spelling.{first_line, begin_line, end_line, params_words, node_words, buffer_words, entry_words}
+use Rattle.fr_lines.proofs.BufferLemmas.{receive_line_takes}
+use Rattle.fr_lines.proofs.EntryLemmas.{entry_line_takes}
+use Rattle.fr_lines.proofs.NodeLemmas.{node_line_takes, node_no_lines}
+use Rattle.fr_lines.proofs.ParameterLemmas.{params_line_takes}
+use Rattle.fr_slots.specs.declared.params.RangeError.{RangeError}
+use Rattle.fr_slots.specs.declared.plan.Buffer.{Buffer}
+use Rattle.fr_slots.specs.declared.plan.Own.{Own}
+use Rattle.fr_slots.specs.declared.plan.Queue.{Queue}
+use Rattle.fr_slots.specs.Parameters.{Parameters, parameters_of}
+use Rattle.fr_slots.specs.Plans.{Plan, with_buffer}
+use Rattle.fr_text.specs.Spaces.{words_of, line_of}
+use Rattle.fr_trace.specs.Answers.{fault_of, made_by, is_answered, is_refused}
+use Rattle.fr_trace.specs.declared.error.TraceError.{TraceError}
+use Rattle.fr_trace.specs.declared.replay.Fault.{Fault}
+use Rattle.fr_trace.specs.TraceText.{line_feed, line_text, own_line, buffer_line, queue_lines, entry_line, head_text, params_text, plan_text, begin_text, body_text, trace_text}
+use Rattle.fr_trace.specs.Stream.{Phase, magic, params, node, lines, body, finished, Progress, reading, failed, after_parameters, after_numbers, after_node, after_buffer, after_begin, after_fault, after_call, after_entry, is_receive_plan, take_line, after_line, take_open, take_in, take_byte, take_bytes, too_long, fresh, longest_line}
+use Rattle.fr_trace.proofs.AnswerLemmas.{made-answered}
+
+-- the lines that led to a phase
+abbrev pub text_of : Phase → List ℕ
+text_of magic = []
+text_of params = head_text
+text_of (node p) = params_text p
+text_of (lines p plan) = plan_text p plan
+text_of (body s) = body_text s
+text_of (finished s) = trace_text s
+
+-- while lines of a plan come there is no queue yet
+abbrev pub IsPlanned : Phase → Type 0
+IsPlanned (lines p plan) = plan.queue ≡ None
+IsPlanned p = Unit {0}
+
+abbrev pub IsFront : Phase → List ℕ → Type 0
+IsFront (finished s) line = line ≡ []
+IsFront p line = Unit {0}
+
+abbrev pub Spelled : Progress → List ℕ → Type 0
+Spelled (failed e) text = Unit {0}
+Spelled (reading p line) text = (text ≡ text_of p ++ line) × IsPlanned p × IsFront p line
+
+front_nil : (p : Phase) → IsFront p []
+front_nil magic = tt
+front_nil params = tt
+front_nil (node p) = tt
+front_nil (lines p plan) = tt
+front_nil (body s) = tt
+front_nil (finished s) = refl
+
+-- a line that leads from one phase to the next
+abbrev Leads : Phase → List ℕ → Phase → Type 0
+Leads p line q = (text_of q ≡ text_of p ++ (line ++ line_feed)) × IsPlanned q
+
+-- ---- parameters
+
+after_parameters_leads : (line : List ℕ) (numbers : List ℤ) (r : Result Parameters RangeError) (q : Phase) → params_in (words_of line) ≡ Some numbers → parameters_of numbers ≡ r → after_parameters r ≡ Ok q
+    → Leads params line q
+after_parameters_leads line numbers (Err e) q read is h = cc h
+after_parameters_leads line numbers (Ok p) q read is h =
+    let end : node p ≡ q = cc h in
+    subst (λ x. Leads params line x) end (ap (λ t. head_text ++ (t ++ line_feed)) (sym (params_line_takes line numbers p read is)), tt)
+
+after_numbers_leads : (line : List ℕ) (o : Option (List ℤ)) (q : Phase) → params_in (words_of line) ≡ o → after_numbers o ≡ Ok q → Leads params line q
+after_numbers_leads line None q read h = cc h
+after_numbers_leads line (Some numbers) q read h = after_parameters_leads line numbers (parameters_of numbers) q read refl h
+
+-- ---- the plan
+
+-- a plan without lines
+pub bare_text : (p : Parameters) (plan : Plan) → plan.owned ≡ [] → plan.buffers ≡ [] → plan.queue ≡ None → plan_text p plan ≡ params_text p ++ line_text (node_words plan)
+bare_text p plan no_own no_buffer no_queue =
+    let front = params_text p ++ line_text (node_words plan) in
+    ap (λ (q : Option Queue). front ++ flat_map own_line plan.owned ++ flat_map buffer_line plan.buffers ++ queue_lines q) no_queue
+    ∙ append-nil (front ++ flat_map own_line plan.owned ++ flat_map buffer_line plan.buffers)
+    ∙ ap (λ (b : List Buffer). front ++ flat_map own_line plan.owned ++ flat_map buffer_line b) no_buffer
+    ∙ append-nil (front ++ flat_map own_line plan.owned)
+    ∙ ap (λ (o : List Own). front ++ flat_map own_line o) no_own
+    ∙ append-nil front
+
+after_node_leads : (line : List ℕ) (p : Parameters) (o : Option Plan) (q : Phase) → node_in (words_of line) ≡ o → after_node p o ≡ Ok q → Leads (node p) line q
+after_node_leads line p None q read h = cc h
+after_node_leads line p (Some plan) q read h =
+    let end : lines p plan ≡ q = cc h in
+    let bare = node_no_lines (words_of line) plan read in
+    subst (λ x. Leads (node p) line x) end
+    (bare_text p plan bare.0 bare.1 bare.2 ∙ ap (λ t. params_text p ++ (t ++ line_feed)) (sym (node_line_takes line plan read)), bare.2)
+
+-- one more buffer
+pub buffer_text : (p : Parameters) (plan : Plan) (b : Buffer) → plan.queue ≡ None → plan_text p (with_buffer plan b) ≡ plan_text p plan ++ buffer_line b
+buffer_text p plan b no_queue =
+    let front = params_text p ++ line_text (node_words plan) ++ flat_map own_line plan.owned in
+    let before = front ++ flat_map buffer_line plan.buffers in
+    ap (λ (q : Option Queue). front ++ flat_map buffer_line (plan.buffers ++ b ∷ []) ++ queue_lines q) no_queue
+    ∙ append-nil (front ++ flat_map buffer_line (plan.buffers ++ b ∷ []))
+    ∙ sym (flat_map_more buffer_line front plan.buffers b)
+    ∙ ap (λ t. t ++ buffer_line b) (sym (append-nil before))
+    ∙ ap (λ (q : Option Queue). (before ++ queue_lines q) ++ buffer_line b) (sym no_queue)
+
+after_buffer_leads : (line : List ℕ) (p : Parameters) (plan : Plan) (o : Option Buffer) (q : Phase) → plan.queue ≡ None → receive_in (words_of line) ≡ o → after_buffer p plan o ≡ Ok q
+    → Leads (lines p plan) line q
+after_buffer_leads line p plan None q no_queue read h = cc h
+after_buffer_leads line p plan (Some b) q no_queue read h =
+    elim (cases_Bool (length plan.buffers == 0)) [
+      | inl first ↦
+          let end : lines p (with_buffer plan b) ≡ q = cc (rw first at h) in
+          subst (λ x. Leads (lines p plan) line x) end
+          (buffer_text p plan b no_queue ∙ ap (λ t. plan_text p plan ++ (t ++ line_feed)) (sym (receive_line_takes line b read)), no_queue)
+      | inr second ↦ cc (rw second at h)
+    ]
+
+after_begin_leads : (line : List ℕ) (p : Parameters) (plan : Plan) (q : Phase) → line ≡ begin_line → after_begin p plan ≡ Ok q → Leads (lines p plan) line q
+after_begin_leads line p plan q is h =
+    elim (cases_Bool (is_receive_plan plan)) [
+      | inl pass ↦
+          let end : body (record { params = p; plan = plan; entries = [] }) ≡ q = cc (rw pass at h) in
+          subst (λ x. Leads (lines p plan) line x) end (append-nil (begin_text p plan) ∙ ap (λ t. plan_text p plan ++ (t ++ line_feed)) (sym is), tt)
+      | inr fail ↦ cc (rw fail at h)
+    ]
+
+-- ---- entries
+
+fault_none : (s : State) (e : Entry) → fault_of s e ≡ None → is_answered s e ≡ true
+fault_none s e h =
+    elim (cases_Bool (is_refused s e)) [
+      | inl refused ↦ cc (rw refused at h)
+      | inr accepted ↦
+          let h1 = rw accepted at h in
+          elim (cases_Bool (is_answered s e)) [
+            | inl answered ↦ answered
+            | inr wrong ↦ cc (rw wrong at h1)
+          ]
+    ]
+
+after_fault_leads : (s : State) (line : List ℕ) (e : Entry) (o : Option Fault) (q : Phase) → line ≡ line_of (entry_words e) → fault_of s e ≡ o → after_fault s e o ≡ Ok q → Leads (body s) line q
+after_fault_leads s line e (Some f) q text is h = cc h
+after_fault_leads s line e None q text is h =
+    let made : made_by s e ≡ e = made-answered s e (fault_none s e is) in
+    let end : body (with_entry s e) ≡ q = ap (λ (x : Entry). body (with_entry s x)) (sym made) ∙ cc h in
+    let spelled : body_text (with_entry s e) ≡ body_text s ++ (line ++ line_feed) =
+    sym (flat_map_more entry_line (begin_text s.params s.plan) s.entries e) ∙ ap (λ t. body_text s ++ (t ++ line_feed)) (sym text) in
+    subst (λ x. Leads (body s) line x) end (spelled, tt)
+
+after_entry_leads : (s : State) (line : List ℕ) (o : Option Entry) (q : Phase) → entry_in (words_of line) ≡ o → after_entry s o ≡ Ok q → Leads (body s) line q
+after_entry_leads s line None q is h = cc h
+after_entry_leads s line (Some e) q is h = after_fault_leads s line e (fault_of s e) q (entry_line_takes line e is) refl h
+
+-- ---- whole lines
+
+line_leads : (p : Phase) (line : List ℕ) (q : Phase) → IsPlanned p → take_line p line ≡ Ok q → Leads p line q
+line_leads magic line q planned h =
+    elim (cases_Bool (bytes_eq line first_line)) [
+      | inl pass ↦
+          let is : line ≡ first_line = (bytes_eq-Decides line first_line).0 pass in
+          let end : params ≡ q = cc (rw pass at h) in
+          subst (λ x. Leads magic line x) end (ap (λ t. t ++ line_feed) (sym is), tt)
+      | inr fail ↦ cc (rw fail at h)
+    ]
+line_leads params line q planned h = after_numbers_leads line (params_in (words_of line)) q refl h
+line_leads (node p) line q planned h = after_node_leads line p (node_in (words_of line)) q refl h
+line_leads (lines p plan) line q planned h =
+    elim (cases_Bool (bytes_eq line begin_line)) [
+      | inl pass ↦ after_begin_leads line p plan q ((bytes_eq-Decides line begin_line).0 pass) (rw pass at h)
+      | inr fail ↦ after_buffer_leads line p plan (receive_in (words_of line)) q planned refl (rw fail at h)
+    ]
+line_leads (body s) line q planned h =
+    elim (cases_Bool (bytes_eq line end_line)) [
+      | inl pass ↦
+          let is : line ≡ end_line = (bytes_eq-Decides line end_line).0 pass in
+          let end : finished s ≡ q = cc (rw pass at h) in
+          subst (λ x. Leads (body s) line x) end (ap (λ t. body_text s ++ (t ++ line_feed)) (sym is), tt)
+      | inr fail ↦ after_entry_leads s line (entry_in (words_of line)) q refl (rw fail at h)
+    ]
+line_leads (finished s) line q planned h = cc h
+
+after_line_spelled : (p : Phase) (line text : List ℕ) (r : Result Phase TraceError) → IsPlanned p → text ≡ text_of p ++ line → take_line p line ≡ r
+    → Spelled (after_line r) (text ++ line_feed)
+after_line_spelled p line text (Err e) planned is h = tt
+after_line_spelled p line text (Ok q) planned is h =
+    let led = line_leads p line q planned h in
+    (ap (λ t. t ++ line_feed) is ∙ (append_assoc (text_of p) line line_feed ∙ (sym led.0 ∙ sym (append-nil (text_of q)))), led.1, front_nil q)
+
+-- ---- bytes
+
+-- a phase at which more may come
+abbrev pub is_open : Phase → Bool
+is_open (finished s) = false
+is_open p = true
+
+pub take_in-open : (p : Phase) (line : List ℕ) (b : ℕ) → is_open p ≡ true → take_in p line b ≡ take_open p line b
+take_in-open magic line b opened = refl
+take_in-open params line b opened = refl
+take_in-open (node p) line b opened = refl
+take_in-open (lines p plan) line b opened = refl
+take_in-open (body s) line b opened = refl
+take_in-open (finished s) line b opened = cc opened
+
+front_open : (p : Phase) (line : List ℕ) → is_open p ≡ true → IsFront p line
+front_open magic line opened = tt
+front_open params line opened = tt
+front_open (node p) line opened = tt
+front_open (lines p plan) line opened = tt
+front_open (body s) line opened = tt
+front_open (finished s) line opened = cc opened
+
+open_spelled : (p : Phase) (line text : List ℕ) (b : ℕ) → is_open p ≡ true → Spelled (reading p line) text → Spelled (take_in p line b) (text ++ b ∷ [])
+open_spelled p line text b opened h =
+    subst (λ s. Spelled s (text ++ b ∷ [])) (sym (take_in-open p line b opened))
+    (elim (cases_Bool (b == 10)) [
+      | inl feed ↦
+          let is : b ≡ 10 = eqb-true b 10 feed in
+          rw feed (subst (λ x. Spelled (after_line (take_line p line)) (text ++ x ∷ [])) (sym is) (after_line_spelled p line text (take_line p line) h.1 h.0 refl))
+      | inr other ↦ rw other (elim (cases_Bool (length line == longest_line)) [
+        | inl full ↦ rw full tt
+        | inr room ↦ rw room (ap (λ t. t ++ b ∷ []) h.0 ∙ append_assoc (text_of p) line (b ∷ []), h.1, front_open p (line ++ b ∷ []) opened)
+      ])
+    ])
+
+byte_spelled : (s : Progress) (text : List ℕ) (b : ℕ) → Spelled s text → Spelled (take_byte s b) (text ++ b ∷ [])
+byte_spelled (failed e) text b h = tt
+byte_spelled (reading magic line) text b h = open_spelled magic line text b refl h
+byte_spelled (reading params line) text b h = open_spelled params line text b refl h
+byte_spelled (reading (node p) line) text b h = open_spelled (node p) line text b refl h
+byte_spelled (reading (lines p plan) line) text b h = open_spelled (lines p plan) line text b refl h
+byte_spelled (reading (body s) line) text b h = open_spelled (body s) line text b refl h
+byte_spelled (reading (finished s) line) text b h = tt
+
+bytes_spelled : (bytes : List ℕ) (s : Progress) (text : List ℕ) → Spelled s text → Spelled (take_bytes s bytes) (text ++ bytes)
+bytes_spelled [] s text h = subst (λ t. Spelled s t) (sym (append-nil text)) h
+bytes_spelled (b ∷ bytes) s text h =
+    subst (λ t. Spelled (take_bytes (take_byte s b) bytes) t) (append_assoc text (b ∷ []) bytes)
+    (bytes_spelled bytes (take_byte s b) (text ++ b ∷ []) (byte_spelled s text b h))
+
+-- what has come spells the phase that it left
+pub text_spelled : (text : List ℕ) → Spelled (take_bytes fresh text) text
+text_spelled text = bytes_spelled text fresh [] (refl, tt, tt)

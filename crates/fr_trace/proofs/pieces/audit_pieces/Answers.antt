@@ -1,0 +1,35 @@
+use Rattle.std.proofs.Common.{◌≡◌, ℕ, List, Result, Ok, Err, ◌⊎◌, inl, inr, ap, ◌∙◌}
+use Rattle.std.specs.Prelude.{IfOk}
+use Rattle.std.specs.List.{flat_map}
+use Rattle.fr_interface.specs.State.{State, IsLegalInterface}
+use Rattle.fr_trace.specs.Feeds.{Reads}
+use Rattle.fr_trace.specs.Stream.{Progress, fresh, take_bytes, outcome_of}
+use Rattle.fr_trace.specs.TraceText.{trace_text}
+use Rattle.fr_trace.specs.declared.error.TraceError.{TraceError}
+use Rattle.fr_trace.specs.declared.error.TraceError.TheVariants.{Memory}
+use Rattle.fr_trace.proofs.OutcomeLemmas.{accepted_text, legal_outcome}
+use Rattle.fr_trace.proofs.pieces.audit_pieces.Goals as goal
+
+exact : (p : Progress) (text : List ℕ) (r : Result State TraceError) → Reads fresh text p → r ≡ outcome_of p → (r ≡ outcome_of (take_bytes fresh text)) ⊎ (r ≡ Err Memory)
+exact p text r (inl read) is = inl (is ∙ ap outcome_of read)
+exact p text r (inr out) is = inr (is ∙ ap outcome_of out)
+
+found : (text : List ℕ) (r : Result State TraceError) → IfOk r IsLegalInterface → (r ≡ outcome_of (take_bytes fresh text)) ⊎ (r ≡ Err Memory) → IfOk r (λ s. (text ≡ trace_text s) × IsLegalInterface s)
+found text (Ok s) legal (inl e) = (accepted_text text s (cc e), legal)
+found text (Ok s) legal (inr e) = cc e
+found text (Err f) legal e = tt
+
+only : (text : List ℕ) (r : Result State TraceError) (s : State) → IsLegalInterface s → text ≡ trace_text s → (r ≡ outcome_of (take_bytes fresh text)) ⊎ (r ≡ Err Memory) → (r ≡ Ok s) ⊎ (r ≡ Err Memory)
+only text r s is same (inl e) = inl (e ∙ legal_outcome text s is same)
+only text r s is same (inr e) = inr e
+
+pub returns : goal.returns
+returns c =
+    let text = flat_map (λ p. p.now) c.args.pieces.now in
+    let result = c.lawful.result in
+    let which = exact c.fed-auditor.result text result c.fed-auditor.ensures (c.lawful.ensures.same ∙ c.finish.ensures) in
+    record {
+      found = found text result c.lawful.ensures.legal which;
+      only = λ s is same. only text result s is same which;
+      exact = which;
+    }

@@ -1,0 +1,66 @@
+-- Whether an entry that a trace tells is the one that its call makes.
+use Rattle.std.specs.Prelude.{ℕ, ◌==◌, Bool, true, false, ◌&&◌, Option, Some, None, is_some, option_map, if◌then◌else◌}
+use Rattle.fr_interface.specs.declared.entry.Entry.{Entry}
+use Rattle.fr_interface.specs.declared.entry.Entry.TheVariants.{Commit, Read, Pop, Fetch, Observe}
+use Rattle.fr_interface.specs.declared.entry.Offered.{Offered}
+use Rattle.fr_interface.specs.declared.entry.Offered.TheVariants.{Nothing, Null, Data}
+use Rattle.fr_interface.specs.declared.entry.Origin.{Origin}
+use Rattle.fr_interface.specs.Held.{origin_of}
+use Rattle.fr_interface.specs.Offers.{offered}
+use Rattle.fr_interface.specs.State.{State, received_by, read_refusal, fetch_refusal, observe_refusal}
+use Rattle.fr_slots.specs.declared.channel.Channel.{Channel}
+use Rattle.fr_slots.specs.declared.channel.Channel.TheVariants as channel
+use Rattle.fr_trace.specs.declared.replay.Fault.{Fault}
+use Rattle.fr_trace.specs.declared.replay.Fault.TheVariants.{Refused, WrongAnswer}
+
+-- ---- equal answers
+
+abbrev pub same_channel : Channel → Channel → Bool
+same_channel channel.A channel.A = true
+same_channel channel.A channel.B = false
+same_channel channel.B channel.A = false
+same_channel channel.B channel.B = true
+
+abbrev pub same_origin : Option Origin → Option Origin → Bool
+same_origin None None = true
+same_origin None (Some told) = false
+same_origin (Some made) None = false
+same_origin (Some made) (Some told) = made.entry == told.entry && same_channel made.channel told.channel
+
+abbrev pub same_offered : Offered → Offered → Bool
+same_offered Nothing Nothing = true
+same_offered Null Null = true
+same_offered (Data made) (Data told) = made == told
+same_offered made told = false
+
+-- ---- calls
+
+-- The interface refuses the call of an entry. No call is made today for commits and pops.
+abbrev pub is_refused : State → Entry → Bool
+is_refused s (Commit task buffer payload) = true
+is_refused s (Read task buffer from) = is_some (read_refusal s task buffer)
+is_refused s (Pop task from) = true
+is_refused s (Fetch window a b) = is_some (fetch_refusal s window)
+is_refused s (Observe window a b) = is_some (observe_refusal s window)
+
+-- what the call of an entry appends: the entry with the call's own answers
+abbrev pub made_by : State → Entry → Entry
+made_by s (Commit task buffer payload) = Commit task buffer payload
+made_by s (Read task buffer from) = Read task buffer (option_map origin_of (received_by s buffer))
+made_by s (Pop task from) = Pop task from
+made_by s (Fetch window a b) = Fetch window (offered s.plan s.entries window channel.A) (offered s.plan s.entries window channel.B)
+made_by s (Observe window a b) = Observe window a b
+
+-- two entries of one call have the same answers
+abbrev pub same_answer : Entry → Entry → Bool
+same_answer (Read task buffer made) (Read t b told) = same_origin made told
+same_answer (Fetch window made_a made_b) (Fetch w told_a told_b) = same_offered made_a told_a && same_offered made_b told_b
+same_answer made told = true
+
+-- the answers that the trace tells are those of the call
+abbrev pub is_answered : State → Entry → Bool
+is_answered s e = same_answer (made_by s e) e
+
+-- why an entry can't stand where the trace has it
+abbrev pub fault_of : State → Entry → Option Fault
+fault_of s e = if is_refused s e then Some Refused else if is_answered s e then None else Some WrongAnswer

@@ -1,0 +1,18 @@
+-- What the phases of an auditor stand for.
+use Rattle.std.specs.Prelude.{ℕ, List, Option, Some, None}
+use Rattle.fr_trace.specs.Stream.{Phase as View, Progress, magic, params, node, lines, body, finished, reading, failed}
+use Rattle.fr_trace.specs.declared.auditor.Phase.{Phase}
+use Rattle.fr_trace.specs.declared.auditor.Phase.TheVariants.{Magic, Parameters, Node, Lines, Body, Finished}
+use Rattle.fr_trace.specs.declared.error.TraceError.{TraceError}
+
+abbrev pub phase_of : Phase → View
+phase_of Magic = magic
+phase_of Parameters = params
+phase_of (Node p) = node p
+phase_of (Lines p plan) = lines p plan
+phase_of (Body interface) = body interface
+phase_of (Finished interface) = finished interface
+
+abbrev pub progress_in : Option TraceError → View → List ℕ → Progress
+progress_in (Some e) phase line = failed e
+progress_in None phase line = reading phase line

@@ -1,0 +1,155 @@
+-- What has been read of a trace, byte by byte. A line is looked at as its line feed comes.
+use Rattle.std.specs.Prelude.{ℕ, ◌+◌, ◌==◌, nat_le, Bool, true, false, ◌&&◌, List, [], ◌∷◌, ◌++◌, length, ℤ, Option, Some, None, is_none, Result, Ok, Err, if◌then◌else◌}
+use Rattle.std.specs.List.{fold, list_all}
+use Rattle.std.specs.Str.{bytes_eq}
+use Rattle.fr_interface.specs.declared.entry.Entry.{Entry}
+use Rattle.fr_interface.specs.State.{State, with_entry, is_receive_buffer}
+use Rattle.fr_lines.specs.Reading.{params_in, node_in, receive_in, entry_in}
+use Rattle.fr_lines.specs.Spelling.{first_line, begin_line, end_line}
+use Rattle.fr_slots.specs.declared.params.RangeError.{RangeError}
+use Rattle.fr_slots.specs.declared.plan.Buffer.{Buffer}
+use Rattle.fr_slots.specs.declared.plan.Queue.{Queue}
+use Rattle.fr_slots.specs.Parameters.{Parameters, parameters_of}
+use Rattle.fr_slots.specs.Plans.{Plan, with_buffer}
+use Rattle.fr_text.specs.Spaces.{words_of}
+use Rattle.fr_trace.specs.Answers.{made_by, fault_of}
+use Rattle.fr_trace.specs.declared.replay.Fault.{Fault}
+use Rattle.fr_trace.specs.declared.replay.Fault.TheVariants as fault
+use Rattle.fr_trace.specs.declared.error.TraceError.{TraceError}
+use Rattle.fr_trace.specs.declared.error.TraceError.TheVariants.{BadMagic, BadLine, LineTooLong, Refused, WrongAnswer, Truncated}
+
+-- what the next line may be
+pub data Phase : Type 0 where
+  magic : Phase
+  params : Phase
+  node : Parameters → Phase
+  lines : Parameters → Plan → Phase
+  body : State → Phase
+  finished : State → Phase
+
+-- what has come of a text: whole lines and the front of the next, or a line at fault
+pub data Progress : Type 0 where
+  reading : Phase → List ℕ → Progress
+  failed : TraceError → Progress
+
+-- ---- line numbers, counted from 1
+
+abbrev pub queue_count : Option Queue → ℕ
+queue_count None = 0
+queue_count (Some queue) = 1
+
+-- ownership lines, buffers and queue
+abbrev pub line_count : Plan → ℕ
+line_count plan = length plan.owned + length plan.buffers + queue_count plan.queue
+
+-- the line that comes next
+abbrev pub line_number : Phase → ℕ
+line_number magic = 1
+line_number params = 2
+line_number (node p) = 3
+line_number (lines p plan) = line_count plan + 4
+line_number (body s) = line_count s.plan + length s.entries + 5
+line_number (finished s) = line_count s.plan + length s.entries + 6
+
+-- ---- whole lines
+
+abbrev pub after_parameters : Result Parameters RangeError → Result Phase TraceError
+after_parameters (Err e) = Err (Refused 2)
+after_parameters (Ok p) = Ok (node p)
+
+abbrev pub after_numbers : Option (List ℤ) → Result Phase TraceError
+after_numbers None = Err (BadLine 2)
+after_numbers (Some numbers) = after_parameters (parameters_of numbers)
+
+abbrev pub after_node : Parameters → Option Plan → Result Phase TraceError
+after_node p None = Err (BadLine 3)
+after_node p (Some plan) = Ok (lines p plan)
+
+-- today a plan has one buffer at most
+abbrev pub after_buffer : Parameters → Plan → Option Buffer → Result Phase TraceError
+after_buffer p plan None = Err (BadLine (line_count plan + 4))
+after_buffer p plan (Some b) = if length plan.buffers == 0 then Ok (lines p (with_buffer plan b)) else Err (BadLine (line_count plan + 4))
+
+-- at most one buffer, a receive buffer, and nothing else
+abbrev pub is_receive_plan : Plan → Bool
+is_receive_plan plan = nat_le (length plan.buffers) 1 && list_all is_receive_buffer plan.buffers && length plan.owned == 0 && is_none plan.queue
+
+abbrev pub after_begin : Parameters → Plan → Result Phase TraceError
+after_begin p plan =
+    if is_receive_plan plan then Ok (body (record { params = p; plan = plan; entries = [] })) else Err (Refused (line_count plan + 4))
+
+abbrev pub error_of : ℕ → Fault → TraceError
+error_of number fault.Refused = Refused number
+error_of number fault.WrongAnswer = WrongAnswer number
+
+abbrev pub after_fault : State → Entry → Option Fault → Result Phase TraceError
+after_fault s e None = Ok (body (with_entry s (made_by s e)))
+after_fault s e (Some f) = Err (error_of (line_number (body s)) f)
+
+-- the interface makes the call of the entry again
+abbrev pub after_call : State → Entry → Result Phase TraceError
+after_call s e = after_fault s e (fault_of s e)
+
+abbrev pub after_entry : State → Option Entry → Result Phase TraceError
+after_entry s None = Err (BadLine (line_number (body s)))
+after_entry s (Some e) = after_call s e
+
+-- what follows a whole line
+abbrev pub take_line : Phase → List ℕ → Result Phase TraceError
+take_line magic line = if bytes_eq line first_line then Ok params else Err BadMagic
+take_line params line = after_numbers (params_in (words_of line))
+take_line (node p) line = after_node p (node_in (words_of line))
+take_line (lines p plan) line = if bytes_eq line begin_line then after_begin p plan else after_buffer p plan (receive_in (words_of line))
+take_line (body s) line = if bytes_eq line end_line then Ok (finished s) else after_entry s (entry_in (words_of line))
+take_line (finished s) line = Err (BadLine (line_number (finished s)))
+
+-- ---- bytes
+
+abbrev pub longest_line : ℕ
+longest_line = 1200
+
+abbrev pub too_long : Phase → TraceError
+too_long magic = BadMagic
+too_long p = LineTooLong (line_number p)
+
+abbrev pub after_line : Result Phase TraceError → Progress
+after_line (Ok p) = reading p []
+after_line (Err e) = failed e
+
+-- a byte in a line that isn't over
+abbrev pub take_open : Phase → List ℕ → ℕ → Progress
+take_open p line b =
+    if b == 10 then after_line (take_line p line)
+    else if length line == longest_line then failed (too_long p)
+    else reading p (line ++ b ∷ [])
+
+-- after the line `end` nothing may come
+abbrev pub take_in : Phase → List ℕ → ℕ → Progress
+take_in (finished s) line b = failed (BadLine (line_number (finished s)))
+take_in p line b = take_open p line b
+
+abbrev pub take_byte : Progress → ℕ → Progress
+take_byte (failed e) b = failed e
+take_byte (reading p line) b = take_in p line b
+
+-- what has been read once these bytes have come too
+abbrev pub take_bytes : Progress → List ℕ → Progress
+take_bytes s bytes = fold take_byte s bytes
+
+-- nothing has come
+abbrev pub fresh : Progress
+fresh = reading magic []
+
+-- ---- answers
+
+-- while bytes may come
+abbrev pub answer_of : Progress → Result (Unit {0}) TraceError
+answer_of (reading p line) = Ok tt
+answer_of (failed e) = Err e
+
+-- at the end
+abbrev pub outcome_of : Progress → Result State TraceError
+outcome_of (reading (finished s) line) = Ok s
+outcome_of (reading magic line) = Err BadMagic
+outcome_of (reading p line) = Err Truncated
+outcome_of (failed e) = Err e

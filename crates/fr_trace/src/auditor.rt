@@ -1,0 +1,334 @@
+//! An auditor reads a trace that comes in pieces. It keeps at most one unfinished line beside the plan
+//! or the interface.
+
+ghost use Rattle.std.specs.Prelude.{◌≡◌, ◌+◌, ◌≤◌, length};
+ghost use Rattle.std.specs.List.{list_all};
+ghost use Rattle.fr_interface.specs.State.{is_receive_buffer};
+ghost use Rattle.fr_lines.specs.Reading.{receive_in};
+ghost use Rattle.fr_text.specs.Spaces.{words_of};
+ghost use Rattle.fr_trace.specs.Auditor.{phase_of};
+ghost use Rattle.fr_trace.specs.Feeds.{GivesPhase};
+ghost use Rattle.fr_trace.specs.Stream.{params, node, lines, body, take_line, too_long, line_number, line_count, is_receive_plan, after_begin, after_buffer};
+
+use crate::error::TraceError;
+use crate::replay::{Fault, replay};
+use arrayvec::ArrayVec;
+use fr_interface::interface::Interface;
+use fr_lines::buffers::receive_of;
+use fr_lines::entries::entry_of;
+use fr_lines::nodes::node_of;
+use fr_lines::parameters::params_of;
+use fr_slots::params::Params;
+use fr_slots::plan::{Buffer, Mode, NodePlan};
+use std::alloc::Global;
+use std::marker::Model;
+use std::mem;
+
+/// The longest line, without its line feed (own profile).
+pub const LINE: usize = 1200;
+
+/// What the next line may be.
+#[derive(Drop)]
+enum Phase {
+    Magic,
+    Parameters,
+    Node(Params),
+    Lines(Params, NodePlan),
+    Body(Interface),
+    Finished(Interface),
+}
+
+/// How many lines a plan has behind its first.
+fn line_count(plan: &NodePlan) -> u32
+    ensures value { result ≡ line_count plan.now }
+    ensures few { result ≤ 129 }
+{
+    let queue = match plan.queue() {
+        Some(_) => 1,
+        None => 0,
+    };
+    plan.owned().len() as u32 + plan.buffers().len() as u32 + queue
+}
+
+/// How many lines an interface's plan and journal have.
+fn lines_of(interface: &Interface) -> u32
+    ensures value { result ≡ line_count interface.now.plan + length interface.now.entries }
+    ensures few { result ≤ 82049 }
+{
+    line_count(interface.plan()) + interface.journal().len()
+}
+
+/// The number of the line that comes next.
+fn line_number(phase: &Phase) -> u32
+    ensures { result ≡ line_number (phase_of phase.now) }
+{
+    match phase {
+        Phase::Magic => 1,
+        Phase::Parameters => 2,
+        Phase::Node(_) => 3,
+        Phase::Lines(_, plan) => line_count(plan) + 4,
+        Phase::Body(interface) => lines_of(interface) + 5,
+        Phase::Finished(interface) => lines_of(interface) + 6,
+    }
+}
+
+fn is_receive(buffer: &Buffer) -> bool
+    ensures { result ≡ is_receive_buffer buffer.now }
+{
+    match buffer.mode {
+        Mode::Receive => true,
+        Mode::Event | Mode::State => false,
+    }
+}
+
+fn all_receive(buffers: &[Buffer]) -> bool
+    ensures { result ≡ list_all is_receive_buffer buffers.now }
+{
+    buffers.iter().all(is_receive)
+}
+
+/// Whether interfaces are made for the plan today: it has at most one buffer, a receive buffer, and
+/// nothing else.
+fn is_receive_plan(plan: &NodePlan) -> bool
+    ensures { result ≡ is_receive_plan plan.now }
+{
+    if plan.buffers().len() > 1 || !all_receive(plan.buffers()) {
+        return false;
+    }
+    plan.owned().is_empty() && plan.queue().is_none()
+}
+
+/// The line of the parameters.
+fn parameters_line(line: &[u8]) -> Result<Phase, TraceError>
+    ensures { GivesPhase phase_of result (take_line params line.now) }
+{
+    let Some(numbers) = params_of(line) else {
+        return Err(TraceError::BadLine(2));
+    };
+    match Params::new(numbers) {
+        Ok(params) => Ok(Phase::Node(params)),
+        Err(_) => Err(TraceError::Refused(2)),
+    }
+}
+
+/// The line of the plan's numbers.
+fn node_line(params: Params, line: &[u8]) -> Result<Phase, TraceError>
+    ensures { GivesPhase phase_of result (take_line (node params) line.now) }
+{
+    match node_of(line) {
+        Some(plan) => Ok(Phase::Lines(params, plan)),
+        None => Err(TraceError::BadLine(3)),
+    }
+}
+
+/// The line `begin`, at which alone memory is taken.
+fn begin(alloc: Global, params: Params, plan: NodePlan) -> Result<Phase, TraceError>
+    ensures { GivesPhase phase_of result (after_begin params plan) }
+{
+    if !is_receive_plan(&plan) {
+        return Err(TraceError::Refused(line_count(&plan) + 4));
+    }
+    match Interface::new(alloc, &params, &plan) {
+        Ok(interface) => Ok(Phase::Body(interface)),
+        Err(_) => Err(TraceError::Memory),
+    }
+}
+
+/// A line of the plan: a receive buffer, of which there may be one today.
+fn buffer_line(params: Params, mut plan: NodePlan, line: &[u8]) -> Result<Phase, TraceError>
+    ensures { GivesPhase phase_of result (after_buffer params plan (receive_in (words_of line.now))) }
+{
+    let number = line_count(&plan) + 4;
+    let Some(buffer) = receive_of(line) else {
+        return Err(TraceError::BadLine(number));
+    };
+    if !plan.buffers().is_empty() {
+        return Err(TraceError::BadLine(number));
+    }
+    match plan.add_buffer(buffer) {
+        Ok(()) => Ok(Phase::Lines(params, plan)),
+        Err(_) => Err(TraceError::BadLine(number)),
+    }
+}
+
+/// A line of the plan, or `begin`.
+fn plan_line(
+    alloc: Global,
+    params: Params,
+    plan: NodePlan,
+    line: &[u8],
+) -> Result<Phase, TraceError>
+    ensures { GivesPhase phase_of result (take_line (lines params plan) line.now) }
+{
+    if line == b"begin".as_slice() {
+        begin(alloc, params, plan)
+    } else {
+        buffer_line(params, plan, line)
+    }
+}
+
+/// A line of the journal, or `end`.
+fn body_line(mut interface: Interface, line: &[u8]) -> Result<Phase, TraceError>
+    ensures { GivesPhase phase_of result (take_line (body interface) line.now) }
+{
+    if line == b"end".as_slice() {
+        return Ok(Phase::Finished(interface));
+    }
+    let number = lines_of(&interface) + 5;
+    let Some(entry) = entry_of(line) else {
+        return Err(TraceError::BadLine(number));
+    };
+    match replay(&mut interface, &entry) {
+        Ok(()) => Ok(Phase::Body(interface)),
+        Err(Fault::Refused) => Err(TraceError::Refused(number)),
+        Err(Fault::WrongAnswer) => Err(TraceError::WrongAnswer(number)),
+    }
+}
+
+/// What follows a whole line.
+fn after(alloc: Global, phase: Phase, line: &[u8]) -> Result<Phase, TraceError>
+    ensures { GivesPhase phase_of result (take_line (phase_of phase) line.now) }
+{
+    match phase {
+        Phase::Magic => {
+            if line == b"frtrace 1".as_slice() {
+                Ok(Phase::Parameters)
+            } else {
+                Err(TraceError::BadMagic)
+            }
+        }
+        Phase::Parameters => parameters_line(line),
+        Phase::Node(params) => node_line(params, line),
+        Phase::Lines(params, plan) => plan_line(alloc, params, plan, line),
+        Phase::Body(interface) => body_line(interface, line),
+        Phase::Finished(interface) => Err(TraceError::BadLine(lines_of(&interface) + 6)),
+    }
+}
+
+/// Why a line that is too long is refused.
+fn too_long(phase: &Phase) -> TraceError
+    ensures { result ≡ too_long (phase_of phase.now) }
+{
+    match phase {
+        Phase::Magic => TraceError::BadMagic,
+        _ => TraceError::LineTooLong(line_number(phase)),
+    }
+}
+
+/// Reads a trace in pieces (own profile).
+#[derive(Drop)]
+pub struct Auditor {
+    alloc: Global,
+    phase: Phase,
+    line: ArrayVec<u8, LINE>,
+    fault: Option<TraceError>,
+}
+
+impl Model for Auditor {
+    ghost use Rattle.fr_trace.specs.Stream.{Progress};
+
+    ghost Value = { Progress };
+
+    ghost use Rattle.fr_trace.specs.Views.{progress_of};
+
+    ghost view = { progress_of };
+}
+
+impl Auditor {
+    ghost use Rattle.std.specs.Prelude.{◌≡◌, ◌∷◌, [], Ok, Err};
+    ghost use Rattle.fr_trace.specs.Stream.{fresh, failed, answer_of, outcome_of};
+    ghost use Rattle.fr_trace.specs.Feeds.{Reads, EndsLine};
+
+    /// An auditor to which nothing has come. It takes memory from `alloc` at the line `begin` alone.
+    pub fn new(alloc: Global) -> Auditor
+        ensures { result ≡ fresh }
+    {
+        Auditor {
+            alloc,
+            phase: Phase::Magic,
+            line: ArrayVec::new(),
+            fault: None,
+        }
+    }
+
+    fn fail(&mut self, fault: TraceError)
+        ensures { self.new ≡ failed fault }
+    {
+        self.fault = Some(fault);
+    }
+
+    /// Looks at the line, which is whole.
+    fn end_line(&mut self)
+        ensures { EndsLine self.old self.new }
+    {
+        if self.fault.is_some() {
+            return;
+        }
+        let phase = mem::replace(&mut self.phase, Phase::Magic);
+        match after(self.alloc, phase, self.line.as_slice()) {
+            Ok(phase) => {
+                self.phase = phase;
+                self.line.clear();
+            }
+            Err(fault) => self.fault = Some(fault),
+        }
+    }
+
+    fn take_byte(&mut self, byte: u8)
+        ensures { Reads self.old (byte ∷ []) self.new }
+    {
+        if self.fault.is_some() {
+            return;
+        }
+        if let Phase::Finished(_) = &self.phase {
+            self.fault = Some(TraceError::BadLine(line_number(&self.phase)));
+        } else if byte == b'\n' {
+            self.end_line();
+        } else if self.line.is_full() {
+            self.fault = Some(too_long(&self.phase));
+        } else {
+            self.line.push(byte);
+        }
+    }
+
+    fn answer(&self) -> Result<(), TraceError>
+        ensures { result ≡ answer_of self.now }
+    {
+        match self.fault {
+            Some(fault) => Err(fault),
+            None => Ok(()),
+        }
+    }
+
+    /// Takes the next piece of a trace.
+    ///
+    /// The first line at fault is answered as soon as it is known: a line that is too long at its byte
+    /// 1201, a byte behind `end` at once, any other as its line feed comes. From then on each call
+    /// answers that error, and nothing more is read.
+    pub fn feed(&mut self, piece: &[u8]) -> Result<(), TraceError>
+        ensures state { Reads self.old piece.now self.new }
+        ensures answer { result ≡ answer_of self.new }
+    {
+        for byte in piece {
+            self.take_byte(*byte);
+        }
+        self.answer()
+    }
+
+    /// The interface that the whole trace leaves.
+    ///
+    /// Refused with the error that was answered before; with `BadMagic` where no whole line has come; and
+    /// with `Truncated` where the line feed of `end` hasn't. It takes no memory.
+    pub fn finish(self) -> Result<Interface, TraceError>
+        ensures { result ≡ outcome_of self }
+    {
+        if let Some(fault) = self.fault {
+            return Err(fault);
+        }
+        match self.phase {
+            Phase::Finished(interface) => Ok(interface),
+            Phase::Magic => Err(TraceError::BadMagic),
+            _ => Err(TraceError::Truncated),
+        }
+    }
+}

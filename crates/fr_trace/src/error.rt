@@ -1,0 +1,36 @@
+//! Why a trace is refused.
+
+use thiserror::Error;
+
+/// Why a trace is refused. A number is that of the line at fault, counted from 1.
+#[derive(Clone, Copy, Debug, PartialEq, Eq, Error)]
+pub enum TraceError {
+    /// The first line isn't `frtrace 1` with its line feed.
+    #[error("BadMagic")]
+    BadMagic,
+    /// The line has no form of the format, stands in a wrong place, or has a number out of its range;
+    /// or bytes come after the line `end`.
+    #[error("BadLine {0}")]
+    BadLine(u32),
+    /// The line has more than 1200 bytes before its line feed.
+    #[error("LineTooLong {0}")]
+    LineTooLong(u32),
+    /// The parameters are unlawful, or the interface refuses the call of the line.
+    #[error("Refused {0}")]
+    Refused(u32),
+    /// The call of the line has another answer.
+    #[error("WrongAnswer {0}")]
+    WrongAnswer(u32),
+    /// The input ends before the line feed of `end`.
+    #[error("Truncated")]
+    Truncated,
+    /// The reader failed.
+    #[error("Read")]
+    Read,
+    /// The writer failed.
+    #[error("Write")]
+    Write,
+    /// Memory was refused.
+    #[error("Memory")]
+    Memory,
+}

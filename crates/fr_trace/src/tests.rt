@@ -1,0 +1,307 @@
+//! Worked traces with the answers that the format gives, and readers and writers that fail.
+
+use crate::audit::audit;
+use crate::auditor::Auditor;
+use crate::error::TraceError;
+use crate::pieces::audit_pieces;
+use std::alloc::Global;
+use std::io::{self, Read, Write};
+use std::test::Fail;
+
+/// The lines of a trace in which a data frame arrives, and then a null frame.
+const LINES: [&[u8]; 13] = [
+    b"frtrace 1\n",
+    b"params 3 4 1 20 5 0 10 90 0 5\n",
+    b"node 1 0 0 8 8\n",
+    b"rx 2 AB 0 1\n",
+    b"begin\n",
+    b"read 0 0 -\n",
+    b"fetch 0 0 0 2 2 - -\n",
+    b"see 0 x200203c1400a0ba32217 noise\n",
+    b"read 0 0 2:A\n",
+    b"fetch 1 1 0 2 2 - -\n",
+    b"see 1 x000203c1410000d14f6c -\n",
+    b"read 0 0 2:A\n",
+    b"end\n",
+];
+
+/// A reader that gives a piece at each read, and fails at the read of this number, counted from 0.
+#[derive(Drop)]
+struct Pieces<'a> {
+    pieces: &'a [&'a [u8]],
+    reads: usize,
+    fails_at: usize,
+    kind: io::ErrorKind,
+}
+
+impl Read for Pieces<'_> {
+    fn read(&mut self, buf: &mut [u8]) -> io::Result<usize> {
+        let number = self.reads;
+        self.reads = number.saturating_add(1);
+        if number == self.fails_at {
+            return Err(io::Error::from(self.kind));
+        }
+        match self.pieces.get(number) {
+            Some(piece) => {
+                let mut piece = *piece;
+                piece.read(buf)
+            }
+            None => Ok(0),
+        }
+    }
+}
+
+/// A writer that takes so many writes, and then fails.
+#[derive(Drop)]
+struct Breaking {
+    left: u32,
+}
+
+impl Write for Breaking {
+    fn write(&mut self, buf: &[u8]) -> io::Result<usize> {
+        match self.left.checked_sub(1) {
+            Some(left) => {
+                self.left = left;
+                Ok(buf.len())
+            }
+            None => Err(io::Error::from(io::ErrorKind::Other)),
+        }
+    }
+
+    fn flush(&mut self) -> io::Result<()> {
+        Ok(())
+    }
+}
+
+/// A reader of these pieces that fails at the read of this number.
+fn failing<'a>(pieces: &'a [&'a [u8]], fails_at: usize, kind: io::ErrorKind) -> Pieces<'a> {
+    Pieces {
+        pieces,
+        reads: 0,
+        fails_at,
+        kind,
+    }
+}
+
+/// A reader of these pieces that doesn't fail.
+fn reader<'a>(pieces: &'a [&'a [u8]]) -> Pieces<'a> {
+    failing(pieces, usize::MAX, io::ErrorKind::Other)
+}
+
+/// Feeds an auditor a byte at a time.
+fn fed_by_bytes(alloc: Global, pieces: &[&[u8]]) -> Result<(), TraceError> {
+    let mut auditor = Auditor::new(alloc);
+    for piece in pieces {
+        for byte in *piece {
+            auditor.feed(&[*byte])?;
+        }
+    }
+    auditor.finish()?;
+    Ok(())
+}
+
+/// Why the trace is refused in these pieces, and in pieces of one byte.
+fn refusals(alloc: Global, pieces: &[&[u8]]) -> [Option<TraceError>; 2] {
+    [
+        audit_pieces(alloc, pieces).err(),
+        fed_by_bytes(alloc, pieces).err(),
+    ]
+}
+
+/// This error, however the trace is cut.
+fn both(error: TraceError) -> [Option<TraceError>; 2] {
+    [Some(error), Some(error)]
+}
+
+#[test]
+fn a_trace_gives_its_report(rt: HostRuntime) -> Result<(), Fail> {
+    // With room of its own, so that memory refused later is the audit's and not the writer's.
+    let mut report = Vec::with_capacity(rt.alloc(), 64)?;
+    audit(rt.alloc(), &mut reader(&LINES), &mut report)?;
+    assert_eq!(rt; report.as_slice(), b"rx 0 2:A x0a0b\n".as_slice());
+    assert_eq!(rt; refusals(rt.alloc(), &LINES), [None, None]);
+    Ok(())
+}
+
+#[test]
+fn an_empty_buffer_holds_nothing(rt: HostRuntime) -> Result<(), Fail> {
+    let mut report = Vec::with_capacity(rt.alloc(), 64)?;
+    let mut lines = LINES;
+    lines[5] = b"end\n";
+    audit(rt.alloc(), &mut reader(&lines[..6]), &mut report)?;
+    assert_eq!(rt; report.as_slice(), b"rx 0 - -\n".as_slice());
+    Ok(())
+}
+
+#[test]
+fn a_plan_without_buffers_has_an_empty_report(rt: HostRuntime) -> Result<(), Fail> {
+    let mut report = Vec::with_capacity(rt.alloc(), 64)?;
+    let mut lines = LINES;
+    lines[3] = b"begin\n";
+    lines[4] = b"end\n";
+    audit(rt.alloc(), &mut reader(&lines[..5]), &mut report)?;
+    assert_eq!(rt; report.as_slice(), b"".as_slice());
+    Ok(())
+}
+
+#[test]
+fn a_trace_that_is_cut_is_truncated(rt: HostRuntime) {
+    let mut lines = LINES;
+    assert_eq!(rt; refusals(rt.alloc(), &[]), both(TraceError::BadMagic));
+    assert_eq!(rt;
+        refusals(rt.alloc(), &[b"frtrace 1"]),
+        both(TraceError::BadMagic)
+    );
+    assert_eq!(rt;
+        refusals(rt.alloc(), &lines[..1]),
+        both(TraceError::Truncated)
+    );
+    lines[7] = b"see 0 x200";
+    assert_eq!(rt;
+        refusals(rt.alloc(), &lines[..8]),
+        both(TraceError::Truncated)
+    );
+    let mut lines = LINES;
+    lines[12] = b"end";
+    assert_eq!(rt; refusals(rt.alloc(), &lines), both(TraceError::Truncated));
+}
+
+#[test]
+fn a_byte_behind_the_end_is_a_line(rt: HostRuntime) {
+    let mut lines = LINES;
+    lines[12] = b"end\nx";
+    assert_eq!(rt; refusals(rt.alloc(), &lines), both(TraceError::BadLine(14)));
+}
+
+#[test]
+fn a_changed_line_is_refused(rt: HostRuntime) {
+    let mut lines = LINES;
+    lines[8] = b"read 0 0 1:A\n";
+    assert_eq!(rt;
+        refusals(rt.alloc(), &lines),
+        both(TraceError::WrongAnswer(9))
+    );
+    let mut lines = LINES;
+    lines[9] = b"fetch 0 1 0 2 2 - -\n";
+    assert_eq!(rt; refusals(rt.alloc(), &lines), both(TraceError::Refused(10)));
+    let mut lines = LINES;
+    lines[8] = lines[7];
+    assert_eq!(rt; refusals(rt.alloc(), &lines), both(TraceError::Refused(9)));
+    lines[7] = b"see 0 x200203c1400A0ba32217 noise\n";
+    assert_eq!(rt; refusals(rt.alloc(), &lines), both(TraceError::BadLine(8)));
+}
+
+#[test]
+fn a_line_out_of_its_ranges_is_no_line(rt: HostRuntime) {
+    let mut lines = LINES;
+    lines[6] = b"fetch 99999999999 0 0 2 2 - -\n";
+    assert_eq!(rt; refusals(rt.alloc(), &lines), both(TraceError::BadLine(7)));
+}
+
+#[test]
+fn an_offer_of_a_commit_is_a_wrong_answer(rt: HostRuntime) {
+    let mut lines = LINES;
+    lines[6] = b"fetch 0 0 0 2 2 0 -\n";
+    assert_eq!(rt;
+        refusals(rt.alloc(), &lines),
+        both(TraceError::WrongAnswer(7))
+    );
+    lines[6] = b"fetch 0 0 0 2 2 - null\n";
+    assert_eq!(rt;
+        refusals(rt.alloc(), &lines),
+        both(TraceError::WrongAnswer(7))
+    );
+}
+
+// Lines of a plan or a journal that no interface has today.
+
+#[test]
+fn a_plan_has_one_receive_buffer_alone(rt: HostRuntime) {
+    let mut lines = LINES;
+    lines[3] = b"own 1 A 0 0\n";
+    assert_eq!(rt; refusals(rt.alloc(), &lines), both(TraceError::BadLine(4)));
+    lines[3] = b"tx event 1 A 0 1 - 0\n";
+    assert_eq!(rt; refusals(rt.alloc(), &lines), both(TraceError::BadLine(4)));
+    lines[3] = b"queue 2 4 7 AB 0 1\n";
+    assert_eq!(rt; refusals(rt.alloc(), &lines), both(TraceError::BadLine(4)));
+    let mut lines = LINES;
+    lines[4] = lines[3];
+    assert_eq!(rt; refusals(rt.alloc(), &lines), both(TraceError::BadLine(5)));
+}
+
+#[test]
+fn a_journal_has_no_commits_and_pops(rt: HostRuntime) {
+    let mut lines = LINES;
+    lines[5] = b"commit 0 0 x0001\n";
+    assert_eq!(rt; refusals(rt.alloc(), &lines), both(TraceError::BadLine(6)));
+    lines[5] = b"pop 0 -\n";
+    assert_eq!(rt; refusals(rt.alloc(), &lines), both(TraceError::BadLine(6)));
+}
+
+#[test]
+fn an_error_is_answered_again(rt: HostRuntime) -> Result<(), Fail> {
+    let mut auditor = Auditor::new(rt.alloc());
+    for line in &LINES[..8] {
+        auditor.feed(line)?;
+    }
+    let wrong = TraceError::WrongAnswer(9);
+    assert_eq!(rt; auditor.feed(b"read 0 0 1:A\n"), Err(wrong));
+    assert_eq!(rt; auditor.feed(LINES[8]), Err(wrong));
+    assert_eq!(rt; auditor.finish().err(), Some(wrong));
+    Ok(())
+}
+
+#[test]
+fn a_line_is_too_long_at_its_byte_1201(rt: HostRuntime) -> Result<(), Fail> {
+    let mut auditor = Auditor::new(rt.alloc());
+    auditor.feed(&[b'a'; 1200])?;
+    assert_eq!(rt; auditor.feed(b"a"), Err(TraceError::BadMagic));
+    let mut auditor = Auditor::new(rt.alloc());
+    for line in &LINES[..7] {
+        auditor.feed(line)?;
+    }
+    auditor.feed(&[b'a'; 1200])?;
+    assert_eq!(rt; auditor.feed(b"a"), Err(TraceError::LineTooLong(8)));
+    Ok(())
+}
+
+#[test]
+fn a_reader_that_fails_is_read(rt: HostRuntime) -> Result<(), Fail> {
+    let mut report = Vec::with_capacity(rt.alloc(), 64)?;
+    for fails_at in 0..3 {
+        let mut reader = failing(&LINES, fails_at, io::ErrorKind::Other);
+        let answer = audit(rt.alloc(), &mut reader, &mut report);
+        assert_eq!(rt; answer, Err(TraceError::Read));
+        assert_eq!(rt; report.len(), 0);
+    }
+    Ok(())
+}
+
+#[test]
+fn an_interrupted_reader_is_read_at_once(rt: HostRuntime) -> Result<(), Fail> {
+    let mut report = Vec::with_capacity(rt.alloc(), 64)?;
+    let mut reader = failing(&LINES, 1, io::ErrorKind::Interrupted);
+    let answer = audit(rt.alloc(), &mut reader, &mut report);
+    assert_eq!(rt; answer, Err(TraceError::Read));
+    assert_eq!(rt; reader.reads, 2);
+    assert_eq!(rt; report.len(), 0);
+    Ok(())
+}
+
+#[test]
+fn nothing_is_read_behind_a_fault(rt: HostRuntime) -> Result<(), Fail> {
+    let mut report = Vec::with_capacity(rt.alloc(), 64)?;
+    let mut reader = failing(&[b"frtrace 2\n"], 1, io::ErrorKind::Other);
+    let answer = audit(rt.alloc(), &mut reader, &mut report);
+    assert_eq!(rt; answer, Err(TraceError::BadMagic));
+    assert_eq!(rt; reader.reads, 1);
+    Ok(())
+}
+
+#[test]
+fn a_writer_that_fails_is_write(rt: HostRuntime) {
+    for left in 0..3 {
+        let answer = audit(rt.alloc(), &mut reader(&LINES), &mut Breaking { left });
+        assert_eq!(rt; answer, Err(TraceError::Write));
+    }
+}
