@@ -1,1 +1,5 @@
+pub mod Checks
+pub mod Inputs
+pub mod Midpoints
+pub mod Numbers
 pub mod Orders

@@ -1,8 +1,7 @@
 -- Which words are an order, by the rules of `clap`, how the program's errors follow from one
 -- another, and the exit status of each.
-use Rattle.std.specs.Prelude.{ℕ, [], Option, Some, None, true, codes, if◌then◌else◌}
-use Rattle.std.specs.Str.{bytes_eq}
-use Rattle.clap.specs.Words.{App, Shape, Text, new_app, with_subcommand}
+use Rattle.std.specs.Prelude.{◌≡◌, ℕ, List, [], Option, Some, true, codes, option_map, option_and_then}
+use Rattle.clap.specs.Words.{App, Row, Rule, Shape, Text, first_of, new_app, new_rule, with_rule, with_subcommand}
 use Rattle.clap.specs.declared.error.kind.ErrorKind.{ErrorKind}
 use Rattle.clap.specs.declared.error.kind.ErrorKind.TheVariants as kind
 use Rattle.fr_bench.specs.declared.command.Order.{Order}
@@ -26,14 +25,31 @@ bare = record {
   subs = [];
 }
 
+-- the argument FILE, which has to be there
+abbrev pub the_file : Rule
+the_file = record (new_rule (codes "FILE")) { required = true }
+
+-- the command `check`, with its file
+abbrev pub the_check : App
+the_check = with_rule (new_app (codes "check")) the_file
+
 -- the program with its commands
 abbrev pub the_commands : App
-the_commands = with_subcommand bare (named (codes "audit"))
+the_commands = with_subcommand (with_subcommand (with_subcommand bare (named (codes "audit"))) the_check.top) (named (codes "midpoint"))
 
--- the order that a command's name stands for
-abbrev pub order_named : Option Text → Option Order
-order_named None = None
-order_named (Some name) = if bytes_eq name (codes "audit") then Some the_order.Audit else None
+-- the name of the command that words enter
+abbrev pub name_in : Option (Text × List Row) → Option Text
+name_in = option_map (λ entered. entered.0)
+
+-- the word for FILE
+abbrev pub file_in : Option (Text × List Row) → Option Text
+file_in = option_and_then (λ entered. first_of (codes "FILE") entered.1)
+
+-- the order is that of the command which the words enter, with its file
+abbrev pub IsOrder : Option (Text × List Row) → Order → Type 0
+IsOrder entered the_order.Audit = name_in entered ≡ Some (codes "audit")
+IsOrder entered (the_order.Check file) = (name_in entered ≡ Some (codes "check")) × (file_in entered ≡ Some file.now)
+IsOrder entered the_order.Midpoint = name_in entered ≡ Some (codes "midpoint")
 
 -- want of memory alone is no fault of the words
 abbrev pub order_error_of : ErrorKind → OrderError

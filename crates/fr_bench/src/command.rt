@@ -10,9 +10,13 @@ use thiserror::Error;
 
 /// What the program is asked to do (own profile).
 #[derive(Clone, Copy, Debug, PartialEq, Eq)]
-pub enum Order {
+pub enum Order<'a> {
     /// Read the trace of one controller on standard input and print its audited report.
     Audit,
+    /// Read the cluster file of this name and print the line of its parameters.
+    Check(&'a str),
+    /// Read numbers on standard input and print their fault-tolerant midpoint.
+    Midpoint,
 }
 
 /// Why words give no order (own profile).

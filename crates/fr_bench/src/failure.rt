@@ -4,6 +4,7 @@ ghost use Rattle.fr_bench.specs.Orders.{failure_of, status_of};
 ghost use Rattle.fr_bench.specs.declared.failure.Failure.TheVariants as failure;
 
 use crate::command::OrderError;
+use crate::error::BenchError;
 use fr_trace::error::TraceError;
 use thiserror::Error;
 
@@ -20,6 +21,9 @@ pub enum Failure {
     /// The trace was refused, or couldn't be read, or its report couldn't be written.
     #[error("refused {0}")]
     Audit(#[from] TraceError),
+    /// Another input was refused, or couldn't be read, or the output couldn't be written.
+    #[error("refused {0}")]
+    Text(#[from] BenchError),
 }
 
 impl Failure {
@@ -29,7 +33,7 @@ impl Failure {
     {
         match self {
             Failure::Usage => 2,
-            Failure::Memory | Failure::Audit(_) => 1,
+            Failure::Memory | Failure::Audit(_) | Failure::Text(_) => 1,
         }
     }
 }

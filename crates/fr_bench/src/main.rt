@@ -7,16 +7,22 @@
 #![tactic(auto)]
 
 mod audit;
+mod check;
 mod command;
+mod error;
 mod failure;
+mod input;
+mod midpoint;
+mod numbers;
 mod order;
 
 use command::{Order, OrderError};
+use error::BenchError;
 use failure::Failure;
 use std::alloc::{AllocError, Global};
 use std::process::ExitCode;
-use std::rt::Env;
-use std::{env, io};
+use std::rt::{Env, Files};
+use std::{env, fs, io};
 
 /// The words after the program's name, as the system gives them. A word that isn't UTF-8 names no
 /// command.
@@ -28,18 +34,42 @@ fn words_given<R: Env + AllocGlobal>(rt: &R) -> Result<Vec<String>, OrderError> 
     }
 }
 
-/// The order that the words spell.
-fn order_of(alloc: Global, words: &Vec<String>) -> Result<Order, OrderError> {
-    let texts: Vec<&str> = words.iter().map(|word| word.as_str()).collect(alloc)?;
-    order::order(alloc, texts.as_slice())
+/// The words as texts.
+fn texts_of(alloc: Global, words: &Vec<String>) -> Result<Vec<&str>, OrderError> {
+    Ok(words.iter().map(|word| word.as_str()).collect(alloc)?)
+}
+
+/// The file of this name, opened to be read.
+fn opened<R: Files>(rt: &R, path: &str) -> Result<R::File, BenchError> {
+    match fs::open(rt, path) {
+        Ok(file) => Ok(file),
+        Err(error) if error.kind() == io::ErrorKind::OutOfMemory => Err(BenchError::Memory),
+        Err(_) => Err(BenchError::Read),
+    }
+}
+
+/// Does the order.
+fn carry_out<R: Files + Input + Print + AllocGlobal>(
+    rt: &R,
+    order: Order<'_>,
+) -> Result<(), Failure> {
+    let alloc = rt.alloc();
+    let mut output = io::writer(rt);
+    match order {
+        Order::Audit => Ok(audit::audit(alloc, &mut rt.reader(), &mut output)?),
+        Order::Check(path) => {
+            let mut file = opened(rt, path)?;
+            Ok(check::check_text(alloc, &mut file, &mut output)?)
+        }
+        Order::Midpoint => Ok(midpoint::midpoint_text(alloc, &mut rt.reader(), &mut output)?),
+    }
 }
 
 /// Does what the words ask for.
-fn run<R: Env + Input + Print + AllocGlobal>(rt: &R) -> Result<(), Failure> {
+fn run<R: Env + Files + Input + Print + AllocGlobal>(rt: &R) -> Result<(), Failure> {
     let words = words_given(rt)?;
-    match order_of(rt.alloc(), &words)? {
-        Order::Audit => Ok(audit::audit(rt.alloc(), &mut rt.reader(), &mut io::writer(rt))?),
-    }
+    let texts: Vec<&str> = texts_of(rt.alloc(), &words)?;
+    carry_out(rt, order::order(rt.alloc(), texts.as_slice())?)
 }
 
 fn main(rt: HostRuntime) -> ExitCode {

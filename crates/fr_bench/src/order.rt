@@ -1,31 +1,53 @@
 //! Reads the words after the program's name.
-ghost use Rattle.std.specs.Prelude.{◌≡◌, ◌∷◌, ◌⊎◌, [], IfOk, Ok, Err, codes, map};
-ghost use Rattle.clap.specs.Words.{app_of, fault_of, subcommand_name_of};
-ghost use Rattle.fr_bench.specs.Orders.{order_named, the_commands};
+ghost use Rattle.std.specs.Prelude.{◌≡◌, ◌∷◌, ◌⊎◌, [], IfOk, IfSome, Some, false, Ok, Err, codes, map};
+ghost use Rattle.clap.specs.Words.{app_of, fault_of, subcommand_name_of, subcommand_of, subcommand_rows_of};
+ghost use Rattle.clap.specs.declared.builder.command.Command.TheViews.{out-Command};
+ghost use Rattle.fr_bench.specs.Orders.{IsOrder, bare, the_check, the_commands};
 ghost use Rattle.fr_bench.specs.declared.command.Order.TheVariants as the_order;
 ghost use Rattle.fr_bench.specs.declared.command.OrderError.TheVariants as refusal;
 
 use crate::command::{Order, OrderError};
-use clap::{ArgMatches, Command};
+use clap::{Arg, ArgMatches, Command};
 use std::alloc::{AllocError, Global};
+
+/// The command `check`, with its file.
+fn check<'a>(alloc: Global) -> Result<Command<'a>, AllocError>
+    ensures app { IfOk result (λ c. app_of c ≡ the_check) }
+    ensures local { IfOk result (λ c. (out-Command c).has_globals ≡ false) }
+{
+    let file = Arg::new(alloc, "FILE").required(true);
+    Command::new(alloc, "check").arg(file)
+}
+
+/// The program, with no command yet.
+fn program<'a>(alloc: Global) -> Command<'a>
+    ensures { app_of result ≡ bare }
+{
+    Command::new(alloc, "fr_bench")
+        .no_binary_name(true)
+        .subcommand_required(true)
+}
 
 /// The commands, as `clap` is told of them.
 fn commands<'a>(alloc: Global) -> Result<Command<'a>, AllocError>
     ensures { IfOk result (λ c. app_of c ≡ the_commands) }
 {
-    Command::new(alloc, "fr_bench")
-        .no_binary_name(true)
-        .subcommand_required(true)
-        .subcommand(Command::new(alloc, "audit"))
+    let first = program(alloc).subcommand(Command::new(alloc, "audit"))?;
+    let second = first.subcommand(check(alloc)?)?;
+    second.subcommand(Command::new(alloc, "midpoint"))
 }
 
-/// The order that the command's name stands for.
-fn order_in(matches: &ArgMatches<'_>) -> Option<Order>
-    ensures { result ≡ order_named (subcommand_name_of matches.now) }
+/// The order that the command's name and arguments stand for.
+fn order_in<'a>(matches: &ArgMatches<'a>) -> Option<Order<'a>>
+    ensures told { IfSome result (λ o. IsOrder (subcommand_rows_of matches.now) o) }
+    ensures audit { subcommand_name_of matches.now ≡ Some (codes "audit") → result ≡ Some the_order.Audit }
+    ensures midpoint { subcommand_name_of matches.now ≡ Some (codes "midpoint") → result ≡ Some the_order.Midpoint }
 {
-    let (name, _) = matches.subcommand()?;
+    let (name, arguments) = matches.subcommand()?;
     match name {
         "audit" => Some(Order::Audit),
+        "check" => Some(Order::Check(arguments.get_str("FILE")?)),
+        "midpoint" => Some(Order::Midpoint),
         _ => None,
     }
 }
@@ -34,10 +56,13 @@ fn order_in(matches: &ArgMatches<'_>) -> Option<Order>
 ///
 /// Refused with `Memory` where memory for the parse was refused, and else with `Usage` for all words
 /// that are no command. A call for help is no command.
-pub fn order(alloc: Global, words: &[&str]) -> Result<Order, OrderError>
+pub fn order<'a>(alloc: Global, words: &'a [&'a str]) -> Result<Order<'a>, OrderError>
     ensures only { IfOk result (λ _. fault_of the_commands (map (λ word. word.now) words.now) ≡ []) }
+    ensures told { IfOk result (λ o. IsOrder (subcommand_of the_commands (map (λ word. word.now) words.now)) o) }
     ensures audit { map (λ word. word.now) words.now ≡ codes "audit" ∷ []
         → (result ≡ Ok the_order.Audit) ⊎ (result ≡ Err refusal.Memory) }
+    ensures midpoint { map (λ word. word.now) words.now ≡ codes "midpoint" ∷ []
+        → (result ≡ Ok the_order.Midpoint) ⊎ (result ≡ Err refusal.Memory) }
 {
     let matches = commands(alloc)?.try_get_matches_from(words)?;
     order_in(&matches).ok_or(OrderError::Usage)

@@ -1,12 +1,11 @@
 -- What a receive buffer holds comes from an entry that is there.
-use Rattle.std.proofs.Common.{◌≡◌, ℕ, ◌+◌, ◌≤◌, ◌<◌, ◌^◌, Bool, true, false, cond, List, [], ◌∷◌, ◌++◌, length, Option, Some, None, refl, sym, ap, subst, ◌∙◌, arith, length-append, option_map}
+use Rattle.std.proofs.Common.{◌≡◌, ℕ, ◌+◌, ◌≤◌, ◌<◌, ◌^◌, Bool, true, false, cond, List, [], ◌∷◌, ◌++◌, length, Option, Some, None, refl, arith, length-append, option_map}
 use Rattle.std.specs.Prelude.{IfSome}
-use Rattle.std.specs.Option.{option_and_then, option_or}
+use Rattle.std.specs.Option.{option_and_then}
 use Rattle.fr_frame.specs.Fields.{Fields}
 use Rattle.fr_interface.specs.declared.entry.Arrival.{Arrival}
 use Rattle.fr_interface.specs.declared.entry.Entry.{Entry}
 use Rattle.fr_interface.specs.declared.entry.Entry.TheVariants.{Commit, Read, Pop, Fetch, Observe}
-use Rattle.fr_interface.specs.declared.entry.Origin.{Origin}
 use Rattle.fr_interface.specs.Entries.{IsOrigin}
 use Rattle.fr_interface.specs.Held.{held, arrival_at, arrival_by, arrival_in, arrival_on, arrival_of, data_frame_seen, origin_of}
 use Rattle.fr_interface.specs.Offers.{admits_window}

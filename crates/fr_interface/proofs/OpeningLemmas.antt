@@ -1,5 +1,5 @@
 -- What a scan knows of the windows, with one more entry.
-use Rattle.std.proofs.Common.{◌≡◌, ℕ, ◌+◌, ◌<◌, List, [], ◌∷◌, ◌++◌, take, get_or, length, Option, Some, None, refl, sym, ap, subst, ◌∙◌}
+use Rattle.std.proofs.Common.{◌≡◌, ℕ, ◌+◌, ◌<◌, List, [], ◌∷◌, ◌++◌, take, get_or, length, None, refl, sym, ap, subst, ◌∙◌}
 use Rattle.std.proofs.lemmas.List.{take_more}
 use Rattle.std.specs.Option.{option_and_then, option_or}
 use Rattle.fr_interface.specs.declared.entry.Entry.{Entry}
@@ -8,7 +8,6 @@ use Rattle.fr_interface.specs.declared.scan.Opening.{Opening}
 use Rattle.fr_interface.specs.Opening.{IsOpening, next_opening}
 use Rattle.fr_interface.specs.OpenWindow.{open_window, window_mark, last_number, fetched_number}
 use Rattle.fr_slots.specs.History.{last_after}
-use Rattle.fr_slots.specs.Windows.{Opportunity}
 use Rattle.fr_slots.proofs.HistoryLemmas.{last_after-snoc}
 
 pub open_window-snoc : (xs : List Entry) (e : Entry) → open_window (xs ++ e ∷ []) ≡ option_and_then (λ w. w) (option_or (window_mark xs e) (last_after window_mark [] xs))

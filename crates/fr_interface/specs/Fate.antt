@@ -6,7 +6,7 @@ use Rattle.fr_interface.specs.declared.entry.Entry.{Entry}
 use Rattle.fr_interface.specs.declared.entry.Entry.TheVariants.{Commit, Read, Pop, Fetch, Observe}
 use Rattle.fr_interface.specs.declared.entry.Offered.{Offered}
 use Rattle.fr_interface.specs.declared.entry.Offered.TheVariants.{Nothing, Null, Data}
-use Rattle.fr_slots.specs.History.{last_after, each_after}
+use Rattle.fr_slots.specs.History.{last_after}
 
 -- ---- commits
 

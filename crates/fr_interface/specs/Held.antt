@@ -1,5 +1,5 @@
 -- What a receive buffer holds: the last valid data frame that it admitted (chapter 9; channel A before B is own profile).
-use Rattle.std.specs.Prelude.{ℕ, Bool, List, [], length, Option, Some, None, if◌then◌else◌, option_map}
+use Rattle.std.specs.Prelude.{ℕ, List, [], length, Option, Some, None, if◌then◌else◌, option_map}
 use Rattle.std.specs.Option.{option_and_then, option_or}
 use Rattle.fr_frame.specs.Fields.{Fields}
 use Rattle.fr_interface.specs.declared.entry.Arrival.{Arrival}

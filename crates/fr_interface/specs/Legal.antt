@@ -1,5 +1,5 @@
 -- Which journals are legal for given parameters and a given plan.
-use Rattle.std.specs.Prelude.{◌≡◌, ℕ, ◌+◌, ◌*◌, ◌≤◌, ◌<◌, ◌==◌, nat_lt, nat_le, Bool, true, false, not, ◌&&◌, List, [], length, slice_get, Option, Some, None, if◌then◌else◌, count_by, IfSome, IsSomeAnd, option_map}
+use Rattle.std.specs.Prelude.{◌≡◌, ℕ, ◌+◌, ◌*◌, ◌≤◌, ◌<◌, nat_lt, nat_le, Bool, true, false, ◌&&◌, List, [], length, slice_get, Option, Some, None, if◌then◌else◌, count_by, IfSome, IsSomeAnd, option_map}
 use Rattle.fr_interface.specs.Arrivals.{moves, oldest}
 use Rattle.fr_interface.specs.declared.entry.Entry.{Entry}
 use Rattle.fr_interface.specs.declared.entry.Entry.TheVariants.{Commit, Read, Pop, Fetch, Observe}
@@ -11,7 +11,6 @@ use Rattle.fr_interface.specs.Offers.{offered}
 use Rattle.fr_interface.specs.OpenWindow.{open_window, last_number}
 use Rattle.fr_slots.specs.declared.channel.Channel.TheVariants as channel
 use Rattle.fr_slots.specs.declared.plan.Buffer.{Buffer}
-use Rattle.fr_slots.specs.declared.plan.Queue.{Queue}
 use Rattle.fr_slots.specs.History.{AllAfter}
 use Rattle.fr_slots.specs.Parameters.{Parameters}
 use Rattle.fr_slots.specs.Plans.{Plan, is_receive}

@@ -1,15 +1,15 @@
 -- What a node offers in a window, decided by the entries before the fetch (chapter 5; the modes are own profile).
-use Rattle.std.specs.Prelude.{◌≡◌, ℕ, ◌+◌, ◌*◌, ◌==◌, nat_le, Bool, true, false, not, ◌&&◌, ◌||◌, List, [], ◌∷◌, length, replicate, slice_get, Option, Some, None, is_some, if◌then◌else◌}
-use Rattle.std.specs.Option.{option_and_then, unwrap_or}
+use Rattle.std.specs.Prelude.{ℕ, ◌+◌, ◌*◌, ◌==◌, nat_le, Bool, true, false, not, ◌&&◌, ◌||◌, List, [], ◌∷◌, replicate, slice_get, Option, Some, None, is_some, if◌then◌else◌}
+use Rattle.std.specs.Option.{option_and_then}
 use Rattle.arrayvec.specs.ArrayVec.{ArrayVec}
 use Rattle.fr_frame.specs.Fields.{Fields}
 use Rattle.fr_frame.specs.Spelling.{SpellsCanonically}
 use Rattle.fr_interface.specs.declared.entry.Entry.{Entry}
-use Rattle.fr_interface.specs.declared.entry.Entry.TheVariants.{Commit, Read, Pop, Fetch, Observe}
+use Rattle.fr_interface.specs.declared.entry.Entry.TheVariants.{Commit}
 use Rattle.fr_interface.specs.declared.entry.Offered.{Offered}
 use Rattle.fr_interface.specs.declared.entry.Offered.TheVariants.{Nothing, Null, Data}
 use Rattle.fr_interface.specs.Fate.{last_commit, pending_commit}
-use Rattle.fr_slots.specs.Admission.{includes, cycle_admitted}
+use Rattle.fr_slots.specs.Admission.{includes}
 use Rattle.fr_slots.specs.declared.channel.Channel.{Channel}
 use Rattle.fr_slots.specs.declared.channel.Channel.TheVariants as channel
 use Rattle.fr_slots.specs.declared.filter.Filter.{Filter}

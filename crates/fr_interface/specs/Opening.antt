@@ -1,5 +1,5 @@
 -- What a scan knows of the windows of a journal.
-use Rattle.std.specs.Prelude.{◌≡◌, ℕ, List, Option, Some, None}
+use Rattle.std.specs.Prelude.{◌≡◌, List, Some, None}
 use Rattle.fr_interface.specs.declared.entry.Entry.{Entry}
 use Rattle.fr_interface.specs.declared.entry.Entry.TheVariants.{Commit, Read, Pop, Fetch, Observe}
 use Rattle.fr_interface.specs.declared.scan.Opening.{Opening}

@@ -1,5 +1,5 @@
 -- What an interface is seen as, and what its calls refuse.
-use Rattle.std.specs.Prelude.{◌≡◌, ℕ, ◌+◌, ◌≤◌, ◌==◌, nat_lt, nat_le, not, Bool, true, false, List, [], ◌∷◌, ◌++◌, length, Option, Some, None, is_some, if◌then◌else◌, count_by, option_map}
+use Rattle.std.specs.Prelude.{◌≡◌, ℕ, ◌+◌, ◌≤◌, ◌==◌, nat_lt, nat_le, not, Bool, false, List, [], ◌∷◌, ◌++◌, length, Option, Some, None, is_some, if◌then◌else◌, count_by, option_map}
 use Rattle.std.specs.Option.{option_and_then}
 use Rattle.fr_interface.specs.declared.entry.Entry.{Entry}
 use Rattle.fr_interface.specs.declared.errors.HostError.{HostError}
@@ -11,11 +11,10 @@ use Rattle.fr_interface.specs.declared.entry.Source.{Source}
 use Rattle.fr_interface.specs.declared.entry.Source.TheVariants as source
 use Rattle.fr_interface.specs.Entries.{is_host, is_slot}
 use Rattle.fr_interface.specs.Fate.{last_commit}
-use Rattle.fr_interface.specs.Held.{held, origin_of, frame_of}
+use Rattle.fr_interface.specs.Held.{held, origin_of}
 use Rattle.fr_interface.specs.Legal.{buffer_at, window_fits, IsLegalJournal, AreEntries}
 use Rattle.fr_interface.specs.OpenWindow.{open_window, last_number}
 use Rattle.fr_slots.specs.declared.plan.Buffer.{Buffer}
-use Rattle.fr_slots.specs.declared.plan.Mode.{Mode}
 use Rattle.fr_slots.specs.Parameters.{Parameters, IsParameters}
 use Rattle.fr_slots.specs.Plans.{Plan, IsPlan, AllFit, is_receive}
 use Rattle.fr_slots.specs.Windows.{Opportunity}

@@ -9,3 +9,5 @@ pub mod errors;
 pub mod interface;
 pub mod journal;
 mod scan;
+#[cfg(test)]
+mod tests;

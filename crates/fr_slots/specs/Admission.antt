@@ -1,5 +1,5 @@
 -- What a filter admits (chapter 9; the division of slots by cycle is that of a cycle filter).
-use Rattle.std.specs.Prelude.{◌≡◌, ℕ, ◌%◌, ◌<◌, ◌==◌, nat_lt, nat_le, not, Bool, true, false, ◌&&◌, List, [], ◌∷◌, Option, Some, None, Result, Ok, Err, if◌then◌else◌}
+use Rattle.std.specs.Prelude.{◌≡◌, ℕ, ◌%◌, ◌<◌, ◌==◌, nat_le, not, Bool, true, false, List, [], ◌∷◌, codes, Result, Ok, Err, if◌then◌else◌}
 use Rattle.std.specs.List.{list_any}
 use Rattle.fr_slots.specs.declared.channel.Channel.{Channel}
 use Rattle.fr_slots.specs.declared.channel.Channel.TheVariants as channel
@@ -7,6 +7,11 @@ use Rattle.fr_slots.specs.declared.channel.Channels.{Channels}
 use Rattle.fr_slots.specs.declared.channel.Channels.TheVariants as channels
 use Rattle.fr_slots.specs.declared.filter.FilterError.{FilterError}
 use Rattle.fr_slots.specs.declared.filter.FilterError.TheVariants.{RepetitionNotPower, BaseTooLarge}
+
+-- the letter of a channel, as it is printed
+abbrev pub letter_of : Channel → List ℕ
+letter_of channel.A = codes "A"
+letter_of channel.B = codes "B"
 
 -- the channel is among them
 abbrev pub includes : Channels → Channel → Bool

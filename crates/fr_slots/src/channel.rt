@@ -13,6 +13,11 @@ pub enum Channel {
 }
 
 impl fmt::Display for Channel {
+    ghost use Rattle.std.specs.Prelude.{Some};
+    ghost use Rattle.fr_slots.specs.Admission.{letter_of};
+
+    ghost output = { λ channel. Some (letter_of channel) };
+
     fn fmt<W: fmt::Write>(&self, f: &mut fmt::Formatter<W>) -> fmt::Result {
         match self {
             Channel::A => write!(f, "A"),

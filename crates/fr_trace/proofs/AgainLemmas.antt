@@ -1,35 +1,27 @@
 -- The text of a legal interface is read.
-use Rattle.std.proofs.Common.{◌≡◌, ℕ, zero, suc, ◌+◌, ◌≤◌, ◌<◌, Bool, true, false, not, ◌&&◌, ◌||◌, List, [], ◌∷◌, ◌++◌, length, Option, Some, None, Result, Ok, Err, refl, sym, ap, subst, ◌∙◌, append_assoc, arith}
-use Rattle.std.specs.Prelude.{is_some, slice_get, IsSomeAnd}
-use Rattle.std.proofs.lemmas.Bool.{and_parts}
+use Rattle.std.proofs.Common.{◌≡◌, ℕ, zero, suc, ◌≤◌, ◌<◌, List, [], ◌∷◌, ◌++◌, length, Ok, refl, sym, ap, subst, ◌∙◌, append_assoc, arith}
+use Rattle.std.specs.Prelude.{slice_get, IsSomeAnd}
 use Rattle.std.proofs.lemmas.List.{append-nil}
-use Rattle.std.proofs.lemmas.List.Sums.{fold-append}
 use Rattle.std.specs.List.{flat_map}
-use Rattle.std.specs.Str.{bytes_eq}
 use Rattle.fr_interface.specs.declared.entry.Entry.{Entry}
 use Rattle.fr_interface.specs.declared.entry.Entry.TheVariants.{Commit, Read, Pop, Fetch, Observe}
 use Rattle.fr_interface.specs.Entries.{IsEntry}
 use Rattle.fr_interface.specs.Legal.{IsLegal, buffer_at}
 use Rattle.fr_interface.specs.State.{State, IsLegalInterface, IsReceivePlan, is_receive_buffer, with_entry}
-use Rattle.fr_lines.specs.Reading.{entry_in, receive_in}
-use Rattle.fr_lines.specs.Spelled.{IsSpelledEntry, IsSpelledBuffer, bare_plan, parameter_numbers}
+use Rattle.fr_lines.specs.Spelled.{IsSpelledEntry, IsSpelledBuffer, bare_plan}
 use Rattle.fr_lines.specs.Spelling.{first_line, begin_line, end_line, params_words, node_words, buffer_words, entry_words}
 use Rattle.fr_lines.proofs.BufferLemmas.{spelled_from, receive_line_again, buffer_no_feed, buffer_short, buffer_not_begin}
 use Rattle.fr_lines.proofs.EntryLemmas.{entry_line_again, entry_no_feed, entry_short, entry_not_end}
 use Rattle.fr_lines.proofs.NodeLemmas.{node_line_again, node_no_feed, node_short}
 use Rattle.fr_lines.proofs.ParameterLemmas.{params_line_again, parameters_again, params_no_feed, params_short}
 use Rattle.fr_slots.specs.declared.plan.Buffer.{Buffer}
-use Rattle.fr_slots.specs.declared.plan.Mode.{Mode}
-use Rattle.fr_slots.specs.declared.plan.Mode.TheVariants.{Event, State as Steady, Receive}
 use Rattle.fr_slots.specs.History.{AllAfter}
 use Rattle.fr_slots.specs.Parameters.{Parameters, IsParameters}
-use Rattle.fr_slots.specs.Plans.{Plan, IsPlan, IsBuffer, Each, AllFit, is_receive, buffer_fits, words_fit, with_buffer}
-use Rattle.fr_text.specs.Spaces.{line_of, words_of}
-use Rattle.fr_trace.specs.Answers.{fault_of, made_by}
-use Rattle.fr_trace.specs.declared.replay.Fault.{Fault}
-use Rattle.fr_trace.specs.declared.error.TraceError.{TraceError}
-use Rattle.fr_trace.specs.Stream.{Phase, magic, params, node, lines, body, finished, Progress, reading, after_parameters, after_numbers, after_node, after_buffer, after_begin, after_fault, after_entry, take_line, take_byte, take_bytes, fresh}
-use Rattle.fr_trace.specs.TraceText.{line_feed, line_text, buffer_line, entry_line, head_text, params_text, plan_text, begin_text, body_text, trace_text}
+use Rattle.fr_slots.specs.Plans.{Plan, IsPlan, IsBuffer, Each, AllFit, buffer_fits, with_buffer}
+use Rattle.fr_text.specs.Spaces.{line_of}
+use Rattle.fr_trace.specs.Answers.{made_by}
+use Rattle.fr_trace.specs.Stream.{magic, params, node, lines, body, finished, reading, after_parameters, after_numbers, after_node, take_line, take_bytes, fresh}
+use Rattle.fr_trace.specs.TraceText.{line_text, entry_line, head_text, params_text, plan_text, begin_text, body_text, trace_text}
 use Rattle.fr_trace.proofs.AnswerLemmas.{no_transmit, no_queue, no_fault, legal_accepted, made-answered}
 use Rattle.fr_trace.proofs.LineLemmas.{next_line}
 use Rattle.fr_trace.proofs.PlanLemmas.{receive_plan_again}

@@ -1,6 +1,6 @@
 -- The call of an entry that is legal is accepted, and makes that entry again.
-use Rattle.std.proofs.Common.{◌≡◌, ℕ, ◌+◌, ◌*◌, ◌≤◌, ◌<◌, Bool, true, false, not, cond, eqb, leb, ltb, ◌&&◌, List, [], ◌∷◌, length, Option, Some, None, refl, sym, ap, subst, ◌∙◌, arith, option_map, zero, suc}
-use Rattle.std.specs.Prelude.{IfSome, IsSomeAnd, is_some, slice_get, count_by}
+use Rattle.std.proofs.Common.{◌≡◌, ℕ, ◌+◌, ◌<◌, true, false, eqb, leb, ltb, Option, Some, None, refl, sym, ap, option_map}
+use Rattle.std.specs.Prelude.{IfSome, IsSomeAnd, is_some, count_by}
 use Rattle.std.specs.Option.{option_and_then}
 use Rattle.std.proofs.lemmas.Bool.{and_parts, eqb-true, eq-eqb, lt-leb, le-ltb}
 use Rattle.fr_interface.specs.declared.entry.Entry.{Entry}
@@ -10,7 +10,7 @@ use Rattle.fr_interface.specs.declared.entry.Offered.TheVariants.{Nothing, Null,
 use Rattle.fr_interface.specs.declared.entry.Origin.{Origin}
 use Rattle.fr_interface.specs.Held.{held, origin_of}
 use Rattle.fr_interface.specs.Entries.{is_host, is_slot}
-use Rattle.fr_interface.specs.Legal.{IsLegal, IsLegalRead, IsLegalFetch, IsLegalObserve, buffer_at, window_fits}
+use Rattle.fr_interface.specs.Legal.{IsLegal, IsLegalRead, IsLegalFetch, buffer_at}
 use Rattle.fr_interface.specs.Offers.{offered}
 use Rattle.fr_interface.specs.OpenWindow.{open_window, last_number}
 use Rattle.fr_interface.specs.State.{State, IsReceivePlan, received_by, received_in, read_refusal, unless_receive, fetch_refusal, observe_refusal, unless_open, is_not_above, is_host_full}
@@ -19,11 +19,9 @@ use Rattle.fr_slots.specs.declared.channel.Channel.{Channel}
 use Rattle.fr_slots.specs.declared.channel.Channel.TheVariants.{A, B}
 use Rattle.fr_slots.specs.declared.plan.Buffer.{Buffer}
 use Rattle.fr_slots.specs.declared.plan.Queue.{Queue}
-use Rattle.fr_slots.specs.Parameters.{Parameters}
 use Rattle.fr_slots.specs.Plans.{Plan, is_receive}
 use Rattle.fr_slots.specs.Windows.{Opportunity}
-use Rattle.fr_trace.specs.Answers.{same_channel, same_origin, same_offered, same_answer, is_refused, made_by, is_answered, fault_of}
-use Rattle.fr_trace.specs.declared.replay.Fault.{Fault}
+use Rattle.fr_trace.specs.Answers.{same_channel, same_origin, same_offered, is_refused, made_by, is_answered, fault_of}
 
 -- ---- equal answers
 

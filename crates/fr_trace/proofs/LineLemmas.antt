@@ -1,12 +1,12 @@
 -- A whole line leads from one phase to the next.
-use Rattle.std.proofs.Common.{◌≡◌, ℕ, ◌+◌, ◌≤◌, ◌==◌, Bool, true, false, not, ◌&&◌, List, [], ◌∷◌, ◌++◌, length, Result, Ok, refl, sym, ap, ◌∙◌, append_assoc, arith, length-append}
+use Rattle.std.proofs.Common.{◌≡◌, ℕ, ◌+◌, ◌≤◌, ◌==◌, true, false, not, List, [], ◌∷◌, ◌++◌, length, Ok, refl, sym, ap, ◌∙◌, append_assoc, arith, length-append}
 use Rattle.std.proofs.lemmas.Bool.{and_parts}
 use Rattle.std.proofs.lemmas.Bool.Decides.{nat_tests}
 use Rattle.std.proofs.lemmas.List.{append-nil}
 use Rattle.std.proofs.lemmas.List.Sums.{fold-append}
 use Rattle.fr_text.specs.Plain.{is_feed, has_no_feed}
 use Rattle.fr_trace.proofs.TextLemmas.{is_open, take_in-open}
-use Rattle.fr_trace.specs.Stream.{Phase, Progress, reading, take_line, after_line, take_open, take_in, take_byte, take_bytes}
+use Rattle.fr_trace.specs.Stream.{Phase, Progress, reading, take_line, after_line, take_in, take_byte, take_bytes}
 use Rattle.fr_trace.specs.TraceText.{line_feed}
 
 -- bytes that are no line feed fill the line

@@ -1,12 +1,11 @@
 -- What is accepted is the text of an interface, and the text of a legal interface is accepted.
-use Rattle.std.proofs.Common.{◌≡◌, ℕ, List, [], ◌++◌, Option, Some, None, Result, Ok, Err, refl, sym, ap, subst, ◌∙◌}
+use Rattle.std.proofs.Common.{◌≡◌, ℕ, List, ◌++◌, Option, Some, None, Result, Ok, Err, refl, sym, ap, subst, ◌∙◌}
 use Rattle.std.proofs.lemmas.List.{append-nil}
-use Rattle.std.specs.Io.KnownBytes.{Keeps, Appends}
 use Rattle.fr_interface.specs.State.{State, IsLegalInterface}
 use Rattle.fr_trace.specs.Audit.{Gives, IsTextOf, Leaves, Audits, IsNotRefused, IsOfText}
 use Rattle.fr_trace.specs.declared.error.TraceError.{TraceError}
 use Rattle.fr_trace.specs.declared.error.TraceError.TheVariants.{BadMagic, BadLine, LineTooLong, Refused, WrongAnswer, Truncated, Read, Write, Memory}
-use Rattle.fr_trace.specs.Stream.{Phase, Progress, magic, params, node, lines, body, finished, reading, failed, fresh, take_bytes, outcome_of}
+use Rattle.fr_trace.specs.Stream.{Progress, magic, params, node, lines, body, finished, reading, failed, fresh, take_bytes, outcome_of}
 use Rattle.fr_trace.specs.TraceText.{trace_text}
 use Rattle.fr_trace.proofs.AgainLemmas.{text_again}
 use Rattle.fr_trace.proofs.TextLemmas.{Spelled, text_spelled}

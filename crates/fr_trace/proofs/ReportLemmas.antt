@@ -1,13 +1,10 @@
 -- The report, one buffer more.
-use Rattle.std.proofs.Common.{◌≡◌, ℕ, zero, suc, ◌+◌, ◌<◌, Bool, true, List, [], ◌∷◌, ◌++◌, length, take, get_or, Option, Some, None, refl, sym, ap, ◌∙◌, append_assoc, append-nil, arith, zero-add}
+use Rattle.std.proofs.Common.{◌≡◌, ℕ, zero, suc, ◌+◌, ◌<◌, true, List, [], ◌∷◌, ◌++◌, length, take, Some, refl, sym, ap, ◌∙◌, append_assoc, append-nil, arith}
 use Rattle.std.specs.Prelude.{slice_get}
-use Rattle.std.specs.Option.{option_and_then}
-use Rattle.fr_interface.specs.declared.entry.Arrival.{Arrival}
-use Rattle.fr_interface.specs.Legal.{buffer_at}
-use Rattle.fr_interface.specs.State.{State, IsReceivePlan, is_receive_buffer, received_by, received_in}
+use Rattle.fr_interface.specs.State.{State, IsReceivePlan, is_receive_buffer, received_by}
 use Rattle.fr_slots.specs.declared.plan.Buffer.{Buffer}
-use Rattle.fr_slots.specs.Plans.{Plan, AllFit, is_receive}
-use Rattle.fr_trace.specs.ReportText.{reports_from, report_text, buffer_report, receive_words}
+use Rattle.fr_slots.specs.Plans.{AllFit, is_receive}
+use Rattle.fr_trace.specs.ReportText.{reports_from, buffer_report, receive_words}
 use Rattle.fr_trace.specs.TraceText.{line_text}
 
 -- the line of a receive buffer

@@ -1,6 +1,6 @@
 -- What has been read spells the phase and the front of a line.
-use Rattle.std.proofs.Common.{◌≡◌, ℕ, ◌+◌, ◌==◌, Bool, true, false, List, [], ◌∷◌, ◌++◌, length, Option, Some, None, Result, Ok, Err, codes, refl, sym, ap, subst, ◌∙◌, append_assoc, inl, inr, ◌⊎◌}
-use Rattle.std.specs.Prelude.{ℤ, if◌then◌else◌}
+use Rattle.std.proofs.Common.{◌≡◌, ℕ, ◌==◌, Bool, true, false, List, [], ◌∷◌, ◌++◌, length, Option, Some, None, Result, Ok, Err, refl, sym, ap, subst, ◌∙◌, append_assoc, inl, inr}
+use Rattle.std.specs.Prelude.{ℤ}
 use Rattle.std.proofs.lemmas.Bool.{cases_Bool, eqb-true}
 use Rattle.std.proofs.lemmas.List.{append-nil, flat_map_more}
 use Rattle.std.proofs.lemmas.Slice.Eq.{bytes_eq-Decides}
@@ -9,7 +9,7 @@ use Rattle.std.specs.Str.{bytes_eq}
 use Rattle.fr_interface.specs.declared.entry.Entry.{Entry}
 use Rattle.fr_interface.specs.State.{State, with_entry}
 use Rattle.fr_lines.specs.Reading.{params_in, node_in, receive_in, entry_in}
-use Rattle.fr_lines.specs.Spelling.{first_line, begin_line, end_line, params_words, node_words, buffer_words, entry_words}
+use Rattle.fr_lines.specs.Spelling.{first_line, begin_line, end_line, node_words, entry_words}
 use Rattle.fr_lines.proofs.BufferLemmas.{receive_line_takes}
 use Rattle.fr_lines.proofs.EntryLemmas.{entry_line_takes}
 use Rattle.fr_lines.proofs.NodeLemmas.{node_line_takes, node_no_lines}
@@ -25,7 +25,7 @@ use Rattle.fr_trace.specs.Answers.{fault_of, made_by, is_answered, is_refused}
 use Rattle.fr_trace.specs.declared.error.TraceError.{TraceError}
 use Rattle.fr_trace.specs.declared.replay.Fault.{Fault}
 use Rattle.fr_trace.specs.TraceText.{line_feed, line_text, own_line, buffer_line, queue_lines, entry_line, head_text, params_text, plan_text, begin_text, body_text, trace_text}
-use Rattle.fr_trace.specs.Stream.{Phase, magic, params, node, lines, body, finished, Progress, reading, failed, after_parameters, after_numbers, after_node, after_buffer, after_begin, after_fault, after_call, after_entry, is_receive_plan, take_line, after_line, take_open, take_in, take_byte, take_bytes, too_long, fresh, longest_line}
+use Rattle.fr_trace.specs.Stream.{Phase, magic, params, node, lines, body, finished, Progress, reading, failed, after_parameters, after_numbers, after_node, after_buffer, after_begin, after_fault, after_entry, is_receive_plan, take_line, after_line, take_open, take_in, take_byte, take_bytes, fresh, longest_line}
 use Rattle.fr_trace.proofs.AnswerLemmas.{made-answered}
 
 -- the lines that led to a phase

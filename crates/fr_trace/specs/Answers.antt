@@ -1,5 +1,5 @@
 -- Whether an entry that a trace tells is the one that its call makes.
-use Rattle.std.specs.Prelude.{ℕ, ◌==◌, Bool, true, false, ◌&&◌, Option, Some, None, is_some, option_map, if◌then◌else◌}
+use Rattle.std.specs.Prelude.{◌==◌, Bool, true, false, ◌&&◌, Option, Some, None, is_some, option_map, if◌then◌else◌}
 use Rattle.fr_interface.specs.declared.entry.Entry.{Entry}
 use Rattle.fr_interface.specs.declared.entry.Entry.TheVariants.{Commit, Read, Pop, Fetch, Observe}
 use Rattle.fr_interface.specs.declared.entry.Offered.{Offered}

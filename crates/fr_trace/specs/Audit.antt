@@ -1,9 +1,9 @@
 -- What an audit of a whole text does.
-use Rattle.std.specs.Prelude.{◌≡◌, ℕ, List, ◌⊎◌, Option, Some, None, Result, Ok, Err}
+use Rattle.std.specs.Prelude.{◌≡◌, ℕ, List, Option, Some, None, Result, Ok, Err}
 use Rattle.std.specs.Io.KnownBytes.{Keeps, Appends}
 use Rattle.fr_interface.specs.State.{State, IsLegalInterface}
 use Rattle.fr_trace.specs.declared.error.TraceError.{TraceError}
-use Rattle.fr_trace.specs.declared.error.TraceError.TheVariants.{BadMagic, BadLine, LineTooLong, Refused, WrongAnswer, Truncated, Read, Write, Memory}
+use Rattle.fr_trace.specs.declared.error.TraceError.TheVariants.{Read, Write, Memory}
 use Rattle.fr_trace.specs.ReportText.{report_text}
 use Rattle.fr_trace.specs.Stream.{fresh, take_bytes, outcome_of}
 use Rattle.fr_trace.specs.TraceText.{trace_text}

@@ -1,9 +1,8 @@
 -- The text of a report.
 use Rattle.std.specs.Prelude.{ℕ, ◌+◌, List, [], ◌∷◌, ◌++◌, codes, Option, Some, None, if◌then◌else◌}
 use Rattle.std.specs.Fmt.{decimal}
-use Rattle.fr_interface.specs.Counts.{StatusCounts, counts_of}
+use Rattle.fr_interface.specs.Counts.{StatusCounts}
 use Rattle.fr_interface.specs.declared.entry.Arrival.{Arrival}
-use Rattle.fr_interface.specs.declared.entry.Entry.{Entry}
 use Rattle.fr_interface.specs.Fate.{TallyOf, tally_of}
 use Rattle.fr_interface.specs.Held.{held}
 use Rattle.fr_interface.specs.State.{State}

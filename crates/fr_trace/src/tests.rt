@@ -100,17 +100,18 @@ fn fed_by_bytes(alloc: Global, pieces: &[&[u8]]) -> Result<(), TraceError> {
     Ok(())
 }
 
-/// Why the trace is refused in these pieces, and in pieces of one byte.
-fn refusals(alloc: Global, pieces: &[&[u8]]) -> [Option<TraceError>; 2] {
+/// Why the trace is refused by the calls that take these pieces, and in pieces of one byte.
+fn refusals(alloc: Global, pieces: &[&[u8]]) -> [Option<TraceError>; 3] {
     [
+        audit(alloc, &mut reader(pieces), &mut io::sink()).err(),
         audit_pieces(alloc, pieces).err(),
         fed_by_bytes(alloc, pieces).err(),
     ]
 }
 
-/// This error, however the trace is cut.
-fn both(error: TraceError) -> [Option<TraceError>; 2] {
-    [Some(error), Some(error)]
+/// This error from each of them.
+fn all(error: TraceError) -> [Option<TraceError>; 3] {
+    [Some(error); 3]
 }
 
 #[test]
@@ -119,7 +120,7 @@ fn a_trace_gives_its_report(rt: HostRuntime) -> Result<(), Fail> {
     let mut report = Vec::with_capacity(rt.alloc(), 64)?;
     audit(rt.alloc(), &mut reader(&LINES), &mut report)?;
     assert_eq!(rt; report.as_slice(), b"rx 0 2:A x0a0b\n".as_slice());
-    assert_eq!(rt; refusals(rt.alloc(), &LINES), [None, None]);
+    assert_eq!(rt; refusals(rt.alloc(), &LINES), [None; 3]);
     Ok(())
 }
 
@@ -147,30 +148,30 @@ fn a_plan_without_buffers_has_an_empty_report(rt: HostRuntime) -> Result<(), Fai
 #[test]
 fn a_trace_that_is_cut_is_truncated(rt: HostRuntime) {
     let mut lines = LINES;
-    assert_eq!(rt; refusals(rt.alloc(), &[]), both(TraceError::BadMagic));
+    assert_eq!(rt; refusals(rt.alloc(), &[]), all(TraceError::BadMagic));
     assert_eq!(rt;
         refusals(rt.alloc(), &[b"frtrace 1"]),
-        both(TraceError::BadMagic)
+        all(TraceError::BadMagic)
     );
     assert_eq!(rt;
         refusals(rt.alloc(), &lines[..1]),
-        both(TraceError::Truncated)
+        all(TraceError::Truncated)
     );
     lines[7] = b"see 0 x200";
     assert_eq!(rt;
         refusals(rt.alloc(), &lines[..8]),
-        both(TraceError::Truncated)
+        all(TraceError::Truncated)
     );
     let mut lines = LINES;
     lines[12] = b"end";
-    assert_eq!(rt; refusals(rt.alloc(), &lines), both(TraceError::Truncated));
+    assert_eq!(rt; refusals(rt.alloc(), &lines), all(TraceError::Truncated));
 }
 
 #[test]
 fn a_byte_behind_the_end_is_a_line(rt: HostRuntime) {
     let mut lines = LINES;
     lines[12] = b"end\nx";
-    assert_eq!(rt; refusals(rt.alloc(), &lines), both(TraceError::BadLine(14)));
+    assert_eq!(rt; refusals(rt.alloc(), &lines), all(TraceError::BadLine(14)));
 }
 
 #[test]
@@ -179,23 +180,23 @@ fn a_changed_line_is_refused(rt: HostRuntime) {
     lines[8] = b"read 0 0 1:A\n";
     assert_eq!(rt;
         refusals(rt.alloc(), &lines),
-        both(TraceError::WrongAnswer(9))
+        all(TraceError::WrongAnswer(9))
     );
     let mut lines = LINES;
     lines[9] = b"fetch 0 1 0 2 2 - -\n";
-    assert_eq!(rt; refusals(rt.alloc(), &lines), both(TraceError::Refused(10)));
+    assert_eq!(rt; refusals(rt.alloc(), &lines), all(TraceError::Refused(10)));
     let mut lines = LINES;
     lines[8] = lines[7];
-    assert_eq!(rt; refusals(rt.alloc(), &lines), both(TraceError::Refused(9)));
+    assert_eq!(rt; refusals(rt.alloc(), &lines), all(TraceError::Refused(9)));
     lines[7] = b"see 0 x200203c1400A0ba32217 noise\n";
-    assert_eq!(rt; refusals(rt.alloc(), &lines), both(TraceError::BadLine(8)));
+    assert_eq!(rt; refusals(rt.alloc(), &lines), all(TraceError::BadLine(8)));
 }
 
 #[test]
 fn a_line_out_of_its_ranges_is_no_line(rt: HostRuntime) {
     let mut lines = LINES;
     lines[6] = b"fetch 99999999999 0 0 2 2 - -\n";
-    assert_eq!(rt; refusals(rt.alloc(), &lines), both(TraceError::BadLine(7)));
+    assert_eq!(rt; refusals(rt.alloc(), &lines), all(TraceError::BadLine(7)));
 }
 
 #[test]
@@ -204,12 +205,12 @@ fn an_offer_of_a_commit_is_a_wrong_answer(rt: HostRuntime) {
     lines[6] = b"fetch 0 0 0 2 2 0 -\n";
     assert_eq!(rt;
         refusals(rt.alloc(), &lines),
-        both(TraceError::WrongAnswer(7))
+        all(TraceError::WrongAnswer(7))
     );
     lines[6] = b"fetch 0 0 0 2 2 - null\n";
     assert_eq!(rt;
         refusals(rt.alloc(), &lines),
-        both(TraceError::WrongAnswer(7))
+        all(TraceError::WrongAnswer(7))
     );
 }
 
@@ -219,23 +220,23 @@ fn an_offer_of_a_commit_is_a_wrong_answer(rt: HostRuntime) {
 fn a_plan_has_one_receive_buffer_alone(rt: HostRuntime) {
     let mut lines = LINES;
     lines[3] = b"own 1 A 0 0\n";
-    assert_eq!(rt; refusals(rt.alloc(), &lines), both(TraceError::BadLine(4)));
+    assert_eq!(rt; refusals(rt.alloc(), &lines), all(TraceError::BadLine(4)));
     lines[3] = b"tx event 1 A 0 1 - 0\n";
-    assert_eq!(rt; refusals(rt.alloc(), &lines), both(TraceError::BadLine(4)));
+    assert_eq!(rt; refusals(rt.alloc(), &lines), all(TraceError::BadLine(4)));
     lines[3] = b"queue 2 4 7 AB 0 1\n";
-    assert_eq!(rt; refusals(rt.alloc(), &lines), both(TraceError::BadLine(4)));
+    assert_eq!(rt; refusals(rt.alloc(), &lines), all(TraceError::BadLine(4)));
     let mut lines = LINES;
     lines[4] = lines[3];
-    assert_eq!(rt; refusals(rt.alloc(), &lines), both(TraceError::BadLine(5)));
+    assert_eq!(rt; refusals(rt.alloc(), &lines), all(TraceError::BadLine(5)));
 }
 
 #[test]
 fn a_journal_has_no_commits_and_pops(rt: HostRuntime) {
     let mut lines = LINES;
     lines[5] = b"commit 0 0 x0001\n";
-    assert_eq!(rt; refusals(rt.alloc(), &lines), both(TraceError::BadLine(6)));
+    assert_eq!(rt; refusals(rt.alloc(), &lines), all(TraceError::BadLine(6)));
     lines[5] = b"pop 0 -\n";
-    assert_eq!(rt; refusals(rt.alloc(), &lines), both(TraceError::BadLine(6)));
+    assert_eq!(rt; refusals(rt.alloc(), &lines), all(TraceError::BadLine(6)));
 }
 
 #[test]

@@ -1,4 +1,4 @@
-use Rattle.std.proofs.Common.{Bor, get_or, ◌≡◌, ℕ, ◌+◌, List, [], ◌∷◌, ◌++◌, take, ◌⊎◌, inl, inr, sym, ap, subst, refl, ◌∙◌}
+use Rattle.std.proofs.Common.{Bor, get_or, ◌≡◌, ℕ, ◌+◌, List, [], ◌∷◌, ◌++◌, take, inl, inr, sym, ap, subst, refl, ◌∙◌}
 use Rattle.std.proofs.lemmas.List.{take_more, append-nil}
 use Rattle.std.proofs.lemmas.List.Concat.{flat_map-append}
 use Rattle.std.proofs.lemmas.List.Sums.{fold-append}

@@ -1,4 +1,4 @@
-use Rattle.std.proofs.Common.{◌≡◌, Option, Some, None, ap, arith, sym, subst, ◌∙◌, ℕ, ◌<◌, List}
+use Rattle.std.proofs.Common.{◌≡◌, ap, arith, sym, subst, ◌∙◌, ℕ, ◌<◌, List}
 use Rattle.std.specs.Prelude.{IfSome}
 use Rattle.fr_interface.specs.declared.entry.Entry.{Entry}
 use Rattle.fr_interface.specs.declared.entry.Entry.TheVariants.{Fetch}

@@ -1,4 +1,4 @@
-use Rattle.std.proofs.Common.{◌≡◌, Option, Some, None, ap, arith, sym, ◌∙◌, rules}
+use Rattle.std.proofs.Common.{sym, ◌∙◌}
 use Rattle.fr_interface.proofs.LegalLemmas.{receives_only}
 use Rattle.fr_interface.proofs.interface.Interface.held.Goals as goal
 

@@ -1,6 +1,5 @@
 use Rattle.std.proofs.Common.{◌≡◌, Option, ap, arith, rules, Some, sym, subst, ◌∙◌, option_map, true, length, ◌≤◌, ◌^◌}
 use Rattle.std.specs.Prelude.{IsSomeAnd}
-use Rattle.fr_interface.specs.declared.entry.Origin.{Origin}
 use Rattle.fr_interface.specs.Entries.{IsOrigin}
 use Rattle.fr_interface.specs.Held.{held, origin_of}
 use Rattle.fr_interface.specs.Legal.{buffer_at}

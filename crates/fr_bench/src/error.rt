@@ -1,0 +1,55 @@
+//! Why a command that reads one text has refused it.
+ghost use Rattle.std.specs.Prelude.{◌≡◌};
+ghost use Rattle.fr_bench.specs.declared.error.BenchError.TheVariants as refusal;
+
+use fr_midpoint::ranks::MidpointError;
+use fr_params::error::ParamError;
+use thiserror::Error;
+
+/// Why `check` or `midpoint` hasn't done what it was asked (own profile).
+///
+/// Printed, it is the error's name, and for an error of a crate below the names and values of that
+/// error.
+#[derive(Clone, Copy, Debug, Drop, PartialEq, Eq, Error)]
+pub enum BenchError {
+    /// The input has more bytes than the command takes.
+    #[error("TooLong")]
+    TooLong,
+    /// The input couldn't be read.
+    #[error("Read")]
+    Read,
+    /// The output couldn't be written.
+    #[error("Write")]
+    Write,
+    /// Memory was refused.
+    #[error("Memory")]
+    Memory,
+    /// A word of the input is no number.
+    #[error("BadNumber")]
+    BadNumber,
+    /// The cluster file is no TOML, or not even UTF-8.
+    #[error("Toml")]
+    Toml,
+    /// The cluster file's parameters are refused.
+    #[error("Params {0}")]
+    Params(ParamError),
+    /// The values have no midpoint.
+    #[error("{0}")]
+    Midpoint(MidpointError),
+}
+
+impl From<ParamError> for BenchError {
+    ghost from_gives = { λ error given. given ≡ refusal.Params error };
+
+    fn from(error: ParamError) -> BenchError {
+        BenchError::Params(error)
+    }
+}
+
+impl From<MidpointError> for BenchError {
+    ghost from_gives = { λ error given. given ≡ refusal.Midpoint error };
+
+    fn from(error: MidpointError) -> BenchError {
+        BenchError::Midpoint(error)
+    }
+}

@@ -1,0 +1,3 @@
+pub mod Midpoint
+pub mod Refusals
+pub mod Selection

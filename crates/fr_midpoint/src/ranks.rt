@@ -1,0 +1,33 @@
+//! What a midpoint is, and why there is none.
+
+use thiserror::Error;
+
+/// At most this many values have a midpoint (own profile).
+pub const VALUES: usize = 15;
+
+/// The greatest distance of a value from 0 (own profile).
+pub const GREATEST: u32 = 1_000_000;
+
+/// The midpoint of some values, and which of them it lies between.
+///
+/// Ranks are counted from 1: the value of rank 1 is the least of all.
+#[derive(Clone, Copy, Debug, PartialEq, Eq)]
+pub struct Midpoint {
+    /// Half the sum of the values of both ranks, truncated toward zero.
+    pub value: i32,
+    /// The rank of the least value that isn't dropped.
+    pub low_rank: u8,
+    /// The rank of the greatest value that isn't dropped.
+    pub high_rank: u8,
+}
+
+/// Why values are refused.
+#[derive(Clone, Copy, Debug, PartialEq, Eq, Error)]
+pub enum MidpointError {
+    /// There are more than 15 values.
+    #[error("TooMany")]
+    TooMany,
+    /// A value lies more than 1,000,000 from 0.
+    #[error("TooLarge")]
+    TooLarge,
+}

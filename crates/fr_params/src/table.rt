@@ -1,0 +1,122 @@
+//! Reading the table `params`.
+
+ghost use Rattle.std.specs.Prelude.{◌≡◌, option_map, IfOk};
+ghost use Rattle.fr_slots.specs.Parameters.{name_of, admits, IsWithin, AreFirst, AreLast, assembled};
+ghost use Rattle.fr_params.specs.Table.{number_at, first_five, last_five, numbers_of, summed, parameters_in};
+ghost use Rattle.toml.specs.Data.{get_member};
+ghost use Rattle.toml.specs.View.{view, table_view};
+
+use crate::error::ParamError;
+use fr_slots::params::{Key, Params};
+use toml::{Table, Value};
+
+/// The parameters of a table (own profile). Keys that aren't parameters are ignored.
+///
+/// Refused with the first key at fault in the order of `Key`: `Missing` where the table hasn't the
+/// key, `NotANumber` where what stands there is no integer, `OutOfRange` where the integer is out
+/// of the key's range. Then with `CycleSum` where
+/// `static_slots * static_mt + minislots * minislot_mt + symbol_mt + nit_mt` isn't `cycle_mt`.
+#[tactic(auto, unfolding(crate::specs::Table::parameters_in))]
+pub fn from_table(table: &Table) -> Result<Params, ParamError>
+    ensures { result ≡ parameters_in (table_view table.now) }
+{
+    let first = first_five(table)?;
+    let last = last_five(table)?;
+    summed(first, last)
+}
+
+/// Numbers, each in its range, under the first or the last five keys.
+type Five = (u16, u16, u16, u16, u16);
+
+/// The parameters of numbers that their keys admit, in the order of `Key`.
+fn summed(first: Five, last: Five) -> Result<Params, ParamError>
+    requires first_within { AreFirst first }
+    requires last_within { AreLast last }
+    ensures { result ≡ summed (assembled first last) }
+{
+    // Each number is in its range, so that only the sum can be refused.
+    match Params::new(numbers_of(first, last)) {
+        Ok(params) => Ok(params),
+        Err(_) => Err(ParamError::CycleSum),
+    }
+}
+
+/// The ten numbers in the order of `Key`.
+fn numbers_of(first: Five, last: Five) -> [i64; 10]
+    ensures { result ≡ numbers_of first last }
+{
+    let (static_slots, minislots, static_words, static_mt, minislot_mt) = first;
+    let (symbol_mt, nit_mt, cycle_mt, idle, words_per_minislot) = last;
+    [
+        i64::from(static_slots),
+        i64::from(minislots),
+        i64::from(static_words),
+        i64::from(static_mt),
+        i64::from(minislot_mt),
+        i64::from(symbol_mt),
+        i64::from(nit_mt),
+        i64::from(cycle_mt),
+        i64::from(idle),
+        i64::from(words_per_minislot),
+    ]
+}
+
+/// The numbers under the first five keys.
+#[tactic(auto, unfolding(crate::specs::Table::first_five))]
+fn first_five(table: &Table) -> Result<Five, ParamError>
+    ensures value { result ≡ first_five (table_view table.now) }
+    ensures within { IfOk result AreFirst }
+{
+    let static_slots = number_at(table, Key::StaticSlots)?;
+    let minislots = number_at(table, Key::Minislots)?;
+    let static_words = number_at(table, Key::StaticWords)?;
+    let static_mt = number_at(table, Key::StaticMt)?;
+    let minislot_mt = number_at(table, Key::MinislotMt)?;
+    Ok((
+        static_slots,
+        minislots,
+        static_words,
+        static_mt,
+        minislot_mt,
+    ))
+}
+
+/// The numbers under the last five keys.
+#[tactic(auto, unfolding(crate::specs::Table::last_five))]
+fn last_five(table: &Table) -> Result<Five, ParamError>
+    ensures value { result ≡ last_five (table_view table.now) }
+    ensures within { IfOk result AreLast }
+{
+    let symbol_mt = number_at(table, Key::SymbolMt)?;
+    let nit_mt = number_at(table, Key::NitMt)?;
+    let cycle_mt = number_at(table, Key::CycleMt)?;
+    let idle = number_at(table, Key::Idle)?;
+    let words_per_minislot = number_at(table, Key::WordsPerMinislot)?;
+    Ok((symbol_mt, nit_mt, cycle_mt, idle, words_per_minislot))
+}
+
+/// The number under the key, where the key admits it.
+#[tactic(auto, unfolding(crate::specs::Table::number_at))]
+fn number_at(table: &Table, key: Key) -> Result<u16, ParamError>
+    ensures value { result ≡ number_at key (table_view table.now) }
+    ensures within { IfOk result (λ n. IsWithin key n) }
+{
+    let Some(value) = value_under(table, key.name()) else {
+        return Err(ParamError::Missing(key));
+    };
+    let Some(number) = value.as_integer() else {
+        return Err(ParamError::NotANumber(key));
+    };
+    if key.admits(number) {
+        Ok(number as u16)
+    } else {
+        Err(ParamError::OutOfRange(key))
+    }
+}
+
+/// What the table has under the name.
+fn value_under<'a>(table: &'a Table, name: &str) -> Option<&'a Value>
+    ensures { option_map (λ v. view v.now) result ≡ get_member name.now (table_view table.now) }
+{
+    table.get(name)
+}

@@ -1,0 +1,44 @@
+-- Macroticks and places by multiplying and dividing, equal to the layout by the lemmas on it.
+use Rattle.std.specs.Prelude.{ℕ, ◌+◌, ◌-◌, ◌*◌, ◌/◌, ◌%◌, nat_lt, nat_le, ◌&&◌, Option, Some, None, if◌then◌else◌}
+use Rattle.fr_slots.specs.Parameters.{Parameters}
+use Rattle.fr_timing.specs.declared.place.Place.{Place}
+use Rattle.fr_timing.specs.declared.place.Place.TheVariants.{Static, Minislot, Symbol, Idle}
+
+-- where the dynamic segment, the symbol window, the network idle time and the next cycle start
+abbrev pub dynamic_start : Parameters → ℕ
+dynamic_start p = p.static_slots * p.static_mt
+
+abbrev pub symbol_start : Parameters → ℕ
+symbol_start p = dynamic_start p + p.minislots * p.minislot_mt
+
+abbrev pub idle_start : Parameters → ℕ
+idle_start p = symbol_start p + p.symbol_mt
+
+abbrev pub cycle_end : Parameters → ℕ
+cycle_end p = idle_start p + p.nit_mt
+
+unfoldable pub place_at : Parameters → ℕ → Option Place
+place_at p macrotick =
+    if nat_lt macrotick (dynamic_start p) then Some (Static (macrotick / p.static_mt + 1) (macrotick % p.static_mt))
+    else if nat_lt macrotick (symbol_start p)
+    then
+    Some
+    (Minislot
+    ((macrotick - dynamic_start p) / p.minislot_mt + 1)
+    ((macrotick - dynamic_start p) % p.minislot_mt))
+    else if nat_lt macrotick (idle_start p) then Some (Symbol (macrotick - symbol_start p))
+    else if nat_lt macrotick (cycle_end p) then Some (Idle (macrotick - idle_start p))
+    else None
+
+-- in parts of one length, numbered from 1, of which the first starts at a macrotick
+abbrev pub start_in_row : ℕ → ℕ → ℕ → ℕ → ℕ → Option ℕ
+start_in_row first count length number offset =
+    if nat_le 1 number && nat_le number count && nat_lt offset length
+    then Some (first + (number - 1) * length + offset)
+    else None
+
+unfoldable pub start_at : Parameters → Place → Option ℕ
+start_at p (Static slot offset) = start_in_row 0 p.static_slots p.static_mt slot offset
+start_at p (Minislot number offset) = start_in_row (dynamic_start p) p.minislots p.minislot_mt number offset
+start_at p (Symbol offset) = start_in_row (symbol_start p) 1 p.symbol_mt 1 offset
+start_at p (Idle offset) = start_in_row (idle_start p) 1 p.nit_mt 1 offset

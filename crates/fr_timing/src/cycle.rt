@@ -1,0 +1,139 @@
+//! From a macrotick to its place in the cycle, and back.
+
+ghost use Rattle.std.specs.Prelude.{◌≡◌, ◌↔◌, ◌≤◌, ◌<◌, ◌+◌, ◌*◌, ◌^◌, ℕ, IfSome, IsNone};
+ghost use Rattle.fr_slots.specs.Parameters.{IsParameters};
+ghost use Rattle.fr_timing.specs.declared.place.Place.{Place};
+ghost use Rattle.fr_timing.specs.Division.{place_at, start_at, start_in_row, dynamic_start, symbol_start, idle_start, cycle_end};
+ghost use Rattle.fr_timing.specs.Layout.{IsAt};
+
+use crate::place::Place;
+use fr_slots::numbers::SlotId;
+use fr_slots::params::Params;
+
+/// The place of a macrotick of a cycle, counted from 0 (chapter 5).
+///
+/// None from the end of the cycle on.
+pub fn locate(params: &Params, macrotick: u32) -> Option<Place>
+    ensures found { IfSome result (λ place. IsAt params.now macrotick place) }
+    ensures only { (place : Place) → IsAt params.now macrotick place → result ≡ Some place }
+    ensures inverse { IfSome result
+        (λ place. (other : ℕ) → IsAt params.now other place → other ≡ macrotick) }
+    ensures none { IsNone result ↔ (params.now.cycle_mt ≤ macrotick) }
+{
+    place_at(params, macrotick)
+}
+
+/// The macrotick of the cycle that a place names, counted from 0 (chapter 5).
+///
+/// None where the cycle has no such place: a static slot or a minislot that it doesn't have, or an
+/// offset that isn't below the length of its part.
+pub fn start_of(params: &Params, place: Place) -> Option<u32>
+    ensures found { IfSome result (λ macrotick. IsAt params.now macrotick place) }
+    ensures only { (macrotick : ℕ) → IsAt params.now macrotick place → result ≡ Some macrotick }
+    ensures inverse { IfSome result
+        (λ macrotick. (other : Place) → IsAt params.now macrotick other → other ≡ place) }
+{
+    start_at(params, place)
+}
+
+/// Where the segments after the static one start, and where the cycle ends, in macroticks.
+#[derive(Clone, Copy)]
+struct Starts {
+    dynamic: u32,
+    symbol: u32,
+    idle: u32,
+    end: u32,
+}
+
+/// Where the segments of the cycle start.
+fn starts_of(params: &Params) -> Starts
+    ensures dynamic { result.dynamic ≡ dynamic_start params.now }
+    ensures symbol { result.symbol ≡ symbol_start params.now }
+    ensures idle { result.idle ≡ idle_start params.now }
+    ensures end { result.end ≡ cycle_end params.now }
+    ensures lawful { IsParameters params.now }
+{
+    let params = params.duplicate();
+    let dynamic = u32::from(params.static_slots) * u32::from(params.static_mt);
+    let symbol = dynamic + u32::from(params.minislots) * u32::from(params.minislot_mt);
+    let idle = symbol + u32::from(params.symbol_mt);
+    Starts {
+        dynamic,
+        symbol,
+        idle,
+        end: idle + u32::from(params.nit_mt),
+    }
+}
+
+/// The place of a macrotick, by division.
+#[tactic(auto, unfolding(crate::specs::Division::place_at))]
+fn place_at(params: &Params, macrotick: u32) -> Option<Place>
+    ensures place { result ≡ place_at params.now macrotick }
+    ensures lawful { IsParameters params.now }
+{
+    let starts = starts_of(params);
+    if macrotick < starts.dynamic {
+        let static_mt = u32::from(params.static_mt);
+        let slot = SlotId::new((macrotick / static_mt + 1) as u16)?;
+        let offset = macrotick % static_mt;
+        return Some(Place::Static { slot, offset });
+    }
+    if macrotick < starts.symbol {
+        let minislot_mt = u32::from(params.minislot_mt);
+        let from_start = macrotick - starts.dynamic;
+        return Some(Place::Minislot {
+            number: (from_start / minislot_mt + 1) as u16,
+            offset: from_start % minislot_mt,
+        });
+    }
+    if macrotick < starts.idle {
+        return Some(Place::Symbol {
+            offset: macrotick - starts.symbol,
+        });
+    }
+    if macrotick < starts.end {
+        return Some(Place::Idle {
+            offset: macrotick - starts.idle,
+        });
+    }
+    None
+}
+
+/// The macrotick at an offset in one of `count` parts of a length, which are numbered from 1, one
+/// after another from `first`.
+fn start_in_row(first: u32, count: u16, length: u16, number: u16, offset: u32) -> Option<u32>
+    requires { first + count * length < 2 ^ 32 }
+    ensures { result ≡ start_in_row first count length number offset }
+{
+    if 1 <= number && number <= count && offset < u32::from(length) {
+        Some(first + u32::from(number - 1) * u32::from(length) + offset)
+    } else {
+        None
+    }
+}
+
+/// The macrotick of a place, by multiplication.
+#[tactic(auto, unfolding(crate::specs::Division::start_at))]
+fn start_at(params: &Params, place: Place) -> Option<u32>
+    ensures { result ≡ start_at params.now place }
+{
+    let starts = starts_of(params);
+    match place {
+        Place::Static { slot, offset } => start_in_row(
+            0,
+            params.static_slots,
+            params.static_mt,
+            slot.number(),
+            offset,
+        ),
+        Place::Minislot { number, offset } => start_in_row(
+            starts.dynamic,
+            params.minislots,
+            params.minislot_mt,
+            number,
+            offset,
+        ),
+        Place::Symbol { offset } => start_in_row(starts.symbol, 1, params.symbol_mt, 1, offset),
+        Place::Idle { offset } => start_in_row(starts.idle, 1, params.nit_mt, 1, offset),
+    }
+}
