@@ -1,3 +1,7 @@
+pub mod FaultLemmas
+pub mod FaultlessLemmas
 pub mod HistoryLemmas
 pub mod PlanLemmas
+pub mod ScanLemmas
+pub mod SharingLemmas
 pub mod WorkedLemmas

@@ -1,8 +1,10 @@
 pub mod Admission
+pub mod Faults
 pub mod History
 pub mod Numbers
 pub mod Parameters
 pub mod ParameterFields
 pub mod PlanFields
 pub mod Plans
+pub mod Sharing
 pub mod Windows

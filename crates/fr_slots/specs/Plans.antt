@@ -123,6 +123,15 @@ abbrev pub plan_of : ℕ → ℕ → ℕ → ℕ → ℕ → Result Plan PlanErr
 plan_of tasks latest_a latest_b host slot =
     if limits_fit tasks latest_a latest_b host slot then Ok (empty_plan tasks latest_a latest_b host slot) else Err OutOfRange
 
+abbrev pub own_refusal : Plan → Own → Option PlanError
+own_refusal p o =
+    if not (own_fits o) then Some OutOfRange
+    else if nat_le most_lines (length p.owned) then Some TooMany
+    else None
+
+abbrev pub with_own : Plan → Own → Plan
+with_own p o = record p { owned = p.owned ++ o ∷ [] }
+
 abbrev pub buffer_refusal : Plan → Buffer → Option PlanError
 buffer_refusal p b =
     if not (buffer_fits b) then Some OutOfRange

@@ -1,6 +1,6 @@
 //! Filters by slot, channel and cycle.
 
-ghost use Rattle.std.specs.Prelude.{◌≡◌};
+ghost use Rattle.std.specs.Prelude.{◌≡◌, ◌&&◌};
 ghost use Rattle.fr_slots.specs.Admission.{cycle_class, cycle_admitted, includes};
 
 use crate::channel::{Channel, Channels};
@@ -15,6 +15,9 @@ pub enum FilterError {
     /// The base isn't below the repetition.
     BaseTooLarge,
 }
+
+/// The number of cycles, after which they are counted from 0 again (chapter 5).
+const CYCLES: u8 = 64;
 
 /// The cycles that leave the base when their number is divided by the repetition (chapter 9).
 #[derive(Clone, Copy, Debug, PartialEq, Eq)]
@@ -49,6 +52,7 @@ impl Default for CycleFilter {
 
 impl CycleFilter {
     ghost use Rattle.fr_slots.specs.Admission.{IsCycleClass};
+    ghost use Rattle.fr_slots.specs.Faults.{first_common};
 
     /// The filter of every cycle whose number leaves `base` when divided by `repetition`.
     ///
@@ -88,6 +92,26 @@ impl CycleFilter {
     {
         cycle.number() % self.repetition == self.base
     }
+
+    /// The least cycle that both filters admit, if there is one.
+    pub fn first_common(&self, other: &CycleFilter) -> Option<Cycle>
+        ensures { result ≡ first_common self.now other.now }
+    {
+        for number in 0..CYCLES {
+            let cycle = Cycle::from_bits(number);
+            if both_admit(*self, *other, cycle) {
+                return Some(cycle);
+            }
+        }
+        None
+    }
+}
+
+/// Whether the cycle is among those of both filters.
+fn both_admit(one: CycleFilter, other: CycleFilter, cycle: Cycle) -> bool
+    ensures { result ≡ (cycle_admitted one cycle && cycle_admitted other cycle) }
+{
+    one.admits(cycle) && other.admits(cycle)
 }
 
 /// The slot, channels and cycles that a buffer is for.

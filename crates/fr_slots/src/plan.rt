@@ -2,9 +2,9 @@
 
 ghost use Rattle.std.specs.Prelude.{◌≡◌, ◌≤◌, length};
 ghost use Rattle.std.specs.Result.{result_err};
-ghost use Rattle.fr_slots.specs.Plans.{buffer_fits, IsBuffer};
+ghost use Rattle.fr_slots.specs.Plans.{own_fits, buffer_fits, IsOwn, IsBuffer};
 
-use crate::channel::Channels;
+use crate::channel::{Channel, Channels};
 use crate::filter::{CycleFilter, Filter};
 use crate::numbers::SlotId;
 use arrayvec::ArrayVec;
@@ -97,7 +97,8 @@ impl Model for NodePlan {
 
 impl NodePlan {
     ghost use Rattle.std.specs.Prelude.{◌≡◌, IfOk, OnOk, OnErr, ◌==◌, slice_index};
-    ghost use Rattle.fr_slots.specs.Plans.{IsPlan, plan_of, buffer_refusal, with_buffer};
+    ghost use Rattle.fr_slots.specs.Plans.{IsPlan, plan_of, own_refusal, with_own, buffer_refusal, with_buffer};
+    ghost use Rattle.fr_slots.specs.Faults.{latest_on};
 
     /// A plan with no lines yet.
     ///
@@ -130,6 +131,25 @@ impl NodePlan {
             buffers: ArrayVec::new(),
             queue: None,
         })
+    }
+
+    /// Adds an ownership line behind those that are there.
+    ///
+    /// Refused with `OutOfRange` for a slot above 1023 and for startup without sync, and then with `TooMany`
+    /// for the 65th line; the plan is then unchanged.
+    pub fn add_own(&mut self, own: Own) -> Result<(), PlanError>
+        ensures refusal { result_err result ≡ own_refusal self.old own }
+        ensures accepted { OnOk result (self.new ≡ with_own self.old own) }
+        ensures refused { OnErr result (self.new ≡ self.old) }
+    {
+        if !own_fits(&own) {
+            return Err(PlanError::OutOfRange);
+        }
+        if self.owned.is_full() {
+            return Err(PlanError::TooMany);
+        }
+        self.owned.push(own);
+        Ok(())
     }
 
     /// Adds a buffer behind those that are there; buffers are numbered from 0 in this order.
@@ -172,6 +192,19 @@ impl NodePlan {
         ensures lawful { IsPlan self.now }
     {
         self.tasks
+    }
+
+    /// The last minislot, counted from 1, at which the node begins a dynamic transmission on the channel,
+    /// up to 8000, or 0 where it begins none (chapter 5; a value for each channel is own profile).
+    pub fn latest(&self, channel: Channel) -> u16
+        ensures value { result ≡ latest_on self.now channel }
+        ensures lawful { IsPlan self.now }
+    {
+        let [latest_a, latest_b] = self.latest;
+        match channel {
+            Channel::A => latest_a,
+            Channel::B => latest_b,
+        }
     }
 
     /// The host entries that a journal of the node has room for, 1 to 16384.
@@ -225,6 +258,14 @@ fn collected<T: Copy + Default + Drop, const N: usize>(lines: &[T]) -> ArrayVec<
     let fits = outcome.is_ok();
     prove!(fits);
     kept
+}
+
+/// Whether an ownership line is in range by itself.
+fn own_fits(own: &Own) -> bool
+    ensures value { result ≡ own_fits own.now }
+    ensures ranges { IsOwn own.now }
+{
+    own.slot.number() <= 1023 && (!own.startup || own.sync)
 }
 
 /// Whether a buffer is in range by itself.

@@ -4,7 +4,7 @@ use super::channel::{Channel, Channels};
 use super::filter::{CycleFilter, Filter, FilterError};
 use super::numbers::{Cycle, NodeId, SlotId, TaskId};
 use super::params::{Key, Params, RangeError};
-use super::plan::{Buffer, LINES, NodePlan, PlanError};
+use super::plan::{Buffer, LINES, NodePlan, Own, PlanError};
 use super::window::Window;
 use std::test::Fail;
 
@@ -56,6 +56,11 @@ fn cycle_filters_that_meet(rt: HostRuntime) -> Result<(), Fail> {
     assert_eq!(rt; every_fourth.admits(cycle(3)?), true);
     assert_eq!(rt; every_fourth.base(), 3);
     assert_eq!(rt; every_fourth.repetition(), 4);
+    assert_eq!(rt; every_second.first_common(&every_fourth), Some(cycle(3)?));
+    let even = CycleFilter::new(0, 2)?;
+    assert_eq!(rt; even.first_common(&every_fourth), None);
+    let last = CycleFilter::new(63, 64)?;
+    assert_eq!(rt; every_fourth.first_common(&last), Some(cycle(63)?));
     Ok(())
 }
 
@@ -181,6 +186,42 @@ fn a_plan_of_one_receive_buffer(rt: HostRuntime) -> Result<(), Fail> {
     assert_eq!(rt; plan.buffers(), [Buffer::default()].as_slice());
     assert_eq!(rt; plan.owned().len(), 0);
     assert_eq!(rt; plan.queue(), None);
+    Ok(())
+}
+
+#[test]
+fn ownership_lines_that_are_refused(rt: HostRuntime) -> Result<(), Fail> {
+    let mut plan = NodePlan::new(1, [0, 0], 1, 2)?;
+    let beyond = Own {
+        slot: slot(1024)?,
+        ..Own::default()
+    };
+    assert_eq!(rt; plan.add_own(beyond), Err(PlanError::OutOfRange));
+    let startup_alone = Own {
+        startup: true,
+        ..Own::default()
+    };
+    assert_eq!(rt; plan.add_own(startup_alone), Err(PlanError::OutOfRange));
+    let last = Own {
+        slot: slot(1023)?,
+        sync: true,
+        startup: true,
+        ..Own::default()
+    };
+    for _ in 0..LINES {
+        plan.add_own(last)?;
+    }
+    assert_eq!(rt; plan.add_own(last), Err(PlanError::TooMany));
+    assert_eq!(rt; plan.owned().len(), LINES);
+    assert_eq!(rt; plan.owned()[0], last);
+    Ok(())
+}
+
+#[test]
+fn a_latest_minislot_for_each_channel(rt: HostRuntime) -> Result<(), Fail> {
+    let plan = NodePlan::new(1, [3, 8000], 1, 2)?;
+    assert_eq!(rt; plan.latest(Channel::A), 3);
+    assert_eq!(rt; plan.latest(Channel::B), 8000);
     Ok(())
 }
 

@@ -1,0 +1,366 @@
+//! What is at fault in the plan of a node, by the parameters of its cluster.
+
+ghost use Rattle.std.specs.Prelude.{◌≡◌, ◌<◌, ◌≤◌, length, IfSome, IfNone, position};
+ghost use Rattle.std.specs.List.{list_any};
+ghost use Rattle.fr_slots.specs.Faults.{IsFaultless, plan_fault, ownership_fault, buffer_fault, first_taken, first_overlap, first_buffer};
+ghost use Rattle.fr_slots.specs.Faults.{out_of_params, is_owned_beyond, has_late_latest, has_wrong_words, is_unowned_on, not_owned, dynamic_both};
+ghost use Rattle.fr_slots.specs.Faults.{words_of, too_long, ends_late_on, ends_late, minislots_filled, claims, is_owned, transmits, is_static_slot, transmits_static, transmits_dynamic};
+ghost use Rattle.fr_slots.specs.Sharing.{own_filter, own_filters, transmit_filters};
+
+use crate::channel::Channel;
+use crate::filter::{CycleFilter, Filter};
+use crate::numbers::{Cycle, SlotId};
+use crate::params::Params;
+use crate::plan::{Buffer, LINES, Mode, NodePlan, Own};
+use crate::sharing::first_shared;
+use arrayvec::ArrayVec;
+use thiserror::Error;
+
+/// Why a plan can't be kept. Buffers go by their numbers.
+#[derive(Clone, Copy, Debug, PartialEq, Eq, Error)]
+pub enum PlanFault {
+    /// Two ownership lines are for the slot on the channel: a static slot on a channel has one owner at the
+    /// most (own profile).
+    #[error("SlotTaken {} {}", .0.number(), .1)]
+    SlotTaken(SlotId, Channel),
+    /// The transmit buffer is for a static slot that the node doesn't own on all the buffer's channels
+    /// (chapter 5).
+    #[error("NotOwned {0}")]
+    NotOwned(u8),
+    /// The transmit buffer is for a dynamic slot on both channels (own profile).
+    #[error("DynamicBoth {0}")]
+    DynamicBoth(u8),
+    /// Two transmit buffers admit the slot on the channel in the cycle (chapter 5).
+    #[error("Overlap {} {} {}", .0.number(), .1, .2.number())]
+    Overlap(SlotId, Channel, Cycle),
+    /// A frame of the dynamic transmit buffer that begins at its channel's latest minislot would end behind
+    /// the dynamic segment, where the minislots that stay idle behind it don't count (own profile).
+    #[error("TooLong {0}")]
+    TooLong(u8),
+    /// The plan isn't one for these parameters: an owned slot isn't static, a latest minislot isn't there, or
+    /// a transmit buffer has words of its own in a static slot or none in a dynamic one (own profile).
+    #[error("OutOfParams")]
+    OutOfParams,
+}
+
+impl NodePlan {
+    /// The first fault of the plan by these parameters, if it has one.
+    ///
+    /// `OutOfParams` comes first, then the faults in the order in which `PlanFault` has them: each kind is looked
+    /// for in the whole plan before the next, and of a kind the first in order of its numbers is named, channel A
+    /// before B.
+    #[tactic(auto, using(crate::proofs::FaultlessLemmas::faultless_if))]
+    pub fn fault(&self, params: &Params) -> Option<PlanFault>
+        ensures value { result ≡ plan_fault params.now self.now }
+        ensures faultless { IfNone result (IsFaultless params.now self.now) }
+    {
+        first_fault(params, self)
+    }
+}
+
+/// The first fault of the plan.
+#[tactic(auto, unfolding(crate::specs::Faults::plan_fault))]
+fn first_fault(params: &Params, plan: &NodePlan) -> Option<PlanFault>
+    ensures { result ≡ plan_fault params.now plan.now }
+{
+    ownership_fault(params, plan).or_else(|| buffer_fault(params, plan))
+}
+
+/// The first fault of the parameters and of the ownership lines.
+#[tactic(auto, unfolding(crate::specs::Faults::ownership_fault))]
+fn ownership_fault(params: &Params, plan: &NodePlan) -> Option<PlanFault>
+    ensures { result ≡ ownership_fault params.now plan.now }
+{
+    out_of_params(params, plan)
+        .or_else(|| first_taken(plan.owned()))
+        .or_else(|| first_not_owned(params, plan))
+}
+
+/// The first fault of the buffers among themselves.
+#[tactic(auto, unfolding(crate::specs::Faults::buffer_fault))]
+fn buffer_fault(params: &Params, plan: &NodePlan) -> Option<PlanFault>
+    ensures { result ≡ buffer_fault params.now plan.now }
+{
+    first_dynamic_both(params, plan)
+        .or_else(|| first_overlap(plan.buffers()))
+        .or_else(|| first_too_long(params, plan))
+}
+
+/// The fault of a plan that isn't one for these parameters.
+fn out_of_params(params: &Params, plan: &NodePlan) -> Option<PlanFault>
+    ensures { result ≡ out_of_params params.now plan.now }
+{
+    if any_owned_beyond(params, plan.owned())
+        || has_late_latest(params, plan)
+        || any_wrong_words(params, plan.buffers())
+    {
+        Some(PlanFault::OutOfParams)
+    } else {
+        None
+    }
+}
+
+/// Whether an ownership line is for a slot that isn't static.
+fn any_owned_beyond(params: &Params, owned: &[Own]) -> bool
+    ensures { result ≡ list_any (is_owned_beyond params.now) owned.now }
+{
+    owned.iter().any(|own| is_owned_beyond(params, own))
+}
+
+/// Whether the ownership line is for a slot that isn't static.
+fn is_owned_beyond(params: &Params, own: &Own) -> bool
+    ensures { result ≡ is_owned_beyond params.now own.now }
+{
+    !is_static_slot(params, own.slot)
+}
+
+/// Whether a channel's latest minislot is behind the last one.
+fn has_late_latest(params: &Params, plan: &NodePlan) -> bool
+    ensures { result ≡ has_late_latest params.now plan.now }
+{
+    params.minislots < plan.latest(Channel::A) || params.minislots < plan.latest(Channel::B)
+}
+
+/// Whether a transmit buffer has the wrong words.
+fn any_wrong_words(params: &Params, buffers: &[Buffer]) -> bool
+    ensures { result ≡ list_any (has_wrong_words params.now) buffers.now }
+{
+    buffers.iter().any(|buffer| has_wrong_words(params, buffer))
+}
+
+/// Whether a transmit buffer has words of its own in a static slot, or none in a dynamic one.
+fn has_wrong_words(params: &Params, buffer: &Buffer) -> bool
+    ensures { result ≡ has_wrong_words params.now buffer.now }
+{
+    transmits_static(params, buffer) && buffer.words.is_some()
+        || transmits_dynamic(params, buffer) && buffer.words.is_none()
+}
+
+/// The fault of the first slot and channel that two ownership lines claim.
+fn first_taken(owned: &[Own]) -> Option<PlanFault>
+    requires { length owned.now ≤ 64 }
+    ensures { result ≡ first_taken owned.now }
+{
+    let shared = first_shared(own_filters(owned).as_slice())?;
+    Some(PlanFault::SlotTaken(shared.slot, shared.channel))
+}
+
+/// The ownership lines as filters.
+fn own_filters(owned: &[Own]) -> ArrayVec<Filter, LINES>
+    requires { length owned.now ≤ 64 }
+    ensures { result.items ≡ own_filters owned.now }
+{
+    let mut filters = ArrayVec::new();
+    for own in owned {
+        filters.push(own_filter(own));
+    }
+    filters
+}
+
+/// An ownership line as a filter: it is for every cycle.
+fn own_filter(own: &Own) -> Filter
+    ensures { result ≡ own_filter own.now }
+{
+    Filter {
+        slot: own.slot,
+        channels: own.channels,
+        cycles: CycleFilter::default(),
+    }
+}
+
+/// The fault of the first static transmit buffer whose slot isn't owned on all its channels.
+fn first_not_owned(params: &Params, plan: &NodePlan) -> Option<PlanFault>
+    ensures { result ≡ first_buffer PlanFault.NotOwned (not_owned params.now plan.now.owned) plan.now.buffers }
+{
+    let number = not_owned_number(params, plan.owned(), plan.buffers())?;
+    Some(PlanFault::NotOwned(number as u8))
+}
+
+/// The number of the first static transmit buffer whose slot isn't owned on all its channels.
+fn not_owned_number(params: &Params, owned: &[Own], buffers: &[Buffer]) -> Option<usize>
+    ensures value { result ≡ position (not_owned params.now owned.now) buffers.now }
+    ensures within { IfSome result (λ number. number < length buffers.now) }
+{
+    buffers
+        .iter()
+        .position(|buffer| not_owned(params, owned, buffer))
+}
+
+/// Whether a static transmit buffer has a channel on which its slot isn't owned.
+fn not_owned(params: &Params, owned: &[Own], buffer: &Buffer) -> bool
+    ensures { result ≡ not_owned params.now owned.now buffer.now }
+{
+    transmits_static(params, buffer)
+        && (is_unowned_on(owned, &buffer.filter, Channel::A)
+            || is_unowned_on(owned, &buffer.filter, Channel::B))
+}
+
+/// Whether the channel is among the filter's, and its slot isn't owned there.
+fn is_unowned_on(owned: &[Own], filter: &Filter, channel: Channel) -> bool
+    ensures { result ≡ is_unowned_on owned.now filter.now channel }
+{
+    filter.channels.includes(channel) && !is_owned(owned, filter.slot, channel)
+}
+
+/// Whether an ownership line is for the slot on the channel.
+fn is_owned(owned: &[Own], slot: SlotId, channel: Channel) -> bool
+    ensures { result ≡ is_owned owned.now slot channel }
+{
+    owned.iter().any(|own| claims(slot, channel, own))
+}
+
+/// Whether the ownership line is for the slot on the channel.
+fn claims(slot: SlotId, channel: Channel, own: &Own) -> bool
+    ensures { result ≡ claims slot channel own.now }
+{
+    own.slot == slot && own.channels.includes(channel)
+}
+
+/// The fault of the first dynamic transmit buffer for both channels.
+fn first_dynamic_both(params: &Params, plan: &NodePlan) -> Option<PlanFault>
+    ensures { result ≡ first_buffer PlanFault.DynamicBoth (dynamic_both params.now) plan.now.buffers }
+{
+    let number = dynamic_both_number(params, plan.buffers())?;
+    Some(PlanFault::DynamicBoth(number as u8))
+}
+
+/// The number of the first dynamic transmit buffer for both channels.
+fn dynamic_both_number(params: &Params, buffers: &[Buffer]) -> Option<usize>
+    ensures value { result ≡ position (dynamic_both params.now) buffers.now }
+    ensures within { IfSome result (λ number. number < length buffers.now) }
+{
+    buffers
+        .iter()
+        .position(|buffer| dynamic_both(params, buffer))
+}
+
+/// Whether a dynamic transmit buffer is for both channels.
+fn dynamic_both(params: &Params, buffer: &Buffer) -> bool
+    ensures { result ≡ dynamic_both params.now buffer.now }
+{
+    let channels = buffer.filter.channels;
+    transmits_dynamic(params, buffer)
+        && channels.includes(Channel::A)
+        && channels.includes(Channel::B)
+}
+
+/// The fault of the first slot, channel and cycle that two transmit buffers admit.
+fn first_overlap(buffers: &[Buffer]) -> Option<PlanFault>
+    requires { length buffers.now ≤ 64 }
+    ensures { result ≡ first_overlap buffers.now }
+{
+    let shared = first_shared(transmit_filters(buffers).as_slice())?;
+    Some(PlanFault::Overlap(shared.slot, shared.channel, shared.cycle))
+}
+
+/// The filters of the transmit buffers.
+fn transmit_filters(buffers: &[Buffer]) -> ArrayVec<Filter, LINES>
+    requires { length buffers.now ≤ 64 }
+    ensures { result.items ≡ transmit_filters buffers.now }
+{
+    let mut filters = ArrayVec::new();
+    for buffer in buffers {
+        if transmits(buffer) {
+            filters.push(buffer.filter);
+        }
+    }
+    filters
+}
+
+/// The fault of the first dynamic transmit buffer whose frame would end behind the dynamic segment.
+fn first_too_long(params: &Params, plan: &NodePlan) -> Option<PlanFault>
+    ensures { result ≡ first_buffer PlanFault.TooLong (too_long params.now plan.now) plan.now.buffers }
+{
+    let number = too_long_number(params, plan, plan.buffers())?;
+    Some(PlanFault::TooLong(number as u8))
+}
+
+/// The number of the first dynamic transmit buffer whose frame would end behind the dynamic segment.
+fn too_long_number(params: &Params, plan: &NodePlan, buffers: &[Buffer]) -> Option<usize>
+    ensures value { result ≡ position (too_long params.now plan.now) buffers.now }
+    ensures within { IfSome result (λ number. number < length buffers.now) }
+{
+    buffers
+        .iter()
+        .position(|buffer| too_long(params, plan, buffer))
+}
+
+/// Whether a frame of a dynamic transmit buffer would end behind the dynamic segment on one of its channels.
+fn too_long(params: &Params, plan: &NodePlan, buffer: &Buffer) -> bool
+    ensures { result ≡ too_long params.now plan.now buffer.now }
+{
+    transmits_dynamic(params, buffer)
+        && (ends_late_on(params, plan, buffer, Channel::A)
+            || ends_late_on(params, plan, buffer, Channel::B))
+}
+
+/// Whether the channel is among the buffer's, and a frame of the buffer that begins at the channel's latest
+/// minislot would end behind the dynamic segment.
+fn ends_late_on(params: &Params, plan: &NodePlan, buffer: &Buffer, channel: Channel) -> bool
+    ensures { result ≡ ends_late_on params.now plan.now buffer.now channel }
+{
+    buffer.filter.channels.includes(channel)
+        && ends_late(params, plan, words_of(params, buffer), channel)
+}
+
+/// Whether a frame of so many words that begins at the channel's latest minislot would end behind the dynamic
+/// segment.
+fn ends_late(params: &Params, plan: &NodePlan, words: u16, channel: Channel) -> bool
+    requires { words < 256 }
+    ensures { result ≡ ends_late params.now plan.now words channel }
+{
+    let latest = plan.latest(channel);
+    1 <= latest && params.minislots < latest - 1 + minislots_filled(params, words)
+}
+
+/// The minislots that a frame of so many words fills.
+fn minislots_filled(params: &Params, words: u16) -> u16
+    requires { words < 256 }
+    ensures value { result ≡ minislots_filled params.now words }
+    ensures fits { result ≤ 260 }
+{
+    (words + 4).div_ceil(params.words_per_minislot)
+}
+
+/// The words that a transmit buffer sends.
+fn words_of(params: &Params, buffer: &Buffer) -> u16
+    ensures value { result ≡ words_of params.now buffer.now }
+    ensures fits { result < 256 }
+{
+    if is_static_slot(params, buffer.filter.slot) {
+        params.static_words
+    } else {
+        u16::from(buffer.words.unwrap_or(0))
+    }
+}
+
+/// Whether the buffer is a transmit buffer in a static slot.
+fn transmits_static(params: &Params, buffer: &Buffer) -> bool
+    ensures { result ≡ transmits_static params.now buffer.now }
+{
+    transmits(buffer) && is_static_slot(params, buffer.filter.slot)
+}
+
+/// Whether the buffer is a transmit buffer in a dynamic slot.
+fn transmits_dynamic(params: &Params, buffer: &Buffer) -> bool
+    ensures { result ≡ transmits_dynamic params.now buffer.now }
+{
+    transmits(buffer) && !is_static_slot(params, buffer.filter.slot)
+}
+
+/// Whether the buffer is a transmit buffer.
+fn transmits(buffer: &Buffer) -> bool
+    ensures { result ≡ transmits buffer.now }
+{
+    match buffer.mode {
+        Mode::Event | Mode::State => true,
+        Mode::Receive => false,
+    }
+}
+
+/// Whether the slot is a static one.
+fn is_static_slot(params: &Params, slot: SlotId) -> bool
+    ensures { result ≡ is_static_slot params.now slot }
+{
+    slot.number() <= params.static_slots
+}

@@ -1,0 +1,102 @@
+//! The first slot, on a channel and in a cycle, that two filters share.
+
+ghost use Rattle.std.specs.Prelude.{◌≡◌};
+ghost use Rattle.fr_slots.specs.Sharing.{both_include, is_before, earlier, IsFirst, is_shared, is_shared_with, is_shared_by, common_channel};
+
+use crate::channel::{Channel, Channels};
+use crate::filter::Filter;
+use crate::numbers::{Cycle, SlotId};
+
+/// A slot on a channel in a cycle.
+#[derive(Clone, Copy, Debug, PartialEq, Eq)]
+pub struct Occasion {
+    pub slot: SlotId,
+    pub channel: Channel,
+    pub cycle: Cycle,
+}
+
+/// The first occasion that two of the filters admit, if there is one: the least slot, then channel A
+/// before B, then the least cycle.
+pub fn first_shared(filters: &[Filter]) -> Option<Occasion>
+    ensures { IsFirst (is_shared filters.now) result }
+{
+    let mut first = None;
+    for (number, filter) in filters.iter().enumerate() {
+        first = earlier(first, first_shared_with(filter, &filters[..number]));
+    }
+    first
+}
+
+/// The first occasion that the filter and one of the others admit.
+fn first_shared_with(filter: &Filter, others: &[Filter]) -> Option<Occasion>
+    ensures { IsFirst (is_shared_with filter.now others.now) result }
+{
+    let mut first = None;
+    for other in others {
+        first = earlier(first, first_shared_by(filter, other));
+    }
+    first
+}
+
+/// The first occasion that both filters admit.
+fn first_shared_by(one: &Filter, other: &Filter) -> Option<Occasion>
+    ensures { IsFirst (is_shared_by one.now other.now) result }
+{
+    if one.slot.number() != other.slot.number() {
+        return None;
+    }
+    let channel = common_channel(one.channels, other.channels)?;
+    let cycle = one.cycles.first_common(&other.cycles)?;
+    Some(Occasion {
+        slot: one.slot,
+        channel,
+        cycle,
+    })
+}
+
+/// The first channel that is among both.
+fn common_channel(one: Channels, other: Channels) -> Option<Channel>
+    ensures { result ≡ common_channel one other }
+{
+    if both_include(one, other, Channel::A) {
+        Some(Channel::A)
+    } else if both_include(one, other, Channel::B) {
+        Some(Channel::B)
+    } else {
+        None
+    }
+}
+
+/// Whether the channel is among both.
+fn both_include(one: Channels, other: Channels, channel: Channel) -> bool
+    ensures { result ≡ both_include one other channel }
+{
+    one.includes(channel) && other.includes(channel)
+}
+
+/// The one of the two that comes first.
+fn earlier(one: Option<Occasion>, other: Option<Occasion>) -> Option<Occasion>
+    ensures { result ≡ earlier one other }
+{
+    match (one, other) {
+        (None, _) => other,
+        (Some(_), None) => one,
+        (Some(first), Some(second)) => { if is_before(second, first) { other } else { one } }
+    }
+}
+
+/// Whether one comes before the other: in the order of slots, then of channels, then of cycles.
+fn is_before(one: Occasion, other: Occasion) -> bool
+    ensures { result ≡ is_before one other }
+{
+    let (one_cycle, other_cycle) = (one.cycle.number(), other.cycle.number());
+    let (one_slot, other_slot) = (one.slot.number(), other.slot.number());
+    if one_slot != other_slot {
+        return one_slot < other_slot;
+    }
+    match (one.channel, other.channel) {
+        (Channel::A, Channel::B) => true,
+        (Channel::B, Channel::A) => false,
+        (Channel::A, Channel::A) | (Channel::B, Channel::B) => one_cycle < other_cycle,
+    }
+}
