@@ -83,7 +83,7 @@ header_parts bits long = absurd (omega arith)
 
 -- ---- what is granted is spelled
 
-length-frame_check : (channel : Channel) (bytes : List ℕ) → length (frame_check channel bytes) ≡ 24
+pub length-frame_check : (channel : Channel) (bytes : List ℕ) → length (frame_check channel bytes) ≡ 24
 length-frame_check channel bytes =
     let start = bits_of 24 (initial_of channel) in
     let wide : length start ≡ 24 = length-bits_of 24 (initial_of channel) in

@@ -2,6 +2,7 @@ pub mod BitLemmas
 pub mod CoveredLemmas
 pub mod DecodingLemmas
 pub mod DivisionLemmas
+pub mod EncodingLemmas
 pub mod FieldLemmas
 pub mod LoopLemmas
 pub mod NumberLemmas

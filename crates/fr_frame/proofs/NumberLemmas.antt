@@ -32,7 +32,7 @@ number_of-fits [] = lit< tt
 number_of-fits (true ∷ bits) = omega (arith, number_of-fits bits, pow-suc 2 (length bits))
 number_of-fits (false ∷ bits) = omega (arith, number_of-fits bits, pow-suc 2 (length bits))
 
-bits_of-none : (n : ℕ) → bits_of 0 n ≡ []
+pub bits_of-none : (n : ℕ) → bits_of 0 n ≡ []
 unfolding bits_of
 bits_of-none n = refl
 

@@ -18,7 +18,7 @@ pub length-header_check : (bits : List Bool) → length (header_check bits) ≡ 
 length-header_check bits =
     length-divided (bits_of 11 0x385) (bits_of 11 0x01A) bits (length-bits_of 11 0x385 ∙ sym (length-bits_of 11 0x01A)) (rw (length-bits_of 11 0x01A) (lit< tt)) ∙ length-bits_of 11 0x01A
 
-length-covered : (f : Fields) → length (covered f) ≡ 20
+pub length-covered : (f : Fields) → length (covered f) ≡ 20
 unfolding covered
 length-covered f = omega (arith, length-append (bits_of 11 f.id) (bits_of 7 (length f.payload / 2)), length-bits_of 11 f.id, length-bits_of 7 (length f.payload / 2))
 

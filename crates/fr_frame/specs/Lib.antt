@@ -1,6 +1,7 @@
 pub mod Bits
 pub mod Crc
 pub mod Decoding
+pub mod Encoding
 pub mod Fields
 pub mod Header
 pub mod Payload

@@ -48,7 +48,8 @@ pub fn header_crc(frame: &Frame) -> u16
 
 /// The 20 bits that the header CRC of a frame covers.
 pub(crate) fn covered_bits(frame: &Frame) -> u32
-    ensures { bits_of 20 result ≡ covered frame.now }
+    ensures bits { bits_of 20 result ≡ covered frame.now }
+    ensures fits { result < 2 ^ 20 }
 {
     let indicators = u32::from(frame.sync) << 1 | u32::from(frame.startup);
     let words = frame.payload.as_slice().len() as u32 / 2;

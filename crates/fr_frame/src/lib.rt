@@ -3,6 +3,7 @@
 
 pub mod crc;
 pub mod decode;
+pub mod encode;
 pub mod frame;
 pub mod payload;
 #[cfg(test)]

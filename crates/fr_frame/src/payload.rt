@@ -1,6 +1,6 @@
 //! The payload of a frame.
 
-ghost use Rattle.std.specs.Prelude.{◌≡◌, ◌≤◌, length, IfOk};
+ghost use Rattle.std.specs.Prelude.{◌≡◌, ◌*◌, ◌≤◌, length, replicate, IfOk};
 ghost use Rattle.std.specs.Result.{result_err};
 ghost use Rattle.fr_frame.specs.Payload.{IsPayload, payload_refusal};
 
@@ -35,6 +35,19 @@ impl Model for Payload {
     ghost inverse = { λ items. record { bytes = record { items = items } } };
 }
 
+impl Default for Payload {
+    ghost use Rattle.std.specs.Prelude.{[]};
+
+    ghost is_default = { λ p. p ≡ [] };
+
+    /// The payload without words.
+    fn default() -> Payload {
+        Payload {
+            bytes: ArrayVec::new(),
+        }
+    }
+}
+
 impl Payload {
     /// The payload of these bytes. It is refused as too long above 254 bytes, and else as odd
     /// where the bytes make no whole words.
@@ -49,6 +62,14 @@ impl Payload {
             return Err(FrameError::OddPayload);
         }
         Ok(Payload::of(bytes))
+    }
+
+    /// The payload of so many words of zeros, at most 127.
+    pub fn zeros(words: u16) -> Payload
+        requires { words ≤ 127 }
+        ensures { result ≡ replicate (2 * words) 0 }
+    {
+        Payload::of(&[0u8; 254][..2 * usize::from(words)])
     }
 
     /// The payload of bytes that are known to be one.

@@ -4,6 +4,7 @@ ghost use Rattle.std.specs.Prelude.{◌<◌, ◌^◌};
 
 use super::crc::{crc11, crc24, header_crc};
 use super::decode::{DecodeError, decode};
+use super::encode::encode;
 use super::frame::Frame;
 use super::payload::{FrameError, Payload};
 use fr_slots::channel::Channel;
@@ -29,6 +30,9 @@ fn data_frame(id: u16, payload: &[u8], cycle: u8) -> Result<Frame, FrameError>
 /// The frame of ID 2 with one word, as it is sent on channel A.
 const ONE_WORD_ON_A: [u8; 10] = [0x20, 0x02, 0x03, 0xc1, 0x40, 0x0a, 0x0b, 0xa3, 0x22, 0x17];
 
+/// The same on channel B.
+const ONE_WORD_ON_B: [u8; 10] = [0x20, 0x02, 0x03, 0xc1, 0x40, 0x0a, 0x0b, 0x85, 0xa2, 0xc6];
+
 #[test]
 fn crcs_of_the_digits(rt: HostRuntime) -> Result<(), Fail> {
     let digits = b"123456789";
@@ -47,6 +51,7 @@ fn a_frame_without_payload(rt: HostRuntime) -> Result<(), Fail> {
     let frame = data_frame(1, &[], 0)?;
     assert_eq!(rt; header_crc(&frame), 0x69F);
     let bytes = [0x20, 0x01, 0x01, 0xa7, 0xc0, 0xd0, 0x5e, 0xea];
+    assert_eq!(rt; encode(&frame, Channel::A).as_slice(), bytes.as_slice());
     assert_eq!(rt; decode(&bytes, Channel::A)?, frame);
     Ok(())
 }
@@ -55,17 +60,13 @@ fn a_frame_without_payload(rt: HostRuntime) -> Result<(), Fail> {
 fn the_longest_frame(rt: HostRuntime) -> Result<(), Fail> {
     let frame = data_frame(2047, &[0; 254], 63)?;
     assert_eq!(rt; header_crc(&frame), 0x135);
-    let mut bytes = [0u8; 262];
-    bytes[0] = 0x27;
-    bytes[1] = 0xff;
-    bytes[2] = 0xfe;
-    bytes[3] = 0x4d;
-    bytes[4] = 0x7f;
-    let trailer = crc24(&bytes[..259], Channel::A).to_be_bytes();
-    bytes[259] = trailer[1];
-    bytes[260] = trailer[2];
-    bytes[261] = trailer[3];
-    assert_eq!(rt; decode(&bytes, Channel::A)?, frame);
+    let bytes = encode(&frame, Channel::A);
+    assert_eq!(rt; bytes.len(), 262);
+    assert_eq!(rt;
+        &bytes.as_slice()[..5],
+        [0x27, 0xff, 0xfe, 0x4d, 0x7f].as_slice()
+    );
+    assert_eq!(rt; decode(bytes.as_slice(), Channel::A)?, frame);
     Ok(())
 }
 
@@ -73,9 +74,16 @@ fn the_longest_frame(rt: HostRuntime) -> Result<(), Fail> {
 fn a_frame_is_spelled_for_its_channel(rt: HostRuntime) -> Result<(), Fail> {
     let frame = data_frame(2, &[0x0a, 0x0b], 0)?;
     assert_eq!(rt; header_crc(&frame), 0x705);
-    let on_b = [0x20, 0x02, 0x03, 0xc1, 0x40, 0x0a, 0x0b, 0x85, 0xa2, 0xc6];
+    assert_eq!(rt;
+        encode(&frame, Channel::A).as_slice(),
+        ONE_WORD_ON_A.as_slice()
+    );
+    assert_eq!(rt;
+        encode(&frame, Channel::B).as_slice(),
+        ONE_WORD_ON_B.as_slice()
+    );
     assert_eq!(rt; decode(&ONE_WORD_ON_A, Channel::A)?, frame.duplicate());
-    assert_eq!(rt; decode(&on_b, Channel::B)?, frame);
+    assert_eq!(rt; decode(&ONE_WORD_ON_B, Channel::B)?, frame);
     assert_eq!(rt;
         decode(&ONE_WORD_ON_A, Channel::B),
         Err(DecodeError::FrameCrc)
@@ -84,10 +92,14 @@ fn a_frame_is_spelled_for_its_channel(rt: HostRuntime) -> Result<(), Fail> {
 }
 
 #[test]
-fn the_reserved_bit_is_ignored(rt: HostRuntime) -> Result<(), Fail> {
+fn the_reserved_bit_is_ignored_and_sent_as_0(rt: HostRuntime) -> Result<(), Fail> {
     let bytes = [0xa0, 0x02, 0x03, 0xc1, 0x40, 0x0a, 0x0b, 0xa3, 0xb4, 0x04];
-    let frame = data_frame(2, &[0x0a, 0x0b], 0)?;
-    assert_eq!(rt; decode(&bytes, Channel::A)?, frame);
+    let frame = decode(&bytes, Channel::A)?;
+    assert_eq!(rt;
+        encode(&frame, Channel::A).as_slice(),
+        ONE_WORD_ON_A.as_slice()
+    );
+    assert_eq!(rt; frame, data_frame(2, &[0x0a, 0x0b], 0)?);
     Ok(())
 }
 
