@@ -1,3 +1,4 @@
+pub mod AuditLemmas
 pub mod OrderLemmas
 pub mod NumberLemmas
 pub mod InputLemmas

@@ -1,3 +1,4 @@
+pub mod Audits
 pub mod Checks
 pub mod Inputs
 pub mod Midpoints

@@ -1,5 +1,9 @@
 //! `fr_bench audit`.
-ghost use Rattle.fr_trace.specs.Audit.{Audits};
+ghost use Rattle.std.specs.Prelude.{◌≡◌, Some};
+ghost use Rattle.fr_bench.specs.Audits.{Ends};
+ghost use Rattle.fr_interface.specs.State.{State, IsLegalInterface};
+ghost use Rattle.fr_trace.specs.Audit.{Audits, IsNotRefused};
+ghost use Rattle.fr_trace.specs.TraceText.{IsTold, trace_text};
 
 use fr_trace::error::TraceError;
 use std::alloc::Global;
@@ -11,12 +15,18 @@ use std::io::{Read, Write};
 /// report that isn't whole. The refusals are those of the trace; `Memory` also where memory for the
 /// report was refused, and `Write` where the writer failed, which may have taken a part by then.
 /// Every other refusal leaves the writer as it was.
+#[tactic(auto, using(crate::proofs::AuditLemmas::no_room))]
 pub fn audit<R: Read, W: Write>(
     alloc: Global,
     reader: &mut R,
     writer: &mut W,
 ) -> Result<(), TraceError>
-    ensures { Audits (R.remaining reader.old) (W.contents writer.old) (W.contents writer.new) result }
+    // What is accepted is the text of a legal interface, whose report is written, and nothing else.
+    ensures found { Audits (R.remaining reader.old) (W.contents writer.old) (W.contents writer.new) result }
+    // It reads in pieces of at most 4096 bytes, and none behind the one that has the fault.
+    ensures read { Ends (R.remaining reader.old) (R.remaining reader.new) result }
+    // The text of a legal interface is not refused.
+    ensures only { (s : State) → IsLegalInterface s → IsTold s.plan → R.remaining reader.old ≡ Some (trace_text s) → IsNotRefused result }
 {
     let mut report = Vec::new(alloc);
     match fr_trace::audit::audit(alloc, reader, &mut report) {

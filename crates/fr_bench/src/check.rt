@@ -1,16 +1,16 @@
 //! `fr_bench check`.
-ghost use Rattle.std.specs.Prelude.{◌≡◌, IfSome, OnOk, option_map};
-ghost use Rattle.std.specs.Io.KnownBytes.{Appends};
-ghost use Rattle.fr_bench.specs.Checks.{Checks, IsTableOf, params_member, parameters_of_root, params_line};
+ghost use Rattle.std.specs.Prelude.{◌≡◌, IfSome, option_map};
+ghost use Rattle.fr_bench.specs.Checks.{Checks, IsTableOf, params_member, parameters_of_root};
 ghost use Rattle.toml.specs.View.{table_view};
 
 use crate::error::BenchError;
 use crate::input::read_up_to;
+use fr_lines::writing::write_params;
 use fr_params::error::ParamError;
 use fr_params::table::from_table;
 use fr_slots::params::Params;
 use std::alloc::Global;
-use std::io::{self, Read, Write};
+use std::io::{Read, Write};
 use std::str;
 use toml::Table;
 
@@ -50,21 +50,6 @@ fn params_of(alloc: Global, root: &Table) -> Result<Params, ParamError>
         Some(table) => from_table(table),
         None => from_table(&Table::new(alloc)),
     }
-}
-
-/// Writes the line of the parameters, as a trace has it.
-fn write_params<W: Write>(writer: &mut W, params: &Params) -> io::Result<()>
-    ensures { OnOk result (Appends (W.contents writer.old) (W.contents writer.new) (params_line params.now)) }
-{
-    write!(
-        writer,
-        "params {} {}",
-        params.static_slots, params.minislots
-    )?;
-    write!(writer, " {} {}", params.static_words, params.static_mt)?;
-    write!(writer, " {} {}", params.minislot_mt, params.symbol_mt)?;
-    write!(writer, " {} {}", params.nit_mt, params.cycle_mt)?;
-    writeln!(writer, " {} {}", params.idle, params.words_per_minislot)
 }
 
 /// Reads a cluster file to its end and writes the line of its parameters, as a trace has it (own

@@ -1,72 +1,21 @@
--- What a plan with nothing to send offers, and what legal journals have room for.
-use Rattle.std.proofs.Common.{◌≡◌, ℕ, zero, suc, ◌+◌, ◌≤◌, ◌<◌, Bool, true, false, cond, ◌&&◌, List, [], ◌∷◌, ◌++◌, Option, Some, None, refl, sym, ap, subst, ◌∙◌, arith}
-use Rattle.std.specs.Prelude.{IfSome, count_by, is_some, slice_get}
+-- What legal journals have room for, and what the tests of a fetch tell.
+use Rattle.std.proofs.Common.{◌≡◌, ℕ, ◌+◌, ◌*◌, ◌≤◌, ◌<◌, Bool, true, false, cond, List, [], ◌∷◌, ◌++◌, length, Option, Some, None, refl, sym, ap, subst, ◌∙◌, arith}
+use Rattle.std.specs.Prelude.{IfSome, count_by, is_some}
 use Rattle.std.specs.Option.{option_and_then, option_or}
-use Rattle.std.proofs.lemmas.Bool.{leb-false}
+use Rattle.std.proofs.lemmas.Bool.{leb-false, eqb-true}
 use Rattle.std.proofs.lemmas.List.Sums.{sum_by-append}
 use Rattle.fr_interface.specs.declared.entry.Entry.{Entry}
 use Rattle.fr_interface.specs.declared.entry.Entry.TheVariants.{Commit, Read, Pop, Fetch, Observe}
-use Rattle.fr_interface.specs.declared.entry.Offered.TheVariants.{Nothing}
 use Rattle.fr_interface.specs.Entries.{is_slot}
-use Rattle.fr_frame.specs.Fields.{Fields}
-use Rattle.fr_interface.specs.Legal.{IsLegal, IsLegalJournal, buffer_at}
-use Rattle.fr_interface.specs.Offers.{admitting_from, admitting, ownership, commit_offered, may_begin, ready, offered, offered_at, Numbered, IsHandedOut, frame_offered, frame_of_offer}
+use Rattle.fr_interface.specs.Legal.{IsLegal, IsLegalJournal, words_of}
 use Rattle.fr_interface.specs.OpenWindow.{open_window, window_mark}
-use Rattle.fr_interface.specs.State.{IsReceivePlan, is_receive_buffer, is_not_above}
+use Rattle.fr_interface.specs.State.{is_not_above, has_words}
 use Rattle.fr_interface.proofs.OpeningLemmas.{open_window-snoc}
-use Rattle.fr_slots.specs.declared.channel.Channel.{Channel}
-use Rattle.fr_slots.specs.declared.plan.Buffer.{Buffer}
 use Rattle.fr_slots.specs.History.{last_after}
 use Rattle.fr_slots.specs.Parameters.{Parameters}
-use Rattle.fr_slots.specs.Plans.{Plan, AllFit, is_receive}
-use Rattle.fr_slots.specs.Windows.{Opportunity, slot_of, is_static}
+use Rattle.fr_slots.specs.Plans.{Plan}
+use Rattle.fr_slots.specs.Windows.{Opportunity}
 use Rattle.fr_slots.proofs.HistoryLemmas.{AllAfter-induction}
-
--- ---- nothing is offered
-
-none_admitting : (number : ℕ) (buffers : List Buffer) (window : Opportunity) (channel : Channel) → AllFit is_receive_buffer buffers → admitting_from number buffers window channel ≡ None
-unfolding admitting_from
-none_admitting number [] window channel all = refl
-none_admitting number (b ∷ buffers) window channel all = rw (all.0, none_admitting (number + 1) buffers window channel all.1) refl
-
-no_commit_offered : (plan : Plan) (entries : List Entry) (window : Opportunity) (channel : Channel) → IsReceivePlan plan → commit_offered plan entries window channel ≡ None
-no_commit_offered plan entries window channel receives =
-    elim (may_begin plan window channel) as (λ b. cond b (option_and_then (λ (t : Numbered). ready t.buffer.mode t.number entries) (admitting plan window channel)) None ≡ None) [
-      | true ↦ ap (option_and_then (λ (t : Numbered). ready t.buffer.mode t.number entries)) (none_admitting 0 plan.buffers window channel receives.receives)
-      | false ↦ refl
-    ]
-
-never : (b : Bool) → (b && false) ≡ false
-never true = refl
-never false = refl
-
-nothing_at : (plan : Plan) (entries : List Entry) (window : Opportunity) (channel : Channel) (slot : Option ℕ) → IsReceivePlan plan → offered_at plan entries window channel slot ≡ Nothing
-unfolding ownership
-nothing_at plan entries window channel None receives = refl
-nothing_at plan entries window channel (Some slot) receives = rw (no_commit_offered plan entries window channel receives, receives.nothing_owned, never (is_static window)) refl
-
-pub nothing_offered : (plan : Plan) (entries : List Entry) (window : Opportunity) (channel : Channel) → IsReceivePlan plan → offered plan entries window channel ≡ Nothing
-nothing_offered plan entries window channel receives = nothing_at plan entries window channel (slot_of window channel) receives
-
-no_frame : (params : Parameters) (plan : Plan) (entries : List Entry) (window : Opportunity) (channel : Channel) (slot : Option ℕ) → IsReceivePlan plan
-    → option_and_then (λ s. frame_of_offer params plan entries window channel s (offered plan entries window channel)) slot ≡ None
-no_frame params plan entries window channel None receives = refl
-no_frame params plan entries window channel (Some slot) receives = ap (frame_of_offer params plan entries window channel slot) (nothing_offered plan entries window channel receives)
-
-pub nothing_handed_out : (params : Parameters) (plan : Plan) (entries : List Entry) (window : Opportunity) (channel : Channel) → IsReceivePlan plan
-    → IsHandedOut channel (frame_offered params plan entries window channel) None
-nothing_handed_out params plan entries window channel receives =
-    subst (λ (o : Option Fields). IsHandedOut channel o None) (sym (no_frame params plan entries window channel (slot_of window channel) receives)) tt
-
--- ---- every buffer receives
-
-receives_at : (buffers : List Buffer) (buffer : ℕ) (b : Buffer) → AllFit is_receive_buffer buffers → slice_get buffers buffer ≡ Some b → is_receive b.mode ≡ false → ⊥
-receives_at [] buffer b all there transmits = cc there
-receives_at (x ∷ buffers) zero b all there transmits = let same : x ≡ b = cc there in cc (ap (λ (y : Buffer). is_receive y.mode) same, all.0, transmits)
-receives_at (x ∷ buffers) (suc buffer) b all there transmits = receives_at buffers buffer b all.1 there transmits
-
-pub receives_only : (plan : Plan) (buffer : ℕ) (b : Buffer) → IsReceivePlan plan → buffer_at plan buffer ≡ Some b → is_receive b.mode ≡ false → ⊥
-receives_only plan buffer b receives there transmits = receives_at plan.buffers buffer b receives.receives there transmits
 
 -- ---- an open window has room for its observe
 
@@ -107,3 +56,8 @@ none_from_test t (Some x) e f = absurd cc
 pub later_from_test : (number : ℕ) (o : Option ℕ) → is_not_above number o ≡ false → IfSome o (λ n. n < number)
 later_from_test number None e = tt
 later_from_test number (Some n) e = leb-false number n e
+
+-- ---- what the tests of a commit tell
+
+pub words_from_test : (params : Parameters) (words : Option ℕ) (payload : List ℕ) → has_words params words payload ≡ true → length payload ≡ 2 * words_of params words
+words_from_test params words payload h = eqb-true (length payload) (2 * words_of params words) h

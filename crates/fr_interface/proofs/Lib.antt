@@ -1,3 +1,4 @@
+pub mod FateLemmas
 pub mod HeldLemmas
 pub mod HeldPlaceLemmas
 pub mod KindLemmas

@@ -9,10 +9,11 @@ use Rattle.fr_interface.specs.declared.entry.Entry.TheVariants.{Commit, Pop, Fet
 use Rattle.fr_interface.specs.declared.entry.Offered.{Offered}
 use Rattle.fr_interface.specs.declared.entry.Offered.TheVariants.{Nothing, Null, Data}
 use Rattle.fr_interface.specs.declared.entry.Origin.{Origin}
+use Rattle.fr_interface.specs.declared.fate.Tally.{Tally}
 use Rattle.fr_interface.specs.Arrivals.{moves, oldest, queue_length, queue_lost}
-use Rattle.fr_interface.specs.Fate.{fates_from, TallyOf, tally_of}
+use Rattle.fr_interface.specs.Fate.{fates_from, tally_of}
 use Rattle.fr_interface.specs.Held.{held, origin_of}
-use Rattle.fr_interface.specs.Offers.{offered, admitting_from, ownership}
+use Rattle.fr_interface.specs.Offers.{offered}
 use Rattle.fr_slots.specs.Admission.{CycleClass}
 use Rattle.fr_slots.specs.declared.channel.Channel.{Channel}
 use Rattle.fr_slots.specs.declared.channel.Channel.TheVariants as channel
@@ -68,7 +69,7 @@ three_commits = two_commits ++ Fetch (static_window 0 0 1) (Data 1) (Data 1) ∷
 abbrev all_fetched : List Entry
 all_fetched = three_commits ++ Observe 0 Silence Silence ∷ Fetch (static_window 1 1 1) (Data 3) (Data 3) ∷ Observe 1 Silence Silence ∷ []
 
-abbrev tally : ℕ → ℕ → ℕ → ℕ → TallyOf
+abbrev tally : ℕ → ℕ → ℕ → ℕ → Tally
 tally committed sent overwritten pending = record { committed = committed; sent = sent; overwritten = overwritten; pending = pending }
 
 -- one commit, fetched at once
@@ -77,12 +78,12 @@ one_fetched = Commit 0 0 (0 ∷ 1 ∷ []) ∷ Fetch (static_window 0 0 1) (Data 
 
 -- an event buffer offers its last commit until it is sent, and then a null frame in a static slot
 pub an_event_commit_is_offered_once : (offers_in Event two_commits 0 ≡ (Data 1, Data 1)) × (offers_in Event three_commits 1 ≡ (Data 3, Data 3)) × (offers_in Event all_fetched 2 ≡ (Null, Null)) × (offers_in Event one_fetched 1 ≡ (Null, Null))
-unfolding last_after admitting_from ownership
+unfolding last_after
 an_event_commit_is_offered_once = (refl, refl, refl, refl)
 
 -- a state buffer offers its last commit, sent or not
 pub a_state_commit_is_offered_again : (offers_in State two_commits 0 ≡ (Data 1, Data 1)) × (offers_in State three_commits 1 ≡ (Data 3, Data 3)) × (offers_in State all_fetched 2 ≡ (Data 3, Data 3))
-unfolding last_after admitting_from ownership
+unfolding last_after
 a_state_commit_is_offered_again = (refl, refl, refl)
 
 -- a commit that goes out on both channels, and in a further cycle again, is sent once
@@ -108,7 +109,7 @@ offered_at_five latest = offered (dynamic_sender latest) one_commit at_five chan
 
 -- a dynamic transmission may begin at the latest minislot itself and not after it, where the commit stays pending
 pub a_transmission_begins_at_the_latest_minislot : (offered_at_five 5 ≡ Data 0) × (offered_at_five 4 ≡ Nothing) × (offered_at_five 0 ≡ Nothing) × (tally_of 0 (one_commit ++ Fetch at_five Nothing Nothing ∷ []) ≡ tally 1 0 0 1)
-unfolding last_after admitting_from ownership fates_from
+unfolding last_after fates_from
 a_transmission_begins_at_the_latest_minislot = (refl, refl, refl, refl)
 
 -- ---- frames received in static slot 2, which has one word

@@ -6,6 +6,9 @@ use Rattle.fr_interface.specs.declared.entry.Entry.{Entry}
 use Rattle.fr_interface.specs.declared.entry.Entry.TheVariants.{Commit, Read, Pop, Fetch, Observe}
 use Rattle.fr_interface.specs.declared.entry.Offered.{Offered}
 use Rattle.fr_interface.specs.declared.entry.Offered.TheVariants.{Nothing, Null, Data}
+use Rattle.fr_interface.specs.declared.fate.Fate.{Fate}
+use Rattle.fr_interface.specs.declared.fate.Fate.TheVariants.{Sent, Overwritten, Pending}
+use Rattle.fr_interface.specs.declared.fate.Tally.{Tally}
 use Rattle.fr_slots.specs.History.{last_after}
 
 -- ---- commits
@@ -17,8 +20,12 @@ is_commit_on buffer (Pop task from) = false
 is_commit_on buffer (Fetch window a b) = false
 is_commit_on buffer (Observe window a b) = false
 
+-- the number, where this is a commit on the buffer
+abbrev pub commit_at : ℕ → ℕ → Entry → Option ℕ
+commit_at buffer number e = if is_commit_on buffer e then Some number else None
+
 abbrev pub commit_on : ℕ → List Entry → Entry → Option ℕ
-commit_on buffer before e = if is_commit_on buffer e then Some (length before) else None
+commit_on buffer before e = commit_at buffer (length before) e
 
 -- the number of the last commit on a buffer
 abbrev pub last_commit : ℕ → List Entry → Option ℕ
@@ -39,18 +46,13 @@ sends commit (Pop task from) = false
 sends commit (Fetch window a b) = is_data_of commit a || is_data_of commit b
 sends commit (Observe window a b) = false
 
-pub data Fate : Type 0 where
-  sent : Fate
-  overwritten : Fate
-  pending : Fate
-
 -- A commit is sent where a later fetch hands it to the bus; else it is overwritten where a later commit on its buffer
 -- stands; else it is pending.
 abbrev pub fate_of : ℕ → ℕ → List Entry → Fate
 fate_of buffer commit later =
-    if list_any (sends commit) later then sent
-    else if list_any (is_commit_on buffer) later then overwritten
-    else pending
+    if list_any (sends commit) later then Sent
+    else if list_any (is_commit_on buffer) later then Overwritten
+    else Pending
 
 -- the fate of each commit on a buffer, in the order of the commits; the first entry has this number
 unfoldable pub fates_from : ℕ → ℕ → List Entry → List Fate
@@ -62,28 +64,22 @@ abbrev pub fates : ℕ → List Entry → List Fate
 fates buffer entries = fates_from buffer 0 entries
 
 abbrev pub is_sent : Fate → Bool
-is_sent sent = true
-is_sent overwritten = false
-is_sent pending = false
+is_sent Sent = true
+is_sent Overwritten = false
+is_sent Pending = false
 
 abbrev pub is_overwritten : Fate → Bool
-is_overwritten sent = false
-is_overwritten overwritten = true
-is_overwritten pending = false
+is_overwritten Sent = false
+is_overwritten Overwritten = true
+is_overwritten Pending = false
 
 abbrev pub is_pending : Fate → Bool
-is_pending sent = false
-is_pending overwritten = false
-is_pending pending = true
-
-pub record TallyOf : Type 0 where
-  pub committed : ℕ
-  pub sent : ℕ
-  pub overwritten : ℕ
-  pub pending : ℕ
+is_pending Sent = false
+is_pending Overwritten = false
+is_pending Pending = true
 
 -- how many commits on a buffer met each fate
-abbrev pub tally_of : ℕ → List Entry → TallyOf
+abbrev pub tally_of : ℕ → List Entry → Tally
 tally_of buffer entries = record {
   committed = length (fates buffer entries);
   sent = count_by is_sent (fates buffer entries);

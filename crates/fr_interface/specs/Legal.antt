@@ -1,5 +1,5 @@
 -- Which journals are legal for given parameters and a given plan.
-use Rattle.std.specs.Prelude.{◌≡◌, ℕ, ◌+◌, ◌*◌, ◌≤◌, ◌<◌, nat_lt, nat_le, Bool, true, false, ◌&&◌, List, [], length, slice_get, Option, Some, None, if◌then◌else◌, count_by, IfSome, IsSomeAnd, option_map}
+use Rattle.std.specs.Prelude.{◌≡◌, ℕ, ◌+◌, ◌*◌, ◌≤◌, ◌<◌, nat_lt, nat_le, Bool, true, false, ◌&&◌, List, [], length, Option, Some, None, if◌then◌else◌, count_by, IfSome, IsSomeAnd, option_map}
 use Rattle.fr_interface.specs.Arrivals.{moves, oldest}
 use Rattle.fr_interface.specs.declared.entry.Entry.{Entry}
 use Rattle.fr_interface.specs.declared.entry.Entry.TheVariants.{Commit, Read, Pop, Fetch, Observe}
@@ -7,19 +7,15 @@ use Rattle.fr_interface.specs.declared.entry.Offered.{Offered}
 use Rattle.fr_interface.specs.declared.entry.Origin.{Origin}
 use Rattle.fr_interface.specs.Entries.{is_host, is_slot, IsEntry}
 use Rattle.fr_interface.specs.Held.{held, origin_of}
-use Rattle.fr_interface.specs.Offers.{offered}
+use Rattle.fr_interface.specs.Offers.{buffer_at, offered}
 use Rattle.fr_interface.specs.OpenWindow.{open_window, last_number}
 use Rattle.fr_slots.specs.declared.channel.Channel.TheVariants as channel
-use Rattle.fr_slots.specs.declared.plan.Buffer.{Buffer}
 use Rattle.fr_slots.specs.History.{AllAfter}
 use Rattle.fr_slots.specs.Parameters.{Parameters}
 use Rattle.fr_slots.specs.Plans.{Plan, is_receive}
 use Rattle.fr_slots.specs.Windows.{Opportunity, is_static}
 
 -- ---- calls of the host
-
-abbrev pub buffer_at : Plan → ℕ → Option Buffer
-buffer_at plan buffer = slice_get plan.buffers buffer
 
 -- a static frame has the cluster's words, and a dynamic one its buffer's
 abbrev pub words_of : Parameters → Option ℕ → ℕ

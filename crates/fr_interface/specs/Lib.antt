@@ -10,4 +10,5 @@ pub mod Offers
 pub mod OpenWindow
 pub mod Opening
 pub mod State
+pub mod Tallying
 pub mod InterfaceFields

@@ -1,5 +1,6 @@
 -- What a node offers in a window, decided by the entries before the fetch (chapter 5; the modes are own profile).
-use Rattle.std.specs.Prelude.{ℕ, ◌+◌, ◌*◌, ◌==◌, nat_le, Bool, true, false, not, ◌&&◌, ◌||◌, List, [], ◌∷◌, replicate, slice_get, Option, Some, None, is_some, if◌then◌else◌}
+use Rattle.std.specs.Prelude.{ℕ, ◌*◌, nat_le, Bool, true, false, ◌&&◌, ◌||◌, List, [], replicate, slice_get, Option, Some, None, is_some, if◌then◌else◌}
+use Rattle.std.specs.List.{position}
 use Rattle.std.specs.Option.{option_and_then}
 use Rattle.arrayvec.specs.ArrayVec.{ArrayVec}
 use Rattle.fr_frame.specs.Fields.{Fields}
@@ -9,16 +10,15 @@ use Rattle.fr_interface.specs.declared.entry.Entry.TheVariants.{Commit}
 use Rattle.fr_interface.specs.declared.entry.Offered.{Offered}
 use Rattle.fr_interface.specs.declared.entry.Offered.TheVariants.{Nothing, Null, Data}
 use Rattle.fr_interface.specs.Fate.{last_commit, pending_commit}
-use Rattle.fr_slots.specs.Admission.{includes}
 use Rattle.fr_slots.specs.declared.channel.Channel.{Channel}
-use Rattle.fr_slots.specs.declared.channel.Channel.TheVariants as channel
 use Rattle.fr_slots.specs.declared.filter.Filter.{Filter}
 use Rattle.fr_slots.specs.declared.plan.Buffer.{Buffer}
 use Rattle.fr_slots.specs.declared.plan.Mode.{Mode}
 use Rattle.fr_slots.specs.declared.plan.Mode.TheVariants as mode
 use Rattle.fr_slots.specs.declared.plan.Own.{Own}
 use Rattle.fr_slots.specs.Parameters.{Parameters}
-use Rattle.fr_slots.specs.Plans.{Plan, filter_admits, is_receive}
+use Rattle.fr_slots.specs.Faults.{claims, latest_on, transmits}
+use Rattle.fr_slots.specs.Plans.{Plan, filter_admits}
 use Rattle.fr_slots.specs.Windows.{Opportunity, slot_of, is_static}
 
 -- ---- which buffer, and whether it may begin
@@ -31,30 +31,20 @@ admits_slot f cycle channel (Some slot) = filter_admits f cycle slot channel
 abbrev pub admits_window : Filter → Opportunity → Channel → Bool
 admits_window f window channel = admits_slot f window.cycle channel (slot_of window channel)
 
-pub record Numbered : Type 0 where
-  pub number : ℕ
-  pub buffer : Buffer
+abbrev pub is_admitting : Opportunity → Channel → Buffer → Bool
+is_admitting window channel b = transmits b && admits_window b.filter window channel
 
-abbrev pub is_admitting : Buffer → Opportunity → Channel → Bool
-is_admitting b window channel = not (is_receive b.mode) && admits_window b.filter window channel
+-- The number of the first transmit buffer that admits the window on the channel. A plan without fault has no second one.
+abbrev pub transmitter : Plan → Opportunity → Channel → Option ℕ
+transmitter plan window channel = position (is_admitting window channel) plan.buffers
 
--- The first transmit buffer that admits the window on the channel, where the first of these buffers has this number. A
--- plan without fault has no second one.
-unfoldable pub admitting_from : ℕ → List Buffer → Opportunity → Channel → Option Numbered
-admitting_from number [] window channel = None
-admitting_from number (b ∷ buffers) window channel =
-    if is_admitting b window channel then Some (record { number = number; buffer = b }) else admitting_from (number + 1) buffers window channel
-
-abbrev pub admitting : Plan → Opportunity → Channel → Option Numbered
-admitting plan window channel = admitting_from 0 plan.buffers window channel
-
-abbrev pub latest_of : Plan → Channel → ℕ
-latest_of plan channel.A = plan.latest_a
-latest_of plan channel.B = plan.latest_b
+-- the buffer of this number
+abbrev pub buffer_at : Plan → ℕ → Option Buffer
+buffer_at plan buffer = slice_get plan.buffers buffer
 
 -- a dynamic transmission begins no later than at the channel's latest minislot
 abbrev pub may_begin : Plan → Opportunity → Channel → Bool
-may_begin plan window channel = is_static window || nat_le window.minislot (latest_of plan channel)
+may_begin plan window channel = is_static window || nat_le window.minislot (latest_on plan channel)
 
 -- ---- which commit
 
@@ -64,24 +54,26 @@ ready mode.Event buffer entries = pending_commit buffer entries
 ready mode.State buffer entries = last_commit buffer entries
 ready mode.Receive buffer entries = None
 
+-- what the buffer of this number offers where it admits
+abbrev pub ready_in : Plan → List Entry → ℕ → Option ℕ
+ready_in plan entries buffer = option_and_then (λ b. ready b.mode buffer entries) (buffer_at plan buffer)
+
 abbrev pub commit_offered : Plan → List Entry → Opportunity → Channel → Option ℕ
 commit_offered plan entries window channel =
-    if may_begin plan window channel
-    then option_and_then (λ t. ready t.buffer.mode t.number entries) (admitting plan window channel)
-    else None
+    if may_begin plan window channel then option_and_then (ready_in plan entries) (transmitter plan window channel) else None
 
 -- ---- the offer
 
-abbrev pub is_owned_at : ℕ → Channel → Own → Bool
-is_owned_at slot channel own = own.slot == slot && includes own.channels channel
+-- the first ownership line for a slot on a channel
+abbrev pub ownership : List Own → ℕ → Channel → Option Own
+ownership owned slot channel = option_and_then (slice_get owned) (position (claims slot channel) owned)
 
--- the ownership line for a slot on a channel
-unfoldable pub ownership : List Own → ℕ → Channel → Option Own
-ownership [] slot channel = None
-ownership (own ∷ owned) slot channel = if is_owned_at slot channel own then Some own else ownership owned slot channel
+-- the ownership line for the slot of a static window; a dynamic slot has none
+abbrev pub line_of : Plan → Opportunity → Channel → ℕ → Option Own
+line_of plan window channel slot = if is_static window then ownership plan.owned slot channel else None
 
 abbrev pub owns : Plan → Opportunity → Channel → ℕ → Bool
-owns plan window channel slot = is_static window && is_some (ownership plan.owned slot channel)
+owns plan window channel slot = is_some (line_of plan window channel slot)
 
 abbrev pub data_or : Offered → Option ℕ → Offered
 data_or otherwise None = otherwise
@@ -115,15 +107,14 @@ abbrev pub startup_of : Option Own → Bool
 startup_of None = false
 startup_of (Some own) = own.startup
 
-abbrev pub preamble_of : Option Numbered → Bool
+abbrev pub preamble_of : Option Buffer → Bool
 preamble_of None = false
-preamble_of (Some t) = t.buffer.preamble
+preamble_of (Some b) = b.preamble
 
--- sync and startup frame indicators come from the ownership line of a static slot
-abbrev pub line_of : Plan → Opportunity → Channel → ℕ → Option Own
-line_of plan window channel slot = if is_static window then ownership plan.owned slot channel else None
+abbrev pub preamble_in : Plan → Opportunity → Channel → Bool
+preamble_in plan window channel = preamble_of (option_and_then (buffer_at plan) (transmitter plan window channel))
 
--- a null frame carries zeros, as many as a static frame has
+-- Sync and startup frame indicators come from the ownership line. A null frame carries zeros, as many as a static frame has.
 abbrev pub null_frame : Parameters → Plan → Opportunity → Channel → ℕ → Fields
 null_frame params plan window channel slot = record {
   preamble = false;
@@ -137,7 +128,7 @@ null_frame params plan window channel slot = record {
 
 abbrev pub data_frame_of : Plan → List Entry → Opportunity → Channel → ℕ → ℕ → Fields
 data_frame_of plan entries window channel slot commit = record {
-  preamble = preamble_of (admitting plan window channel);
+  preamble = preamble_in plan window channel;
   has_data = true;
   sync = sync_of (line_of plan window channel slot);
   startup = startup_of (line_of plan window channel slot);
@@ -151,9 +142,12 @@ frame_of_offer params plan entries window channel slot Nothing = None
 frame_of_offer params plan entries window channel slot Null = Some (null_frame params plan window channel slot)
 frame_of_offer params plan entries window channel slot (Data commit) = Some (data_frame_of plan entries window channel slot commit)
 
+abbrev pub frame_with : Parameters → Plan → List Entry → Opportunity → Channel → Offered → Option Fields
+frame_with params plan entries window channel o = option_and_then (λ slot. frame_of_offer params plan entries window channel slot o) (slot_of window channel)
+
+-- the frame that the node offers in the window on the channel
 abbrev pub frame_offered : Parameters → Plan → List Entry → Opportunity → Channel → Option Fields
-frame_offered params plan entries window channel =
-    option_and_then (λ slot. frame_of_offer params plan entries window channel slot (offered plan entries window channel)) (slot_of window channel)
+frame_offered params plan entries window channel = frame_with params plan entries window channel (offered plan entries window channel)
 
 -- these bytes, or none, are what goes to the bus for this frame, or none
 abbrev pub IsHandedOut : Channel → Option Fields → Option (ArrayVec ℕ) → Type 0

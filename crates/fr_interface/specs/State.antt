@@ -1,22 +1,25 @@
 -- What an interface is seen as, and what its calls refuse.
-use Rattle.std.specs.Prelude.{◌≡◌, ℕ, ◌+◌, ◌≤◌, ◌==◌, nat_lt, nat_le, not, Bool, false, List, [], ◌∷◌, ◌++◌, length, Option, Some, None, is_some, if◌then◌else◌, count_by, option_map}
+use Rattle.std.specs.Prelude.{◌≡◌, ℕ, ◌+◌, ◌*◌, ◌==◌, nat_lt, nat_le, not, Bool, false, List, [], ◌∷◌, ◌++◌, length, Option, Some, None, is_some, if◌then◌else◌, count_by, option_map}
 use Rattle.std.specs.Option.{option_and_then}
 use Rattle.fr_interface.specs.declared.entry.Entry.{Entry}
 use Rattle.fr_interface.specs.declared.errors.HostError.{HostError}
-use Rattle.fr_interface.specs.declared.errors.HostError.TheVariants.{UnknownTask, UnknownBuffer, HostFull, NotReceive}
+use Rattle.fr_interface.specs.declared.errors.HostError.TheVariants.{UnknownTask, UnknownBuffer, NotTransmit, WrongLength, HostFull, NotReceive}
 use Rattle.fr_interface.specs.declared.errors.SlotError.{SlotError}
 use Rattle.fr_interface.specs.declared.errors.SlotError.TheVariants.{NotObserved, WindowOrder, SlotFull, NotFetched, WrongWindow, BadWindow}
 use Rattle.fr_interface.specs.declared.entry.Arrival.{Arrival}
+use Rattle.fr_interface.specs.declared.fate.Tally.{Tally}
 use Rattle.fr_interface.specs.declared.entry.Source.{Source}
 use Rattle.fr_interface.specs.declared.entry.Source.TheVariants as source
 use Rattle.fr_interface.specs.Entries.{is_host, is_slot}
-use Rattle.fr_interface.specs.Fate.{last_commit}
+use Rattle.fr_interface.specs.Fate.{last_commit, tally_of}
 use Rattle.fr_interface.specs.Held.{held, origin_of}
-use Rattle.fr_interface.specs.Legal.{buffer_at, window_fits, IsLegalJournal, AreEntries}
+use Rattle.fr_interface.specs.Legal.{words_of, window_fits, IsLegalJournal, AreEntries}
+use Rattle.fr_interface.specs.Offers.{buffer_at}
 use Rattle.fr_interface.specs.OpenWindow.{open_window, last_number}
 use Rattle.fr_slots.specs.declared.plan.Buffer.{Buffer}
+use Rattle.fr_slots.specs.Faults.{plan_fault}
 use Rattle.fr_slots.specs.Parameters.{Parameters, IsParameters}
-use Rattle.fr_slots.specs.Plans.{Plan, IsPlan, AllFit, is_receive}
+use Rattle.fr_slots.specs.Plans.{Plan, IsPlan, is_receive}
 use Rattle.fr_slots.specs.Windows.{Opportunity}
 
 pub record State : Type 0 where
@@ -30,21 +33,11 @@ with_entry s e = record { params = s.params; plan = s.plan; entries = s.entries 
 
 -- ---- what every interface keeps
 
-abbrev pub is_receive_buffer : Buffer → Bool
-is_receive_buffer b = is_receive b.mode
-
--- The plans that interfaces are made for today: at most one buffer, a receive buffer, and nothing else.
-pub record IsReceivePlan (plan : Plan) : Type 0 where
-  pub one_buffer : length plan.buffers ≤ 1
-  pub receives : AllFit is_receive_buffer plan.buffers
-  pub nothing_owned : plan.owned ≡ []
-  pub no_queue : plan.queue ≡ None
-
--- every interface is legal: its journal is a legal journal of its parameters and its plan
+-- Every interface is legal: its plan has no fault for its parameters, and its journal is a legal journal of both.
 pub record IsLegalInterface (s : State) : Type 0 where
   pub params_are : IsParameters s.params
   pub plan_is : IsPlan s.plan
-  pub receives : IsReceivePlan s.plan
+  pub faultless : plan_fault s.params s.plan ≡ None
   pub entries_are : AreEntries s.entries
   pub legal : IsLegalJournal s.params s.plan s.entries
 
@@ -66,10 +59,31 @@ source_by s buffer b =
 abbrev pub source_of : State → ℕ → Option Source
 source_of s buffer = option_and_then (source_by s buffer) (buffer_at s.plan buffer)
 
+abbrev pub tally_in : State → ℕ → Buffer → Option Tally
+tally_in s buffer b = if is_receive b.mode then None else Some (tally_of buffer s.entries)
+
+-- what became of the commits on the transmit buffer of this number
+abbrev pub tally_by : State → ℕ → Option Tally
+tally_by s buffer = option_and_then (tally_in s buffer) (buffer_at s.plan buffer)
+
 -- ---- the refusals, in the order in which they are tested
 
 abbrev pub is_host_full : State → Bool
 is_host_full s = nat_le s.plan.host_entries (count_by is_host s.entries)
+
+abbrev pub has_words : Parameters → Option ℕ → List ℕ → Bool
+has_words params words payload = length payload == 2 * words_of params words
+
+abbrev pub unless_transmit : State → List ℕ → Option Buffer → Option HostError
+unless_transmit s payload None = Some UnknownBuffer
+unless_transmit s payload (Some b) =
+    if is_receive b.mode then Some NotTransmit
+    else if not (has_words s.params b.words payload) then Some WrongLength
+    else if is_host_full s then Some HostFull
+    else None
+
+abbrev pub commit_refusal : State → ℕ → ℕ → List ℕ → Option HostError
+commit_refusal s task buffer payload = if nat_le s.plan.tasks task then Some UnknownTask else unless_transmit s payload (buffer_at s.plan buffer)
 
 abbrev pub unless_receive : State → Option Buffer → Option HostError
 unless_receive s None = Some UnknownBuffer

@@ -3,20 +3,24 @@
 ghost use Rattle.std.specs.Prelude.{◌≡◌, option_map};
 ghost use Rattle.fr_interface.specs.Held.{frame_of, origin_of};
 ghost use Rattle.fr_interface.specs.Entries.{AreBytes, IsSeen};
-ghost use Rattle.fr_interface.specs.State.{is_not_above};
-ghost use Rattle.fr_interface.specs.Legal.{buffer_at, window_fits, static_slot_fits, dynamic_slot_fits};
+ghost use Rattle.fr_frame.specs.Payload.{IsPayload};
+ghost use Rattle.fr_interface.specs.State.{is_not_above, has_words};
+ghost use Rattle.fr_interface.specs.Legal.{window_fits, static_slot_fits, dynamic_slot_fits};
 ghost use Rattle.fr_slots.specs.Plans.{is_receive};
 ghost use Rattle.fr_slots.specs.Windows.{IsInRange, IsSlotOrNone};
 
-use crate::entry::{Arrival, Entry, Offered, Origin, Source};
+use crate::entry::{Arrival, Entry, Origin, Source};
 use crate::errors::{HostError, InterfaceError, SlotError};
+use crate::fate::{Tally, last_commit, tally_of};
 use crate::journal::Journal;
+use crate::offers::{buffer_at, handed_out, offered};
 use crate::scan::{held, opening_of};
 use fr_frame::frame::{Bytes, Frame};
+use fr_frame::payload::Payload;
 use fr_slots::channel::Channel;
 use fr_slots::numbers::{SlotId, TaskId};
 use fr_slots::params::Params;
-use fr_slots::plan::{Buffer, Mode, NodePlan};
+use fr_slots::plan::{Mode, NodePlan};
 use fr_slots::window::Window;
 use fr_status::seen::Seen;
 use std::alloc::Global;
@@ -25,8 +29,19 @@ use std::marker::Model;
 /// What a fetch hands to the bus: the bytes of a frame for each channel, or nothing.
 #[derive(Debug, Drop, PartialEq, Eq)]
 pub struct Offer {
+    /// What goes out on channel A.
     pub a: Option<Bytes>,
+    /// What goes out on channel B.
     pub b: Option<Bytes>,
+}
+
+/// Which entry of the journal a commit is, and whose (own profile).
+#[derive(Clone, Copy, Debug, PartialEq, Eq)]
+pub struct Receipt {
+    /// The task that made the commit.
+    pub task: TaskId,
+    /// The number of the entry, from 0.
+    pub entry: u32,
 }
 
 /// The interface between the tasks of a host and a controller.
@@ -50,18 +65,19 @@ impl Model for Interface {
 }
 
 impl Interface {
-    ghost use Rattle.std.specs.Prelude.{◌≡◌, [], IfOk, OnOk, OnErr, option_map};
+    ghost use Rattle.std.specs.Prelude.{◌≡◌, [], None, length, IfOk, OnOk, OnErr, option_map};
     ghost use Rattle.std.specs.Result.{result_err};
     ghost use Rattle.fr_interface.specs.declared.entry.Entry.TheVariants as entries;
     ghost use Rattle.fr_interface.specs.Held.{frame_of, origin_of};
     ghost use Rattle.fr_interface.specs.Offers.{frame_offered, offered, IsHandedOut};
-    ghost use Rattle.fr_interface.specs.State.{with_entry, received_by, source_of, read_refusal, fetch_refusal, observe_refusal, IsReceivePlan, IsLegalInterface};
+    ghost use Rattle.fr_interface.specs.State.{with_entry, received_by, source_of, tally_by, commit_refusal, read_refusal, fetch_refusal, observe_refusal, IsLegalInterface};
+    ghost use Rattle.fr_slots.specs.Faults.{plan_fault};
 
     /// An interface with an empty journal, for which it reserves all the room that the plan asks for.
     ///
-    /// Today it is made for plans with at most one buffer, a receive buffer, and nothing else.
+    /// The plan must have no fault for the parameters, as `NodePlan::fault` tells. Refused with `Memory` alone.
     pub fn new(alloc: Global, params: &Params, plan: &NodePlan) -> Result<Interface, InterfaceError>
-        requires { IsReceivePlan plan.now }
+        requires { plan_fault params.now plan.now ≡ None }
         ensures { IfOk result (λ i. i ≡ record { params = params.now; plan = plan.now; entries = [] }) }
     {
         let host = u32::from(plan.host_entries());
@@ -73,7 +89,49 @@ impl Interface {
         })
     }
 
-    /// Reads a receive buffer for a task: the last valid data frame that the buffer admitted, if any.
+    /// Gives a transmit buffer a payload for a task (chapter 9). The buffer then holds this commit, in place of the one
+    /// before, and sends it as its mode says.
+    ///
+    /// Refused, in this order, with `UnknownTask`, `UnknownBuffer`, `NotTransmit` for a receive buffer,
+    /// `WrongLength` where the payload hasn't the words of the cluster's static frames in a static slot, or
+    /// those of the buffer in a dynamic one, and `HostFull` where the journal has no room for the commit.
+    pub fn commit(
+        &mut self,
+        task: TaskId,
+        buffer: u8,
+        payload: &Payload,
+    ) -> Result<Receipt, HostError>
+        ensures refusal { result_err result ≡ commit_refusal self.old task buffer payload.now }
+        ensures receipt { IfOk result (λ r. r ≡ record { task = task; entry = length self.old.entries }) }
+        ensures accepted { OnOk result (self.new ≡ with_entry self.old (entries.Commit task buffer payload.now)) }
+        ensures refused { OnErr result (self.new ≡ self.old) }
+    {
+        if task.number() >= self.plan.tasks() {
+            return Err(HostError::UnknownTask);
+        }
+        let Some(line) = buffer_at(&self.plan, buffer) else {
+            return Err(HostError::UnknownBuffer);
+        };
+        if is_receive(line.mode) {
+            return Err(HostError::NotTransmit);
+        }
+        if !has_words(&self.params, line.words, payload) {
+            return Err(HostError::WrongLength);
+        }
+        if self.journal.host_room() == 0 {
+            return Err(HostError::HostFull);
+        }
+        let entry = self.journal.len();
+        let payload = kept_payload(payload);
+        self.journal.push_host(Entry::Commit {
+            task,
+            buffer,
+            payload,
+        });
+        Ok(Receipt { task, entry })
+    }
+
+    /// Reads a receive buffer for a task (chapter 9): the last valid data frame that the buffer admitted, if any.
     ///
     /// Refused, in this order, with `UnknownTask`, `UnknownBuffer`, `NotReceive` for a transmit buffer,
     /// and `HostFull` where the journal has no room for the read.
@@ -101,7 +159,9 @@ impl Interface {
         Ok(frame_in(held))
     }
 
-    /// Opens a window, and hands out what the node sends in it.
+    /// Opens a window, and hands out what the node sends in it (chapters 5 and 9): on each channel the data frame
+    /// of the transmit buffer that admits the slot, if it offers a commit, else a null frame in a static slot
+    /// that the node owns, and else nothing.
     ///
     /// Refused, in this order, with `NotObserved` where a fetched window is open, `BadWindow` for a window
     /// that the parameters don't have, `WindowOrder` for a number that isn't above that of the window
@@ -126,15 +186,19 @@ impl Interface {
         if self.journal.slot_room() < 2 {
             return Err(SlotError::SlotFull);
         }
-        self.journal.push_slot(Entry::Fetch {
-            window: kept_window(window),
-            a: Offered::Nothing,
-            b: Offered::Nothing,
-        });
-        Ok(Offer { a: None, b: None })
+        let (params, plan, entries) = (&self.params, &self.plan, self.journal.entries());
+        let a = offered(plan, entries, window, Channel::A);
+        let b = offered(plan, entries, window, Channel::B);
+        let offer = Offer {
+            a: handed_out(params, plan, entries, window, Channel::A, a),
+            b: handed_out(params, plan, entries, window, Channel::B, b),
+        };
+        let window = kept_window(window);
+        self.journal.push_slot(Entry::Fetch { window, a, b });
+        Ok(offer)
     }
 
-    /// Closes the window of this number, in which this was seen on channels A and B. It always finds room.
+    /// Closes the window of this number, in which this was seen on channels A and B (chapter 9). It always finds room.
     ///
     /// Refused with `NotFetched` where no window is open, and then with `WrongWindow` where another is.
     pub fn observe(&mut self, number: u32, a: &Seen, b: &Seen) -> Result<(), SlotError>
@@ -157,20 +221,32 @@ impl Interface {
         Ok(())
     }
 
-    /// Where what the buffer holds comes from. None for an empty buffer, and for one that the plan
+    /// Where what the buffer holds comes from (chapter 9). None for an empty buffer, and for one that the plan
     /// doesn't have.
     pub fn held(&self, buffer: u8) -> Option<Source>
         ensures { result ≡ source_of self.now buffer }
     {
         let line = buffer_at(&self.plan, buffer)?;
         if !is_receive(line.mode) {
-            return None;
+            return last_commit(buffer, self.journal.entries()).map(Source::Commit);
         }
         let arrival = held(&self.params, &line.filter, self.journal.entries())?;
         Some(Source::Observed(arrival.origin))
     }
 
-    /// The frame that a receive buffer holds, and where it comes from. None for an empty buffer, for a
+    /// What became of the commits on a transmit buffer (own profile). None for a receive buffer, and for one that the plan
+    /// doesn't have.
+    pub fn tally(&self, buffer: u8) -> Option<Tally>
+        ensures { result ≡ tally_by self.now buffer }
+    {
+        let line = buffer_at(&self.plan, buffer)?;
+        if is_receive(line.mode) {
+            return None;
+        }
+        Some(tally_of(buffer, self.journal.entries()))
+    }
+
+    /// The frame that a receive buffer holds, and where it comes from (chapter 9). None for an empty buffer, for a
     /// transmit buffer, and for one that the plan doesn't have.
     pub fn received(&self, buffer: u8) -> Option<Arrival>
         ensures { result ≡ received_by self.now buffer }
@@ -230,6 +306,27 @@ fn kept_window(window: &Window) -> Window
     *window
 }
 
+/// Whether the payload has so many words, or where none is stated those of a static frame.
+fn has_words(params: &Params, words: Option<u8>, payload: &Payload) -> bool
+    ensures { result ≡ has_words params.now words payload.now }
+{
+    let words = match words {
+        Some(words) => u16::from(words),
+        None => params.static_words,
+    };
+    payload.as_slice().len() == 2 * usize::from(words)
+}
+
+/// The payload once more, in the ranges of its type.
+fn kept_payload(payload: &Payload) -> Payload
+    ensures value { result ≡ payload.now }
+    ensures is_payload { IsPayload payload.now }
+    ensures bytes { AreBytes payload.now }
+{
+    let _count = count_of(payload.as_slice());
+    payload.duplicate()
+}
+
 /// The number of bytes, each of which is a byte.
 fn count_of(bytes: &[u8]) -> usize
     ensures { AreBytes bytes.now }
@@ -249,13 +346,6 @@ fn kept(seen: &Seen) -> Seen
         }
         _ => seen.duplicate(),
     }
-}
-
-/// The buffer of this number.
-fn buffer_at(plan: &NodePlan, buffer: u8) -> Option<Buffer>
-    ensures { result ≡ buffer_at plan.now buffer }
-{
-    plan.buffers().get(buffer as usize).copied()
 }
 
 /// Where a frame that arrived comes from.

@@ -6,8 +6,12 @@
 
 pub mod entry;
 pub mod errors;
+pub mod fate;
 pub mod interface;
 pub mod journal;
+mod offers;
 mod scan;
 #[cfg(test)]
 mod tests;
+#[cfg(test)]
+mod transmit_tests;

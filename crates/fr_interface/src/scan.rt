@@ -2,10 +2,10 @@
 
 ghost use Rattle.std.specs.Prelude.{◌≡◌, ◌<◌, ◌^◌, [], length};
 ghost use Rattle.fr_interface.specs.Held.{arrival_by, arrival_in, arrival_on, data_frame_seen, held};
-ghost use Rattle.fr_interface.specs.Offers.{admits_window};
 ghost use Rattle.fr_interface.specs.Opening.{IsOpening, next_opening};
 
 use crate::entry::{Arrival, Entry, Origin};
+use crate::offers::admits;
 use fr_frame::frame::Frame;
 use fr_slots::channel::Channel;
 use fr_slots::filter::Filter;
@@ -57,16 +57,6 @@ pub(crate) fn opening_of(entries: &[Entry]) -> Opening
         opening = opening.after(entry);
     }
     opening
-}
-
-/// Whether the filter admits the slot that the window has on the channel.
-fn admits(filter: &Filter, window: &Window, channel: Channel) -> bool
-    ensures { result ≡ admits_window filter.now window.now channel }
-{
-    match window.slot(channel) {
-        Some(slot) => filter.admits(window.cycle, slot, channel),
-        None => false,
-    }
 }
 
 /// The valid data frame that was seen on the channel.

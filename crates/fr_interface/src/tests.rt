@@ -1,8 +1,5 @@
 //! A receive buffer on both channels, in a cluster of three static slots of one word.
 
-ghost use Rattle.std.specs.Prelude.{IfOk};
-ghost use Rattle.fr_interface.specs.State.{IsReceivePlan};
-
 use super::entry::{Entry, Offered, Origin, Source};
 use super::errors::{HostError, SlotError};
 use super::interface::{Interface, Offer};
@@ -24,9 +21,7 @@ const DATA_ON_A: [u8; 10] = [0x20, 0x02, 0x03, 0xc1, 0x40, 0x0a, 0x0b, 0xa3, 0x2
 const DATA_ON_B: [u8; 10] = [0x20, 0x02, 0x03, 0xc1, 0x40, 0x0a, 0x0b, 0x85, 0xa2, 0xc6];
 
 /// A plan of one task and of one buffer, which receives slot 2 on both channels in every cycle.
-fn receive_plan(host_entries: u16, slot_entries: u32) -> Result<NodePlan, Fail>
-    ensures { IfOk result (λ plan. IsReceivePlan plan) }
-{
+fn receive_plan(host_entries: u16, slot_entries: u32) -> Result<NodePlan, Fail> {
     let mut plan = NodePlan::new(1, [0, 0], host_entries, slot_entries)?;
     plan.add_buffer(Buffer {
         mode: Mode::Receive,
@@ -44,6 +39,9 @@ fn receive_plan(host_entries: u16, slot_entries: u32) -> Result<NodePlan, Fail>
 fn interface(alloc: Global, host_entries: u16, slot_entries: u32) -> Result<Interface, Fail> {
     let params = Params::new([3, 4, 1, 20, 5, 0, 10, 90, 0, 5])?;
     let plan = receive_plan(host_entries, slot_entries)?;
+    if plan.fault(&params).is_some() {
+        return Err(Fail::from("the plan has a fault"));
+    }
     Ok(Interface::new(alloc, &params, &plan)?)
 }
 

@@ -5,11 +5,12 @@ use Rattle.std.specs.Str.{bytes_eq}
 use Rattle.fr_interface.specs.declared.entry.Entry.{Entry}
 use Rattle.fr_interface.specs.declared.entry.Entry.TheVariants.{Commit, Read, Pop, Fetch, Observe}
 use Rattle.fr_lines.proofs.PartLemmas.{word_or, from_takes, from_again, offered_takes, offered_again, seen_takes, seen_again}
+use Rattle.fr_lines.proofs.PlanPartLemmas.{payload_takes, payload_again}
 use Rattle.fr_lines.proofs.WindowLemmas.{window_takes, window_again}
-use Rattle.fr_lines.proofs.WordLemmas.{number_word, long_word, slot_word, from_plain, offered_plain, seen_plain}
-use Rattle.fr_lines.specs.PartReading.{from_in, offered_in, seen_in, window_in}
+use Rattle.fr_lines.proofs.WordLemmas.{number_word, long_word, payload_word, slot_word, from_plain, offered_plain, seen_plain}
+use Rattle.fr_lines.specs.PartReading.{payload_in, from_in, offered_in, seen_in, window_in}
 use Rattle.fr_lines.specs.Parts.{optional_number, from_word, offered_word, seen_word}
-use Rattle.fr_lines.specs.Reading.{read_in, fetch_in, observe_in, entry_in}
+use Rattle.fr_lines.specs.Reading.{commit_in, read_in, fetch_in, observe_in, entry_in}
 use Rattle.fr_lines.specs.Spelled.{IsSpelledEntry}
 use Rattle.fr_lines.specs.Spelling.{entry_words, begin_line, end_line}
 use Rattle.fr_slots.specs.Windows.{IsInRange}
@@ -19,8 +20,27 @@ use Rattle.fr_text.proofs.NumberLemmas.{number_takes, number_again}
 use Rattle.fr_text.specs.Plain.{ArePlain, has_no_feed}
 use Rattle.fr_text.specs.Reading.{number_in}
 use Rattle.fr_text.specs.Spaces.{words_of, line_of}
+use Rattle.fr_text.specs.Spelling.{hex_text}
 
 -- ---- what is read is spelled so
+
+commit_takes : (words : List (List ℕ)) (e : Entry) → commit_in words ≡ Some e → (codes "commit" ∷ words ≡ entry_words e) × IsSpelledEntry e
+unfolding commit_in
+commit_takes [] e h = cc h
+commit_takes (a ∷ []) e h = cc h
+commit_takes (a ∷ b ∷ []) e h = cc h
+commit_takes (a ∷ b ∷ c ∷ []) e h =
+    let (t, ht, h1) = bind_some (number_in 8 a) _ e h in
+    let (n, hn, h2) = bind_some (number_in 64 b) _ e h1 in
+    let (p, hp, h3) = bind_some (payload_in c) _ e h2 in
+    let is : Commit t n p ≡ e = cc h3 in
+    let task = number_takes 8 a t ht in
+    let buffer = number_takes 64 b n hn in
+    let payload = payload_takes c p hp in
+    let low = task.1 in
+    let few = buffer.1 in
+    rw (← is) (cons_same refl (cons_same (sym task.0) (cons_same (sym buffer.0) (cons_same payload.0 refl))), ((low, omega arith, payload.1, payload.2), few))
+commit_takes (a ∷ b ∷ c ∷ d ∷ words) e h = cc h
 
 read_takes : (words : List (List ℕ)) (e : Entry) → read_in words ≡ Some e → (codes "read" ∷ words ≡ entry_words e) × IsSpelledEntry e
 unfolding read_in
@@ -85,15 +105,19 @@ taken : (words : List (List ℕ)) (e : Entry) → entry_in words ≡ Some e → 
 unfolding entry_in
 taken [] e h = cc h
 taken (kind ∷ words) e h =
-    elim (word_or kind (codes "read") (read_in words) _ e h) [
-      | inl read ↦ let t = read_takes words e read.1 in (cons_same read.0 refl ∙ t.0, t.1)
+    elim (word_or kind (codes "commit") (commit_in words) _ e h) [
+      | inl commit ↦ let t = commit_takes words e commit.1 in (cons_same commit.0 refl ∙ t.0, t.1)
       | inr h1 ↦
-          elim (word_or kind (codes "fetch") (fetch_in words) _ e h1) [
-            | inl fetch ↦ let t = fetch_takes words e fetch.1 in (cons_same fetch.0 refl ∙ t.0, t.1)
+          elim (word_or kind (codes "read") (read_in words) _ e h1) [
+            | inl read ↦ let t = read_takes words e read.1 in (cons_same read.0 refl ∙ t.0, t.1)
             | inr h2 ↦
-                elim (word_or kind (codes "see") (observe_in words) _ e h2) [
-                  | inl see ↦ let t = observe_takes words e see.1 in (cons_same see.0 refl ∙ t.0, t.1)
-                  | inr h3 ↦ cc h3
+                elim (word_or kind (codes "fetch") (fetch_in words) _ e h2) [
+                  | inl fetch ↦ let t = fetch_takes words e fetch.1 in (cons_same fetch.0 refl ∙ t.0, t.1)
+                  | inr h3 ↦
+                      elim (word_or kind (codes "see") (observe_in words) _ e h3) [
+                        | inl see ↦ let t = observe_takes words e see.1 in (cons_same see.0 refl ∙ t.0, t.1)
+                        | inr h4 ↦ cc h4
+                      ]
                 ]
           ]
     ]
@@ -111,8 +135,9 @@ entry_line_takes line e h = sym (line_of-words_of line) ∙ ap line_of (entry_ta
 -- ---- what is spelled so is read
 
 pub entry_again : (e : Entry) → IsSpelledEntry e → entry_in (entry_words e) ≡ Some e
-unfolding entry_in read_in fetch_in observe_in
-entry_again (Commit task buffer payload) fits = absurd fits
+unfolding entry_in commit_in read_in fetch_in observe_in
+entry_again (Commit task buffer payload) fits =
+    rw (number_again 8 task fits.0.0 (omega arith), number_again 64 buffer fits.1 (omega arith), payload_again payload fits.0.2 fits.0.3) refl
 entry_again (Read task buffer from) fits =
     rw (number_again 8 task fits.0.0 (omega arith), number_again 64 buffer fits.1 (omega arith), from_again from fits.0.2) refl
 entry_again (Pop task from) fits = absurd fits
@@ -125,7 +150,18 @@ entry_again (Observe window a b) fits =
 -- ---- the words are plain
 
 pub entry_plain : (e : Entry) → IsSpelledEntry e → ArePlain (entry_words e)
-entry_plain (Commit task buffer payload) fits = absurd fits
+entry_plain (Commit task buffer payload) fits =
+    let t = fits.0.0 in
+    let n = fits.1 in (
+      refl,
+      (
+        (number_word 1 task (omega arith) (omega arith) (omega arith)).plain,
+        (
+          (number_word 2 buffer (omega arith) (omega arith) (omega arith)).plain,
+          ((payload_word payload fits.0.2.short).plain, tt),
+        ),
+      ),
+    )
 entry_plain (Read task buffer from) fits =
     let t = fits.0.0 in
     let n = fits.1 in (
@@ -168,7 +204,8 @@ entry_no_feed e fits = has_no_feed-line_of (entry_words e) (entry_plain e fits)
 
 -- so the line is cut into them
 pub entry_cut : (e : Entry) → IsSpelledEntry e → words_of (line_of (entry_words e)) ≡ entry_words e
-entry_cut (Commit task buffer payload) fits = absurd fits
+entry_cut (Commit task buffer payload) fits =
+    words_of-line_of (codes "commit") (decimal task ∷ decimal buffer ∷ hex_text payload ∷ []) (entry_plain (Commit task buffer payload) fits)
 entry_cut (Read task buffer from) fits =
     words_of-line_of (codes "read") (decimal task ∷ decimal buffer ∷ from_word from ∷ []) (entry_plain (Read task buffer from) fits)
 entry_cut (Pop task from) fits = absurd fits
@@ -184,7 +221,14 @@ entry_line_again e fits = ap entry_in (entry_cut e fits) ∙ entry_again e fits
 -- ---- the line is short
 
 pub entry_short : (e : Entry) → IsSpelledEntry e → length (line_of (entry_words e)) ≤ 1200
-entry_short (Commit task buffer payload) fits = absurd fits
+entry_short (Commit task buffer payload) fits =
+    let t = fits.0.0 in
+    let n = fits.1 in
+    let task_short = (number_word 1 task (omega arith) (omega arith) (omega arith)).short in
+    let buffer_short = (number_word 2 buffer (omega arith) (omega arith) (omega arith)).short in
+    let payload_short = (payload_word payload fits.0.2.short).short in
+    let all = length-line_of-le (entry_words (Commit task buffer payload)) in
+    omega arith
 entry_short (Read task buffer from) fits =
     let t = fits.0.0 in
     let n = fits.1 in

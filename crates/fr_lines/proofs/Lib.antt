@@ -1,7 +1,9 @@
 pub mod PartLemmas
+pub mod PlanPartLemmas
 pub mod WindowLemmas
 pub mod WordLemmas
 pub mod EntryLemmas
 pub mod BufferLemmas
 pub mod NodeLemmas
+pub mod OwnLemmas
 pub mod ParameterLemmas

@@ -42,7 +42,7 @@ word_or word this o other y h =
 
 -- ---- slots
 
-within_takes : (least greatest n m : ℕ) → number_within least greatest n ≡ Some m → (n ≡ m) × (least ≤ n) × (n ≤ greatest)
+pub within_takes : (least greatest n m : ℕ) → number_within least greatest n ≡ Some m → (n ≡ m) × (least ≤ n) × (n ≤ greatest)
 within_takes least greatest n m h =
     elim (cases_Bool (leb least n && leb n greatest)) [
       | inl pass ↦

@@ -1,22 +1,25 @@
 -- The words of a line are plain, and few bytes long.
-use Rattle.std.proofs.Common.{ℕ, ◌<◌, ◌≤◌, ◌^◌, List, length, Option, Some, None, refl, arith, length-append}
+use Rattle.std.proofs.Common.{◌≡◌, ℕ, ◌<◌, ◌≤◌, ◌^◌, Bool, true, false, List, length, Option, Some, None, refl, arith, length-append}
+use Rattle.std.proofs.lemmas.Bool.{leb-true}
 use Rattle.std.proofs.lemmas.Fmt.{length-decimal-le}
 use Rattle.std.specs.Fmt.{decimal}
 use Rattle.fr_interface.specs.declared.entry.Offered.{Offered}
 use Rattle.fr_interface.specs.declared.entry.Offered.TheVariants as offered
 use Rattle.fr_interface.specs.declared.entry.Origin.{Origin}
 use Rattle.fr_interface.specs.Entries.{IsOrigin, IsOffered, IsSeen}
-use Rattle.fr_lines.specs.Parts.{optional_number, channels_word, channel_mark, from_word, offered_word, seen_word}
+use Rattle.fr_lines.specs.Parts.{flag_word, optional_number, channels_word, channel_mark, from_word, offered_word, seen_word}
 use Rattle.fr_slots.specs.declared.channel.Channel.{Channel}
 use Rattle.fr_slots.specs.declared.channel.Channel.TheVariants as channel
 use Rattle.fr_slots.specs.declared.channel.Channels.{Channels}
 use Rattle.fr_slots.specs.declared.channel.Channels.TheVariants as channels
+use Rattle.fr_slots.specs.Plans.{words_fit}
 use Rattle.fr_slots.specs.Windows.{IsSlotOrNone}
 use Rattle.fr_status.specs.declared.seen.Seen.{Seen}
 use Rattle.fr_status.specs.declared.seen.Seen.TheVariants as seen
 use Rattle.fr_text.proofs.HexTextLemmas.{length-hex_text}
 use Rattle.fr_text.proofs.PlainLemmas.{IsPlain-decimal, IsPlain-hex_text, IsPlain-append}
 use Rattle.fr_text.specs.Plain.{IsPlain}
+use Rattle.fr_text.specs.Spelling.{hex_text}
 
 -- a word that stands in a line as it is, of so many bytes at most
 pub record IsWord (most : ℕ) (word : List ℕ) : Type 0 where
@@ -38,6 +41,22 @@ pub channels_plain : (c : Channels) → IsWord 2 (channels_word c)
 channels_plain channels.A = record { plain = refl; short = omega arith }
 channels_plain channels.B = record { plain = refl; short = omega arith }
 channels_plain channels.Both = record { plain = refl; short = omega arith }
+
+pub flag_plain : (b : Bool) → IsWord 1 (flag_word b)
+flag_plain true = record { plain = refl; short = omega arith }
+flag_plain false = record { plain = refl; short = omega arith }
+
+-- at most 127 words of two bytes, or none stated
+pub size_word : (o : Option ℕ) → words_fit o ≡ true → IsWord 3 (optional_number o)
+size_word None fits = record { plain = refl; short = omega arith }
+size_word (Some n) fits =
+    let few = leb-true n 127 fits in
+    number_word 3 n (omega arith) (omega arith) (omega arith)
+
+pub payload_word : (p : List ℕ) → length p ≤ 254 → IsWord 509 (hex_text p)
+payload_word p few =
+    let digits = length-hex_text p in
+    record { plain = IsPlain-hex_text p; short = omega arith }
 
 mark_word : (c : Channel) → IsWord 2 (channel_mark c)
 mark_word channel.A = record { plain = refl; short = omega arith }

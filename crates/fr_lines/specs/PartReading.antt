@@ -1,5 +1,6 @@
 -- The parts of a line that words spell. Each has one spelling.
-use Rattle.std.specs.Prelude.{ℕ, ◌-◌, ◌^◌, ◌==◌, List, codes, length, take, drop, Option, Some, None, if◌then◌else◌}
+use Rattle.std.specs.Prelude.{ℕ, ◌-◌, ◌^◌, ◌==◌, Bool, true, false, List, codes, length, take, drop, Option, Some, None, is_none, if◌then◌else◌}
+use Rattle.fr_frame.specs.Payload.{payload_refusal}
 use Rattle.std.specs.Result.{result_ok}
 use Rattle.std.specs.Str.{bytes_eq}
 use Rattle.fr_interface.specs.declared.entry.Offered.{Offered}
@@ -11,6 +12,9 @@ use Rattle.fr_slots.specs.declared.channel.Channel.{Channel}
 use Rattle.fr_slots.specs.declared.channel.Channel.TheVariants as channel
 use Rattle.fr_slots.specs.declared.channel.Channels.{Channels}
 use Rattle.fr_slots.specs.declared.channel.Channels.TheVariants as channels
+use Rattle.fr_slots.specs.declared.filter.Filter.{Filter}
+use Rattle.fr_slots.specs.declared.plan.Mode.{Mode}
+use Rattle.fr_slots.specs.declared.plan.Mode.TheVariants as mode
 use Rattle.fr_slots.specs.Numbers.{number_within}
 use Rattle.fr_slots.specs.Windows.{Opportunity, static_window, dynamic_window}
 use Rattle.fr_status.specs.declared.seen.Seen.{Seen}
@@ -45,6 +49,46 @@ cycles_in base repetition = do
   b ← number_in 64 base
   r ← number_in 65 repetition
   result_ok (cycle_class b r)
+
+-- slot, channels and cycles
+unfoldable pub filter_in : List ℕ → List ℕ → List ℕ → List ℕ → Option Filter
+filter_in slot channels base repetition = do
+  s ← slot_in slot
+  c ← channels_in channels
+  cycles ← cycles_in base repetition
+  Some (record { slot = s; channels = c; cycles = cycles })
+
+-- ---- what a plan's lines say beside
+
+unfoldable pub flag_in : List ℕ → Option Bool
+flag_in word = if bytes_eq word (codes "1") then Some true else if bytes_eq word (codes "0") then Some false else None
+
+-- a transmit buffer's mode
+unfoldable pub mode_in : List ℕ → Option Mode
+mode_in word = if bytes_eq word (codes "event") then Some mode.Event else if bytes_eq word (codes "state") then Some mode.State else None
+
+-- at most 127 words of two bytes, or none stated
+unfoldable pub size_in : List ℕ → Option (Option ℕ)
+size_in word = if bytes_eq word absent then Some None else do
+  n ← number_in 128 word
+  Some (Some n)
+
+-- a static slot of some cluster
+unfoldable pub owned_slot_in : List ℕ → Option ℕ
+owned_slot_in word = do
+  n ← number_in 1024 word
+  number_within 1 2047 n
+
+-- ---- what is committed
+
+-- the bytes, where they are a payload
+abbrev pub payload_from : List ℕ → Option (List ℕ)
+payload_from bytes = if is_none (payload_refusal bytes) then Some bytes else None
+
+unfoldable pub payload_in : List ℕ → Option (List ℕ)
+payload_in word = do
+  bytes ← bytes_in 254 word
+  payload_from bytes
 
 -- ---- where a frame comes from
 

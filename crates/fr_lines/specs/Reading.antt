@@ -1,12 +1,13 @@
 -- What the words of a line spell, for the lines that are read.
-use Rattle.std.specs.Prelude.{ℕ, ◌^◌, ℤ, pos, false, List, [], ◌∷◌, codes, Option, Some, None, if◌then◌else◌}
+use Rattle.std.specs.Prelude.{ℕ, ◌^◌, ℤ, pos, not, false, ◌||◌, List, [], ◌∷◌, codes, Option, Some, None, if◌then◌else◌}
 use Rattle.std.specs.Result.{result_ok}
 use Rattle.std.specs.Str.{bytes_eq}
 use Rattle.fr_interface.specs.declared.entry.Entry.{Entry}
-use Rattle.fr_interface.specs.declared.entry.Entry.TheVariants.{Read, Fetch, Observe}
-use Rattle.fr_lines.specs.PartReading.{slot_in, channels_in, cycles_in, from_in, offered_in, seen_in, window_in}
+use Rattle.fr_interface.specs.declared.entry.Entry.TheVariants.{Commit, Read, Fetch, Observe}
+use Rattle.fr_lines.specs.PartReading.{owned_slot_in, channels_in, filter_in, flag_in, mode_in, size_in, payload_in, from_in, offered_in, seen_in, window_in}
 use Rattle.fr_slots.specs.declared.plan.Buffer.{Buffer}
 use Rattle.fr_slots.specs.declared.plan.Mode.TheVariants.{Receive}
+use Rattle.fr_slots.specs.declared.plan.Own.{Own}
 use Rattle.fr_slots.specs.Plans.{Plan, plan_of}
 use Rattle.fr_text.specs.Reading.{◌>>=◌, number_in}
 
@@ -65,21 +66,59 @@ unfoldable pub node_in : List (List ℕ) → Option Plan
 node_in [] = None
 node_in (kind ∷ words) = if bytes_eq kind (codes "node") then limits_in words else None
 
--- ---- receive buffers
+-- ---- ownership lines
 
-unfoldable pub filter_in : List (List ℕ) → Option Buffer
-filter_in (slot ∷ channels ∷ base ∷ repetition ∷ []) = do
-  s ← slot_in slot
+-- a startup frame is a sync frame
+abbrev pub lawful_own : Own → Option Own
+lawful_own o = if not o.startup || o.sync then Some o else None
+
+unfoldable pub ownership_in : List (List ℕ) → Option Own
+ownership_in (slot ∷ channels ∷ sync ∷ startup ∷ []) = do
+  s ← owned_slot_in slot
   c ← channels_in channels
-  cycles ← cycles_in base repetition
-  Some (record { mode = Receive; filter = record { slot = s; channels = c; cycles = cycles }; words = None; preamble = false })
-filter_in words = None
+  y ← flag_in sync
+  t ← flag_in startup
+  lawful_own (record { slot = s; channels = c; sync = y; startup = t })
+ownership_in words = None
+
+unfoldable pub own_in : List (List ℕ) → Option Own
+own_in [] = None
+own_in (kind ∷ words) = if bytes_eq kind (codes "own") then ownership_in words else None
+
+-- ---- buffers
+
+unfoldable pub transmit_in : List (List ℕ) → Option Buffer
+transmit_in (mode ∷ slot ∷ channels ∷ base ∷ repetition ∷ size ∷ preamble ∷ []) = do
+  m ← mode_in mode
+  f ← filter_in slot channels base repetition
+  w ← size_in size
+  p ← flag_in preamble
+  Some (record { mode = m; filter = f; words = w; preamble = p })
+transmit_in words = None
 
 unfoldable pub receive_in : List (List ℕ) → Option Buffer
-receive_in [] = None
-receive_in (kind ∷ words) = if bytes_eq kind (codes "rx") then filter_in words else None
+receive_in (slot ∷ channels ∷ base ∷ repetition ∷ []) = do
+  f ← filter_in slot channels base repetition
+  Some (record { mode = Receive; filter = f; words = None; preamble = false })
+receive_in words = None
+
+-- a transmit buffer or a receive buffer
+unfoldable pub buffer_in : List (List ℕ) → Option Buffer
+buffer_in [] = None
+buffer_in (kind ∷ words) =
+    if bytes_eq kind (codes "tx") then transmit_in words
+    else if bytes_eq kind (codes "rx") then receive_in words
+    else None
 
 -- ---- entries
+
+unfoldable pub commit_in : List (List ℕ) → Option Entry
+commit_in (task ∷ buffer ∷ payload ∷ []) = do
+  t ← number_in 8 task
+  b ← number_in 64 buffer
+  p ← payload_in payload
+  Some (Commit t b p)
+commit_in words = None
 
 unfoldable pub read_in : List (List ℕ) → Option Entry
 read_in (task ∷ buffer ∷ from ∷ []) = do
@@ -105,11 +144,12 @@ observe_in (window ∷ seen_a ∷ seen_b ∷ []) = do
   Some (Observe w a b)
 observe_in words = None
 
--- a read, a fetch or an observe
+-- a commit, a read, a fetch or an observe
 unfoldable pub entry_in : List (List ℕ) → Option Entry
 entry_in [] = None
 entry_in (kind ∷ words) =
-    if bytes_eq kind (codes "read") then read_in words
+    if bytes_eq kind (codes "commit") then commit_in words
+    else if bytes_eq kind (codes "read") then read_in words
     else if bytes_eq kind (codes "fetch") then fetch_in words
     else if bytes_eq kind (codes "see") then observe_in words
     else None

@@ -1,30 +1,30 @@
 -- What the lines that are read can spell.
-use Rattle.std.specs.Prelude.{◌≡◌, ◌<◌, ℤ, pos, false, List, [], ◌∷◌, None}
+use Rattle.std.specs.Prelude.{◌≡◌, ◌<◌, ℤ, pos, true, List, [], ◌∷◌}
 use Rattle.fr_interface.specs.declared.entry.Entry.{Entry}
 use Rattle.fr_interface.specs.declared.entry.Entry.TheVariants.{Commit, Read, Pop, Fetch, Observe}
 use Rattle.fr_interface.specs.Entries.{IsEntry}
-use Rattle.fr_slots.specs.Admission.{IsCycleClass}
 use Rattle.fr_slots.specs.declared.plan.Buffer.{Buffer}
-use Rattle.fr_slots.specs.declared.plan.Mode.TheVariants.{Receive}
-use Rattle.fr_slots.specs.Numbers.{IsSlot}
+use Rattle.fr_slots.specs.declared.plan.Own.{Own}
 use Rattle.fr_slots.specs.Parameters.{Parameters}
-use Rattle.fr_slots.specs.Plans.{Plan, empty_plan}
+use Rattle.fr_slots.specs.Plans.{Plan, IsBuffer, IsOwn, buffer_fits, empty_plan, own_fits}
 
--- a read of a buffer that a plan can have, a fetch or an observe
+-- a commit to or a read of a buffer that a plan can have, a fetch or an observe
 abbrev pub IsSpelledEntry : Entry → Type 0
-IsSpelledEntry (Commit task buffer payload) = ⊥
+IsSpelledEntry (Commit task buffer payload) = IsEntry (Commit task buffer payload) × (buffer < 64)
 IsSpelledEntry (Read task buffer from) = IsEntry (Read task buffer from) × (buffer < 64)
 IsSpelledEntry (Pop task from) = ⊥
 IsSpelledEntry (Fetch window a b) = IsEntry (Fetch window a b)
 IsSpelledEntry (Observe window a b) = IsEntry (Observe window a b)
 
--- a receive buffer
+-- an ownership line that a plan can have
+pub record IsSpelledOwn (o : Own) : Type 0 where
+  pub is : IsOwn o
+  pub fits : own_fits o ≡ true
+
+-- a buffer that a plan can have
 pub record IsSpelledBuffer (b : Buffer) : Type 0 where
-  pub slot_fits : IsSlot b.filter.slot
-  pub cycles_fit : IsCycleClass b.filter.cycles
-  pub receives : b.mode ≡ Receive
-  pub no_words : b.words ≡ None
-  pub no_preamble : b.preamble ≡ false
+  pub is : IsBuffer b
+  pub fits : buffer_fits b ≡ true
 
 -- the ten numbers, in the order of the keys
 abbrev pub parameter_numbers : Parameters → List ℤ

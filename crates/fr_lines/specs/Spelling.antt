@@ -1,5 +1,5 @@
 -- The lines of a trace, version 1, each as its words.
-use Rattle.std.specs.Prelude.{ℕ, List, [], ◌∷◌, codes}
+use Rattle.std.specs.Prelude.{ℕ, List, [], ◌∷◌, ◌++◌, codes}
 use Rattle.std.specs.Fmt.{decimal}
 use Rattle.fr_interface.specs.declared.entry.Entry.{Entry}
 use Rattle.fr_interface.specs.declared.entry.Entry.TheVariants.{Commit, Read, Pop, Fetch, Observe}
@@ -12,7 +12,16 @@ use Rattle.fr_slots.specs.declared.plan.Own.{Own}
 use Rattle.fr_slots.specs.declared.plan.Queue.{Queue}
 use Rattle.fr_slots.specs.Parameters.{Parameters}
 use Rattle.fr_slots.specs.Plans.{Plan}
+use Rattle.fr_text.specs.Spaces.{line_of}
 use Rattle.fr_text.specs.Spelling.{hex_text}
+
+-- ---- a line of words, with its line feed
+
+abbrev pub line_feed : List ℕ
+line_feed = 10 ∷ []
+
+abbrev pub line_text : List (List ℕ) → List ℕ
+line_text words = line_of words ++ line_feed
 
 -- ---- the lines without numbers
 

@@ -2,14 +2,35 @@
 ghost use Rattle.std.specs.Prelude.{◌≡◌, Some, IfSome};
 ghost use Rattle.fr_interface.specs.declared.entry.Entry.{Entry};
 ghost use Rattle.fr_text.specs.Spaces.{words_of, line_of};
-ghost use Rattle.fr_lines.specs.Reading.{read_in, fetch_in, observe_in, entry_in};
+ghost use Rattle.fr_lines.specs.Reading.{commit_in, read_in, fetch_in, observe_in, entry_in};
 ghost use Rattle.fr_lines.specs.Spelled.{IsSpelledEntry};
 ghost use Rattle.fr_lines.specs.Spelling.{entry_words};
 
-use crate::parts::{from_of, offered_of, seen_of, task_of, window_of};
+use crate::parts::{from_of, offered_of, payload_of, seen_of, task_of, window_of};
 use fr_interface::entry::Entry;
 use fr_text::numbers::number_of;
 use fr_text::words::Words;
+
+/// The commit that the words spell.
+#[tactic(auto, unfolding(crate::specs::Reading::commit_in))]
+fn commit_of(words: &mut Words<'_>) -> Option<Entry>
+    ensures { result ≡ commit_in words.old }
+{
+    let task = words.next_word()?;
+    let buffer = words.next_word()?;
+    let payload = words.next_word()?;
+    if words.next_word().is_some() {
+        return None;
+    }
+    let task = task_of(task)?;
+    let buffer = number_of(buffer, 64)?;
+    let payload = payload_of(payload)?;
+    Some(Entry::Commit {
+        task,
+        buffer: buffer as u8,
+        payload,
+    })
+}
 
 /// The read that the words spell.
 #[tactic(auto, unfolding(crate::specs::Reading::read_in))]
@@ -81,6 +102,7 @@ fn parsed(line: &[u8]) -> Option<Entry>
 {
     let mut words = Words::new(line);
     match words.next_word()? {
+        b"commit" => commit_of(&mut words),
         b"read" => read_of(&mut words),
         b"fetch" => fetch_of(&mut words),
         b"see" => observe_of(&mut words),
@@ -88,10 +110,10 @@ fn parsed(line: &[u8]) -> Option<Entry>
     }
 }
 
-/// The entry of a line `read`, `fetch` or `see`.
+/// The entry of a line `commit`, `read`, `fetch` or `see`.
 ///
 /// `None` for a line of another form and where a number is out of its range: a task is 0 to 7, a buffer 0 to 63, the
-/// number of a window or of an entry fits 32 bits, a cycle is 0 to 63, a minislot 0 to 8000, a slot 1 to 2047, and at
+/// bytes of a commit are an even number, at most 254, the number of a window or of an entry fits 32 bits, a cycle is 0 to 63, a minislot 0 to 8000, a slot 1 to 2047, and at
 /// most 262 bytes were seen. `None` too where the numbers of a fetch are no window: at minislot 0 both channels open
 /// the same slot, and at a minislot above 0 one channel or both open a slot.
 pub fn entry_of(line: &[u8]) -> Option<Entry>

@@ -7,7 +7,9 @@
 pub mod buffers;
 pub mod entries;
 pub mod nodes;
+pub mod owned;
 pub mod parameters;
 mod parts;
 #[cfg(test)]
 mod tests;
+pub mod writing;

@@ -1,12 +1,14 @@
 //! The parts of which lines are made.
 ghost use Rattle.std.specs.Prelude.{◌≡◌, ◌<◌, ◌^◌};
 ghost use Rattle.fr_text.specs.Reading.{number_in};
-ghost use Rattle.fr_lines.specs.PartReading.{slot_in, optional_slot_in, channels_in, cycles_in, channel_in, origin_in, from_in, offered_in, seen_bytes_in, seen_in, same_slot, window_of, window_in};
+ghost use Rattle.fr_lines.specs.PartReading.{slot_in, optional_slot_in, channels_in, cycles_in, filter_in, flag_in, mode_in, size_in, owned_slot_in, payload_in, channel_in, origin_in, from_in, offered_in, seen_bytes_in, seen_in, same_slot, window_of, window_in};
 
+use fr_frame::payload::Payload;
 use fr_interface::entry::{Offered, Origin};
 use fr_slots::channel::{Channel, Channels};
-use fr_slots::filter::CycleFilter;
+use fr_slots::filter::{CycleFilter, Filter};
 use fr_slots::numbers::{Cycle, SlotId, TaskId};
+use fr_slots::plan::Mode;
 use fr_slots::window::Window;
 use fr_status::seen::Seen;
 use fr_text::hexes::bytes_of;
@@ -67,6 +69,82 @@ pub(crate) fn cycles_of(base: &[u8], repetition: &[u8]) -> Option<CycleFilter>
         Ok(cycles) => Some(cycles),
         Err(_) => None,
     }
+}
+
+/// The filter that the words spell.
+#[tactic(auto, unfolding(crate::specs::PartReading::filter_in))]
+pub(crate) fn filter_of(
+    slot: &[u8],
+    channels: &[u8],
+    base: &[u8],
+    repetition: &[u8],
+) -> Option<Filter>
+    ensures { result ≡ filter_in slot.now channels.now base.now repetition.now }
+{
+    let slot = slot_of(slot)?;
+    let channels = channels_of(channels)?;
+    let cycles = cycles_of(base, repetition)?;
+    Some(Filter {
+        slot,
+        channels,
+        cycles,
+    })
+}
+
+/// The flag that the word spells, `1` or `0`.
+#[tactic(auto, unfolding(crate::specs::PartReading::flag_in))]
+pub(crate) fn flag_of(word: &[u8]) -> Option<bool>
+    ensures { result ≡ flag_in word.now }
+{
+    match word {
+        b"1" => Some(true),
+        b"0" => Some(false),
+        _ => None,
+    }
+}
+
+/// The mode of a transmit buffer that the word spells.
+#[tactic(auto, unfolding(crate::specs::PartReading::mode_in))]
+pub(crate) fn mode_of(word: &[u8]) -> Option<Mode>
+    ensures { result ≡ mode_in word.now }
+{
+    match word {
+        b"event" => Some(Mode::Event),
+        b"state" => Some(Mode::State),
+        _ => None,
+    }
+}
+
+/// The words of two bytes that the word spells, 0 to 127, or none for `-`.
+#[tactic(auto, unfolding(crate::specs::PartReading::size_in))]
+pub(crate) fn size_of(word: &[u8]) -> Option<Option<u8>>
+    ensures { result ≡ size_in word.now }
+{
+    match word {
+        b"-" => Some(None),
+        _ => {
+            let words = number_of(word, 128)?;
+            Some(Some(words as u8))
+        }
+    }
+}
+
+/// The static slot that the word spells, 1 to 1023.
+#[tactic(auto, unfolding(crate::specs::PartReading::owned_slot_in))]
+pub(crate) fn owned_slot_of(word: &[u8]) -> Option<SlotId>
+    ensures { result ≡ owned_slot_in word.now }
+{
+    let number = number_of(word, 1024)?;
+    SlotId::new(number as u16)
+}
+
+/// The payload that the word spells.
+#[tactic(auto, unfolding(crate::specs::PartReading::payload_in))]
+pub(crate) fn payload_of(word: &[u8]) -> Option<Payload>
+    ensures { result ≡ payload_in word.now }
+{
+    let bytes = bytes_of::<254>(word)?;
+    Payload::from_slice(bytes.as_slice()).ok()
 }
 
 /// The channel that stands behind the number of an entry.

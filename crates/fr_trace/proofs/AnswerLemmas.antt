@@ -1,5 +1,5 @@
 -- The call of an entry that is legal is accepted, and makes that entry again.
-use Rattle.std.proofs.Common.{◌≡◌, ℕ, ◌+◌, ◌<◌, true, false, eqb, leb, ltb, Option, Some, None, refl, sym, ap, option_map}
+use Rattle.std.proofs.Common.{◌≡◌, ℕ, ◌+◌, ◌*◌, ◌<◌, true, false, eqb, leb, ltb, List, length, Option, Some, None, refl, sym, ap, option_map}
 use Rattle.std.specs.Prelude.{IfSome, IsSomeAnd, is_some, count_by}
 use Rattle.std.specs.Option.{option_and_then}
 use Rattle.std.proofs.lemmas.Bool.{and_parts, eqb-true, eq-eqb, lt-leb, le-ltb}
@@ -10,17 +10,17 @@ use Rattle.fr_interface.specs.declared.entry.Offered.TheVariants.{Nothing, Null,
 use Rattle.fr_interface.specs.declared.entry.Origin.{Origin}
 use Rattle.fr_interface.specs.Held.{held, origin_of}
 use Rattle.fr_interface.specs.Entries.{is_host, is_slot}
-use Rattle.fr_interface.specs.Legal.{IsLegal, IsLegalRead, IsLegalFetch, buffer_at}
-use Rattle.fr_interface.specs.Offers.{offered}
+use Rattle.fr_interface.specs.Legal.{IsLegal, IsLegalCommit, IsLegalRead, IsLegalFetch, words_of}
+use Rattle.fr_interface.specs.Offers.{buffer_at, offered}
 use Rattle.fr_interface.specs.OpenWindow.{open_window, last_number}
-use Rattle.fr_interface.specs.State.{State, IsReceivePlan, received_by, received_in, read_refusal, unless_receive, fetch_refusal, observe_refusal, unless_open, is_not_above, is_host_full}
-use Rattle.fr_interface.proofs.LegalLemmas.{receives_only}
+use Rattle.fr_interface.specs.State.{State, received_by, commit_refusal, unless_transmit, received_in, read_refusal, unless_receive, fetch_refusal, observe_refusal, unless_open, is_not_above, is_host_full}
 use Rattle.fr_slots.specs.declared.channel.Channel.{Channel}
 use Rattle.fr_slots.specs.declared.channel.Channel.TheVariants.{A, B}
 use Rattle.fr_slots.specs.declared.plan.Buffer.{Buffer}
 use Rattle.fr_slots.specs.declared.plan.Queue.{Queue}
-use Rattle.fr_slots.specs.Plans.{Plan, is_receive}
+use Rattle.fr_slots.specs.Plans.{is_receive}
 use Rattle.fr_slots.specs.Windows.{Opportunity}
+use Rattle.fr_trace.specs.TraceText.{IsTold}
 use Rattle.fr_trace.specs.Answers.{same_channel, same_origin, same_offered, is_refused, made_by, is_answered, fault_of}
 
 -- ---- equal answers
@@ -82,6 +82,19 @@ made-answered s (Observe window a b) h = refl
 no_refusal : {E : Type 0} (o : Option E) → o ≡ None → is_some o ≡ false
 no_refusal o h = ap is_some h
 
+-- a legal commit
+
+commit_taken : (s : State) (payload : List ℕ) (o : Option Buffer) → IsSomeAnd o (λ b. (is_receive b.mode ≡ false) × (length payload ≡ 2 * words_of s.params b.words)) → is_host_full s ≡ false
+    → unless_transmit s payload o ≡ None
+commit_taken s payload None h room = absurd h
+commit_taken s payload (Some b) h room = rw (h.0, eq-eqb (length payload) (2 * words_of s.params b.words) h.1, room) refl
+
+legal_commit : (s : State) (task buffer : ℕ) (payload : List ℕ) → IsLegalCommit s.params s.plan s.entries task buffer payload → commit_refusal s task buffer payload ≡ None
+legal_commit s task buffer payload legal =
+    let few : leb s.plan.tasks task ≡ false = lt-leb s.plan.tasks task legal.task_is in
+    let room : is_host_full s ≡ false = lt-leb s.plan.host_entries (count_by is_host s.entries) legal.room in
+    rw few (commit_taken s payload (buffer_at s.plan buffer) legal.transmits room)
+
 -- a legal read
 
 read_receives : (s : State) (o : Option Buffer) (from : Option Origin) → IsSomeAnd o (λ b. (is_receive b.mode ≡ true) × (from ≡ option_map origin_of (held s.params b.filter s.entries))) → is_host_full s ≡ false
@@ -118,22 +131,18 @@ closes : (number : ℕ) (o : Option Opportunity) → IsSomeAnd o (λ w. w.number
 closes number None h = absurd h
 closes number (Some w) h = rw (eq-eqb w.number number h) refl
 
--- nothing else is legal where a plan has at most a receive buffer
-
-pub no_transmit : (plan : Plan) (buffer : ℕ) (o : Option Buffer) (P : Buffer → Type 0) → IsReceivePlan plan → buffer_at plan buffer ≡ o → IsSomeAnd o (λ b. (is_receive b.mode ≡ false) × P b) → ⊥
-no_transmit plan buffer None P receives is h = h
-no_transmit plan buffer (Some b) P receives is h = receives_only plan buffer b receives is h.0
+-- nothing is popped where a plan has no queue
 
 pub no_queue : (o : Option Queue) (P : Queue → Type 0) → o ≡ None → IsSomeAnd o P → ⊥
 no_queue None P is h = h
 no_queue (Some q) P is h = cc is
 
-pub legal_accepted : (s : State) (e : Entry) → IsReceivePlan s.plan → IsLegal s.params s.plan s.entries e → (is_refused s e ≡ false) × (is_answered s e ≡ true)
-legal_accepted s (Commit task buffer payload) receives legal = absurd (no_transmit s.plan buffer (buffer_at s.plan buffer) _ receives refl legal.transmits)
-legal_accepted s (Read task buffer from) receives legal = legal_read s task buffer from legal
-legal_accepted s (Pop task from) receives legal = absurd (no_queue s.plan.queue _ receives.no_queue legal.queued)
-legal_accepted s (Fetch window a b) receives legal = legal_fetch s window a b legal
-legal_accepted s (Observe window a b) receives legal = (no_refusal (observe_refusal s window) (closes window (open_window s.entries) legal), refl)
+pub legal_accepted : (s : State) (e : Entry) → IsTold s.plan → IsLegal s.params s.plan s.entries e → (is_refused s e ≡ false) × (is_answered s e ≡ true)
+legal_accepted s (Commit task buffer payload) told legal = (no_refusal (commit_refusal s task buffer payload) (legal_commit s task buffer payload legal), refl)
+legal_accepted s (Read task buffer from) told legal = legal_read s task buffer from legal
+legal_accepted s (Pop task from) told legal = absurd (no_queue s.plan.queue _ told.no_queue legal.queued)
+legal_accepted s (Fetch window a b) told legal = legal_fetch s window a b legal
+legal_accepted s (Observe window a b) told legal = (no_refusal (observe_refusal s window) (closes window (open_window s.entries) legal), refl)
 
-pub no_fault : (s : State) (e : Entry) → IsReceivePlan s.plan → IsLegal s.params s.plan s.entries e → fault_of s e ≡ None
-no_fault s e receives legal = let fine = legal_accepted s e receives legal in rw (fine.0, fine.1) refl
+pub no_fault : (s : State) (e : Entry) → IsTold s.plan → IsLegal s.params s.plan s.entries e → fault_of s e ≡ None
+no_fault s e told legal = let fine = legal_accepted s e told legal in rw (fine.0, fine.1) refl

@@ -1,8 +1,11 @@
 pub mod AgainLemmas
 pub mod AnswerLemmas
+pub mod FaultLemmas
+pub mod FeedLemmas
 pub mod LineLemmas
 pub mod OutcomeLemmas
 pub mod PieceLemmas
 pub mod PlanLemmas
 pub mod ReportLemmas
 pub mod TextLemmas
+pub mod WritingLemmas

@@ -7,7 +7,7 @@ use Rattle.std.proofs.lemmas.List.Sums.{fold-append}
 use Rattle.fr_text.specs.Plain.{is_feed, has_no_feed}
 use Rattle.fr_trace.proofs.TextLemmas.{is_open, take_in-open}
 use Rattle.fr_trace.specs.Stream.{Phase, Progress, reading, take_line, after_line, take_in, take_byte, take_bytes}
-use Rattle.fr_trace.specs.TraceText.{line_feed}
+use Rattle.fr_lines.specs.Spelling.{line_feed}
 
 -- bytes that are no line feed fill the line
 fill : (p : Phase) (rest front : List ℕ) → is_open p ≡ true → has_no_feed rest ≡ true → length front + length rest ≤ 1200 → take_bytes (reading p front) rest ≡ reading p (front ++ rest)

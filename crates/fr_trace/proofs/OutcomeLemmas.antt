@@ -2,15 +2,17 @@
 use Rattle.std.proofs.Common.{◌≡◌, ℕ, List, ◌++◌, Option, Some, None, Result, Ok, Err, refl, sym, ap, subst, ◌∙◌}
 use Rattle.std.proofs.lemmas.List.{append-nil}
 use Rattle.fr_interface.specs.State.{State, IsLegalInterface}
-use Rattle.fr_trace.specs.Audit.{Gives, IsTextOf, Leaves, Audits, IsNotRefused, IsOfText}
+use Rattle.fr_trace.specs.Audit.{IsTextOf, IsRefused, HasBegin, Leaves, Audits, Stops, StopsIn, BeginsIn, ReadsThrough, IsNotRefused, IsOfText}
+use Rattle.fr_trace.specs.Feeds.{Begins}
 use Rattle.fr_trace.specs.declared.error.TraceError.{TraceError}
 use Rattle.fr_trace.specs.declared.error.TraceError.TheVariants.{BadMagic, BadLine, LineTooLong, Refused, WrongAnswer, Truncated, Read, Write, Memory}
 use Rattle.fr_trace.specs.Stream.{Progress, magic, params, node, lines, body, finished, reading, failed, fresh, take_bytes, outcome_of}
-use Rattle.fr_trace.specs.TraceText.{trace_text}
-use Rattle.fr_trace.proofs.AgainLemmas.{text_again}
+use Rattle.fr_trace.specs.TraceText.{IsTold, trace_text}
+use Rattle.fr_trace.proofs.AgainLemmas.{text_again, text_begins}
+use Rattle.fr_trace.proofs.FeedLemmas.{begins_before, begins_behind}
 use Rattle.fr_trace.proofs.TextLemmas.{Spelled, text_spelled}
 
-found_in : (p : Progress) (text : List ℕ) (s : State) → Spelled p text → outcome_of p ≡ Ok s → text ≡ trace_text s
+found_in : (p : Progress) (text : List ℕ) (s : State) → Spelled p text → outcome_of p ≡ Ok s → (text ≡ trace_text s) × IsTold s.plan
 found_in (failed e) text s spelled h = cc h
 found_in (reading magic line) text s spelled h = cc h
 found_in (reading params line) text s spelled h = cc h
@@ -19,50 +21,102 @@ found_in (reading (lines p plan) line) text s spelled h = cc h
 found_in (reading (body t) line) text s spelled h = cc h
 found_in (reading (finished t) line) text s spelled h =
     let same : t ≡ s = cc h in
-    spelled.0 ∙ (ap (λ l. trace_text t ++ l) spelled.2 ∙ (append-nil (trace_text t) ∙ ap trace_text same))
+    (spelled.0 ∙ (ap (λ l. trace_text t ++ l) spelled.2 ∙ (append-nil (trace_text t) ∙ ap trace_text same)), subst (λ (x : State). IsTold x.plan) same spelled.1)
 
 -- what is accepted is the text of that interface
-pub accepted_text : (text : List ℕ) (s : State) → outcome_of (take_bytes fresh text) ≡ Ok s → text ≡ trace_text s
+pub accepted_text : (text : List ℕ) (s : State) → outcome_of (take_bytes fresh text) ≡ Ok s → (text ≡ trace_text s) × IsTold s.plan
 accepted_text text s h = found_in (take_bytes fresh text) text s (text_spelled text) h
 
 -- the text of a legal interface is accepted
-pub legal_outcome : (text : List ℕ) (s : State) → IsLegalInterface s → text ≡ trace_text s → outcome_of (take_bytes fresh text) ≡ Ok s
-legal_outcome text s is same = ap (λ t. outcome_of (take_bytes fresh t)) same ∙ ap outcome_of (text_again s is)
+pub legal_outcome : (text : List ℕ) (s : State) → IsLegalInterface s → IsTold s.plan → text ≡ trace_text s → outcome_of (take_bytes fresh text) ≡ Ok s
+legal_outcome text s is told same = ap (λ t. outcome_of (take_bytes fresh t)) same ∙ ap outcome_of (text_again s is told)
 
 -- ---- an audit
 
-text_given : (text : Option (List ℕ)) (s : State) → Gives text (Ok s) → IsTextOf s text
-text_given None s h = tt
-text_given (Some text) s h = accepted_text text s h
+text_given : (text rest : Option (List ℕ)) (s : State) → ReadsThrough text rest (Ok s) → IsTextOf s text
+text_given None rest s h = tt
+text_given (Some text) None s h = absurd h
+text_given (Some text) (Some rest) s h = accepted_text text s h.1
 
-pub leaves_audited : (text old new : Option (List ℕ)) (r : Result (Unit {0}) TraceError) → Leaves text old new r → Audits text old new r
-leaves_audited text old new (Ok x) h = let (s, gives, legal, written) = h in (s, text_given text s gives, legal, written)
-leaves_audited text old new (Err BadMagic) h = h
-leaves_audited text old new (Err (BadLine n)) h = h
-leaves_audited text old new (Err (LineTooLong n)) h = h
-leaves_audited text old new (Err (Refused n)) h = h
-leaves_audited text old new (Err (WrongAnswer n)) h = h
-leaves_audited text old new (Err Truncated) h = h
-leaves_audited text old new (Err Read) h = h
-leaves_audited text old new (Err Write) h = h
-leaves_audited text old new (Err Memory) h = h
+-- a text that is accepted has the line at which its interface is made
+pub accepted_begins : (text : Option (List ℕ)) (s : State) → IsLegalInterface s → IsTextOf s text → HasBegin text
+accepted_begins None s is same = tt
+accepted_begins (Some text) s is same = subst (λ t. Begins fresh t) (sym same.0) (text_begins s is same.1)
 
-given_fault : (text old new : Option (List ℕ)) (e : TraceError) → Leaves text old new (Err e) → IsOfText e → Gives text (Err e)
-given_fault text old new BadMagic h of_text = h.0 of_text
-given_fault text old new (BadLine n) h of_text = h.0 of_text
-given_fault text old new (LineTooLong n) h of_text = h.0 of_text
-given_fault text old new (Refused n) h of_text = h.0 of_text
-given_fault text old new (WrongAnswer n) h of_text = h.0 of_text
-given_fault text old new Truncated h of_text = h.0 of_text
-given_fault text old new Read h of_text = absurd of_text
-given_fault text old new Write h of_text = absurd of_text
-given_fault text old new Memory h of_text = absurd of_text
+piece_begins : (text rest : List ℕ) → StopsIn BeginsIn text rest → Begins fresh text
+piece_begins text rest h =
+    let (front, piece, is, short, faultless, begins) = h in
+    subst (λ t. Begins fresh t) (sym is) (begins_behind fresh front (piece ++ rest) (begins_before (take_bytes fresh front) piece rest begins))
+
+through_begins : (text rest : Option (List ℕ)) → ReadsThrough text rest (Err Memory) → HasBegin text
+through_begins None rest h = tt
+through_begins (Some text) None h = absurd h
+through_begins (Some text) (Some rest) h = piece_begins text rest h
+
+refused_by : (text rest : Option (List ℕ)) (e : TraceError) → IsOfText e → ReadsThrough text rest (Err e) → IsRefused e text
+refused_by None rest e of_text h = tt
+refused_by (Some text) None e of_text h = absurd h
+refused_by (Some text) (Some rest) BadMagic of_text h = h.0
+refused_by (Some text) (Some rest) (BadLine n) of_text h = h.0
+refused_by (Some text) (Some rest) (LineTooLong n) of_text h = h.0
+refused_by (Some text) (Some rest) (Refused n) of_text h = h.0
+refused_by (Some text) (Some rest) (WrongAnswer n) of_text h = h.0
+refused_by (Some text) (Some rest) Truncated of_text h = h.0
+refused_by (Some text) (Some rest) Read of_text h = absurd of_text
+refused_by (Some text) (Some rest) Write of_text h = absurd of_text
+refused_by (Some text) (Some rest) Memory of_text h = absurd of_text
+
+pub leaves_audited : (text rest old new : Option (List ℕ)) (r : Result (Unit {0}) TraceError) → Leaves text rest old new r → Audits text old new r
+leaves_audited text rest old new (Ok x) h = let (s, through, legal, written) = h in (s, text_given text rest s through, legal, written)
+leaves_audited text rest old new (Err BadMagic) h = (refused_by text rest BadMagic tt h.0, h.1)
+leaves_audited text rest old new (Err (BadLine n)) h = (refused_by text rest (BadLine n) tt h.0, h.1)
+leaves_audited text rest old new (Err (LineTooLong n)) h = (refused_by text rest (LineTooLong n) tt h.0, h.1)
+leaves_audited text rest old new (Err (Refused n)) h = (refused_by text rest (Refused n) tt h.0, h.1)
+leaves_audited text rest old new (Err (WrongAnswer n)) h = (refused_by text rest (WrongAnswer n) tt h.0, h.1)
+leaves_audited text rest old new (Err Truncated) h = (refused_by text rest Truncated tt h.0, h.1)
+leaves_audited text rest old new (Err Read) h = h.1
+leaves_audited text rest old new (Err Write) h = let (s, through, legal) = h in (s, text_given text rest s through, legal)
+leaves_audited text rest old new (Err Memory) h = (through_begins text rest h.0, h.1)
+
+pub leaves_stopped : (text rest old new : Option (List ℕ)) (r : Result (Unit {0}) TraceError) → Leaves text rest old new r → Stops text rest r
+leaves_stopped None rest old new r h = tt
+leaves_stopped (Some text) None old new (Ok x) h = let (s, through, legal, written) = h in through
+leaves_stopped (Some text) None old new (Err BadMagic) h = h.0
+leaves_stopped (Some text) None old new (Err (BadLine n)) h = h.0
+leaves_stopped (Some text) None old new (Err (LineTooLong n)) h = h.0
+leaves_stopped (Some text) None old new (Err (Refused n)) h = h.0
+leaves_stopped (Some text) None old new (Err (WrongAnswer n)) h = h.0
+leaves_stopped (Some text) None old new (Err Truncated) h = h.0
+leaves_stopped (Some text) None old new (Err Read) h = h.0
+leaves_stopped (Some text) None old new (Err Write) h = let (s, through, legal) = h in through
+leaves_stopped (Some text) None old new (Err Memory) h = h.0
+leaves_stopped (Some text) (Some rest) old new (Ok x) h = let (s, through, legal, written) = h in through.0
+leaves_stopped (Some text) (Some rest) old new (Err BadMagic) h = h.0.1
+leaves_stopped (Some text) (Some rest) old new (Err (BadLine n)) h = h.0.1
+leaves_stopped (Some text) (Some rest) old new (Err (LineTooLong n)) h = h.0.1
+leaves_stopped (Some text) (Some rest) old new (Err (Refused n)) h = h.0.1
+leaves_stopped (Some text) (Some rest) old new (Err (WrongAnswer n)) h = h.0.1
+leaves_stopped (Some text) (Some rest) old new (Err Truncated) h = h.0.1
+leaves_stopped (Some text) (Some rest) old new (Err Read) h = h.0
+leaves_stopped (Some text) (Some rest) old new (Err Write) h = let (s, through, legal) = h in through.0
+leaves_stopped (Some text) (Some rest) old new (Err Memory) h = h.0
 
 clash : {A : Type 0} (r : Result A TraceError) (s : A) (e : TraceError) → r ≡ Ok s → r ≡ Err e → ⊥
 clash r s e good bad = cc (sym good ∙ bad)
 
-pub not_refused : (text old new : Option (List ℕ)) (r : Result (Unit {0}) TraceError) (s : State) → Leaves text old new r → IsLegalInterface s → text ≡ Some (trace_text s) → IsNotRefused r
-not_refused text old new (Ok x) s h is same = tt
-not_refused text old new (Err e) s h is same =
-    λ of_text. clash (outcome_of (take_bytes fresh (trace_text s))) s e (legal_outcome (trace_text s) s is refl)
-    (subst (λ (t : Option (List ℕ)). Gives t (Err e)) same (given_fault text old new e h of_text))
+given_fault : (text old new : Option (List ℕ)) (e : TraceError) → Audits text old new (Err e) → IsOfText e → IsRefused e text
+given_fault text old new BadMagic h of_text = h.0
+given_fault text old new (BadLine n) h of_text = h.0
+given_fault text old new (LineTooLong n) h of_text = h.0
+given_fault text old new (Refused n) h of_text = h.0
+given_fault text old new (WrongAnswer n) h of_text = h.0
+given_fault text old new Truncated h of_text = h.0
+given_fault text old new Read h of_text = absurd of_text
+given_fault text old new Write h of_text = absurd of_text
+given_fault text old new Memory h of_text = absurd of_text
+
+pub not_refused : (text old new : Option (List ℕ)) (r : Result (Unit {0}) TraceError) (s : State) → Audits text old new r → IsLegalInterface s → IsTold s.plan → text ≡ Some (trace_text s) → IsNotRefused r
+not_refused text old new (Ok x) s h is told same = tt
+not_refused text old new (Err e) s h is told same =
+    λ of_text. clash (outcome_of (take_bytes fresh (trace_text s))) s e (legal_outcome (trace_text s) s is told refl)
+    (subst (λ (t : Option (List ℕ)). IsRefused e t) same (given_fault text old new e h of_text))

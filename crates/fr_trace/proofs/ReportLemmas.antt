@@ -1,18 +1,30 @@
 -- The report, one buffer more.
-use Rattle.std.proofs.Common.{◌≡◌, ℕ, zero, suc, ◌+◌, ◌<◌, true, List, [], ◌∷◌, ◌++◌, length, take, Some, refl, sym, ap, ◌∙◌, append_assoc, append-nil, arith}
+use Rattle.std.proofs.Common.{◌≡◌, ℕ, zero, suc, ◌+◌, ◌<◌, true, false, cond, List, [], ◌∷◌, ◌++◌, length, take, Some, None, refl, sym, ap, ◌∙◌, append_assoc, append-nil, arith}
 use Rattle.std.specs.Prelude.{slice_get}
-use Rattle.fr_interface.specs.State.{State, IsReceivePlan, is_receive_buffer, received_by}
+use Rattle.fr_interface.specs.Fate.{tally_of}
+use Rattle.fr_interface.specs.Held.{held}
+use Rattle.fr_interface.specs.Offers.{buffer_at}
+use Rattle.fr_interface.specs.State.{State, received_by, tally_by}
 use Rattle.fr_slots.specs.declared.plan.Buffer.{Buffer}
-use Rattle.fr_slots.specs.Plans.{AllFit, is_receive}
-use Rattle.fr_trace.specs.ReportText.{reports_from, buffer_report, receive_words}
-use Rattle.fr_trace.specs.TraceText.{line_text}
+use Rattle.fr_slots.specs.Plans.{is_receive}
+use Rattle.fr_trace.specs.ReportText.{answer_words, reports_from, buffer_report, report_words, held_words, tally_words}
+use Rattle.fr_lines.specs.Spelling.{line_text}
 
--- the line of a receive buffer
-receive_line : (s : State) (number place : ℕ) (buffers : List Buffer) → AllFit is_receive_buffer buffers → place < length buffers
-    → (b : Buffer) × (slice_get buffers place ≡ Some b) × (is_receive b.mode ≡ true)
-receive_line s number place [] all lt = absurd (omega arith)
-receive_line s number zero (b ∷ buffers) all lt = (b, refl, all.0)
-receive_line s number (suc place) (b ∷ buffers) all lt = receive_line s number place buffers all.1 (omega arith)
+-- the buffer of a number that there is
+line_at : (buffers : List Buffer) (place : ℕ) → place < length buffers → (b : Buffer) × (slice_get buffers place ≡ Some b)
+line_at [] place lt = absurd (omega arith)
+line_at (b ∷ buffers) zero lt = (b, refl)
+line_at (b ∷ buffers) (suc place) lt = line_at buffers place (omega arith)
+
+-- what the interface answers of it makes its line
+answers_is : (s : State) (number : ℕ) (b : Buffer) → buffer_at s.plan number ≡ Some b → report_words s number b ≡ answer_words number (tally_by s number) (received_by s number)
+answers_is s number b is =
+    let held_there = held s.params b.filter s.entries in
+    let tally = tally_of number s.entries in
+    rw is (elim (is_receive b.mode) as (λ r. cond r (held_words number held_there) (tally_words number tally) ≡ answer_words number (cond r None (Some tally)) (cond r held_there None)) [
+      | true ↦ refl
+      | false ↦ refl
+    ])
 
 reports-more : (s : State) (number place : ℕ) (buffers : List Buffer) (b : Buffer) → slice_get buffers place ≡ Some b
     → reports_from s number (take (place + 1) buffers) ≡ reports_from s number (take place buffers) ++ buffer_report s (number + place) b
@@ -29,16 +41,15 @@ reports-more s number (suc place) (x ∷ buffers) b is =
     ∙ ap (λ (t : List ℕ). buffer_report s number x ++ t) (reports-more s (number + 1) place buffers b is ∙ ap (λ (n : ℕ). reports_from s (number + 1) (take place buffers) ++ buffer_report s n b) here)
     ∙ sym (append_assoc (buffer_report s number x) (reports_from s (number + 1) (take place buffers)) (buffer_report s (number + suc place) b))
 
--- one more line, where every buffer receives
-pub report-more : (s : State) (place : ℕ) → IsReceivePlan s.plan → place < length s.plan.buffers
-    → reports_from s 0 (take (place + 1) s.plan.buffers) ≡ reports_from s 0 (take place s.plan.buffers) ++ line_text (receive_words place (received_by s place))
-report-more s place receives lt =
-    let (b, is, receive) = receive_line s 0 place s.plan.buffers receives.receives lt in
+-- one more line
+pub report-more : (s : State) (place : ℕ) → place < length s.plan.buffers
+    → reports_from s 0 (take (place + 1) s.plan.buffers) ≡ reports_from s 0 (take place s.plan.buffers) ++ line_text (answer_words place (tally_by s place) (received_by s place))
+report-more s place lt =
+    let (b, is) = line_at s.plan.buffers place lt in
     let here : 0 + place ≡ place = omega arith in
-    let line : buffer_report s place b ≡ line_text (receive_words place (received_by s place)) = rw (is, receive) refl in
     reports-more s 0 place s.plan.buffers b is
     ∙ ap (λ (n : ℕ). reports_from s 0 (take place s.plan.buffers) ++ buffer_report s n b) here
-    ∙ ap (λ (t : List ℕ). reports_from s 0 (take place s.plan.buffers) ++ t) line
+    ∙ ap (λ (w : List (List ℕ)). reports_from s 0 (take place s.plan.buffers) ++ line_text w) (answers_is s place b is)
 
 pub report-none : (s : State) → reports_from s 0 (take 0 s.plan.buffers) ≡ []
 unfolding reports_from

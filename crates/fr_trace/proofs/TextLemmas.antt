@@ -1,32 +1,36 @@
 -- What has been read spells the phase and the front of a line.
-use Rattle.std.proofs.Common.{◌≡◌, ℕ, ◌==◌, Bool, true, false, List, [], ◌∷◌, ◌++◌, length, Option, Some, None, Result, Ok, Err, refl, sym, ap, subst, ◌∙◌, append_assoc, inl, inr}
-use Rattle.std.specs.Prelude.{ℤ}
-use Rattle.std.proofs.lemmas.Bool.{cases_Bool, eqb-true}
+use Rattle.std.proofs.Common.{◌≡◌, ℕ, ◌==◌, ◌&&◌, arith, length-append, Bool, true, false, List, [], ◌∷◌, ◌++◌, length, Option, Some, None, Result, Ok, Err, refl, sym, ap, subst, ◌∙◌, append_assoc, inl, inr}
+use Rattle.std.specs.Prelude.{ℤ, is_none}
+use Rattle.std.proofs.lemmas.Bool.{and_parts, cases_Bool, eqb-true}
 use Rattle.std.proofs.lemmas.List.{append-nil, flat_map_more}
 use Rattle.std.proofs.lemmas.Slice.Eq.{bytes_eq-Decides}
 use Rattle.std.specs.List.{flat_map}
 use Rattle.std.specs.Str.{bytes_eq}
 use Rattle.fr_interface.specs.declared.entry.Entry.{Entry}
 use Rattle.fr_interface.specs.State.{State, with_entry}
-use Rattle.fr_lines.specs.Reading.{params_in, node_in, receive_in, entry_in}
+use Rattle.fr_lines.specs.Reading.{params_in, node_in, own_in, buffer_in, entry_in}
 use Rattle.fr_lines.specs.Spelling.{first_line, begin_line, end_line, node_words, entry_words}
-use Rattle.fr_lines.proofs.BufferLemmas.{receive_line_takes}
+use Rattle.fr_lines.proofs.BufferLemmas.{buffer_line_takes}
 use Rattle.fr_lines.proofs.EntryLemmas.{entry_line_takes}
 use Rattle.fr_lines.proofs.NodeLemmas.{node_line_takes, node_no_lines}
+use Rattle.fr_lines.proofs.OwnLemmas.{own_line_takes}
 use Rattle.fr_lines.proofs.ParameterLemmas.{params_line_takes}
 use Rattle.fr_slots.specs.declared.params.RangeError.{RangeError}
 use Rattle.fr_slots.specs.declared.plan.Buffer.{Buffer}
 use Rattle.fr_slots.specs.declared.plan.Own.{Own}
 use Rattle.fr_slots.specs.declared.plan.Queue.{Queue}
 use Rattle.fr_slots.specs.Parameters.{Parameters, parameters_of}
-use Rattle.fr_slots.specs.Plans.{Plan, with_buffer}
+use Rattle.fr_slots.specs.Plans.{Plan, own_refusal, with_buffer, with_own}
 use Rattle.fr_text.specs.Spaces.{words_of, line_of}
 use Rattle.fr_trace.specs.Answers.{fault_of, made_by, is_answered, is_refused}
 use Rattle.fr_trace.specs.declared.error.TraceError.{TraceError}
 use Rattle.fr_trace.specs.declared.replay.Fault.{Fault}
-use Rattle.fr_trace.specs.TraceText.{line_feed, line_text, own_line, buffer_line, queue_lines, entry_line, head_text, params_text, plan_text, begin_text, body_text, trace_text}
-use Rattle.fr_trace.specs.Stream.{Phase, magic, params, node, lines, body, finished, Progress, reading, failed, after_parameters, after_numbers, after_node, after_buffer, after_begin, after_fault, after_entry, is_receive_plan, take_line, after_line, take_open, take_in, take_byte, take_bytes, fresh, longest_line}
+use Rattle.fr_slots.specs.Faults.{plan_fault}
+use Rattle.fr_lines.specs.Spelling.{line_feed, line_text}
+use Rattle.fr_trace.specs.TraceText.{IsTold, own_line, buffer_line, queue_lines, entry_line, head_text, params_text, plan_text, begin_text, body_text, trace_text}
+use Rattle.fr_trace.specs.Stream.{Phase, magic, params, node, lines, body, finished, Progress, reading, failed, after_parameters, after_numbers, after_node, after_buffer, after_own, after_owned, after_begin, after_fault, after_entry, take_line, after_line, take_open, take_in, take_byte, take_bytes, fresh, longest_line}
 use Rattle.fr_trace.proofs.AnswerLemmas.{made-answered}
+use Rattle.fr_trace.proofs.PlanLemmas.{nil_is}
 
 -- the lines that led to a phase
 abbrev pub text_of : Phase → List ℕ
@@ -37,9 +41,11 @@ text_of (lines p plan) = plan_text p plan
 text_of (body s) = body_text s
 text_of (finished s) = trace_text s
 
--- while lines of a plan come there is no queue yet
+-- the plan, once it is there, is one that traces tell of
 abbrev pub IsPlanned : Phase → Type 0
-IsPlanned (lines p plan) = plan.queue ≡ None
+IsPlanned (lines p plan) = IsTold plan
+IsPlanned (body s) = IsTold s.plan
+IsPlanned (finished s) = IsTold s.plan
 IsPlanned p = Unit {0}
 
 abbrev pub IsFront : Phase → List ℕ → Type 0
@@ -94,7 +100,36 @@ after_node_leads line p (Some plan) q read h =
     let end : lines p plan ≡ q = cc h in
     let bare = node_no_lines (words_of line) plan read in
     subst (λ x. Leads (node p) line x) end
-    (bare_text p plan bare.0 bare.1 bare.2 ∙ ap (λ t. params_text p ++ (t ++ line_feed)) (sym (node_line_takes line plan read)), bare.2)
+    (bare_text p plan bare.0 bare.1 bare.2 ∙ ap (λ t. params_text p ++ (t ++ line_feed)) (sym (node_line_takes line plan read)), record { one_buffer = omega (arith, ap length bare.1); no_queue = bare.2 })
+
+-- a plan without buffers
+owned_text : (p : Parameters) (plan : Plan) → plan.buffers ≡ [] → plan.queue ≡ None → plan_text p plan ≡ params_text p ++ line_text (node_words plan) ++ flat_map own_line plan.owned
+owned_text p plan no_buffer no_queue =
+    let front = params_text p ++ line_text (node_words plan) ++ flat_map own_line plan.owned in
+    ap (λ (q : Option Queue). front ++ flat_map buffer_line plan.buffers ++ queue_lines q) no_queue
+    ∙ append-nil (front ++ flat_map buffer_line plan.buffers)
+    ∙ ap (λ (b : List Buffer). front ++ flat_map buffer_line b) no_buffer
+    ∙ append-nil front
+
+-- one more ownership line
+pub own_text : (p : Parameters) (plan : Plan) (o : Own) → plan.buffers ≡ [] → plan.queue ≡ None → plan_text p (with_own plan o) ≡ plan_text p plan ++ own_line o
+own_text p plan o no_buffer no_queue =
+    owned_text p (with_own plan o) no_buffer no_queue
+    ∙ sym (flat_map_more own_line (params_text p ++ line_text (node_words plan)) plan.owned o)
+    ∙ ap (λ t. t ++ own_line o) (sym (owned_text p plan no_buffer no_queue))
+
+after_own_leads : (line : List ℕ) (p : Parameters) (plan : Plan) (o : Own) (q : Phase) → IsTold plan → own_in (words_of line) ≡ Some o → after_own p plan o ≡ Ok q → Leads (lines p plan) line q
+after_own_leads line p plan o q told read h =
+    elim (cases_Bool (length plan.buffers == 0 && is_none (own_refusal plan o))) [
+      | inl taken ↦
+          let first = (and_parts (length plan.buffers == 0) (is_none (own_refusal plan o)) taken).0 in
+          let end : lines p (with_own plan o) ≡ q = cc (rw taken at h) in
+          subst (λ x. Leads (lines p plan) line x) end (
+            own_text p plan o (nil_is plan.buffers first) told.no_queue ∙ ap (λ t. plan_text p plan ++ (t ++ line_feed)) (sym (own_line_takes line o read)),
+            record { one_buffer = told.one_buffer; no_queue = told.no_queue },
+          )
+      | inr refused ↦ cc (rw refused at h)
+    ]
 
 -- one more buffer
 pub buffer_text : (p : Parameters) (plan : Plan) (b : Buffer) → plan.queue ≡ None → plan_text p (with_buffer plan b) ≡ plan_text p plan ++ buffer_line b
@@ -107,24 +142,31 @@ buffer_text p plan b no_queue =
     ∙ ap (λ t. t ++ buffer_line b) (sym (append-nil before))
     ∙ ap (λ (q : Option Queue). (before ++ queue_lines q) ++ buffer_line b) (sym no_queue)
 
-after_buffer_leads : (line : List ℕ) (p : Parameters) (plan : Plan) (o : Option Buffer) (q : Phase) → plan.queue ≡ None → receive_in (words_of line) ≡ o → after_buffer p plan o ≡ Ok q
+after_buffer_leads : (line : List ℕ) (p : Parameters) (plan : Plan) (o : Option Buffer) (q : Phase) → IsTold plan → buffer_in (words_of line) ≡ o → after_buffer p plan o ≡ Ok q
     → Leads (lines p plan) line q
-after_buffer_leads line p plan None q no_queue read h = cc h
-after_buffer_leads line p plan (Some b) q no_queue read h =
+after_buffer_leads line p plan None q told read h = cc h
+after_buffer_leads line p plan (Some b) q told read h =
     elim (cases_Bool (length plan.buffers == 0)) [
       | inl first ↦
           let end : lines p (with_buffer plan b) ≡ q = cc (rw first at h) in
-          subst (λ x. Leads (lines p plan) line x) end
-          (buffer_text p plan b no_queue ∙ ap (λ t. plan_text p plan ++ (t ++ line_feed)) (sym (receive_line_takes line b read)), no_queue)
+          subst (λ x. Leads (lines p plan) line x) end (
+            buffer_text p plan b told.no_queue ∙ ap (λ t. plan_text p plan ++ (t ++ line_feed)) (sym (buffer_line_takes line b read)),
+            record { one_buffer = omega (arith, eqb-true (length plan.buffers) 0 first, length-append plan.buffers (b ∷ [])); no_queue = told.no_queue },
+          )
       | inr second ↦ cc (rw second at h)
     ]
 
-after_begin_leads : (line : List ℕ) (p : Parameters) (plan : Plan) (q : Phase) → line ≡ begin_line → after_begin p plan ≡ Ok q → Leads (lines p plan) line q
-after_begin_leads line p plan q is h =
-    elim (cases_Bool (is_receive_plan plan)) [
+after_owned_leads : (line : List ℕ) (p : Parameters) (plan : Plan) (o : Option Own) (q : Phase) → IsTold plan → own_in (words_of line) ≡ o → after_owned p plan o (words_of line) ≡ Ok q
+    → Leads (lines p plan) line q
+after_owned_leads line p plan None q told read h = after_buffer_leads line p plan (buffer_in (words_of line)) q told refl h
+after_owned_leads line p plan (Some o) q told read h = after_own_leads line p plan o q told read h
+
+after_begin_leads : (line : List ℕ) (p : Parameters) (plan : Plan) (q : Phase) → IsTold plan → line ≡ begin_line → after_begin p plan ≡ Ok q → Leads (lines p plan) line q
+after_begin_leads line p plan q told is h =
+    elim (cases_Bool (is_none (plan_fault p plan))) [
       | inl pass ↦
           let end : body (record { params = p; plan = plan; entries = [] }) ≡ q = cc (rw pass at h) in
-          subst (λ x. Leads (lines p plan) line x) end (append-nil (begin_text p plan) ∙ ap (λ t. plan_text p plan ++ (t ++ line_feed)) (sym is), tt)
+          subst (λ x. Leads (lines p plan) line x) end (append-nil (begin_text p plan) ∙ ap (λ t. plan_text p plan ++ (t ++ line_feed)) (sym is), told)
       | inr fail ↦ cc (rw fail at h)
     ]
 
@@ -142,18 +184,18 @@ fault_none s e h =
           ]
     ]
 
-after_fault_leads : (s : State) (line : List ℕ) (e : Entry) (o : Option Fault) (q : Phase) → line ≡ line_of (entry_words e) → fault_of s e ≡ o → after_fault s e o ≡ Ok q → Leads (body s) line q
-after_fault_leads s line e (Some f) q text is h = cc h
-after_fault_leads s line e None q text is h =
+after_fault_leads : (s : State) (line : List ℕ) (e : Entry) (o : Option Fault) (q : Phase) → IsTold s.plan → line ≡ line_of (entry_words e) → fault_of s e ≡ o → after_fault s e o ≡ Ok q → Leads (body s) line q
+after_fault_leads s line e (Some f) q told text is h = cc h
+after_fault_leads s line e None q told text is h =
     let made : made_by s e ≡ e = made-answered s e (fault_none s e is) in
     let end : body (with_entry s e) ≡ q = ap (λ (x : Entry). body (with_entry s x)) (sym made) ∙ cc h in
     let spelled : body_text (with_entry s e) ≡ body_text s ++ (line ++ line_feed) =
     sym (flat_map_more entry_line (begin_text s.params s.plan) s.entries e) ∙ ap (λ t. body_text s ++ (t ++ line_feed)) (sym text) in
-    subst (λ x. Leads (body s) line x) end (spelled, tt)
+    subst (λ x. Leads (body s) line x) end (spelled, told)
 
-after_entry_leads : (s : State) (line : List ℕ) (o : Option Entry) (q : Phase) → entry_in (words_of line) ≡ o → after_entry s o ≡ Ok q → Leads (body s) line q
-after_entry_leads s line None q is h = cc h
-after_entry_leads s line (Some e) q is h = after_fault_leads s line e (fault_of s e) q (entry_line_takes line e is) refl h
+after_entry_leads : (s : State) (line : List ℕ) (o : Option Entry) (q : Phase) → IsTold s.plan → entry_in (words_of line) ≡ o → after_entry s o ≡ Ok q → Leads (body s) line q
+after_entry_leads s line None q told is h = cc h
+after_entry_leads s line (Some e) q told is h = after_fault_leads s line e (fault_of s e) q told (entry_line_takes line e is) refl h
 
 -- ---- whole lines
 
@@ -170,16 +212,16 @@ line_leads params line q planned h = after_numbers_leads line (params_in (words_
 line_leads (node p) line q planned h = after_node_leads line p (node_in (words_of line)) q refl h
 line_leads (lines p plan) line q planned h =
     elim (cases_Bool (bytes_eq line begin_line)) [
-      | inl pass ↦ after_begin_leads line p plan q ((bytes_eq-Decides line begin_line).0 pass) (rw pass at h)
-      | inr fail ↦ after_buffer_leads line p plan (receive_in (words_of line)) q planned refl (rw fail at h)
+      | inl pass ↦ after_begin_leads line p plan q planned ((bytes_eq-Decides line begin_line).0 pass) (rw pass at h)
+      | inr fail ↦ after_owned_leads line p plan (own_in (words_of line)) q planned refl (rw fail at h)
     ]
 line_leads (body s) line q planned h =
     elim (cases_Bool (bytes_eq line end_line)) [
       | inl pass ↦
           let is : line ≡ end_line = (bytes_eq-Decides line end_line).0 pass in
           let end : finished s ≡ q = cc (rw pass at h) in
-          subst (λ x. Leads (body s) line x) end (ap (λ t. body_text s ++ (t ++ line_feed)) (sym is), tt)
-      | inr fail ↦ after_entry_leads s line (entry_in (words_of line)) q refl (rw fail at h)
+          subst (λ x. Leads (body s) line x) end (ap (λ t. body_text s ++ (t ++ line_feed)) (sym is), planned)
+      | inr fail ↦ after_entry_leads s line (entry_in (words_of line)) q planned refl (rw fail at h)
     ]
 line_leads (finished s) line q planned h = cc h
 

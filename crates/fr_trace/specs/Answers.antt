@@ -7,7 +7,7 @@ use Rattle.fr_interface.specs.declared.entry.Offered.TheVariants.{Nothing, Null,
 use Rattle.fr_interface.specs.declared.entry.Origin.{Origin}
 use Rattle.fr_interface.specs.Held.{origin_of}
 use Rattle.fr_interface.specs.Offers.{offered}
-use Rattle.fr_interface.specs.State.{State, received_by, read_refusal, fetch_refusal, observe_refusal}
+use Rattle.fr_interface.specs.State.{State, received_by, commit_refusal, read_refusal, fetch_refusal, observe_refusal}
 use Rattle.fr_slots.specs.declared.channel.Channel.{Channel}
 use Rattle.fr_slots.specs.declared.channel.Channel.TheVariants as channel
 use Rattle.fr_trace.specs.declared.replay.Fault.{Fault}
@@ -35,9 +35,9 @@ same_offered made told = false
 
 -- ---- calls
 
--- The interface refuses the call of an entry. No call is made today for commits and pops.
+-- The interface refuses the call of an entry. No call is made today for pops.
 abbrev pub is_refused : State → Entry → Bool
-is_refused s (Commit task buffer payload) = true
+is_refused s (Commit task buffer payload) = is_some (commit_refusal s task buffer payload)
 is_refused s (Read task buffer from) = is_some (read_refusal s task buffer)
 is_refused s (Pop task from) = true
 is_refused s (Fetch window a b) = is_some (fetch_refusal s window)

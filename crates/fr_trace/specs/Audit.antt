@@ -1,12 +1,13 @@
 -- What an audit of a whole text does.
-use Rattle.std.specs.Prelude.{◌≡◌, ℕ, List, Option, Some, None, Result, Ok, Err}
+use Rattle.std.specs.Prelude.{◌≡◌, ℕ, ◌≤◌, List, [], ◌++◌, length, Option, Some, None, Result, Ok, Err, ◌⊎◌}
 use Rattle.std.specs.Io.KnownBytes.{Keeps, Appends}
 use Rattle.fr_interface.specs.State.{State, IsLegalInterface}
 use Rattle.fr_trace.specs.declared.error.TraceError.{TraceError}
 use Rattle.fr_trace.specs.declared.error.TraceError.TheVariants.{Read, Write, Memory}
+use Rattle.fr_trace.specs.Feeds.{Begins}
 use Rattle.fr_trace.specs.ReportText.{report_text}
-use Rattle.fr_trace.specs.Stream.{fresh, take_bytes, outcome_of}
-use Rattle.fr_trace.specs.TraceText.{trace_text}
+use Rattle.fr_trace.specs.Stream.{failed, fresh, take_bytes, answer_of, outcome_of}
+use Rattle.fr_trace.specs.TraceText.{IsTold, trace_text}
 
 -- an error that the text alone gives
 abbrev pub IsOfText : TraceError → Type 0
@@ -15,32 +16,100 @@ IsOfText Write = ⊥
 IsOfText Memory = ⊥
 IsOfText e = Unit {0}
 
--- what the text gives, where it is known
-abbrev pub Gives : Option (List ℕ) → Result State TraceError → Type 0
-Gives None outcome = Unit {0}
-Gives (Some text) outcome = outcome_of (take_bytes fresh text) ≡ outcome
-
--- the report of what the text leaves has been written, or nothing has; of a failing writer nothing is said
-abbrev pub Leaves : Option (List ℕ) → Option (List ℕ) → Option (List ℕ) → Result (Unit {0}) TraceError → Type 0
-Leaves text old new (Ok x) = (s : State) × Gives text (Ok s) × IsLegalInterface s × Appends old new (report_text s)
-Leaves text old new (Err Write) = Unit {0}
-Leaves text old new (Err e) = (IsOfText e → Gives text (Err e)) × Keeps old new
-
--- ---- in terms of texts
-
--- the text is that of the interface, where it is known
-abbrev pub IsTextOf : State → Option (List ℕ) → Type 0
-IsTextOf s None = Unit {0}
-IsTextOf s (Some text) = text ≡ trace_text s
-
--- The text is that of a legal interface, and its report has been written. Or the text is refused by its first line at
--- fault, or reader or memory failed, and nothing has been written. Of a failing writer nothing is said.
-abbrev pub Audits : Option (List ℕ) → Option (List ℕ) → Option (List ℕ) → Result (Unit {0}) TraceError → Type 0
-Audits text old new (Ok x) = (s : State) × IsTextOf s text × IsLegalInterface s × Appends old new (report_text s)
-Audits text old new (Err Write) = Unit {0}
-Audits text old new (Err e) = (IsOfText e → Gives text (Err e)) × Keeps old new
-
 -- the text is not at fault
 abbrev pub IsNotRefused : {A : Type 0} → Result A TraceError → Type 0
 IsNotRefused (Ok x) = Unit {0}
 IsNotRefused (Err e) = IsOfText e → ⊥
+
+-- ---- what is done with a text, where it is known
+
+-- the text is that of the interface, of whose plan traces tell today
+abbrev pub IsTextOf : State → Option (List ℕ) → Type 0
+IsTextOf s None = Unit {0}
+IsTextOf s (Some text) = (text ≡ trace_text s) × IsTold s.plan
+
+-- the text is refused by this first fault
+abbrev pub IsRefused : TraceError → Option (List ℕ) → Type 0
+IsRefused e None = Unit {0}
+IsRefused e (Some text) = outcome_of (take_bytes fresh text) ≡ Err e
+
+-- an interface is made in the text
+abbrev pub HasBegin : Option (List ℕ) → Type 0
+HasBegin None = Unit {0}
+HasBegin (Some text) = Begins fresh text
+
+-- The text is that of a legal interface, whose report is written, or the writer failed at that. Or nothing is written, and
+-- the text is refused by its first line at fault, or memory ran out as the text's interface was made, or the reader failed.
+abbrev pub Audits : Option (List ℕ) → Option (List ℕ) → Option (List ℕ) → Result (Unit {0}) TraceError → Type 0
+Audits text old new (Ok x) = (s : State) × IsTextOf s text × IsLegalInterface s × Appends old new (report_text s)
+Audits text old new (Err Write) = (s : State) × IsTextOf s text × IsLegalInterface s
+Audits text old new (Err Read) = Keeps old new
+Audits text old new (Err Memory) = HasBegin text × Keeps old new
+Audits text old new (Err e) = IsRefused e text × Keeps old new
+
+-- ---- how far a text is read
+
+-- no fault shows in these bytes, whatever comes behind them
+abbrev pub HasNoFault : List ℕ → Type 0
+HasNoFault bytes = answer_of (take_bytes fresh bytes) ≡ Ok tt
+
+-- no fault has shown in what was read
+abbrev pub StopsEarly : List ℕ → List ℕ → Type 0
+StopsEarly text rest = (front : List ℕ) × (text ≡ front ++ rest) × HasNoFault front
+
+-- It is the last piece that decides: no fault shows before it, and of what comes behind it nothing was read.
+abbrev pub StopsIn : (List ℕ → List ℕ → Type 0) → List ℕ → List ℕ → Type 0
+StopsIn Decides text rest =
+    (front : List ℕ) × (piece : List ℕ) × (text ≡ front ++ (piece ++ rest)) × (length piece ≤ 4096) × HasNoFault front × Decides front piece
+
+-- all was read, and no fault showed before the end
+abbrev pub StopsAtEnd : List ℕ → List ℕ → Type 0
+StopsAtEnd text rest = (rest ≡ []) × HasNoFault text
+
+-- an interface is made in the piece
+abbrev pub BeginsIn : List ℕ → List ℕ → Type 0
+BeginsIn front piece = Begins (take_bytes fresh front) piece
+
+-- the fault stands in the piece
+abbrev pub FailsIn : TraceError → List ℕ → List ℕ → Type 0
+FailsIn e front piece = take_bytes fresh (front ++ piece) ≡ failed e
+
+-- The text is read to its end, if no fault shows before, and else up to the end of the piece that has the fault.
+abbrev pub StopsAt : List ℕ → List ℕ → Result (Unit {0}) TraceError → Type 0
+StopsAt text rest (Ok x) = StopsAtEnd text rest
+StopsAt text rest (Err Write) = StopsAtEnd text rest
+StopsAt text rest (Err Read) = StopsEarly text rest
+StopsAt text rest (Err Memory) = StopsIn BeginsIn text rest
+StopsAt text rest (Err e) = StopsAtEnd text rest ⊎ StopsIn (FailsIn e) text rest
+
+-- the same of a reader, where its bytes are known
+abbrev pub Stops : Option (List ℕ) → Option (List ℕ) → Result (Unit {0}) TraceError → Type 0
+Stops None rest r = Unit {0}
+Stops (Some text) None r = ⊥
+Stops (Some text) (Some rest) r = StopsAt text rest r
+
+-- ---- the two steps of an audit
+
+-- what reading through gives
+abbrev pub Through : List ℕ → List ℕ → Result State TraceError → Type 0
+Through text rest (Ok s) = StopsAtEnd text rest × (outcome_of (take_bytes fresh text) ≡ Ok s)
+Through text rest (Err Write) = ⊥
+Through text rest (Err Read) = StopsEarly text rest
+Through text rest (Err Memory) = StopsIn BeginsIn text rest
+Through text rest (Err e) = (outcome_of (take_bytes fresh text) ≡ Err e) × (StopsAtEnd text rest ⊎ StopsIn (FailsIn e) text rest)
+
+abbrev pub IsNotWrite : Result State TraceError → Type 0
+IsNotWrite (Err Write) = ⊥
+IsNotWrite r = Unit {0}
+
+-- the same of a reader, where its bytes are known
+abbrev pub ReadsThrough : Option (List ℕ) → Option (List ℕ) → Result State TraceError → Type 0
+ReadsThrough None rest r = IsNotWrite r
+ReadsThrough (Some text) None r = ⊥
+ReadsThrough (Some text) (Some rest) r = Through text rest r
+
+-- what is left of reader and writer
+abbrev pub Leaves : Option (List ℕ) → Option (List ℕ) → Option (List ℕ) → Option (List ℕ) → Result (Unit {0}) TraceError → Type 0
+Leaves text rest old new (Ok x) = (s : State) × ReadsThrough text rest (Ok s) × IsLegalInterface s × Appends old new (report_text s)
+Leaves text rest old new (Err Write) = (s : State) × ReadsThrough text rest (Ok s) × IsLegalInterface s
+Leaves text rest old new (Err e) = ReadsThrough text rest (Err e) × Keeps old new

@@ -1,19 +1,44 @@
 -- What a call of an auditor does.
-use Rattle.std.specs.Prelude.{◌≡◌, ℕ, List, ◌⊎◌, Result, Ok, Err}
-use Rattle.fr_trace.specs.Stream.{Progress, Phase, reading, failed, take_bytes, take_line, after_line}
+use Rattle.std.specs.Prelude.{◌≡◌, ℕ, List, ◌∷◌, ◌++◌, ◌⊎◌, None, Result, Ok, Err}
+use Rattle.fr_lines.specs.Spelling.{begin_line}
+use Rattle.fr_slots.specs.Faults.{plan_fault}
+use Rattle.fr_trace.specs.Stream.{Progress, Phase, reading, failed, lines, take_bytes, take_line, after_line}
 use Rattle.fr_trace.specs.declared.error.TraceError.{TraceError}
 use Rattle.fr_trace.specs.declared.error.TraceError.TheVariants.{Memory}
 
--- unless memory ran out, the bytes have been read
+-- ---- where memory is taken
+
+-- the line is the `begin` of a plan without fault
+abbrev pub IsBegin : Phase → List ℕ → Type 0
+IsBegin (lines p plan) line = (line ≡ begin_line) × (plan_fault p plan ≡ None)
+IsBegin p line = ⊥
+
+-- the same, of a line whose line feed comes next
+abbrev pub IsAtBegin : Progress → Type 0
+IsAtBegin (reading p line) = IsBegin p line
+IsAtBegin (failed e) = ⊥
+
+-- among these bytes the line feed of such a line comes
+abbrev pub Begins : Progress → List ℕ → Type 0
+Begins old bytes = (front : List ℕ) × (rest : List ℕ) × (bytes ≡ front ++ 10 ∷ rest) × IsAtBegin (take_bytes old front)
+
+-- ---- calls
+
+-- the bytes have been read, or memory ran out as an interface was made
 abbrev pub Reads : Progress → List ℕ → Progress → Type 0
-Reads old bytes new = (new ≡ take_bytes old bytes) ⊎ (new ≡ failed Memory)
+Reads old bytes new = (new ≡ take_bytes old bytes) ⊎ ((new ≡ failed Memory) × Begins old bytes)
 
 -- the same, of the end of a line
 abbrev pub EndsLine : Progress → Progress → Type 0
-EndsLine (failed e) new = Unit {0}
-EndsLine (reading p line) new = (new ≡ after_line (take_line p line)) ⊎ (new ≡ failed Memory)
+EndsLine (failed e) new = new ≡ failed e
+EndsLine (reading p line) new = (new ≡ after_line (take_line p line)) ⊎ ((new ≡ failed Memory) × IsBegin p line)
 
--- unless memory ran out, this is what a whole line gives
+-- this is what a whole line gives
 abbrev pub GivesPhase : {X : Type 0} → (X → Phase) → Result X TraceError → Result Phase TraceError → Type 0
 GivesPhase view (Ok x) read = read ≡ Ok (view x)
-GivesPhase view (Err e) read = (read ≡ Err e) ⊎ (e ≡ Memory)
+GivesPhase view (Err e) read = read ≡ Err e
+
+-- the same, unless memory ran out, which it may do under this condition alone
+abbrev pub GivesUnless : {X : Type 0} → Type 0 → (X → Phase) → Result X TraceError → Result Phase TraceError → Type 0
+GivesUnless may view (Ok x) read = read ≡ Ok (view x)
+GivesUnless may view (Err e) read = (read ≡ Err e) ⊎ ((e ≡ Memory) × may)

@@ -1,16 +1,18 @@
 -- What has been read of a trace, byte by byte. A line is looked at as its line feed comes.
-use Rattle.std.specs.Prelude.{ℕ, ◌+◌, ◌==◌, nat_le, Bool, ◌&&◌, List, [], ◌∷◌, ◌++◌, length, ℤ, Option, Some, None, is_none, Result, Ok, Err, if◌then◌else◌}
-use Rattle.std.specs.List.{fold, list_all}
+use Rattle.std.specs.Prelude.{ℕ, ◌+◌, ◌==◌, ◌&&◌, List, [], ◌∷◌, ◌++◌, length, ℤ, Option, Some, None, is_none, Result, Ok, Err, if◌then◌else◌}
+use Rattle.std.specs.List.{fold}
 use Rattle.std.specs.Str.{bytes_eq}
 use Rattle.fr_interface.specs.declared.entry.Entry.{Entry}
-use Rattle.fr_interface.specs.State.{State, with_entry, is_receive_buffer}
-use Rattle.fr_lines.specs.Reading.{params_in, node_in, receive_in, entry_in}
+use Rattle.fr_interface.specs.State.{State, with_entry}
+use Rattle.fr_lines.specs.Reading.{params_in, node_in, own_in, buffer_in, entry_in}
 use Rattle.fr_lines.specs.Spelling.{first_line, begin_line, end_line}
 use Rattle.fr_slots.specs.declared.params.RangeError.{RangeError}
 use Rattle.fr_slots.specs.declared.plan.Buffer.{Buffer}
+use Rattle.fr_slots.specs.declared.plan.Own.{Own}
 use Rattle.fr_slots.specs.declared.plan.Queue.{Queue}
+use Rattle.fr_slots.specs.Faults.{plan_fault}
 use Rattle.fr_slots.specs.Parameters.{Parameters, parameters_of}
-use Rattle.fr_slots.specs.Plans.{Plan, with_buffer}
+use Rattle.fr_slots.specs.Plans.{Plan, own_refusal, with_buffer, with_own}
 use Rattle.fr_text.specs.Spaces.{words_of}
 use Rattle.fr_trace.specs.Answers.{made_by, fault_of}
 use Rattle.fr_trace.specs.declared.replay.Fault.{Fault}
@@ -65,18 +67,30 @@ abbrev pub after_node : Parameters → Option Plan → Result Phase TraceError
 after_node p None = Err (BadLine 3)
 after_node p (Some plan) = Ok (lines p plan)
 
--- today a plan has one buffer at most
+abbrev pub bad_line : Plan → Result Phase TraceError
+bad_line plan = Err (BadLine (line_count plan + 4))
+
+-- today a trace's plan has one buffer at most
 abbrev pub after_buffer : Parameters → Plan → Option Buffer → Result Phase TraceError
-after_buffer p plan None = Err (BadLine (line_count plan + 4))
-after_buffer p plan (Some b) = if length plan.buffers == 0 then Ok (lines p (with_buffer plan b)) else Err (BadLine (line_count plan + 4))
+after_buffer p plan None = bad_line plan
+after_buffer p plan (Some b) = if length plan.buffers == 0 then Ok (lines p (with_buffer plan b)) else bad_line plan
 
--- at most one buffer, a receive buffer, and nothing else
-abbrev pub is_receive_plan : Plan → Bool
-is_receive_plan plan = nat_le (length plan.buffers) 1 && list_all is_receive_buffer plan.buffers && length plan.owned == 0 && is_none plan.queue
+-- ownership lines stand before the buffers, and there is room for 64
+abbrev pub after_own : Parameters → Plan → Own → Result Phase TraceError
+after_own p plan o = if length plan.buffers == 0 && is_none (own_refusal plan o) then Ok (lines p (with_own plan o)) else bad_line plan
 
+-- an ownership line, or else a buffer
+abbrev pub after_owned : Parameters → Plan → Option Own → List (List ℕ) → Result Phase TraceError
+after_owned p plan None words = after_buffer p plan (buffer_in words)
+after_owned p plan (Some o) words = after_own p plan o
+
+abbrev pub after_plan_line : Parameters → Plan → List (List ℕ) → Result Phase TraceError
+after_plan_line p plan words = after_owned p plan (own_in words) words
+
+-- an interface is made where the plan has no fault
 abbrev pub after_begin : Parameters → Plan → Result Phase TraceError
 after_begin p plan =
-    if is_receive_plan plan then Ok (body (record { params = p; plan = plan; entries = [] })) else Err (Refused (line_count plan + 4))
+    if is_none (plan_fault p plan) then Ok (body (record { params = p; plan = plan; entries = [] })) else Err (Refused (line_count plan + 4))
 
 abbrev pub error_of : ℕ → Fault → TraceError
 error_of number fault.Refused = Refused number
@@ -99,7 +113,7 @@ abbrev pub take_line : Phase → List ℕ → Result Phase TraceError
 take_line magic line = if bytes_eq line first_line then Ok params else Err BadMagic
 take_line params line = after_numbers (params_in (words_of line))
 take_line (node p) line = after_node p (node_in (words_of line))
-take_line (lines p plan) line = if bytes_eq line begin_line then after_begin p plan else after_buffer p plan (receive_in (words_of line))
+take_line (lines p plan) line = if bytes_eq line begin_line then after_begin p plan else after_plan_line p plan (words_of line)
 take_line (body s) line = if bytes_eq line end_line then Ok (finished s) else after_entry s (entry_in (words_of line))
 take_line (finished s) line = Err (BadLine (line_number (finished s)))
 

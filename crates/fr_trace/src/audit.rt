@@ -1,9 +1,9 @@
 //! The audit of a reader's bytes.
 
-ghost use Rattle.std.specs.Prelude.{◌≡◌, Ok, Err, Some, MatchResult};
+ghost use Rattle.std.specs.Prelude.{◌≡◌, Some};
 ghost use Rattle.fr_interface.specs.State.{State, IsLegalInterface};
-ghost use Rattle.fr_trace.specs.Audit.{Audits, Leaves, Gives, IsNotRefused, IsOfText};
-ghost use Rattle.fr_trace.specs.TraceText.{trace_text};
+ghost use Rattle.fr_trace.specs.Audit.{Audits, Stops, Leaves, ReadsThrough, IsNotRefused};
+ghost use Rattle.fr_trace.specs.TraceText.{IsTold, trace_text};
 
 use crate::auditor::Auditor;
 use crate::error::TraceError;
@@ -17,7 +17,7 @@ const ROOM: usize = 4096;
 
 /// What the reader's bytes leave. It reads no further once an error stands.
 fn read_through<R: Read>(alloc: Global, reader: &mut R) -> Result<Interface, TraceError>
-    ensures { MatchResult result (λ i. Gives (R.remaining reader.old) (Ok i)) (λ e. IsOfText e → Gives (R.remaining reader.old) (Err e)) }
+    ensures { ReadsThrough (R.remaining reader.old) (R.remaining reader.new) result }
 {
     let mut auditor = Auditor::new(alloc);
     let mut room = [0u8; ROOM];
@@ -42,7 +42,7 @@ fn audit_through<R: Read, W: Write>(
     reader: &mut R,
     writer: &mut W,
 ) -> Result<(), TraceError>
-    ensures { Leaves (R.remaining reader.old) (W.contents writer.old) (W.contents writer.new) result }
+    ensures { Leaves (R.remaining reader.old) (R.remaining reader.new) (W.contents writer.old) (W.contents writer.new) result }
 {
     let interface = match read_through(alloc, reader) {
         Ok(interface) => interface,
@@ -55,8 +55,8 @@ fn audit_through<R: Read, W: Write>(
 ///
 /// Refused with the error of the first line at fault, at which it stops reading; with `Read` where the
 /// reader fails; with `Memory` where memory is refused; and with `Write` where the writer fails. On
-/// every error but `Write` nothing is written; after `Write` an unstated part of the report may have
-/// gone out.
+/// every error but `Write` nothing is written; after `Write` some of the report may have been
+/// written.
 pub fn audit<R: Read, W: Write>(
     alloc: Global,
     reader: &mut R,
@@ -64,8 +64,10 @@ pub fn audit<R: Read, W: Write>(
 ) -> Result<(), TraceError>
     // What is accepted is the text of a legal interface, whose report is written, and nothing else.
     ensures found { Audits (R.remaining reader.old) (W.contents writer.old) (W.contents writer.new) result }
+    // It reads in pieces of at most 4096 bytes, and none behind the one that has the fault.
+    ensures read { Stops (R.remaining reader.old) (R.remaining reader.new) result }
     // The text of a legal interface is not refused.
-    ensures only { (s : State) → IsLegalInterface s → R.remaining reader.old ≡ Some (trace_text s) → IsNotRefused result }
+    ensures only { (s : State) → IsLegalInterface s → IsTold s.plan → R.remaining reader.old ≡ Some (trace_text s) → IsNotRefused result }
 {
     audit_through(alloc, reader, writer)
 }

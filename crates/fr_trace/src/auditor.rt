@@ -1,25 +1,25 @@
 //! An auditor reads a trace that comes in pieces. It keeps at most one unfinished line beside the plan
 //! or the interface.
 
-ghost use Rattle.std.specs.Prelude.{◌≡◌, ◌+◌, ◌≤◌, length};
-ghost use Rattle.std.specs.List.{list_all};
-ghost use Rattle.fr_interface.specs.State.{is_receive_buffer};
-ghost use Rattle.fr_lines.specs.Reading.{receive_in};
+ghost use Rattle.std.specs.Prelude.{◌≡◌, ◌+◌, ◌≤◌, length, None};
+ghost use Rattle.fr_lines.specs.Reading.{buffer_in};
+ghost use Rattle.fr_slots.specs.Faults.{plan_fault};
 ghost use Rattle.fr_text.specs.Spaces.{words_of};
 ghost use Rattle.fr_trace.specs.Auditor.{phase_of};
-ghost use Rattle.fr_trace.specs.Feeds.{GivesPhase};
-ghost use Rattle.fr_trace.specs.Stream.{params, node, lines, body, take_line, too_long, line_number, line_count, is_receive_plan, after_begin, after_buffer};
+ghost use Rattle.fr_trace.specs.Feeds.{GivesPhase, GivesUnless, IsBegin};
+ghost use Rattle.fr_trace.specs.Stream.{params, node, lines, body, take_line, too_long, line_number, line_count, after_begin, after_buffer, after_own};
 
 use crate::error::TraceError;
 use crate::replay::{Fault, replay};
 use arrayvec::ArrayVec;
 use fr_interface::interface::Interface;
-use fr_lines::buffers::receive_of;
+use fr_lines::buffers::buffer_of;
 use fr_lines::entries::entry_of;
 use fr_lines::nodes::node_of;
+use fr_lines::owned::own_of;
 use fr_lines::parameters::params_of;
 use fr_slots::params::Params;
-use fr_slots::plan::{Buffer, Mode, NodePlan};
+use fr_slots::plan::{NodePlan, Own};
 use std::alloc::Global;
 use std::marker::Model;
 use std::mem;
@@ -72,32 +72,6 @@ fn line_number(phase: &Phase) -> u32
     }
 }
 
-fn is_receive(buffer: &Buffer) -> bool
-    ensures { result ≡ is_receive_buffer buffer.now }
-{
-    match buffer.mode {
-        Mode::Receive => true,
-        Mode::Event | Mode::State => false,
-    }
-}
-
-fn all_receive(buffers: &[Buffer]) -> bool
-    ensures { result ≡ list_all is_receive_buffer buffers.now }
-{
-    buffers.iter().all(is_receive)
-}
-
-/// Whether interfaces are made for the plan today: it has at most one buffer, a receive buffer, and
-/// nothing else.
-fn is_receive_plan(plan: &NodePlan) -> bool
-    ensures { result ≡ is_receive_plan plan.now }
-{
-    if plan.buffers().len() > 1 || !all_receive(plan.buffers()) {
-        return false;
-    }
-    plan.owned().is_empty() && plan.queue().is_none()
-}
-
 /// The line of the parameters.
 fn parameters_line(line: &[u8]) -> Result<Phase, TraceError>
     ensures { GivesPhase phase_of result (take_line params line.now) }
@@ -123,9 +97,9 @@ fn node_line(params: Params, line: &[u8]) -> Result<Phase, TraceError>
 
 /// The line `begin`, at which alone memory is taken.
 fn begin(alloc: Global, params: Params, plan: NodePlan) -> Result<Phase, TraceError>
-    ensures { GivesPhase phase_of result (after_begin params plan) }
+    ensures { GivesUnless (plan_fault params plan ≡ None) phase_of result (after_begin params plan) }
 {
-    if !is_receive_plan(&plan) {
+    if plan.fault(&params).is_some() {
         return Err(TraceError::Refused(line_count(&plan) + 4));
     }
     match Interface::new(alloc, &params, &plan) {
@@ -134,18 +108,32 @@ fn begin(alloc: Global, params: Params, plan: NodePlan) -> Result<Phase, TraceEr
     }
 }
 
-/// A line of the plan: a receive buffer, of which there may be one today.
+/// A buffer of the plan, of which a trace may have one today.
 fn buffer_line(params: Params, mut plan: NodePlan, line: &[u8]) -> Result<Phase, TraceError>
-    ensures { GivesPhase phase_of result (after_buffer params plan (receive_in (words_of line.now))) }
+    ensures { GivesPhase phase_of result (after_buffer params plan (buffer_in (words_of line.now))) }
 {
     let number = line_count(&plan) + 4;
-    let Some(buffer) = receive_of(line) else {
+    let Some(buffer) = buffer_of(line) else {
         return Err(TraceError::BadLine(number));
     };
     if !plan.buffers().is_empty() {
         return Err(TraceError::BadLine(number));
     }
     match plan.add_buffer(buffer) {
+        Ok(()) => Ok(Phase::Lines(params, plan)),
+        Err(_) => Err(TraceError::BadLine(number)),
+    }
+}
+
+/// An ownership line of the plan, which stands before its buffers.
+fn own_line(params: Params, mut plan: NodePlan, own: Own) -> Result<Phase, TraceError>
+    ensures { GivesPhase phase_of result (after_own params plan own) }
+{
+    let number = line_count(&plan) + 4;
+    if !plan.buffers().is_empty() {
+        return Err(TraceError::BadLine(number));
+    }
+    match plan.add_own(own) {
         Ok(()) => Ok(Phase::Lines(params, plan)),
         Err(_) => Err(TraceError::BadLine(number)),
     }
@@ -158,12 +146,14 @@ fn plan_line(
     plan: NodePlan,
     line: &[u8],
 ) -> Result<Phase, TraceError>
-    ensures { GivesPhase phase_of result (take_line (lines params plan) line.now) }
+    ensures { GivesUnless (IsBegin (lines params plan) line.now) phase_of result (take_line (lines params plan) line.now) }
 {
     if line == b"begin".as_slice() {
-        begin(alloc, params, plan)
-    } else {
-        buffer_line(params, plan, line)
+        return begin(alloc, params, plan);
+    }
+    match own_of(line) {
+        Some(own) => own_line(params, plan, own),
+        None => buffer_line(params, plan, line),
     }
 }
 
@@ -187,7 +177,7 @@ fn body_line(mut interface: Interface, line: &[u8]) -> Result<Phase, TraceError>
 
 /// What follows a whole line.
 fn after(alloc: Global, phase: Phase, line: &[u8]) -> Result<Phase, TraceError>
-    ensures { GivesPhase phase_of result (take_line (phase_of phase) line.now) }
+    ensures { GivesUnless (IsBegin (phase_of phase) line.now) phase_of result (take_line (phase_of phase) line.now) }
 {
     match phase {
         Phase::Magic => {

@@ -15,7 +15,8 @@ pub enum TraceError {
     /// The line has more than 1200 bytes before its line feed.
     #[error("LineTooLong {0}")]
     LineTooLong(u32),
-    /// The parameters are unlawful, or the interface refuses the call of the line.
+    /// The parameters are unlawful, the plan has a fault for them, or the interface refuses the call of
+    /// the line.
     #[error("Refused {0}")]
     Refused(u32),
     /// The call of the line has another answer.

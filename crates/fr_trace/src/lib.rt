@@ -9,3 +9,4 @@ mod replay;
 pub mod report;
 #[cfg(test)]
 mod tests;
+pub mod trace;

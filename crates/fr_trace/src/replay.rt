@@ -74,16 +74,21 @@ fn same_answer(made: &Entry, told: &Entry) -> bool
 }
 
 /// Makes the call of the entry, and says whether the interface accepts it. No call is made today for
-/// commits and pops, whose lines aren't read.
+/// pops, whose lines aren't read.
 fn is_accepted(interface: &mut Interface, entry: &Entry) -> bool
     ensures accepted { result ≡ not (is_refused interface.old entry.now) }
     ensures made { result ≡ true → interface.new ≡ with_entry interface.old (made_by interface.old entry.now) }
 {
     match entry {
+        Entry::Commit {
+            task,
+            buffer,
+            payload,
+        } => interface.commit(*task, *buffer, payload).is_ok(),
         Entry::Read { task, buffer, .. } => interface.read(*task, *buffer).is_ok(),
         Entry::Fetch { window, .. } => interface.fetch(window).is_ok(),
         Entry::Observe { window, a, b } => interface.observe(*window, a, b).is_ok(),
-        Entry::Commit { .. } | Entry::Pop { .. } => false,
+        Entry::Pop { .. } => false,
     }
 }
 

@@ -2,11 +2,13 @@
 
 ghost use Rattle.std.specs.Prelude.{◌≡◌, OnOk, IfErr};
 ghost use Rattle.std.specs.Io.KnownBytes.{Appends};
-ghost use Rattle.fr_trace.specs.ReportText.{receive_words, report_text};
-ghost use Rattle.fr_trace.specs.TraceText.{line_text};
+ghost use Rattle.fr_interface.specs.State.{received_by, tally_by};
+ghost use Rattle.fr_trace.specs.ReportText.{answer_words, held_words, report_text, tally_words};
+ghost use Rattle.fr_lines.specs.Spelling.{line_text};
 
 use crate::error::TraceError;
 use fr_interface::entry::Arrival;
+use fr_interface::fate::Tally;
 use fr_interface::interface::Interface;
 use fr_slots::channel::Channel;
 use fr_text::hexes::write_hex;
@@ -15,7 +17,7 @@ use std::io::Write;
 
 /// Writes the line of a receive buffer.
 fn write_receive<W: Write>(writer: &mut W, number: u8, held: &Option<Arrival>) -> io::Result<()>
-    ensures { OnOk result (Appends (W.contents writer.old) (W.contents writer.new) (line_text (receive_words number held.now))) }
+    ensures { OnOk result (Appends (W.contents writer.old) (W.contents writer.new) (line_text (held_words number held.now))) }
 {
     let Some(arrival) = held else {
         return writeln!(writer, "rx {number} - -");
@@ -29,21 +31,39 @@ fn write_receive<W: Write>(writer: &mut W, number: u8, held: &Option<Arrival>) -
     writer.write_all(b"\n")
 }
 
+/// Writes the line of a transmit buffer.
+fn write_transmit<W: Write>(writer: &mut W, number: u8, tally: &Tally) -> io::Result<()>
+    ensures { OnOk result (Appends (W.contents writer.old) (W.contents writer.new) (line_text (tally_words number tally.now))) }
+{
+    write!(writer, "tx {number} {} {}", tally.committed, tally.sent)?;
+    writeln!(writer, " {} {}", tally.overwritten, tally.pending)
+}
+
+/// Writes the line of a buffer, by what the interface tells of it.
+fn write_buffer<W: Write>(interface: &Interface, writer: &mut W, number: u8) -> io::Result<()>
+    ensures { OnOk result (Appends (W.contents writer.old) (W.contents writer.new) (line_text (answer_words number (tally_by interface.now number) (received_by interface.now number)))) }
+{
+    match interface.tally(number) {
+        Some(tally) => write_transmit(writer, number, &tally),
+        None => write_receive(writer, number, &interface.received(number)),
+    }
+}
+
 /// Writes the lines of the buffers.
 fn write_buffers<W: Write>(interface: &Interface, writer: &mut W) -> io::Result<()>
     ensures { OnOk result (Appends (W.contents writer.old) (W.contents writer.new) (report_text interface.now)) }
 {
     let count = interface.plan().buffers().len() as u8;
     for number in 0..count {
-        write_receive(writer, number, &interface.received(number))?;
+        write_buffer(interface, writer, number)?;
     }
     Ok(())
 }
 
 /// Writes the report of an interface: a line for each buffer, in order of their numbers.
 ///
-/// Refused with `Write` where the writer fails, and then an unstated part of the report may have gone
-/// out.
+/// Refused with `Write` where the writer fails, and then some of the report may have been
+/// written.
 pub fn write_report<W: Write>(interface: &Interface, writer: &mut W) -> Result<(), TraceError>
     ensures written { OnOk result (Appends (W.contents writer.old) (W.contents writer.new) (report_text interface.now)) }
     ensures refused { IfErr result (λ e. e ≡ TraceError.Write) }

@@ -4,6 +4,7 @@ use crate::audit::audit;
 use crate::auditor::Auditor;
 use crate::error::TraceError;
 use crate::pieces::audit_pieces;
+use crate::trace::write_trace;
 use std::alloc::Global;
 use std::io::{self, Read, Write};
 use std::test::Fail;
@@ -22,6 +23,22 @@ const LINES: [&[u8]; 13] = [
     b"fetch 1 1 0 2 2 - -\n",
     b"see 1 x000203c1410000d14f6c -\n",
     b"read 0 0 2:A\n",
+    b"end\n",
+];
+
+/// The lines of a trace in which the second of three commits is sent.
+const THREE_COMMITS: [&[u8]; 12] = [
+    b"frtrace 1\n",
+    b"params 3 4 1 20 5 0 10 90 0 5\n",
+    b"node 1 0 0 8 8\n",
+    b"own 1 A 0 0\n",
+    b"tx event 1 A 0 1 - 0\n",
+    b"begin\n",
+    b"commit 0 0 x0001\n",
+    b"commit 0 0 x0002\n",
+    b"fetch 0 0 0 1 1 1 -\n",
+    b"commit 0 0 x0003\n",
+    b"see 0 own -\n",
     b"end\n",
 ];
 
@@ -214,15 +231,11 @@ fn an_offer_of_a_commit_is_a_wrong_answer(rt: HostRuntime) {
     );
 }
 
-// Lines of a plan or a journal that no interface has today.
+// Lines of a plan or a journal that no trace has today.
 
 #[test]
-fn a_plan_has_one_receive_buffer_alone(rt: HostRuntime) {
+fn a_plan_has_one_buffer_and_no_queue(rt: HostRuntime) {
     let mut lines = LINES;
-    lines[3] = b"own 1 A 0 0\n";
-    assert_eq!(rt; refusals(rt.alloc(), &lines), all(TraceError::BadLine(4)));
-    lines[3] = b"tx event 1 A 0 1 - 0\n";
-    assert_eq!(rt; refusals(rt.alloc(), &lines), all(TraceError::BadLine(4)));
     lines[3] = b"queue 2 4 7 AB 0 1\n";
     assert_eq!(rt; refusals(rt.alloc(), &lines), all(TraceError::BadLine(4)));
     let mut lines = LINES;
@@ -231,12 +244,135 @@ fn a_plan_has_one_receive_buffer_alone(rt: HostRuntime) {
 }
 
 #[test]
-fn a_journal_has_no_commits_and_pops(rt: HostRuntime) {
+fn a_journal_has_no_pops(rt: HostRuntime) {
     let mut lines = LINES;
-    lines[5] = b"commit 0 0 x0001\n";
-    assert_eq!(rt; refusals(rt.alloc(), &lines), all(TraceError::BadLine(6)));
     lines[5] = b"pop 0 -\n";
     assert_eq!(rt; refusals(rt.alloc(), &lines), all(TraceError::BadLine(6)));
+}
+
+// Transmit buffers.
+
+#[test]
+fn commits_are_told_by_their_fates(rt: HostRuntime) -> Result<(), Fail> {
+    let mut report = Vec::with_capacity(rt.alloc(), 64)?;
+    audit(rt.alloc(), &mut reader(&THREE_COMMITS), &mut report)?;
+    assert_eq!(rt; report.as_slice(), b"tx 0 3 1 1 1\n".as_slice());
+    assert_eq!(rt; refusals(rt.alloc(), &THREE_COMMITS), [None; 3]);
+    Ok(())
+}
+
+/// The trace that is written of the interface that these lines leave.
+fn written(alloc: Global, lines: &[&[u8]]) -> Result<Vec<u8>, Fail> {
+    let interface = audit_pieces(alloc, lines)?;
+    let mut text = Vec::with_capacity(alloc, 512)?;
+    write_trace(&interface, &mut text)?;
+    Ok(text)
+}
+
+#[test]
+fn an_interface_is_written_as_the_trace_that_told_of_it(rt: HostRuntime) -> Result<(), Fail> {
+    for lines in [LINES.as_slice(), THREE_COMMITS.as_slice()] {
+        let mut text = Vec::with_capacity(rt.alloc(), 512)?;
+        for line in lines {
+            text.write_all(line)?;
+        }
+        assert_eq!(rt; written(rt.alloc(), lines)?.as_slice(), text.as_slice());
+    }
+    Ok(())
+}
+
+#[test]
+fn a_trace_that_cannot_be_written_is_write(rt: HostRuntime) -> Result<(), Fail> {
+    let interface = audit_pieces(rt.alloc(), &THREE_COMMITS)?;
+    for left in 0..12 {
+        let answer = write_trace(&interface, &mut Breaking { left });
+        assert_eq!(rt; answer, Err(TraceError::Write));
+    }
+    Ok(())
+}
+
+#[test]
+fn a_plan_with_a_fault_is_refused_at_begin(rt: HostRuntime) {
+    let mut lines = THREE_COMMITS;
+    lines[3] = b"own 2 A 0 0\n";
+    assert_eq!(rt; refusals(rt.alloc(), &lines), all(TraceError::Refused(6)));
+    lines[3] = b"own 4 A 0 0\n";
+    assert_eq!(rt; refusals(rt.alloc(), &lines), all(TraceError::Refused(6)));
+    let mut lines = THREE_COMMITS;
+    lines[4] = b"tx event 1 A 0 1 1 0\n";
+    assert_eq!(rt; refusals(rt.alloc(), &lines), all(TraceError::Refused(6)));
+}
+
+#[test]
+fn a_line_of_a_plan_has_its_place_and_range(rt: HostRuntime) {
+    for wrong in [
+        b"own 1 A 0 1\n".as_slice(),
+        b"own 1024 A 0 0\n",
+        b"own 0 A 0 0\n",
+        b"own 1 C 0 0\n",
+    ] {
+        let mut lines = THREE_COMMITS;
+        lines[3] = wrong;
+        assert_eq!(rt; refusals(rt.alloc(), &lines), all(TraceError::BadLine(4)));
+    }
+    for wrong in [
+        b"tx receive 1 A 0 1 - 0\n".as_slice(),
+        b"tx event 1 A 0 3 - 0\n",
+        b"tx event 1 A 0 1 128 0\n",
+        b"tx event 1 A 0 1 - 2\n",
+        b"tx event 1 A 0 1 -\n",
+    ] {
+        let mut lines = THREE_COMMITS;
+        lines[4] = wrong;
+        assert_eq!(rt; refusals(rt.alloc(), &lines), all(TraceError::BadLine(5)));
+    }
+    let mut lines = THREE_COMMITS;
+    lines.swap(3, 4);
+    assert_eq!(rt; refusals(rt.alloc(), &lines), all(TraceError::BadLine(5)));
+}
+
+#[test]
+fn a_plan_has_at_most_64_ownership_lines(rt: HostRuntime) {
+    let mut lines = [b"own 1 A 0 0\n".as_slice(); 68];
+    lines[0] = THREE_COMMITS[0];
+    lines[1] = THREE_COMMITS[1];
+    lines[2] = THREE_COMMITS[2];
+    assert_eq!(rt;
+        refusals(rt.alloc(), &lines[..67]),
+        all(TraceError::Truncated)
+    );
+    assert_eq!(rt; refusals(rt.alloc(), &lines), all(TraceError::BadLine(68)));
+}
+
+#[test]
+fn a_commit_is_a_payload_of_its_buffers_length(rt: HostRuntime) {
+    let mut lines = THREE_COMMITS;
+    lines[6] = b"commit 0 0 x00\n";
+    assert_eq!(rt; refusals(rt.alloc(), &lines), all(TraceError::BadLine(7)));
+    lines[6] = b"commit 0 0 x00010002\n";
+    assert_eq!(rt; refusals(rt.alloc(), &lines), all(TraceError::Refused(7)));
+    lines[6] = b"commit 0 1 x0001\n";
+    assert_eq!(rt; refusals(rt.alloc(), &lines), all(TraceError::Refused(7)));
+    lines[6] = b"read 0 0 -\n";
+    assert_eq!(rt; refusals(rt.alloc(), &lines), all(TraceError::Refused(7)));
+}
+
+#[test]
+fn an_offer_is_what_the_call_answers(rt: HostRuntime) {
+    for wrong in [
+        b"fetch 0 0 0 1 1 0 -\n".as_slice(),
+        b"fetch 0 0 0 1 1 null -\n",
+        b"fetch 0 0 0 1 1 - -\n",
+        b"fetch 0 0 0 1 1 1 1\n",
+        b"fetch 0 0 0 1 1 7 -\n",
+    ] {
+        let mut lines = THREE_COMMITS;
+        lines[8] = wrong;
+        assert_eq!(rt;
+            refusals(rt.alloc(), &lines),
+            all(TraceError::WrongAnswer(9))
+        );
+    }
 }
 
 #[test]

@@ -2,26 +2,30 @@ use Rattle.std.proofs.Common.{◌≡◌, ℕ, List, Result, Ok, Err, ◌⊎◌, 
 use Rattle.std.specs.Prelude.{IfOk}
 use Rattle.std.specs.List.{flat_map}
 use Rattle.fr_interface.specs.State.{State, IsLegalInterface}
-use Rattle.fr_trace.specs.Feeds.{Reads}
+use Rattle.fr_trace.specs.Feeds.{Begins, Reads}
 use Rattle.fr_trace.specs.Stream.{Progress, fresh, take_bytes, outcome_of}
-use Rattle.fr_trace.specs.TraceText.{trace_text}
+use Rattle.fr_trace.specs.TraceText.{IsTold, trace_text}
 use Rattle.fr_trace.specs.declared.error.TraceError.{TraceError}
 use Rattle.fr_trace.specs.declared.error.TraceError.TheVariants.{Memory}
 use Rattle.fr_trace.proofs.OutcomeLemmas.{accepted_text, legal_outcome}
 use Rattle.fr_trace.proofs.pieces.audit_pieces.Goals as goal
 
-exact : (p : Progress) (text : List ℕ) (r : Result State TraceError) → Reads fresh text p → r ≡ outcome_of p → (r ≡ outcome_of (take_bytes fresh text)) ⊎ (r ≡ Err Memory)
-exact p text r (inl read) is = inl (is ∙ ap outcome_of read)
-exact p text r (inr out) is = inr (is ∙ ap outcome_of out)
+-- the answer is the text's, unless memory ran out as an interface was made
+abbrev Answers : List ℕ → Result State TraceError → Type 0
+Answers text r = (r ≡ outcome_of (take_bytes fresh text)) ⊎ ((r ≡ Err Memory) × Begins fresh text)
 
-found : (text : List ℕ) (r : Result State TraceError) → IfOk r IsLegalInterface → (r ≡ outcome_of (take_bytes fresh text)) ⊎ (r ≡ Err Memory) → IfOk r (λ s. (text ≡ trace_text s) × IsLegalInterface s)
-found text (Ok s) legal (inl e) = (accepted_text text s (cc e), legal)
-found text (Ok s) legal (inr e) = cc e
+exact : (p : Progress) (text : List ℕ) (r : Result State TraceError) → Reads fresh text p → r ≡ outcome_of p → Answers text r
+exact p text r (inl read) is = inl (is ∙ ap outcome_of read)
+exact p text r (inr out) is = inr (is ∙ ap outcome_of out.0, out.1)
+
+found : (text : List ℕ) (r : Result State TraceError) → IfOk r IsLegalInterface → Answers text r → IfOk r (λ s. (text ≡ trace_text s) × IsTold s.plan × IsLegalInterface s)
+found text (Ok s) legal (inl e) = let is = accepted_text text s (cc e) in (is.0, is.1, legal)
+found text (Ok s) legal (inr e) = cc e.0
 found text (Err f) legal e = tt
 
-only : (text : List ℕ) (r : Result State TraceError) (s : State) → IsLegalInterface s → text ≡ trace_text s → (r ≡ outcome_of (take_bytes fresh text)) ⊎ (r ≡ Err Memory) → (r ≡ Ok s) ⊎ (r ≡ Err Memory)
-only text r s is same (inl e) = inl (e ∙ legal_outcome text s is same)
-only text r s is same (inr e) = inr e
+only : (text : List ℕ) (r : Result State TraceError) (s : State) → IsLegalInterface s → IsTold s.plan → text ≡ trace_text s → Answers text r → (r ≡ Ok s) ⊎ (r ≡ Err Memory)
+only text r s is told same (inl e) = inl (e ∙ legal_outcome text s is told same)
+only text r s is told same (inr e) = inr e.0
 
 pub returns : goal.returns
 returns c =
@@ -30,6 +34,6 @@ returns c =
     let which = exact c.fed-auditor.result text result c.fed-auditor.ensures (c.lawful.ensures.same ∙ c.finish.ensures) in
     record {
       found = found text result c.lawful.ensures.legal which;
-      only = λ s is same. only text result s is same which;
+      only = λ s is told same. only text result s is told same which;
       exact = which;
     }

@@ -10,7 +10,7 @@ invariant_of-result c = record {
   legal = record {
     params_are = search rules;
     plan_is = search rules;
-    receives = search rules;
+    faultless = search rules;
     entries_are = search rules;
     legal = search rules;
   };

@@ -24,7 +24,7 @@ invariant_of-self c =
       legal = record {
         params_are = legal.params_are;
         plan_is = legal.plan_is;
-        receives = legal.receives;
+        faultless = legal.faultless;
         entries_are = AllAfter-snoc _ _ _ legal.entries_are (c.ranges.number.fits, subst IsSeen (sym c.kept.ensures.value) c.kept.ensures.fits, subst IsSeen (sym c.kept-2.ensures.value) c.kept-2.ensures.fits);
         legal = AllAfter-snoc _ _ _ legal.legal (subst (λ (o : Option Opportunity). IsSomeAnd o (λ w. w.number ≡ c.args.number)) (sym opened) (search rules));
       };

@@ -2,7 +2,7 @@ use Rattle.std.proofs.Common.{◌≡◌, Option, ap, arith, rules, Some, sym, su
 use Rattle.std.specs.Prelude.{IsSomeAnd}
 use Rattle.fr_interface.specs.Entries.{IsOrigin}
 use Rattle.fr_interface.specs.Held.{held, origin_of}
-use Rattle.fr_interface.specs.Legal.{buffer_at}
+use Rattle.fr_interface.specs.Offers.{buffer_at}
 use Rattle.fr_interface.proofs.HeldPlaceLemmas.{origin_fits}
 use Rattle.fr_slots.specs.declared.plan.Buffer.{Buffer}
 use Rattle.fr_slots.specs.Plans.{is_receive}
@@ -25,7 +25,7 @@ invariant_of-self c =
       legal = record {
         params_are = legal.params_are;
         plan_is = legal.plan_is;
-        receives = legal.receives;
+        faultless = legal.faultless;
         entries_are = AllAfter-snoc _ _ _ legal.entries_are (c.number.ensures.fits, c.ranges.buffer.fits, subst IsOrigin (sym from_is) (origin_fits params filter entries few));
         legal = AllAfter-snoc _ _ _ legal.legal (record {
           task_is = omega (arith, c.number.ensures.value, c.tasks.ensures.value);

@@ -1,0 +1,257 @@
+//! The lines of a trace, written with their line feeds (own profile).
+//!
+//! Each function fails where the writer fails, and then a part of the line may have gone out.
+ghost use Rattle.std.specs.Prelude.{◌≡◌, ◌∷◌, OnOk};
+ghost use Rattle.std.specs.Io.KnownBytes.{Appends};
+ghost use Rattle.fr_interface.specs.declared.entry.Entry.TheVariants as entries;
+ghost use Rattle.fr_lines.specs.Parts.{channels_word, flag_word, from_word, offered_word, optional_number, seen_word};
+ghost use Rattle.fr_lines.specs.Spelling.{line_text, params_words, node_words, own_words, transmit_words, receive_words, buffer_words, queue_words, entry_words};
+
+use fr_frame::payload::Payload;
+use fr_interface::entry::{Entry, Offered, Origin};
+use fr_slots::channel::{Channel, Channels};
+use fr_slots::filter::Filter;
+use fr_slots::numbers::{SlotId, TaskId};
+use fr_slots::params::Params;
+use fr_slots::plan::{Buffer, Mode, NodePlan, Own, Queue};
+use fr_slots::window::Window;
+use fr_status::seen::Seen;
+use fr_text::hexes::write_hex;
+use std::io;
+use std::io::Write;
+
+/// The word of channels.
+fn channels_word(channels: Channels) -> &'static str
+    ensures { result.now ≡ channels_word channels }
+{
+    match channels {
+        Channels::A => "A",
+        Channels::B => "B",
+        Channels::Both => "AB",
+    }
+}
+
+/// The word of a flag.
+fn flag_word(flag: bool) -> &'static str
+    ensures { result.now ≡ flag_word flag }
+{
+    if flag { "1" } else { "0" }
+}
+
+/// Writes a space, and the word of a slot or of none.
+fn write_slot<W: Write>(writer: &mut W, slot: Option<SlotId>) -> io::Result<()>
+    ensures { OnOk result (Appends (W.contents writer.old) (W.contents writer.new) (32 ∷ optional_number slot)) }
+{
+    match slot {
+        Some(slot) => write!(writer, " {}", slot.number()),
+        None => write!(writer, " -"),
+    }
+}
+
+/// Writes a space, and the word of words of two bytes, or of none stated.
+fn write_size<W: Write>(writer: &mut W, words: Option<u8>) -> io::Result<()>
+    ensures { OnOk result (Appends (W.contents writer.old) (W.contents writer.new) (32 ∷ optional_number words)) }
+{
+    match words {
+        Some(words) => write!(writer, " {words}"),
+        None => write!(writer, " -"),
+    }
+}
+
+/// Writes a space, and the word of where a frame comes from.
+fn write_from<W: Write>(writer: &mut W, from: &Option<Origin>) -> io::Result<()>
+    ensures { OnOk result (Appends (W.contents writer.old) (W.contents writer.new) (32 ∷ from_word from.now)) }
+{
+    let Some(origin) = from else {
+        return write!(writer, " -");
+    };
+    match origin.channel {
+        Channel::A => write!(writer, " {}:A", origin.entry),
+        Channel::B => write!(writer, " {}:B", origin.entry),
+    }
+}
+
+/// Writes a space, and the word of what is offered.
+fn write_offered<W: Write>(writer: &mut W, offered: Offered) -> io::Result<()>
+    ensures { OnOk result (Appends (W.contents writer.old) (W.contents writer.new) (32 ∷ offered_word offered)) }
+{
+    match offered {
+        Offered::Nothing => write!(writer, " -"),
+        Offered::Null => write!(writer, " null"),
+        Offered::Data(commit) => write!(writer, " {commit}"),
+    }
+}
+
+/// Writes a space, and the word of what was seen.
+fn write_seen<W: Write>(writer: &mut W, seen: &Seen) -> io::Result<()>
+    ensures { OnOk result (Appends (W.contents writer.old) (W.contents writer.new) (32 ∷ seen_word seen.now)) }
+{
+    match seen {
+        Seen::Silence => write!(writer, " -"),
+        Seen::Own => write!(writer, " own"),
+        Seen::Conflict => write!(writer, " conflict"),
+        Seen::Noise => write!(writer, " noise"),
+        Seen::Overrun => write!(writer, " overrun"),
+        Seen::Bytes(bytes) => {
+            write!(writer, " ")?;
+            write_hex(writer, bytes.as_slice())
+        }
+    }
+}
+
+/// Writes the line of the parameters.
+pub fn write_params<W: Write>(writer: &mut W, params: &Params) -> io::Result<()>
+    ensures { OnOk result (Appends (W.contents writer.old) (W.contents writer.new) (line_text (params_words params.now))) }
+{
+    write!(
+        writer,
+        "params {} {}",
+        params.static_slots, params.minislots
+    )?;
+    write!(writer, " {} {}", params.static_words, params.static_mt)?;
+    write!(writer, " {} {}", params.minislot_mt, params.symbol_mt)?;
+    write!(writer, " {} {}", params.nit_mt, params.cycle_mt)?;
+    writeln!(writer, " {} {}", params.idle, params.words_per_minislot)
+}
+
+/// Writes the line of a plan's numbers. Its ownership lines, buffers and queue have lines of their own.
+pub fn write_node<W: Write>(writer: &mut W, plan: &NodePlan) -> io::Result<()>
+    ensures { OnOk result (Appends (W.contents writer.old) (W.contents writer.new) (line_text (node_words plan.now))) }
+{
+    let (latest_a, latest_b) = (plan.latest(Channel::A), plan.latest(Channel::B));
+    write!(writer, "node {} {latest_a} {latest_b}", plan.tasks())?;
+    writeln!(writer, " {} {}", plan.host_entries(), plan.slot_entries())
+}
+
+/// Writes an ownership line.
+pub fn write_own<W: Write>(writer: &mut W, own: &Own) -> io::Result<()>
+    ensures { OnOk result (Appends (W.contents writer.old) (W.contents writer.new) (line_text (own_words own.now))) }
+{
+    let channels = channels_word(own.channels);
+    let (sync, startup) = (flag_word(own.sync), flag_word(own.startup));
+    writeln!(
+        writer,
+        "own {} {channels} {sync} {startup}",
+        own.slot.number()
+    )
+}
+
+/// Writes the line of a transmit buffer of this mode.
+fn write_transmit<W: Write>(writer: &mut W, mode: &str, buffer: &Buffer) -> io::Result<()>
+    ensures { OnOk result (Appends (W.contents writer.old) (W.contents writer.new) (line_text (transmit_words mode.now buffer.now))) }
+{
+    let filter = &buffer.filter;
+    let (slot, channels) = (filter.slot.number(), channels_word(filter.channels));
+    let (base, repetition) = (filter.cycles.base(), filter.cycles.repetition());
+    write!(writer, "tx {mode} {slot} {channels} {base} {repetition}")?;
+    write_size(writer, buffer.words)?;
+    writeln!(writer, " {}", flag_word(buffer.preamble))
+}
+
+/// Writes the line of a receive buffer.
+fn write_receive<W: Write>(writer: &mut W, filter: &Filter) -> io::Result<()>
+    ensures { OnOk result (Appends (W.contents writer.old) (W.contents writer.new) (line_text (receive_words filter.now))) }
+{
+    let (slot, channels) = (filter.slot.number(), channels_word(filter.channels));
+    let (base, repetition) = (filter.cycles.base(), filter.cycles.repetition());
+    writeln!(writer, "rx {slot} {channels} {base} {repetition}")
+}
+
+/// Writes the line of a buffer.
+pub fn write_buffer<W: Write>(writer: &mut W, buffer: &Buffer) -> io::Result<()>
+    ensures { OnOk result (Appends (W.contents writer.old) (W.contents writer.new) (line_text (buffer_words buffer.now))) }
+{
+    match buffer.mode {
+        Mode::Event => write_transmit(writer, "event", buffer),
+        Mode::State => write_transmit(writer, "state", buffer),
+        Mode::Receive => write_receive(writer, &buffer.filter),
+    }
+}
+
+/// Writes the line of a receive queue.
+pub fn write_queue<W: Write>(writer: &mut W, queue: &Queue) -> io::Result<()>
+    ensures { OnOk result (Appends (W.contents writer.old) (W.contents writer.new) (line_text (queue_words queue.now))) }
+{
+    let (first, last) = (queue.first.number(), queue.last.number());
+    let channels = channels_word(queue.channels);
+    write!(writer, "queue {} {first} {last} {channels}", queue.capacity)?;
+    let (base, repetition) = (queue.cycles.base(), queue.cycles.repetition());
+    writeln!(writer, " {base} {repetition}")
+}
+
+/// Writes the line of a fetch.
+fn write_fetch<W: Write>(writer: &mut W, window: &Window, a: Offered, b: Offered) -> io::Result<()>
+    ensures { OnOk result (Appends (W.contents writer.old) (W.contents writer.new) (line_text (entry_words (entries.Fetch window.now a b)))) }
+{
+    let (number, cycle) = (window.number, window.cycle.number());
+    write!(writer, "fetch {number} {cycle} {}", window.minislot)?;
+    write_slot(writer, window.a)?;
+    write_slot(writer, window.b)?;
+    write_offered(writer, a)?;
+    write_offered(writer, b)?;
+    writeln!(writer)
+}
+
+/// Writes the line of an observe.
+fn write_observe<W: Write>(writer: &mut W, window: u32, a: &Seen, b: &Seen) -> io::Result<()>
+    ensures { OnOk result (Appends (W.contents writer.old) (W.contents writer.new) (line_text (entry_words (entries.Observe window a.now b.now)))) }
+{
+    write!(writer, "see {window}")?;
+    write_seen(writer, a)?;
+    write_seen(writer, b)?;
+    writeln!(writer)
+}
+
+/// Writes the line of a commit.
+fn write_commit<W: Write>(
+    writer: &mut W,
+    task: TaskId,
+    buffer: u8,
+    payload: &Payload,
+) -> io::Result<()>
+    ensures { OnOk result (Appends (W.contents writer.old) (W.contents writer.new) (line_text (entry_words (entries.Commit task buffer payload.now)))) }
+{
+    write!(writer, "commit {} {buffer} ", task.number())?;
+    write_hex(writer, payload.as_slice())?;
+    writeln!(writer)
+}
+
+/// Writes the line of a read.
+fn write_read<W: Write>(
+    writer: &mut W,
+    task: TaskId,
+    buffer: u8,
+    from: &Option<Origin>,
+) -> io::Result<()>
+    ensures { OnOk result (Appends (W.contents writer.old) (W.contents writer.new) (line_text (entry_words (entries.Read task buffer from.now)))) }
+{
+    write!(writer, "read {} {buffer}", task.number())?;
+    write_from(writer, from)?;
+    writeln!(writer)
+}
+
+/// Writes the line of a pop.
+fn write_pop<W: Write>(writer: &mut W, task: TaskId, from: &Option<Origin>) -> io::Result<()>
+    ensures { OnOk result (Appends (W.contents writer.old) (W.contents writer.new) (line_text (entry_words (entries.Pop task from.now)))) }
+{
+    write!(writer, "pop {}", task.number())?;
+    write_from(writer, from)?;
+    writeln!(writer)
+}
+
+/// Writes the line of an entry.
+pub fn write_entry<W: Write>(writer: &mut W, entry: &Entry) -> io::Result<()>
+    ensures { OnOk result (Appends (W.contents writer.old) (W.contents writer.new) (line_text (entry_words entry.now))) }
+{
+    match entry {
+        Entry::Commit {
+            task,
+            buffer,
+            payload,
+        } => write_commit(writer, *task, *buffer, payload),
+        Entry::Read { task, buffer, from } => write_read(writer, *task, *buffer, from),
+        Entry::Pop { task, from } => write_pop(writer, *task, from),
+        Entry::Fetch { window, a, b } => write_fetch(writer, window, *a, *b),
+        Entry::Observe { window, a, b } => write_observe(writer, *window, a, b),
+    }
+}

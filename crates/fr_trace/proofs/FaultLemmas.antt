@@ -1,0 +1,141 @@
+-- What a text is refused for is never want of memory, a reader or a writer.
+use Rattle.std.proofs.Common.{ℕ, ◌==◌, ◌&&◌, List, [], ◌∷◌, length, Option, Some, None, Result, Ok, Err, inl, inr}
+use Rattle.std.specs.Prelude.{ℤ, is_none}
+use Rattle.std.specs.Str.{bytes_eq}
+use Rattle.std.proofs.lemmas.Bool.{cases_Bool}
+use Rattle.fr_interface.specs.declared.entry.Entry.{Entry}
+use Rattle.fr_interface.specs.State.{State}
+use Rattle.fr_lines.specs.Reading.{params_in, node_in, own_in, buffer_in, entry_in}
+use Rattle.fr_lines.specs.Spelling.{first_line, begin_line, end_line}
+use Rattle.fr_slots.specs.declared.params.RangeError.{RangeError}
+use Rattle.fr_slots.specs.declared.plan.Buffer.{Buffer}
+use Rattle.fr_slots.specs.Parameters.{Parameters, parameters_of}
+use Rattle.fr_slots.specs.declared.plan.Own.{Own}
+use Rattle.fr_slots.specs.Faults.{plan_fault}
+use Rattle.fr_slots.specs.Plans.{Plan, own_refusal}
+use Rattle.fr_text.specs.Spaces.{words_of}
+use Rattle.fr_trace.specs.Answers.{fault_of}
+use Rattle.fr_trace.specs.Audit.{IsOfText}
+use Rattle.fr_trace.specs.declared.error.TraceError.{TraceError}
+use Rattle.fr_trace.specs.declared.replay.Fault.{Fault}
+use Rattle.fr_trace.specs.declared.replay.Fault.TheVariants.{Refused, WrongAnswer}
+use Rattle.fr_trace.specs.Stream.{Phase, magic, params, node, lines, body, finished, Progress, reading, failed, after_parameters, after_numbers, after_node, after_buffer, after_own, after_owned, after_begin, error_of, after_fault, after_entry, take_line, too_long, after_line, take_open, take_byte, take_bytes, longest_line, outcome_of}
+
+abbrev pub FaultOfText : {A : Type 0} → Result A TraceError → Type 0
+FaultOfText (Ok x) = Unit {0}
+FaultOfText (Err e) = IsOfText e
+
+abbrev pub FailsByText : Progress → Type 0
+FailsByText (reading p line) = Unit {0}
+FailsByText (failed e) = IsOfText e
+
+-- ---- whole lines
+
+parameters_fault : (r : Result Parameters RangeError) → FaultOfText (after_parameters r)
+parameters_fault (Err e) = tt
+parameters_fault (Ok p) = tt
+
+numbers_fault : (o : Option (List ℤ)) → FaultOfText (after_numbers o)
+numbers_fault None = tt
+numbers_fault (Some numbers) = parameters_fault (parameters_of numbers)
+
+node_fault : (p : Parameters) (o : Option Plan) → FaultOfText (after_node p o)
+node_fault p None = tt
+node_fault p (Some plan) = tt
+
+buffer_fault : (p : Parameters) (plan : Plan) (o : Option Buffer) → FaultOfText (after_buffer p plan o)
+buffer_fault p plan None = tt
+buffer_fault p plan (Some b) = elim (cases_Bool (length plan.buffers == 0)) [
+  | inl first ↦ rw first tt
+  | inr second ↦ rw second tt
+]
+
+own_fault : (p : Parameters) (plan : Plan) (o : Own) → FaultOfText (after_own p plan o)
+own_fault p plan o = elim (cases_Bool (length plan.buffers == 0 && is_none (own_refusal plan o))) [
+  | inl taken ↦ rw taken tt
+  | inr refused ↦ rw refused tt
+]
+
+owned_fault : (p : Parameters) (plan : Plan) (o : Option Own) (words : List (List ℕ)) → FaultOfText (after_owned p plan o words)
+owned_fault p plan None words = buffer_fault p plan (buffer_in words)
+owned_fault p plan (Some o) words = own_fault p plan o
+
+begin_fault : (p : Parameters) (plan : Plan) → FaultOfText (after_begin p plan)
+begin_fault p plan = elim (cases_Bool (is_none (plan_fault p plan))) [
+  | inl pass ↦ rw pass tt
+  | inr fail ↦ rw fail tt
+]
+
+number_fault : (number : ℕ) (f : Fault) → IsOfText (error_of number f)
+number_fault number Refused = tt
+number_fault number WrongAnswer = tt
+
+call_fault : (s : State) (e : Entry) (o : Option Fault) → FaultOfText (after_fault s e o)
+call_fault s e None = tt
+call_fault s e (Some f) = number_fault _ f
+
+entry_fault : (s : State) (o : Option Entry) → FaultOfText (after_entry s o)
+entry_fault s None = tt
+entry_fault s (Some e) = call_fault s e (fault_of s e)
+
+line_fault : (p : Phase) (line : List ℕ) → FaultOfText (take_line p line)
+line_fault magic line = elim (cases_Bool (bytes_eq line first_line)) [
+  | inl pass ↦ rw pass tt
+  | inr fail ↦ rw fail tt
+]
+line_fault params line = numbers_fault (params_in (words_of line))
+line_fault (node p) line = node_fault p (node_in (words_of line))
+line_fault (lines p plan) line = elim (cases_Bool (bytes_eq line begin_line)) [
+  | inl pass ↦ rw pass (begin_fault p plan)
+  | inr fail ↦ rw fail (owned_fault p plan (own_in (words_of line)) (words_of line))
+]
+line_fault (body s) line = elim (cases_Bool (bytes_eq line end_line)) [
+  | inl pass ↦ rw pass tt
+  | inr fail ↦ rw fail (entry_fault s (entry_in (words_of line)))
+]
+line_fault (finished s) line = tt
+
+-- ---- bytes
+
+after_line_fault : (r : Result Phase TraceError) → FaultOfText r → FailsByText (after_line r)
+after_line_fault (Ok p) h = tt
+after_line_fault (Err e) h = h
+
+long_fault : (p : Phase) → IsOfText (too_long p)
+long_fault magic = tt
+long_fault params = tt
+long_fault (node p) = tt
+long_fault (lines p plan) = tt
+long_fault (body s) = tt
+long_fault (finished s) = tt
+
+open_fault : (p : Phase) (line : List ℕ) (b : ℕ) → FailsByText (take_open p line b)
+open_fault p line b = elim (cases_Bool (b == 10)) [
+  | inl feed ↦ rw feed (after_line_fault (take_line p line) (line_fault p line))
+  | inr other ↦ rw other (elim (cases_Bool (length line == longest_line)) [
+    | inl full ↦ rw full (long_fault p)
+    | inr room ↦ rw room tt
+  ])
+]
+
+byte_fault : (s : Progress) (b : ℕ) → FailsByText s → FailsByText (take_byte s b)
+byte_fault (failed e) b h = h
+byte_fault (reading magic line) b h = open_fault magic line b
+byte_fault (reading params line) b h = open_fault params line b
+byte_fault (reading (node p) line) b h = open_fault (node p) line b
+byte_fault (reading (lines p plan) line) b h = open_fault (lines p plan) line b
+byte_fault (reading (body s) line) b h = open_fault (body s) line b
+byte_fault (reading (finished s) line) b h = tt
+
+pub bytes_fault : (bytes : List ℕ) (s : Progress) → FailsByText s → FailsByText (take_bytes s bytes)
+bytes_fault [] s h = h
+bytes_fault (b ∷ bytes) s h = bytes_fault bytes (take_byte s b) (byte_fault s b h)
+
+pub outcome_fault : (s : Progress) → FailsByText s → FaultOfText (outcome_of s)
+outcome_fault (failed e) h = h
+outcome_fault (reading magic line) h = tt
+outcome_fault (reading params line) h = tt
+outcome_fault (reading (node p) line) h = tt
+outcome_fault (reading (lines p plan) line) h = tt
+outcome_fault (reading (body s) line) h = tt
+outcome_fault (reading (finished s) line) h = tt

@@ -1,0 +1,106 @@
+//! The text of an interface: the one trace that tells of it.
+
+ghost use Rattle.std.specs.Prelude.{◌++◌, OnOk, IfErr, Ok, ◌≡◌};
+ghost use Rattle.std.specs.Io.KnownBytes.{Appends};
+ghost use Rattle.std.specs.List.{flat_map};
+ghost use Rattle.fr_trace.specs.TraceText.{own_line, buffer_line, queue_lines, entry_line, numbers_text, plan_text, trace_text, IsTold};
+ghost use Rattle.fr_interface.specs.State.{IsLegalInterface};
+ghost use Rattle.fr_trace.specs.Stream.{fresh, take_bytes, outcome_of};
+
+use crate::error::TraceError;
+use fr_interface::interface::Interface;
+use fr_interface::journal::Journal;
+use fr_lines::writing::{
+    write_buffer, write_entry, write_node, write_own, write_params, write_queue,
+};
+use fr_slots::params::Params;
+use fr_slots::plan::{Buffer, NodePlan, Own, Queue};
+use std::io;
+use std::io::Write;
+
+/// Writes ownership lines.
+fn write_owned<W: Write>(writer: &mut W, owned: &[Own]) -> io::Result<()>
+    ensures { OnOk result (Appends (W.contents writer.old) (W.contents writer.new) (flat_map own_line owned.now)) }
+{
+    for own in owned {
+        write_own(writer, own)?;
+    }
+    Ok(())
+}
+
+/// Writes the lines of buffers.
+fn write_buffers<W: Write>(writer: &mut W, buffers: &[Buffer]) -> io::Result<()>
+    ensures { OnOk result (Appends (W.contents writer.old) (W.contents writer.new) (flat_map buffer_line buffers.now)) }
+{
+    for buffer in buffers {
+        write_buffer(writer, buffer)?;
+    }
+    Ok(())
+}
+
+/// Writes the line of a queue, where there is one.
+fn write_queues<W: Write>(writer: &mut W, queue: &Option<Queue>) -> io::Result<()>
+    ensures { OnOk result (Appends (W.contents writer.old) (W.contents writer.new) (queue_lines queue.now)) }
+{
+    match queue {
+        Some(queue) => write_queue(writer, queue),
+        None => Ok(()),
+    }
+}
+
+/// Writes the lines up to the plan's numbers.
+fn write_numbers<W: Write>(writer: &mut W, params: &Params, plan: &NodePlan) -> io::Result<()>
+    ensures { OnOk result (Appends (W.contents writer.old) (W.contents writer.new) (numbers_text params.now plan.now)) }
+{
+    writeln!(writer, "frtrace 1")?;
+    write_params(writer, params)?;
+    write_node(writer, plan)
+}
+
+/// Writes the lines up to the end of the plan.
+fn write_plan<W: Write>(writer: &mut W, params: &Params, plan: &NodePlan) -> io::Result<()>
+    ensures { OnOk result (Appends (W.contents writer.old) (W.contents writer.new) (plan_text params.now plan.now)) }
+{
+    write_numbers(writer, params, plan)?;
+    write_owned(writer, plan.owned())?;
+    write_buffers(writer, plan.buffers())?;
+    write_queues(writer, &plan.queue())
+}
+
+/// Writes the lines of a journal's entries.
+fn write_entries<W: Write>(writer: &mut W, journal: &Journal) -> io::Result<()>
+    ensures { OnOk result (Appends (W.contents writer.old) (W.contents writer.new) (flat_map entry_line journal.now.entries)) }
+{
+    for number in 0..journal.len() {
+        if let Some(entry) = journal.get(number) {
+            write_entry(writer, &entry)?;
+        }
+    }
+    Ok(())
+}
+
+/// Writes the whole text.
+fn write_text<W: Write>(writer: &mut W, interface: &Interface) -> io::Result<()>
+    ensures written { OnOk result (Appends (W.contents writer.old) (W.contents writer.new) (trace_text interface.now)) }
+    ensures legal { IsLegalInterface interface.now }
+{
+    write_plan(writer, interface.params(), interface.plan())?;
+    writeln!(writer, "begin")?;
+    write_entries(writer, interface.journal())?;
+    writeln!(writer, "end")
+}
+
+/// Writes the trace of an interface: the one text that tells of its parameters, its plan and its journal.
+///
+/// Refused with `Write` where the writer fails, and then some of the text may have been written.
+pub fn write_trace<W: Write>(interface: &Interface, writer: &mut W) -> Result<(), TraceError>
+    ensures written { OnOk result (Appends (W.contents writer.old) (W.contents writer.new) (trace_text interface.now)) }
+    ensures refused { IfErr result (λ e. e ≡ TraceError.Write) }
+    // That text is accepted, as this interface.
+    ensures again { IsTold interface.now.plan → outcome_of (take_bytes fresh (trace_text interface.now)) ≡ Ok interface.now }
+{
+    match write_text(writer, interface) {
+        Ok(()) => Ok(()),
+        Err(_) => Err(TraceError::Write),
+    }
+}
