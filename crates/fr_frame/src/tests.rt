@@ -135,3 +135,10 @@ fn a_payload_keeps_its_bytes(rt: HostRuntime) -> Result<(), Fail> {
     assert_eq!(rt; payload.duplicate(), payload);
     Ok(())
 }
+
+#[test]
+fn a_payload_of_zeros_has_whole_words(rt: HostRuntime) {
+    assert_eq!(rt; Payload::zeros(2).as_slice(), [0; 4].as_slice());
+    assert_eq!(rt; Payload::zeros(127).as_slice().len(), 254);
+    assert_eq!(rt; Payload::default(), Payload::zeros(0));
+}
