@@ -62,7 +62,7 @@ pub record IsLegalFetch (params : Parameters) (plan : Plan) (before : List Entry
   pub offer_a : a ≡ offered plan before window channel.A
   pub offer_b : b ≡ offered plan before window channel.B
 
--- an observe belongs to the window of the fetch before it
+-- an observe closes the window that is open, and has its number
 abbrev pub IsLegalObserve : List Entry → ℕ → Type 0
 IsLegalObserve before window = IsSomeAnd (open_window before) (λ w. w.number ≡ window)
 

@@ -168,7 +168,7 @@ fn own_filter(own: &Own) -> Filter
     }
 }
 
-/// The fault of the first static transmit buffer whose slot isn't owned on all its channels.
+/// The fault of the first transmit buffer for a static slot that the node lacks on one of its channels.
 fn first_not_owned(params: &Params, plan: &NodePlan) -> Option<PlanFault>
     ensures { result ≡ first_buffer PlanFault.NotOwned (not_owned params.now plan.now.owned) plan.now.buffers }
 {
@@ -176,7 +176,7 @@ fn first_not_owned(params: &Params, plan: &NodePlan) -> Option<PlanFault>
     Some(PlanFault::NotOwned(number as u8))
 }
 
-/// The number of the first static transmit buffer whose slot isn't owned on all its channels.
+/// The number of the first transmit buffer for a static slot that the node lacks on one of its channels.
 fn not_owned_number(params: &Params, owned: &[Own], buffers: &[Buffer]) -> Option<usize>
     ensures value { result ≡ position (not_owned params.now owned.now) buffers.now }
     ensures within { IfSome result (λ number. number < length buffers.now) }
