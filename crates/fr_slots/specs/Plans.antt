@@ -140,3 +140,12 @@ buffer_refusal p b =
 
 abbrev pub with_buffer : Plan → Buffer → Plan
 with_buffer p b = record p { buffers = p.buffers ++ b ∷ [] }
+
+abbrev pub queue_refusal : Plan → Queue → Option PlanError
+queue_refusal p q =
+    if not (queue_fits q) then Some OutOfRange
+    else if is_some p.queue then Some TooMany
+    else None
+
+abbrev pub with_queue : Plan → Queue → Plan
+with_queue p q = record p { queue = Some q }

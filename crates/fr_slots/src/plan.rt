@@ -2,7 +2,7 @@
 
 ghost use Rattle.std.specs.Prelude.{◌≡◌, ◌≤◌, length};
 ghost use Rattle.std.specs.Result.{result_err};
-ghost use Rattle.fr_slots.specs.Plans.{own_fits, buffer_fits, IsOwn, IsBuffer};
+ghost use Rattle.fr_slots.specs.Plans.{own_fits, buffer_fits, queue_fits, IsOwn, IsBuffer, IsQueue};
 
 use crate::channel::{Channel, Channels};
 use crate::filter::{CycleFilter, Filter};
@@ -97,7 +97,7 @@ impl Model for NodePlan {
 
 impl NodePlan {
     ghost use Rattle.std.specs.Prelude.{◌≡◌, IfOk, OnOk, OnErr, ◌==◌, slice_index};
-    ghost use Rattle.fr_slots.specs.Plans.{IsPlan, plan_of, own_refusal, with_own, buffer_refusal, with_buffer};
+    ghost use Rattle.fr_slots.specs.Plans.{IsPlan, plan_of, own_refusal, with_own, buffer_refusal, with_buffer, queue_refusal, with_queue};
     ghost use Rattle.fr_slots.specs.Faults.{latest_on};
 
     /// A plan with no lines yet.
@@ -168,6 +168,25 @@ impl NodePlan {
             return Err(PlanError::TooMany);
         }
         self.buffers.push(buffer);
+        Ok(())
+    }
+
+    /// Gives the node its receive queue.
+    ///
+    /// Refused with `OutOfRange` for a capacity of 0 or above 256 and for a first slot above the last, and then with
+    /// `TooMany` where there is a queue already; the plan is then unchanged.
+    pub fn set_queue(&mut self, queue: Queue) -> Result<(), PlanError>
+        ensures refusal { result_err result ≡ queue_refusal self.old queue }
+        ensures accepted { OnOk result (self.new ≡ with_queue self.old queue) }
+        ensures refused { OnErr result (self.new ≡ self.old) }
+    {
+        if !queue_fits(&queue) {
+            return Err(PlanError::OutOfRange);
+        }
+        if self.queue.is_some() {
+            return Err(PlanError::TooMany);
+        }
+        self.queue = Some(queue);
         Ok(())
     }
 
@@ -284,4 +303,14 @@ fn fits(buffer: &Buffer) -> bool
         Mode::Event | Mode::State => false,
     };
     few_words && (!is_receive || !(buffer.words.is_some() || buffer.preamble))
+}
+
+/// Whether a queue is in range by itself.
+fn queue_fits(queue: &Queue) -> bool
+    ensures value { result ≡ queue_fits queue.now }
+    ensures ranges { IsQueue queue.now }
+{
+    let _base = queue.cycles.base();
+    let (first, last) = (queue.first.number(), queue.last.number());
+    1 <= queue.capacity && queue.capacity <= 256 && first <= last
 }

@@ -4,7 +4,7 @@ use super::channel::{Channel, Channels};
 use super::filter::{CycleFilter, Filter, FilterError};
 use super::numbers::{Cycle, NodeId, SlotId, TaskId};
 use super::params::{Key, Params, RangeError};
-use super::plan::{Buffer, LINES, NodePlan, Own, PlanError};
+use super::plan::{Buffer, LINES, NodePlan, Own, PlanError, Queue};
 use super::window::Window;
 use std::test::Fail;
 
@@ -214,6 +214,32 @@ fn ownership_lines_that_are_refused(rt: HostRuntime) -> Result<(), Fail> {
     assert_eq!(rt; plan.add_own(last), Err(PlanError::TooMany));
     assert_eq!(rt; plan.owned().len(), LINES);
     assert_eq!(rt; plan.owned()[0], last);
+    Ok(())
+}
+
+#[test]
+fn a_node_has_one_queue(rt: HostRuntime) -> Result<(), Fail> {
+    let queue = Queue {
+        capacity: 256,
+        first: slot(4)?,
+        last: slot(4)?,
+        channels: Channels::Both,
+        cycles: CycleFilter::default(),
+    };
+    let mut plan = NodePlan::new(1, [0, 0], 1, 2)?;
+    let too_many_frames = Queue {
+        capacity: 257,
+        ..queue
+    };
+    assert_eq!(rt; plan.set_queue(too_many_frames), Err(PlanError::OutOfRange));
+    let no_slots = Queue {
+        first: slot(5)?,
+        ..queue
+    };
+    assert_eq!(rt; plan.set_queue(no_slots), Err(PlanError::OutOfRange));
+    plan.set_queue(queue)?;
+    assert_eq!(rt; plan.set_queue(queue), Err(PlanError::TooMany));
+    assert_eq!(rt; plan.queue(), Some(queue));
     Ok(())
 }
 
