@@ -1,0 +1,9 @@
+-- The fields of `Cluster` as its description.
+use Rattle.fr_schedule.specs.declared.cluster.Cluster.TheInside.{Inside}
+use Rattle.fr_schedule.specs.Clusters.{Description, IsCluster}
+
+abbrev pub description_in : Inside → Description
+description_in c = record { params = c.params; guard = c.guard; plans = c.plans.items }
+
+abbrev pub IsLawful : Inside → Type 0
+IsLawful c = IsCluster (description_in c)

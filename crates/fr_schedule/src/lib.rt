@@ -1,0 +1,5 @@
+//! A cluster as its file describes it: its parameters, the plans of its nodes, the guarded channels, and the sender
+//! table that these give.
+#![tactic(auto)]
+
+pub mod cluster;
