@@ -4,11 +4,11 @@ use Rattle.std.specs.Prelude.{IfSome, count_by}
 use Rattle.std.specs.Option.{option_or}
 use Rattle.std.proofs.lemmas.List.{take_more, at_drop_more, at_drop_all}
 use Rattle.std.proofs.lemmas.List.Sums.{sum_by-append, sum_by-cons}
-use Rattle.fr_interface.specs.declared.entry.Entry.{Entry}
-use Rattle.fr_interface.specs.declared.fate.Fate.{Fate}
-use Rattle.fr_interface.specs.declared.fate.Fate.TheVariants.{Sent, Overwritten, Pending}
-use Rattle.fr_interface.specs.declared.fate.Tally.{Tally}
-use Rattle.fr_interface.specs.Fate.{is_commit_on, commit_at, commit_on, last_commit, fate_of, fates, fates_from, is_sent, is_overwritten, is_pending, tally_of}
+use Rattle.fr_journal.specs.declared.entry.Entry.{Entry}
+use Rattle.fr_journal.specs.declared.fate.Fate.{Fate}
+use Rattle.fr_journal.specs.declared.fate.Fate.TheVariants.{Sent, Overwritten, Pending}
+use Rattle.fr_journal.specs.declared.fate.Tally.{Tally}
+use Rattle.fr_journal.specs.Fate.{is_commit_on, commit_at, commit_on, last_commit, fate_of, fates, fates_from, is_sent, is_overwritten, is_pending, tally_of}
 use Rattle.fr_interface.specs.Tallying.{counted, tallied, IsAtMost}
 use Rattle.fr_slots.specs.History.{last_after}
 use Rattle.fr_slots.proofs.HistoryLemmas.{last_after-snoc}

@@ -2,12 +2,12 @@
 use Rattle.std.proofs.Common.{◌≡◌, ℕ, ◌+◌, ◌<◌, List, [], ◌∷◌, ◌++◌, take, length, get_or, Option, None, refl, sym, ap, ◌∙◌, arith, length-take}
 use Rattle.std.proofs.lemmas.List.{take_more}
 use Rattle.std.specs.Option.{option_or}
-use Rattle.fr_interface.specs.declared.entry.Arrival.{Arrival}
-use Rattle.fr_interface.specs.declared.entry.Entry.{Entry}
+use Rattle.fr_journal.specs.declared.entry.Arrival.{Arrival}
+use Rattle.fr_journal.specs.declared.entry.Entry.{Entry}
 use Rattle.fr_interface.specs.declared.scan.Opening.{Opening}
-use Rattle.fr_interface.specs.Held.{held, arrival_at, arrival_by}
+use Rattle.fr_journal.specs.Held.{held, arrival_at, arrival_by}
 use Rattle.fr_interface.specs.Opening.{IsOpening}
-use Rattle.fr_interface.specs.OpenWindow.{open_window}
+use Rattle.fr_journal.specs.OpenWindow.{open_window}
 use Rattle.fr_slots.specs.declared.filter.Filter.{Filter}
 use Rattle.fr_slots.specs.History.{last_after}
 use Rattle.fr_slots.specs.Parameters.{Parameters}

@@ -1,7 +1,4 @@
 pub mod FateLemmas
 pub mod HeldLemmas
-pub mod HeldPlaceLemmas
-pub mod KindLemmas
-pub mod LegalLemmas
 pub mod OpeningLemmas
-pub mod WorkedLemmas
+pub mod TestLemmas

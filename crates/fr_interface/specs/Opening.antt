@@ -1,9 +1,9 @@
 -- What a scan knows of the windows of a journal.
 use Rattle.std.specs.Prelude.{◌≡◌, List, Some, None}
-use Rattle.fr_interface.specs.declared.entry.Entry.{Entry}
-use Rattle.fr_interface.specs.declared.entry.Entry.TheVariants.{Commit, Read, Pop, Fetch, Observe}
+use Rattle.fr_journal.specs.declared.entry.Entry.{Entry}
+use Rattle.fr_journal.specs.declared.entry.Entry.TheVariants.{Commit, Read, Pop, Fetch, Observe}
 use Rattle.fr_interface.specs.declared.scan.Opening.{Opening}
-use Rattle.fr_interface.specs.OpenWindow.{open_window, last_number}
+use Rattle.fr_journal.specs.OpenWindow.{open_window, last_number}
 
 -- what is known with one more entry
 abbrev pub next_opening : Opening → Entry → Opening

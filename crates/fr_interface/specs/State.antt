@@ -1,21 +1,21 @@
 -- What an interface is seen as, and what its calls refuse.
 use Rattle.std.specs.Prelude.{◌≡◌, ℕ, ◌+◌, ◌*◌, ◌==◌, nat_lt, nat_le, not, Bool, false, List, [], ◌∷◌, ◌++◌, length, Option, Some, None, is_some, if◌then◌else◌, count_by, option_map}
 use Rattle.std.specs.Option.{option_and_then}
-use Rattle.fr_interface.specs.declared.entry.Entry.{Entry}
+use Rattle.fr_journal.specs.declared.entry.Entry.{Entry}
 use Rattle.fr_interface.specs.declared.errors.HostError.{HostError}
 use Rattle.fr_interface.specs.declared.errors.HostError.TheVariants.{UnknownTask, UnknownBuffer, NotTransmit, WrongLength, HostFull, NotReceive}
 use Rattle.fr_interface.specs.declared.errors.SlotError.{SlotError}
 use Rattle.fr_interface.specs.declared.errors.SlotError.TheVariants.{NotObserved, WindowOrder, SlotFull, NotFetched, WrongWindow, BadWindow}
-use Rattle.fr_interface.specs.declared.entry.Arrival.{Arrival}
-use Rattle.fr_interface.specs.declared.fate.Tally.{Tally}
-use Rattle.fr_interface.specs.declared.entry.Source.{Source}
-use Rattle.fr_interface.specs.declared.entry.Source.TheVariants as source
-use Rattle.fr_interface.specs.Entries.{is_host, is_slot}
-use Rattle.fr_interface.specs.Fate.{last_commit, tally_of}
-use Rattle.fr_interface.specs.Held.{held, origin_of}
-use Rattle.fr_interface.specs.Legal.{words_of, window_fits, IsLegalJournal, AreEntries}
-use Rattle.fr_interface.specs.Offers.{buffer_at}
-use Rattle.fr_interface.specs.OpenWindow.{open_window, last_number}
+use Rattle.fr_journal.specs.declared.entry.Arrival.{Arrival}
+use Rattle.fr_journal.specs.declared.fate.Tally.{Tally}
+use Rattle.fr_interface.specs.declared.source.Source.{Source}
+use Rattle.fr_interface.specs.declared.source.Source.TheVariants as source
+use Rattle.fr_journal.specs.Entries.{is_host, is_slot}
+use Rattle.fr_journal.specs.Fate.{last_commit, tally_of}
+use Rattle.fr_journal.specs.Held.{held, origin_of}
+use Rattle.fr_journal.specs.Legal.{words_of, window_fits, IsLegalJournal, AreEntries}
+use Rattle.fr_journal.specs.Offers.{buffer_at}
+use Rattle.fr_journal.specs.OpenWindow.{open_window, last_number}
 use Rattle.fr_slots.specs.declared.plan.Buffer.{Buffer}
 use Rattle.fr_slots.specs.Faults.{plan_fault}
 use Rattle.fr_slots.specs.Parameters.{Parameters, IsParameters}

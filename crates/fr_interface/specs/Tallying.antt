@@ -1,10 +1,10 @@
 -- How a scan counts fates.
 use Rattle.std.specs.Prelude.{ℕ, ◌+◌, ◌≤◌, List, if◌then◌else◌}
-use Rattle.fr_interface.specs.declared.entry.Entry.{Entry}
-use Rattle.fr_interface.specs.declared.fate.Fate.{Fate}
-use Rattle.fr_interface.specs.declared.fate.Fate.TheVariants.{Sent, Overwritten, Pending}
-use Rattle.fr_interface.specs.declared.fate.Tally.{Tally}
-use Rattle.fr_interface.specs.Fate.{is_commit_on, fate_of}
+use Rattle.fr_journal.specs.declared.entry.Entry.{Entry}
+use Rattle.fr_journal.specs.declared.fate.Fate.{Fate}
+use Rattle.fr_journal.specs.declared.fate.Fate.TheVariants.{Sent, Overwritten, Pending}
+use Rattle.fr_journal.specs.declared.fate.Tally.{Tally}
+use Rattle.fr_journal.specs.Fate.{is_commit_on, fate_of}
 
 -- with one commit more, of this fate
 abbrev pub counted : Tally → Fate → Tally

@@ -1,68 +1,43 @@
-//! The fate of each commit, decided by the entries behind it.
+//! The fate of each commit, found by scans of the entries behind it.
 
 ghost use Rattle.std.specs.Prelude.{◌≡◌, ◌+◌, ◌<◌, ◌≤◌, ◌^◌, IfSome, length};
 ghost use Rattle.std.specs.List.{list_any};
-ghost use Rattle.fr_interface.specs.Fate.{is_commit_on, commit_at, last_commit, is_data_of, sends, fate_of, tally_of, if_pending, pending_commit};
+ghost use Rattle.fr_journal.specs.Fate.{is_commit_on, commit_at, last_commit, is_data_of, sends, fate_of, tally_of, if_pending, pending_commit};
 ghost use Rattle.fr_interface.specs.Tallying.{counted, tallied, IsAtMost};
 
-use crate::entry::{Entry, Offered};
+use fr_journal::entry::{Entry, Offered};
+use fr_journal::fate::{Fate, Tally};
 
-/// What became of a commit (own profile).
-#[derive(Clone, Copy, Debug, PartialEq, Eq)]
-pub enum Fate {
-    /// A later fetch handed it to the bus.
-    Sent,
-    /// It wasn't sent, and a later commit took its place.
-    Overwritten,
-    /// Neither.
-    Pending,
-}
+/// Of no commits.
+const NONE: Tally = Tally {
+    committed: 0,
+    sent: 0,
+    overwritten: 0,
+    pending: 0,
+};
 
-/// How many commits on a transmit buffer met each fate (own profile).
-#[derive(Clone, Copy, Debug, PartialEq, Eq)]
-pub struct Tally {
-    /// All commits on the buffer.
-    pub committed: u32,
-    /// Those that a fetch handed to the bus, which may still have muted or blocked them.
-    pub sent: u32,
-    /// Those that weren't sent and that a later commit replaced.
-    pub overwritten: u32,
-    /// Those that are neither: the last commit, or none.
-    pub pending: u32,
-}
-
-impl Tally {
-    /// Of no commits.
-    const NONE: Tally = Tally {
-        committed: 0,
-        sent: 0,
-        overwritten: 0,
-        pending: 0,
-    };
-
-    /// With one commit more, of this fate.
-    fn counted(self, fate: Fate) -> Tally
-        requires { IsAtMost 81920 self }
-        ensures { result ≡ counted self fate }
-    {
-        let committed = self.committed + 1;
-        match fate {
-            Fate::Sent => Tally {
-                committed,
-                sent: self.sent + 1,
-                ..self
-            },
-            Fate::Overwritten => Tally {
-                committed,
-                overwritten: self.overwritten + 1,
-                ..self
-            },
-            Fate::Pending => Tally {
-                committed,
-                pending: self.pending + 1,
-                ..self
-            },
-        }
+/// With one commit more, of this fate.
+fn counted(tally: Tally, fate: Fate) -> Tally
+    requires { IsAtMost 81920 tally }
+    ensures { result ≡ counted tally fate }
+{
+    let committed = tally.committed + 1;
+    match fate {
+        Fate::Sent => Tally {
+            committed,
+            sent: tally.sent + 1,
+            ..tally
+        },
+        Fate::Overwritten => Tally {
+            committed,
+            overwritten: tally.overwritten + 1,
+            ..tally
+        },
+        Fate::Pending => Tally {
+            committed,
+            pending: tally.pending + 1,
+            ..tally
+        },
     }
 }
 
@@ -167,7 +142,7 @@ fn tallied(tally: Tally, buffer: u8, number: u32, entry: &Entry, later: &[Entry]
     ensures { result ≡ tallied tally buffer number entry.now later.now }
 {
     if is_commit_on(buffer, entry) {
-        tally.counted(fate_of(buffer, number, later))
+        counted(tally, fate_of(buffer, number, later))
     } else {
         tally
     }
@@ -178,7 +153,7 @@ pub(crate) fn tally_of(buffer: u8, entries: &[Entry]) -> Tally
     requires { length entries.now ≤ 81920 }
     ensures { result ≡ tally_of buffer entries.now }
 {
-    let mut tally = Tally::NONE;
+    let mut tally = NONE;
     for (place, entry) in entries.iter().enumerate() {
         tally = tallied(tally, buffer, place as u32, entry, &entries[place + 1..]);
     }

@@ -1,22 +1,24 @@
 //! The calls of a host interface (chapter 9).
 
 ghost use Rattle.std.specs.Prelude.{◌≡◌, option_map};
-ghost use Rattle.fr_interface.specs.Held.{frame_of, origin_of};
-ghost use Rattle.fr_interface.specs.Entries.{AreBytes, IsSeen};
+ghost use Rattle.fr_journal.specs.Held.{frame_of, origin_of};
+ghost use Rattle.fr_journal.specs.Entries.{AreBytes, IsSeen};
 ghost use Rattle.fr_frame.specs.Payload.{IsPayload};
 ghost use Rattle.fr_interface.specs.State.{is_not_above, has_words};
-ghost use Rattle.fr_interface.specs.Legal.{window_fits, static_slot_fits, dynamic_slot_fits};
+ghost use Rattle.fr_journal.specs.Legal.{window_fits, static_slot_fits, dynamic_slot_fits};
 ghost use Rattle.fr_slots.specs.Plans.{is_receive};
 ghost use Rattle.fr_slots.specs.Windows.{IsInRange, IsSlotOrNone};
 
-use crate::entry::{Arrival, Entry, Origin, Source};
 use crate::errors::{HostError, InterfaceError, SlotError};
-use crate::fate::{Tally, last_commit, tally_of};
-use crate::journal::Journal;
+use crate::fate::{last_commit, tally_of};
 use crate::offers::{buffer_at, handed_out, offered};
 use crate::scan::{held, opening_of};
+use crate::source::Source;
 use fr_frame::frame::{Bytes, Frame};
 use fr_frame::payload::Payload;
+use fr_journal::entry::{Arrival, Entry, Origin};
+use fr_journal::fate::Tally;
+use fr_journal::journal::Journal;
 use fr_slots::channel::Channel;
 use fr_slots::numbers::{SlotId, TaskId};
 use fr_slots::params::Params;
@@ -67,9 +69,9 @@ impl Model for Interface {
 impl Interface {
     ghost use Rattle.std.specs.Prelude.{◌≡◌, [], None, length, IfOk, OnOk, OnErr, option_map};
     ghost use Rattle.std.specs.Result.{result_err};
-    ghost use Rattle.fr_interface.specs.declared.entry.Entry.TheVariants as entries;
-    ghost use Rattle.fr_interface.specs.Held.{frame_of, origin_of};
-    ghost use Rattle.fr_interface.specs.Offers.{frame_offered, offered, IsHandedOut};
+    ghost use Rattle.fr_journal.specs.declared.entry.Entry.TheVariants as entries;
+    ghost use Rattle.fr_journal.specs.Held.{frame_of, origin_of};
+    ghost use Rattle.fr_journal.specs.Offers.{frame_offered, offered, IsHandedOut};
     ghost use Rattle.fr_interface.specs.State.{with_entry, received_by, source_of, tally_by, commit_refusal, read_refusal, fetch_refusal, observe_refusal, IsLegalInterface};
     ghost use Rattle.fr_slots.specs.Faults.{plan_fault};
 

@@ -1,16 +1,12 @@
-//! The host interface of a controller: its journal, and what the journal gives.
-//!
-//! The definitions over journals stand in `specs/`: which window is open, the fate of a commit,
-//! offers, held frames, the receive queue, the status counters, and which journals are legal.
+//! The calls of a host and of a controller on a journal, and the answers that scans of the journal find.
 #![tactic(auto)]
 
-pub mod entry;
 pub mod errors;
-pub mod fate;
+mod fate;
 pub mod interface;
-pub mod journal;
 mod offers;
 mod scan;
+pub mod source;
 #[cfg(test)]
 mod tests;
 #[cfg(test)]

@@ -2,15 +2,15 @@
 
 ghost use Rattle.std.specs.Prelude.{◌≡◌, ◌*◌, ◌<◌, ◌≤◌, ◌^◌, length, replicate, IfSome};
 ghost use Rattle.std.specs.List.{position};
-ghost use Rattle.fr_interface.specs.Entries.{IsOffered};
+ghost use Rattle.fr_journal.specs.Entries.{IsOffered};
 ghost use Rattle.fr_slots.specs.Faults.{claims};
-ghost use Rattle.fr_interface.specs.Offers.{admits_window, is_admitting, transmitter, buffer_at, may_begin, ready, ready_in, commit_offered, ownership, offered, line_of, sync_of, startup_of, payload_of, preamble_in, null_frame, data_frame_of, frame_with, IsHandedOut};
+ghost use Rattle.fr_journal.specs.Offers.{admits_window, is_admitting, transmitter, buffer_at, may_begin, ready, ready_in, commit_offered, ownership, offered, line_of, sync_of, startup_of, payload_of, preamble_in, null_frame, data_frame_of, frame_with, IsHandedOut};
 
-use crate::entry::{Entry, Offered};
 use crate::fate::{last_commit, pending_commit};
 use fr_frame::encode::encode;
 use fr_frame::frame::{Bytes, Frame};
 use fr_frame::payload::Payload;
+use fr_journal::entry::{Entry, Offered};
 use fr_slots::channel::Channel;
 use fr_slots::filter::Filter;
 use fr_slots::numbers::SlotId;

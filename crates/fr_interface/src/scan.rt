@@ -1,12 +1,12 @@
 //! What a journal gives, found by a scan from its first entry.
 
 ghost use Rattle.std.specs.Prelude.{◌≡◌, ◌<◌, ◌^◌, [], length};
-ghost use Rattle.fr_interface.specs.Held.{arrival_by, arrival_in, arrival_on, data_frame_seen, held};
+ghost use Rattle.fr_journal.specs.Held.{arrival_by, arrival_in, arrival_on, data_frame_seen, held};
 ghost use Rattle.fr_interface.specs.Opening.{IsOpening, next_opening};
 
-use crate::entry::{Arrival, Entry, Origin};
 use crate::offers::admits;
 use fr_frame::frame::Frame;
+use fr_journal::entry::{Arrival, Entry, Origin};
 use fr_slots::channel::Channel;
 use fr_slots::filter::Filter;
 use fr_slots::params::Params;

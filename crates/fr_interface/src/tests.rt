@@ -1,10 +1,11 @@
 //! A receive buffer on both channels, in a cluster of three static slots of one word.
 
-use super::entry::{Entry, Offered, Origin, Source};
 use super::errors::{HostError, SlotError};
 use super::interface::{Interface, Offer};
-use super::journal::Journal;
+use super::source::Source;
 use fr_frame::frame::Bytes;
+use fr_journal::entry::{Entry, Offered, Origin};
+use fr_journal::journal::Journal;
 use fr_slots::channel::{Channel, Channels};
 use fr_slots::filter::{CycleFilter, Filter};
 use fr_slots::numbers::{Cycle, SlotId, TaskId};
@@ -188,26 +189,5 @@ fn windows_that_are_refused(rt: HostRuntime) -> Result<(), Fail> {
         Err(SlotError::WindowOrder)
     );
     assert_eq!(rt; interface.fetch(&slot_two(6, 0)?), Err(SlotError::SlotFull));
-    Ok(())
-}
-
-#[test]
-fn a_journal_has_room_for_both_kinds(rt: HostRuntime) -> Result<(), Fail> {
-    let mut journal = Journal::with_limits(rt.alloc(), 1, 2)?;
-    assert_eq!(rt; journal.is_empty(), true);
-    let pop = Entry::Pop {
-        task: task_zero()?,
-        from: None,
-    };
-    assert_eq!(rt; pop.is_host(), true);
-    journal.push_host(pop.duplicate());
-    journal.push_slot(Entry::Observe {
-        window: 0,
-        a: Seen::Own,
-        b: Seen::Silence,
-    });
-    assert_eq!(rt; journal.host_room(), 0);
-    assert_eq!(rt; journal.slot_room(), 1);
-    assert_eq!(rt; journal.get(0), Some(pop));
     Ok(())
 }

@@ -1,11 +1,12 @@
 //! Transmit buffers: what is offered, and what becomes of the commits.
 
-use super::entry::{Entry, Offered, Source};
 use super::errors::{HostError, SlotError};
-use super::fate::Tally;
 use super::interface::{Interface, Offer, Receipt};
+use super::source::Source;
 use fr_frame::frame::Bytes;
 use fr_frame::payload::Payload;
+use fr_journal::entry::{Entry, Offered};
+use fr_journal::fate::Tally;
 use fr_slots::channel::Channels;
 use fr_slots::filter::{CycleFilter, Filter};
 use fr_slots::numbers::{Cycle, SlotId, TaskId};

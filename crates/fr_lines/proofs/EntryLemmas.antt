@@ -2,8 +2,8 @@
 use Rattle.std.proofs.Common.{◌≡◌, ℕ, ◌≤◌, ◌^◌, inl, inr, true, false, List, [], ◌∷◌, length, codes, Some, refl, sym, ap, ◌∙◌, arith}
 use Rattle.std.specs.Fmt.{decimal}
 use Rattle.std.specs.Str.{bytes_eq}
-use Rattle.fr_interface.specs.declared.entry.Entry.{Entry}
-use Rattle.fr_interface.specs.declared.entry.Entry.TheVariants.{Commit, Read, Pop, Fetch, Observe}
+use Rattle.fr_journal.specs.declared.entry.Entry.{Entry}
+use Rattle.fr_journal.specs.declared.entry.Entry.TheVariants.{Commit, Read, Pop, Fetch, Observe}
 use Rattle.fr_lines.proofs.PartLemmas.{word_or, from_takes, from_again, offered_takes, offered_again, seen_takes, seen_again}
 use Rattle.fr_lines.proofs.PlanPartLemmas.{payload_takes, payload_again}
 use Rattle.fr_lines.proofs.WindowLemmas.{window_takes, window_again}

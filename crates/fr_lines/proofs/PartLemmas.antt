@@ -9,10 +9,10 @@ use Rattle.std.proofs.lemmas.Slice.Eq.{bytes_eq-Decides}
 use Rattle.std.proofs.Math.Seq.{take-append_seam, drop-append_seam}
 use Rattle.std.specs.Fmt.{decimal}
 use Rattle.std.specs.Str.{bytes_eq}
-use Rattle.fr_interface.specs.declared.entry.Offered.{Offered}
-use Rattle.fr_interface.specs.declared.entry.Offered.TheVariants as offered
-use Rattle.fr_interface.specs.declared.entry.Origin.{Origin}
-use Rattle.fr_interface.specs.Entries.{IsOrigin, IsOffered, IsSeen}
+use Rattle.fr_journal.specs.declared.entry.Offered.{Offered}
+use Rattle.fr_journal.specs.declared.entry.Offered.TheVariants as offered
+use Rattle.fr_journal.specs.declared.entry.Origin.{Origin}
+use Rattle.fr_journal.specs.Entries.{IsOrigin, IsOffered, IsSeen}
 use Rattle.fr_lines.specs.PartReading.{slot_in, optional_slot_in, channels_in, cycles_in, channel_in, origin_in, from_in, offered_in, seen_bytes_in, seen_in}
 use Rattle.fr_lines.specs.Parts.{absent, optional_number, channels_word, channel_mark, origin_word, from_word, offered_word, seen_word}
 use Rattle.fr_slots.specs.Admission.{CycleClass, IsCycleClass, cycle_class, is_repetition}

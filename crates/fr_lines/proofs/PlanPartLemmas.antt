@@ -3,7 +3,7 @@ use Rattle.std.proofs.Common.{◌≡◌, ℕ, ◌<◌, ◌≤◌, ◌≢◌, ◌
 use Rattle.std.proofs.lemmas.Bool.{cases_Bool, eqb-false, le-leb, le-ltb, leb-true}
 use Rattle.std.specs.Fmt.{decimal}
 use Rattle.fr_frame.specs.Payload.{IsPayload}
-use Rattle.fr_interface.specs.Entries.{AreBytes}
+use Rattle.fr_journal.specs.Entries.{AreBytes}
 use Rattle.fr_lines.proofs.PartLemmas.{word_or, within_takes, slot_takes, slot_again, channels_takes, channels_again, cycles_takes, cycles_again}
 use Rattle.fr_lines.specs.PartReading.{slot_in, channels_in, cycles_in, filter_in, flag_in, mode_in, size_in, owned_slot_in, payload_in, payload_from}
 use Rattle.fr_lines.specs.Parts.{absent, flag_word, optional_number, channels_word}

@@ -3,9 +3,9 @@ use Rattle.std.specs.Prelude.{ℕ, ◌-◌, ◌^◌, ◌==◌, Bool, true, false
 use Rattle.fr_frame.specs.Payload.{payload_refusal}
 use Rattle.std.specs.Result.{result_ok}
 use Rattle.std.specs.Str.{bytes_eq}
-use Rattle.fr_interface.specs.declared.entry.Offered.{Offered}
-use Rattle.fr_interface.specs.declared.entry.Offered.TheVariants as offered
-use Rattle.fr_interface.specs.declared.entry.Origin.{Origin}
+use Rattle.fr_journal.specs.declared.entry.Offered.{Offered}
+use Rattle.fr_journal.specs.declared.entry.Offered.TheVariants as offered
+use Rattle.fr_journal.specs.declared.entry.Origin.{Origin}
 use Rattle.fr_lines.specs.Parts.{absent}
 use Rattle.fr_slots.specs.Admission.{CycleClass, cycle_class}
 use Rattle.fr_slots.specs.declared.channel.Channel.{Channel}

@@ -1,9 +1,9 @@
 -- How the parts of a line are spelled. A number is spelled as std's `decimal` says.
 use Rattle.std.specs.Prelude.{ℕ, ◌++◌, Bool, true, false, List, codes, Option, Some, None}
 use Rattle.std.specs.Fmt.{decimal}
-use Rattle.fr_interface.specs.declared.entry.Offered.{Offered}
-use Rattle.fr_interface.specs.declared.entry.Offered.TheVariants as offered
-use Rattle.fr_interface.specs.declared.entry.Origin.{Origin}
+use Rattle.fr_journal.specs.declared.entry.Offered.{Offered}
+use Rattle.fr_journal.specs.declared.entry.Offered.TheVariants as offered
+use Rattle.fr_journal.specs.declared.entry.Origin.{Origin}
 use Rattle.fr_slots.specs.declared.channel.Channel.{Channel}
 use Rattle.fr_slots.specs.declared.channel.Channel.TheVariants as channel
 use Rattle.fr_slots.specs.declared.channel.Channels.{Channels}

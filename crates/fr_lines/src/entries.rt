@@ -1,13 +1,13 @@
 //! The lines of entries.
 ghost use Rattle.std.specs.Prelude.{◌≡◌, Some, IfSome};
-ghost use Rattle.fr_interface.specs.declared.entry.Entry.{Entry};
+ghost use Rattle.fr_journal.specs.declared.entry.Entry.{Entry};
 ghost use Rattle.fr_text.specs.Spaces.{words_of, line_of};
 ghost use Rattle.fr_lines.specs.Reading.{commit_in, read_in, fetch_in, observe_in, entry_in};
 ghost use Rattle.fr_lines.specs.Spelled.{IsSpelledEntry};
 ghost use Rattle.fr_lines.specs.Spelling.{entry_words};
 
 use crate::parts::{from_of, offered_of, payload_of, seen_of, task_of, window_of};
-use fr_interface::entry::Entry;
+use fr_journal::entry::Entry;
 use fr_text::numbers::number_of;
 use fr_text::words::Words;
 

@@ -4,7 +4,7 @@ ghost use Rattle.fr_text.specs.Reading.{number_in};
 ghost use Rattle.fr_lines.specs.PartReading.{slot_in, optional_slot_in, channels_in, cycles_in, filter_in, flag_in, mode_in, size_in, owned_slot_in, payload_in, channel_in, origin_in, from_in, offered_in, seen_bytes_in, seen_in, same_slot, window_of, window_in};
 
 use fr_frame::payload::Payload;
-use fr_interface::entry::{Offered, Origin};
+use fr_journal::entry::{Offered, Origin};
 use fr_slots::channel::{Channel, Channels};
 use fr_slots::filter::{CycleFilter, Filter};
 use fr_slots::numbers::{Cycle, SlotId, TaskId};

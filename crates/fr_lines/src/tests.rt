@@ -8,7 +8,7 @@ use crate::parameters::params_of;
 use crate::writing::{write_buffer, write_entry, write_node, write_own, write_params, write_queue};
 use arrayvec::ArrayVec;
 use fr_frame::payload::Payload;
-use fr_interface::entry::{Entry, Offered, Origin};
+use fr_journal::entry::{Entry, Offered, Origin};
 use fr_slots::channel::{Channel, Channels};
 use fr_slots::filter::{CycleFilter, Filter};
 use fr_slots::numbers::{Cycle, SlotId, TaskId};

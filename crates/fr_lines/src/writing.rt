@@ -3,12 +3,12 @@
 //! Each function fails where the writer fails, and then a part of the line may have gone out.
 ghost use Rattle.std.specs.Prelude.{◌≡◌, ◌∷◌, OnOk};
 ghost use Rattle.std.specs.Io.KnownBytes.{Appends};
-ghost use Rattle.fr_interface.specs.declared.entry.Entry.TheVariants as entries;
+ghost use Rattle.fr_journal.specs.declared.entry.Entry.TheVariants as entries;
 ghost use Rattle.fr_lines.specs.Parts.{channels_word, flag_word, from_word, offered_word, optional_number, seen_word};
 ghost use Rattle.fr_lines.specs.Spelling.{line_text, params_words, node_words, own_words, transmit_words, receive_words, buffer_words, queue_words, entry_words};
 
 use fr_frame::payload::Payload;
-use fr_interface::entry::{Entry, Offered, Origin};
+use fr_journal::entry::{Entry, Offered, Origin};
 use fr_slots::channel::{Channel, Channels};
 use fr_slots::filter::Filter;
 use fr_slots::numbers::{SlotId, TaskId};

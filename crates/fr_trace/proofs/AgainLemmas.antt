@@ -4,10 +4,10 @@ use Rattle.std.specs.Prelude.{slice_get, IsSomeAnd}
 use Rattle.std.proofs.lemmas.List.{append-nil}
 use Rattle.std.proofs.lemmas.List.Sums.{fold-append}
 use Rattle.std.specs.List.{flat_map}
-use Rattle.fr_interface.specs.declared.entry.Entry.{Entry}
-use Rattle.fr_interface.specs.declared.entry.Entry.TheVariants.{Commit, Read, Pop, Fetch, Observe}
-use Rattle.fr_interface.specs.Entries.{IsEntry}
-use Rattle.fr_interface.specs.Legal.{IsLegal}
+use Rattle.fr_journal.specs.declared.entry.Entry.{Entry}
+use Rattle.fr_journal.specs.declared.entry.Entry.TheVariants.{Commit, Read, Pop, Fetch, Observe}
+use Rattle.fr_journal.specs.Entries.{IsEntry}
+use Rattle.fr_journal.specs.Legal.{IsLegal}
 use Rattle.fr_interface.specs.State.{State, IsLegalInterface, with_entry}
 use Rattle.fr_lines.specs.Spelled.{IsSpelledEntry, IsSpelledOwn, IsSpelledBuffer, bare_plan}
 use Rattle.fr_lines.specs.Spelling.{first_line, begin_line, end_line, params_words, node_words, own_words, buffer_words, entry_words}

@@ -3,16 +3,16 @@ use Rattle.std.proofs.Common.{◌≡◌, ℕ, ◌+◌, ◌*◌, ◌<◌, true, f
 use Rattle.std.specs.Prelude.{IfSome, IsSomeAnd, is_some, count_by}
 use Rattle.std.specs.Option.{option_and_then}
 use Rattle.std.proofs.lemmas.Bool.{and_parts, eqb-true, eq-eqb, lt-leb, le-ltb}
-use Rattle.fr_interface.specs.declared.entry.Entry.{Entry}
-use Rattle.fr_interface.specs.declared.entry.Entry.TheVariants.{Commit, Read, Pop, Fetch, Observe}
-use Rattle.fr_interface.specs.declared.entry.Offered.{Offered}
-use Rattle.fr_interface.specs.declared.entry.Offered.TheVariants.{Nothing, Null, Data}
-use Rattle.fr_interface.specs.declared.entry.Origin.{Origin}
-use Rattle.fr_interface.specs.Held.{held, origin_of}
-use Rattle.fr_interface.specs.Entries.{is_host, is_slot}
-use Rattle.fr_interface.specs.Legal.{IsLegal, IsLegalCommit, IsLegalRead, IsLegalFetch, words_of}
-use Rattle.fr_interface.specs.Offers.{buffer_at, offered}
-use Rattle.fr_interface.specs.OpenWindow.{open_window, last_number}
+use Rattle.fr_journal.specs.declared.entry.Entry.{Entry}
+use Rattle.fr_journal.specs.declared.entry.Entry.TheVariants.{Commit, Read, Pop, Fetch, Observe}
+use Rattle.fr_journal.specs.declared.entry.Offered.{Offered}
+use Rattle.fr_journal.specs.declared.entry.Offered.TheVariants.{Nothing, Null, Data}
+use Rattle.fr_journal.specs.declared.entry.Origin.{Origin}
+use Rattle.fr_journal.specs.Held.{held, origin_of}
+use Rattle.fr_journal.specs.Entries.{is_host, is_slot}
+use Rattle.fr_journal.specs.Legal.{IsLegal, IsLegalCommit, IsLegalRead, IsLegalFetch, words_of}
+use Rattle.fr_journal.specs.Offers.{buffer_at, offered}
+use Rattle.fr_journal.specs.OpenWindow.{open_window, last_number}
 use Rattle.fr_interface.specs.State.{State, received_by, commit_refusal, unless_transmit, received_in, read_refusal, unless_receive, fetch_refusal, observe_refusal, unless_open, is_not_above, is_host_full}
 use Rattle.fr_slots.specs.declared.channel.Channel.{Channel}
 use Rattle.fr_slots.specs.declared.channel.Channel.TheVariants.{A, B}

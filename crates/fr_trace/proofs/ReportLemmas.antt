@@ -1,9 +1,9 @@
 -- The report, one buffer more.
 use Rattle.std.proofs.Common.{◌≡◌, ℕ, zero, suc, ◌+◌, ◌<◌, true, false, cond, List, [], ◌∷◌, ◌++◌, length, take, Some, None, refl, sym, ap, ◌∙◌, append_assoc, append-nil, arith}
 use Rattle.std.specs.Prelude.{slice_get}
-use Rattle.fr_interface.specs.Fate.{tally_of}
-use Rattle.fr_interface.specs.Held.{held}
-use Rattle.fr_interface.specs.Offers.{buffer_at}
+use Rattle.fr_journal.specs.Fate.{tally_of}
+use Rattle.fr_journal.specs.Held.{held}
+use Rattle.fr_journal.specs.Offers.{buffer_at}
 use Rattle.fr_interface.specs.State.{State, received_by, tally_by}
 use Rattle.fr_slots.specs.declared.plan.Buffer.{Buffer}
 use Rattle.fr_slots.specs.Plans.{is_receive}

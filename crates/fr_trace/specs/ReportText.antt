@@ -1,11 +1,11 @@
 -- The text of a report.
 use Rattle.std.specs.Prelude.{ℕ, ◌+◌, List, [], ◌∷◌, ◌++◌, codes, Option, Some, None, if◌then◌else◌}
 use Rattle.std.specs.Fmt.{decimal}
-use Rattle.fr_interface.specs.Counts.{StatusCounts}
-use Rattle.fr_interface.specs.declared.entry.Arrival.{Arrival}
-use Rattle.fr_interface.specs.declared.fate.Tally.{Tally}
-use Rattle.fr_interface.specs.Fate.{tally_of}
-use Rattle.fr_interface.specs.Held.{held}
+use Rattle.fr_journal.specs.Counts.{StatusCounts}
+use Rattle.fr_journal.specs.declared.entry.Arrival.{Arrival}
+use Rattle.fr_journal.specs.declared.fate.Tally.{Tally}
+use Rattle.fr_journal.specs.Fate.{tally_of}
+use Rattle.fr_journal.specs.Held.{held}
 use Rattle.fr_interface.specs.State.{State}
 use Rattle.fr_lines.specs.Parts.{absent, origin_word}
 use Rattle.fr_slots.specs.declared.plan.Buffer.{Buffer}

@@ -2,7 +2,7 @@
 use Rattle.std.specs.Prelude.{ℕ, ◌+◌, ◌==◌, ◌&&◌, List, [], ◌∷◌, ◌++◌, length, ℤ, Option, Some, None, is_none, Result, Ok, Err, if◌then◌else◌}
 use Rattle.std.specs.List.{fold}
 use Rattle.std.specs.Str.{bytes_eq}
-use Rattle.fr_interface.specs.declared.entry.Entry.{Entry}
+use Rattle.fr_journal.specs.declared.entry.Entry.{Entry}
 use Rattle.fr_interface.specs.State.{State, with_entry}
 use Rattle.fr_lines.specs.Reading.{params_in, node_in, own_in, buffer_in, entry_in}
 use Rattle.fr_lines.specs.Spelling.{first_line, begin_line, end_line}

@@ -5,8 +5,8 @@ ghost use Rattle.std.specs.Result.{result_err};
 ghost use Rattle.fr_trace.specs.Answers.{same_channel, same_origin, same_offered, same_answer, is_refused, made_by, fault_of};
 ghost use Rattle.fr_interface.specs.State.{with_entry};
 
-use fr_interface::entry::{Entry, Offered, Origin};
 use fr_interface::interface::Interface;
+use fr_journal::entry::{Entry, Offered, Origin};
 use fr_slots::channel::Channel;
 
 /// Why an entry can't stand where the trace has it.

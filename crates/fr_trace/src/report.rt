@@ -7,9 +7,9 @@ ghost use Rattle.fr_trace.specs.ReportText.{answer_words, held_words, report_tex
 ghost use Rattle.fr_lines.specs.Spelling.{line_text};
 
 use crate::error::TraceError;
-use fr_interface::entry::Arrival;
-use fr_interface::fate::Tally;
 use fr_interface::interface::Interface;
+use fr_journal::entry::Arrival;
+use fr_journal::fate::Tally;
 use fr_slots::channel::Channel;
 use fr_text::hexes::write_hex;
 use std::io;

@@ -9,7 +9,7 @@ ghost use Rattle.fr_trace.specs.Stream.{fresh, take_bytes, outcome_of};
 
 use crate::error::TraceError;
 use fr_interface::interface::Interface;
-use fr_interface::journal::Journal;
+use fr_journal::journal::Journal;
 use fr_lines::writing::{
     write_buffer, write_entry, write_node, write_own, write_params, write_queue,
 };

@@ -1,7 +1,7 @@
 use Rattle.std.proofs.Common.{◌≡◌, ◌∙◌, ap, sym, subst, ℕ, ◌<◌, Option, ◌+◌}
 use Rattle.std.specs.Prelude.{IfSome}
 use Rattle.std.specs.Option.{option_or}
-use Rattle.fr_interface.specs.Fate.{commit_at}
+use Rattle.fr_journal.specs.Fate.{commit_at}
 use Rattle.fr_interface.proofs.FateLemmas.{last_commit-none, last_commit-more, commit_at-below}
 use Rattle.fr_interface.proofs.fate.last_commit.Goals as goal
 

@@ -1,6 +1,6 @@
 use Rattle.std.proofs.Common.{◌≡◌, ◌+◌, ◌-◌, ◌∙◌, drop, take, length, arith, ap, sym, subst}
 use Rattle.std.proofs.lemmas.List.{take_all, length-drop}
-use Rattle.fr_interface.specs.declared.fate.Tally.{Tally}
+use Rattle.fr_journal.specs.declared.fate.Tally.{Tally}
 use Rattle.fr_interface.specs.Tallying.{tallied, IsAtMost}
 use Rattle.fr_interface.proofs.FateLemmas.{IsCounted, IsCounted-more, IsCounted-all, IsAtMost-more}
 use Rattle.fr_interface.proofs.fate.tally_of.Goals as goal

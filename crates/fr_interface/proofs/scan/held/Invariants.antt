@@ -1,5 +1,5 @@
 use Rattle.std.proofs.Common.{◌≡◌, take}
-use Rattle.fr_interface.specs.Held.{held}
+use Rattle.fr_journal.specs.Held.{held}
 use Rattle.fr_interface.specs.Opening.{IsOpening}
 use Rattle.fr_interface.proofs.scan.held.Given as goal
 

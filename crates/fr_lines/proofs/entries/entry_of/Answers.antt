@@ -1,6 +1,6 @@
 use Rattle.std.proofs.Common.{◌≡◌, List, ℕ, Option, Some, None, sym, ap, ◌∙◌}
 use Rattle.std.specs.Prelude.{IfSome}
-use Rattle.fr_interface.specs.declared.entry.Entry.{Entry}
+use Rattle.fr_journal.specs.declared.entry.Entry.{Entry}
 use Rattle.fr_lines.proofs.EntryLemmas.{entry_line_takes, entry_line_again, entry_fits}
 use Rattle.fr_lines.specs.Reading.{entry_in}
 use Rattle.fr_lines.specs.Spelled.{IsSpelledEntry}

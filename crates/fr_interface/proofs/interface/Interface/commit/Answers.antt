@@ -1,10 +1,10 @@
 use Rattle.std.proofs.Common.{◌≡◌, ◌*◌, false, Option, Some, length, arith, ap, sym, subst, ◌∙◌}
 use Rattle.std.specs.Prelude.{IsSomeAnd}
 use Rattle.fr_frame.specs.Payload.{IsPayload}
-use Rattle.fr_interface.specs.Entries.{AreBytes}
-use Rattle.fr_interface.specs.Legal.{words_of}
-use Rattle.fr_interface.specs.Offers.{buffer_at}
-use Rattle.fr_interface.proofs.LegalLemmas.{words_from_test}
+use Rattle.fr_journal.specs.Entries.{AreBytes}
+use Rattle.fr_journal.specs.Legal.{words_of}
+use Rattle.fr_journal.specs.Offers.{buffer_at}
+use Rattle.fr_interface.proofs.TestLemmas.{words_from_test}
 use Rattle.fr_slots.specs.declared.plan.Buffer.{Buffer}
 use Rattle.fr_slots.specs.Plans.{is_receive}
 use Rattle.fr_slots.proofs.HistoryLemmas.{AllAfter-snoc}

@@ -1,15 +1,15 @@
 use Rattle.std.proofs.Common.{◌≡◌, ap, arith, sym, subst, ◌∙◌, ℕ, ◌<◌, List, Option}
 use Rattle.std.specs.Prelude.{IfSome}
 use Rattle.fr_frame.specs.Fields.{Fields}
-use Rattle.fr_interface.specs.declared.entry.Entry.{Entry}
-use Rattle.fr_interface.specs.declared.entry.Entry.TheVariants.{Fetch}
-use Rattle.fr_interface.specs.declared.entry.Offered.{Offered}
-use Rattle.fr_interface.specs.Kept.{Kept}
-use Rattle.fr_interface.specs.Legal.{window_fits}
-use Rattle.fr_interface.specs.Offers.{offered, frame_with, frame_offered, IsHandedOut}
-use Rattle.fr_interface.specs.OpenWindow.{open_window, last_number}
+use Rattle.fr_journal.specs.declared.entry.Entry.{Entry}
+use Rattle.fr_journal.specs.declared.entry.Entry.TheVariants.{Fetch}
+use Rattle.fr_journal.specs.declared.entry.Offered.{Offered}
+use Rattle.fr_journal.specs.Kept.{Kept}
+use Rattle.fr_journal.specs.Legal.{window_fits}
+use Rattle.fr_journal.specs.Offers.{offered, frame_with, frame_offered, IsHandedOut}
+use Rattle.fr_journal.specs.OpenWindow.{open_window, last_number}
 use Rattle.fr_interface.specs.State.{State, with_entry, is_not_above}
-use Rattle.fr_interface.proofs.LegalLemmas.{none_from_test, later_from_test}
+use Rattle.fr_interface.proofs.TestLemmas.{none_from_test, later_from_test}
 use Rattle.fr_slots.specs.declared.channel.Channel.TheVariants.{A, B}
 use Rattle.fr_slots.specs.Windows.{Opportunity, IsInRange}
 use Rattle.fr_slots.proofs.HistoryLemmas.{AllAfter-snoc}

@@ -1,8 +1,8 @@
 use Rattle.std.proofs.Common.{◌≡◌, Option, Some, ap, arith, sym, subst, ◌∙◌, rules}
 use Rattle.std.specs.Prelude.{IsSomeAnd}
-use Rattle.fr_interface.specs.Entries.{IsSeen}
-use Rattle.fr_interface.specs.OpenWindow.{open_window}
-use Rattle.fr_interface.proofs.LegalLemmas.{room_for_observe}
+use Rattle.fr_journal.specs.Entries.{IsSeen}
+use Rattle.fr_journal.specs.OpenWindow.{open_window}
+use Rattle.fr_journal.proofs.RoomLemmas.{room_for_observe}
 use Rattle.fr_slots.proofs.HistoryLemmas.{AllAfter-snoc}
 use Rattle.fr_slots.specs.Windows.{Opportunity}
 use Rattle.fr_interface.proofs.interface.Interface.observe.Goals as goal

@@ -1,9 +1,9 @@
 use Rattle.std.proofs.Common.{◌≡◌, Option, ap, arith, rules, Some, sym, subst, ◌∙◌, option_map, true, length, ◌≤◌, ◌^◌}
 use Rattle.std.specs.Prelude.{IsSomeAnd}
-use Rattle.fr_interface.specs.Entries.{IsOrigin}
-use Rattle.fr_interface.specs.Held.{held, origin_of}
-use Rattle.fr_interface.specs.Offers.{buffer_at}
-use Rattle.fr_interface.proofs.HeldPlaceLemmas.{origin_fits}
+use Rattle.fr_journal.specs.Entries.{IsOrigin}
+use Rattle.fr_journal.specs.Held.{held, origin_of}
+use Rattle.fr_journal.specs.Offers.{buffer_at}
+use Rattle.fr_journal.proofs.HeldPlaceLemmas.{origin_fits}
 use Rattle.fr_slots.specs.declared.plan.Buffer.{Buffer}
 use Rattle.fr_slots.specs.Plans.{is_receive}
 use Rattle.fr_slots.proofs.HistoryLemmas.{AllAfter-snoc}

@@ -1,8 +1,8 @@
 //! A journal, which takes all its memory when it is made.
 
 ghost use Rattle.std.specs.Prelude.{◌≡◌, ◌<◌, ◌≤◌, ◌∷◌, [], ◌++◌, IfOk, IsTrue, ◌↔◌, false, length, slice_get};
-ghost use Rattle.fr_interface.specs.Entries.{is_host};
-ghost use Rattle.fr_interface.specs.Kept.{host_room, slot_room, IsWithin};
+ghost use Rattle.fr_journal.specs.Entries.{is_host};
+ghost use Rattle.fr_journal.specs.Kept.{host_room, slot_room, IsWithin};
 
 use crate::entry::Entry;
 use std::alloc::{AllocError, Global};
@@ -19,11 +19,11 @@ pub struct Journal {
 }
 
 impl Model for Journal {
-    ghost use Rattle.fr_interface.specs.Kept.{Kept};
+    ghost use Rattle.fr_journal.specs.Kept.{Kept};
 
     ghost Value = { Kept };
 
-    ghost use Rattle.fr_interface.specs.JournalFields.{kept_in, IsCounted};
+    ghost use Rattle.fr_journal.specs.JournalFields.{kept_in, IsCounted};
 
     ghost view = { kept_in };
 
@@ -113,7 +113,7 @@ impl Journal {
 
     /// All entries, in order.
     #[tactic(auto, using(crate::proofs::KindLemmas::kinds_fill))]
-    pub(crate) fn entries(&self) -> &[Entry]
+    pub fn entries(&self) -> &[Entry]
         ensures value { result.now ≡ self.now.entries }
         ensures within { IsWithin self.now }
         ensures few { length self.now.entries ≤ 81920 }

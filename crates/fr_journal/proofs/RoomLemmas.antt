@@ -1,23 +1,19 @@
--- What legal journals have room for, and what the tests of a fetch tell.
-use Rattle.std.proofs.Common.{◌≡◌, ℕ, ◌+◌, ◌*◌, ◌≤◌, ◌<◌, Bool, true, false, cond, List, [], ◌∷◌, ◌++◌, length, Option, Some, None, refl, sym, ap, subst, ◌∙◌, arith}
-use Rattle.std.specs.Prelude.{IfSome, count_by, is_some}
+-- What legal journals have room for.
+use Rattle.std.proofs.Common.{◌≡◌, ℕ, ◌+◌, ◌≤◌, Bool, false, cond, List, [], ◌∷◌, ◌++◌, Option, Some, None, refl, sym, ap, subst, ◌∙◌, arith}
+use Rattle.std.specs.Prelude.{IfSome, count_by}
 use Rattle.std.specs.Option.{option_and_then, option_or}
-use Rattle.std.proofs.lemmas.Bool.{leb-false, eqb-true}
 use Rattle.std.proofs.lemmas.List.Sums.{sum_by-append}
-use Rattle.fr_interface.specs.declared.entry.Entry.{Entry}
-use Rattle.fr_interface.specs.declared.entry.Entry.TheVariants.{Commit, Read, Pop, Fetch, Observe}
-use Rattle.fr_interface.specs.Entries.{is_slot}
-use Rattle.fr_interface.specs.Legal.{IsLegal, IsLegalJournal, words_of}
-use Rattle.fr_interface.specs.OpenWindow.{open_window, window_mark}
-use Rattle.fr_interface.specs.State.{is_not_above, has_words}
-use Rattle.fr_interface.proofs.OpeningLemmas.{open_window-snoc}
+use Rattle.fr_journal.specs.declared.entry.Entry.{Entry}
+use Rattle.fr_journal.specs.declared.entry.Entry.TheVariants.{Commit, Read, Pop, Fetch, Observe}
+use Rattle.fr_journal.specs.Entries.{is_slot}
+use Rattle.fr_journal.specs.Legal.{IsLegal, IsLegalJournal}
+use Rattle.fr_journal.specs.OpenWindow.{open_window, window_mark}
+use Rattle.fr_journal.proofs.OpenWindowLemmas.{open_window-snoc}
 use Rattle.fr_slots.specs.History.{last_after}
 use Rattle.fr_slots.specs.Parameters.{Parameters}
 use Rattle.fr_slots.specs.Plans.{Plan}
 use Rattle.fr_slots.specs.Windows.{Opportunity}
 use Rattle.fr_slots.proofs.HistoryLemmas.{AllAfter-induction}
-
--- ---- an open window has room for its observe
 
 abbrev HasRoom : Plan → List Entry → Type 0
 HasRoom plan entries = IfSome (open_window entries) (λ _. count_by is_slot entries + 1 ≤ plan.slot_entries)
@@ -46,18 +42,3 @@ unfolding last_after
 room_for_observe params plan xs w legal e =
     let h : HasRoom plan xs = AllAfter-induction (IsLegal params plan) (HasRoom plan) [] xs tt (HasRoom-snoc params plan) legal in
     subst (λ (o : Option Opportunity). IfSome o (λ _. count_by is_slot xs + 1 ≤ plan.slot_entries)) e h
-
--- ---- what the tests of a fetch tell
-
-pub none_from_test : {A : Type 0} (t : Bool) (o : Option A) → t ≡ is_some o → t ≡ false → o ≡ None
-none_from_test t None e f = refl
-none_from_test t (Some x) e f = absurd cc
-
-pub later_from_test : (number : ℕ) (o : Option ℕ) → is_not_above number o ≡ false → IfSome o (λ n. n < number)
-later_from_test number None e = tt
-later_from_test number (Some n) e = leb-false number n e
-
--- ---- what the tests of a commit tell
-
-pub words_from_test : (params : Parameters) (words : Option ℕ) (payload : List ℕ) → has_words params words payload ≡ true → length payload ≡ 2 * words_of params words
-words_from_test params words payload h = eqb-true (length payload) (2 * words_of params words) h

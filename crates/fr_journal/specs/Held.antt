@@ -2,12 +2,12 @@
 use Rattle.std.specs.Prelude.{ℕ, List, [], length, Option, Some, None, if◌then◌else◌, option_map}
 use Rattle.std.specs.Option.{option_and_then, option_or}
 use Rattle.fr_frame.specs.Fields.{Fields}
-use Rattle.fr_interface.specs.declared.entry.Arrival.{Arrival}
-use Rattle.fr_interface.specs.declared.entry.Entry.{Entry}
-use Rattle.fr_interface.specs.declared.entry.Entry.TheVariants.{Commit, Read, Pop, Fetch, Observe}
-use Rattle.fr_interface.specs.declared.entry.Origin.{Origin}
-use Rattle.fr_interface.specs.Offers.{admits_window}
-use Rattle.fr_interface.specs.OpenWindow.{open_window}
+use Rattle.fr_journal.specs.declared.entry.Arrival.{Arrival}
+use Rattle.fr_journal.specs.declared.entry.Entry.{Entry}
+use Rattle.fr_journal.specs.declared.entry.Entry.TheVariants.{Commit, Read, Pop, Fetch, Observe}
+use Rattle.fr_journal.specs.declared.entry.Origin.{Origin}
+use Rattle.fr_journal.specs.Offers.{admits_window}
+use Rattle.fr_journal.specs.OpenWindow.{open_window}
 use Rattle.fr_slots.specs.declared.channel.Channel.{Channel}
 use Rattle.fr_slots.specs.declared.channel.Channel.TheVariants.{A, B}
 use Rattle.fr_slots.specs.declared.filter.Filter.{Filter}

@@ -1,8 +1,8 @@
 -- The fields of `Journal` as what it keeps.
 use Rattle.std.specs.Prelude.{◌≡◌, ◌+◌, ◌≤◌, count_by, vec_capacity}
-use Rattle.fr_interface.specs.declared.journal.Journal.TheInside.{Inside}
-use Rattle.fr_interface.specs.Entries.{is_host, is_slot}
-use Rattle.fr_interface.specs.Kept.{Kept}
+use Rattle.fr_journal.specs.declared.journal.Journal.TheInside.{Inside}
+use Rattle.fr_journal.specs.Entries.{is_host, is_slot}
+use Rattle.fr_journal.specs.Kept.{Kept}
 
 abbrev pub kept_in : Inside → Kept
 kept_in j = record { host_limit = j.host_limit; slot_limit = j.slot_limit; entries = j.entries.items }

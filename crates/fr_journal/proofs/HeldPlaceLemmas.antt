@@ -3,13 +3,13 @@ use Rattle.std.proofs.Common.{◌≡◌, ℕ, ◌+◌, ◌≤◌, ◌<◌, ◌^�
 use Rattle.std.specs.Prelude.{IfSome}
 use Rattle.std.specs.Option.{option_and_then}
 use Rattle.fr_frame.specs.Fields.{Fields}
-use Rattle.fr_interface.specs.declared.entry.Arrival.{Arrival}
-use Rattle.fr_interface.specs.declared.entry.Entry.{Entry}
-use Rattle.fr_interface.specs.declared.entry.Entry.TheVariants.{Commit, Read, Pop, Fetch, Observe}
-use Rattle.fr_interface.specs.Entries.{IsOrigin}
-use Rattle.fr_interface.specs.Held.{held, arrival_at, arrival_by, arrival_in, arrival_on, arrival_of, data_frame_seen, origin_of}
-use Rattle.fr_interface.specs.Offers.{admits_window}
-use Rattle.fr_interface.specs.OpenWindow.{open_window}
+use Rattle.fr_journal.specs.declared.entry.Arrival.{Arrival}
+use Rattle.fr_journal.specs.declared.entry.Entry.{Entry}
+use Rattle.fr_journal.specs.declared.entry.Entry.TheVariants.{Commit, Read, Pop, Fetch, Observe}
+use Rattle.fr_journal.specs.Entries.{IsOrigin}
+use Rattle.fr_journal.specs.Held.{held, arrival_at, arrival_by, arrival_in, arrival_on, arrival_of, data_frame_seen, origin_of}
+use Rattle.fr_journal.specs.Offers.{admits_window}
+use Rattle.fr_journal.specs.OpenWindow.{open_window}
 use Rattle.fr_slots.specs.declared.channel.Channel.{Channel}
 use Rattle.fr_slots.specs.declared.channel.Channel.TheVariants.{A, B}
 use Rattle.fr_slots.specs.declared.filter.Filter.{Filter}

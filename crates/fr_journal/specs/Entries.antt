@@ -1,11 +1,11 @@
 -- Which entries are of the host, and which numbers and bytes an entry may have.
 use Rattle.std.specs.Prelude.{ℕ, ◌<◌, ◌≤◌, ◌^◌, Bool, true, false, not, List, length, slice_index, Option, Some, None}
 use Rattle.fr_frame.specs.Payload.{IsPayload}
-use Rattle.fr_interface.specs.declared.entry.Entry.{Entry}
-use Rattle.fr_interface.specs.declared.entry.Entry.TheVariants.{Commit, Read, Pop, Fetch, Observe}
-use Rattle.fr_interface.specs.declared.entry.Offered.{Offered}
-use Rattle.fr_interface.specs.declared.entry.Offered.TheVariants as offered
-use Rattle.fr_interface.specs.declared.entry.Origin.{Origin}
+use Rattle.fr_journal.specs.declared.entry.Entry.{Entry}
+use Rattle.fr_journal.specs.declared.entry.Entry.TheVariants.{Commit, Read, Pop, Fetch, Observe}
+use Rattle.fr_journal.specs.declared.entry.Offered.{Offered}
+use Rattle.fr_journal.specs.declared.entry.Offered.TheVariants as offered
+use Rattle.fr_journal.specs.declared.entry.Origin.{Origin}
 use Rattle.fr_slots.specs.Windows.{Opportunity, IsInRange}
 use Rattle.fr_status.specs.declared.seen.Seen.{Seen}
 use Rattle.fr_status.specs.declared.seen.Seen.TheVariants as seen

@@ -1,12 +1,12 @@
 -- The receive queue: what arrived, what it holds, and how many frames it lost (own profile).
 use Rattle.std.specs.Prelude.{ℕ, ◌+◌, ◌-◌, min, Bool, false, not, ◌&&◌, List, [], ◌∷◌, ◌++◌, length, drop, Option, Some, None, is_some, if◌then◌else◌, option_map, count_by, option_to_list, slice_get}
 use Rattle.std.specs.List.{fold, list_any}
-use Rattle.fr_interface.specs.declared.entry.Arrival.{Arrival}
-use Rattle.fr_interface.specs.declared.entry.Entry.{Entry}
-use Rattle.fr_interface.specs.declared.entry.Entry.TheVariants.{Commit, Read, Pop, Fetch, Observe}
-use Rattle.fr_interface.specs.Held.{data_frame_seen, arrival_of}
-use Rattle.fr_interface.specs.Offers.{admits_window}
-use Rattle.fr_interface.specs.OpenWindow.{open_window}
+use Rattle.fr_journal.specs.declared.entry.Arrival.{Arrival}
+use Rattle.fr_journal.specs.declared.entry.Entry.{Entry}
+use Rattle.fr_journal.specs.declared.entry.Entry.TheVariants.{Commit, Read, Pop, Fetch, Observe}
+use Rattle.fr_journal.specs.Held.{data_frame_seen, arrival_of}
+use Rattle.fr_journal.specs.Offers.{admits_window}
+use Rattle.fr_journal.specs.OpenWindow.{open_window}
 use Rattle.fr_slots.specs.declared.channel.Channel.{Channel}
 use Rattle.fr_slots.specs.declared.channel.Channel.TheVariants.{A, B}
 use Rattle.fr_slots.specs.declared.plan.Buffer.{Buffer}

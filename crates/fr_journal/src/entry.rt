@@ -24,15 +24,6 @@ pub struct Arrival {
     pub frame: Frame,
 }
 
-/// Where the content of a buffer comes from.
-#[derive(Clone, Copy, Debug, PartialEq, Eq)]
-pub enum Source {
-    /// The commit of this number, in a transmit buffer.
-    Commit(u32),
-    /// A frame of this origin, in a receive buffer.
-    Observed(Origin),
-}
-
 /// What a fetch handed to the bus on a channel.
 #[derive(Clone, Copy, Debug, PartialEq, Eq)]
 pub enum Offered {
@@ -83,7 +74,7 @@ pub enum Entry {
 
 impl Entry {
     ghost use Rattle.std.specs.Prelude.{◌≡◌};
-    ghost use Rattle.fr_interface.specs.Entries.{is_host};
+    ghost use Rattle.fr_journal.specs.Entries.{is_host};
 
     /// Whether the entry is the host's.
     pub fn is_host(&self) -> bool

@@ -1,14 +1,14 @@
 -- Which journals are legal for given parameters and a given plan.
 use Rattle.std.specs.Prelude.{◌≡◌, ℕ, ◌+◌, ◌*◌, ◌≤◌, ◌<◌, nat_lt, nat_le, Bool, true, false, ◌&&◌, List, [], length, Option, Some, None, if◌then◌else◌, count_by, IfSome, IsSomeAnd, option_map}
-use Rattle.fr_interface.specs.Arrivals.{moves, oldest}
-use Rattle.fr_interface.specs.declared.entry.Entry.{Entry}
-use Rattle.fr_interface.specs.declared.entry.Entry.TheVariants.{Commit, Read, Pop, Fetch, Observe}
-use Rattle.fr_interface.specs.declared.entry.Offered.{Offered}
-use Rattle.fr_interface.specs.declared.entry.Origin.{Origin}
-use Rattle.fr_interface.specs.Entries.{is_host, is_slot, IsEntry}
-use Rattle.fr_interface.specs.Held.{held, origin_of}
-use Rattle.fr_interface.specs.Offers.{buffer_at, offered}
-use Rattle.fr_interface.specs.OpenWindow.{open_window, last_number}
+use Rattle.fr_journal.specs.Arrivals.{moves, oldest}
+use Rattle.fr_journal.specs.declared.entry.Entry.{Entry}
+use Rattle.fr_journal.specs.declared.entry.Entry.TheVariants.{Commit, Read, Pop, Fetch, Observe}
+use Rattle.fr_journal.specs.declared.entry.Offered.{Offered}
+use Rattle.fr_journal.specs.declared.entry.Origin.{Origin}
+use Rattle.fr_journal.specs.Entries.{is_host, is_slot, IsEntry}
+use Rattle.fr_journal.specs.Held.{held, origin_of}
+use Rattle.fr_journal.specs.Offers.{buffer_at, offered}
+use Rattle.fr_journal.specs.OpenWindow.{open_window, last_number}
 use Rattle.fr_slots.specs.declared.channel.Channel.TheVariants as channel
 use Rattle.fr_slots.specs.History.{AllAfter}
 use Rattle.fr_slots.specs.Parameters.{Parameters}

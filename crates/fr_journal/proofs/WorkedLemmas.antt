@@ -4,16 +4,16 @@ use Rattle.std.specs.Prelude.{option_map}
 use Rattle.fr_frame.specs.Bits.{bits_of, number_of}
 use Rattle.fr_frame.specs.Crc.{xor_front, divide_once, divide}
 use Rattle.fr_frame.specs.Decoding.{decoded}
-use Rattle.fr_interface.specs.declared.entry.Entry.{Entry}
-use Rattle.fr_interface.specs.declared.entry.Entry.TheVariants.{Commit, Pop, Fetch, Observe}
-use Rattle.fr_interface.specs.declared.entry.Offered.{Offered}
-use Rattle.fr_interface.specs.declared.entry.Offered.TheVariants.{Nothing, Null, Data}
-use Rattle.fr_interface.specs.declared.entry.Origin.{Origin}
-use Rattle.fr_interface.specs.declared.fate.Tally.{Tally}
-use Rattle.fr_interface.specs.Arrivals.{moves, oldest, queue_length, queue_lost}
-use Rattle.fr_interface.specs.Fate.{fates_from, tally_of}
-use Rattle.fr_interface.specs.Held.{held, origin_of}
-use Rattle.fr_interface.specs.Offers.{offered}
+use Rattle.fr_journal.specs.declared.entry.Entry.{Entry}
+use Rattle.fr_journal.specs.declared.entry.Entry.TheVariants.{Commit, Pop, Fetch, Observe}
+use Rattle.fr_journal.specs.declared.entry.Offered.{Offered}
+use Rattle.fr_journal.specs.declared.entry.Offered.TheVariants.{Nothing, Null, Data}
+use Rattle.fr_journal.specs.declared.entry.Origin.{Origin}
+use Rattle.fr_journal.specs.declared.fate.Tally.{Tally}
+use Rattle.fr_journal.specs.Arrivals.{moves, oldest, queue_length, queue_lost}
+use Rattle.fr_journal.specs.Fate.{fates_from, tally_of}
+use Rattle.fr_journal.specs.Held.{held, origin_of}
+use Rattle.fr_journal.specs.Offers.{offered}
 use Rattle.fr_slots.specs.Admission.{CycleClass}
 use Rattle.fr_slots.specs.declared.channel.Channel.{Channel}
 use Rattle.fr_slots.specs.declared.channel.Channel.TheVariants as channel

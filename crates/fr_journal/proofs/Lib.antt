@@ -1,0 +1,5 @@
+pub mod HeldPlaceLemmas
+pub mod KindLemmas
+pub mod OpenWindowLemmas
+pub mod RoomLemmas
+pub mod WorkedLemmas

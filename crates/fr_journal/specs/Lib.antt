@@ -1,0 +1,10 @@
+pub mod Arrivals
+pub mod Counts
+pub mod Entries
+pub mod Fate
+pub mod Held
+pub mod JournalFields
+pub mod Kept
+pub mod Legal
+pub mod Offers
+pub mod OpenWindow

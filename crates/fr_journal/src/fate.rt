@@ -1,0 +1,25 @@
+//! What becomes of commits.
+
+/// What became of a commit (own profile).
+#[derive(Clone, Copy, Debug, PartialEq, Eq)]
+pub enum Fate {
+    /// A later fetch handed it to the bus.
+    Sent,
+    /// It wasn't sent, and a later commit took its place.
+    Overwritten,
+    /// Neither.
+    Pending,
+}
+
+/// How many commits on a transmit buffer met each fate (own profile).
+#[derive(Clone, Copy, Debug, PartialEq, Eq)]
+pub struct Tally {
+    /// All commits on the buffer.
+    pub committed: u32,
+    /// Those that a fetch handed to the bus, which may still have muted or blocked them.
+    pub sent: u32,
+    /// Those that weren't sent and that a later commit replaced.
+    pub overwritten: u32,
+    /// Those that are neither: the last commit, or none.
+    pub pending: u32,
+}
