@@ -1,4 +1,6 @@
+pub mod CountingLemmas
 pub mod FateLemmas
 pub mod HeldLemmas
 pub mod OpeningLemmas
+pub mod QueueLemmas
 pub mod TestLemmas

@@ -3,13 +3,14 @@ use Rattle.std.specs.Prelude.{◌≡◌, ℕ, ◌+◌, ◌*◌, ◌==◌, nat_lt
 use Rattle.std.specs.Option.{option_and_then}
 use Rattle.fr_journal.specs.declared.entry.Entry.{Entry}
 use Rattle.fr_interface.specs.declared.errors.HostError.{HostError}
-use Rattle.fr_interface.specs.declared.errors.HostError.TheVariants.{UnknownTask, UnknownBuffer, NotTransmit, WrongLength, HostFull, NotReceive}
+use Rattle.fr_interface.specs.declared.errors.HostError.TheVariants.{UnknownTask, UnknownBuffer, NotTransmit, WrongLength, HostFull, NotReceive, NoQueue}
 use Rattle.fr_interface.specs.declared.errors.SlotError.{SlotError}
 use Rattle.fr_interface.specs.declared.errors.SlotError.TheVariants.{NotObserved, WindowOrder, SlotFull, NotFetched, WrongWindow, BadWindow}
 use Rattle.fr_journal.specs.declared.entry.Arrival.{Arrival}
 use Rattle.fr_journal.specs.declared.fate.Tally.{Tally}
 use Rattle.fr_interface.specs.declared.source.Source.{Source}
 use Rattle.fr_interface.specs.declared.source.Source.TheVariants as source
+use Rattle.fr_journal.specs.Arrivals.{moves, oldest, queue_length, queue_lost}
 use Rattle.fr_journal.specs.Entries.{is_host, is_slot}
 use Rattle.fr_journal.specs.Fate.{last_commit, tally_of}
 use Rattle.fr_journal.specs.Held.{held, origin_of}
@@ -17,6 +18,7 @@ use Rattle.fr_journal.specs.Legal.{words_of, window_fits, IsLegalJournal, AreEnt
 use Rattle.fr_journal.specs.Offers.{buffer_at}
 use Rattle.fr_journal.specs.OpenWindow.{open_window, last_number}
 use Rattle.fr_slots.specs.declared.plan.Buffer.{Buffer}
+use Rattle.fr_slots.specs.declared.plan.Queue.{Queue}
 use Rattle.fr_slots.specs.Faults.{plan_fault}
 use Rattle.fr_slots.specs.Parameters.{Parameters, IsParameters}
 use Rattle.fr_slots.specs.Plans.{Plan, IsPlan, is_receive}
@@ -66,6 +68,18 @@ tally_in s buffer b = if is_receive b.mode then None else Some (tally_of buffer 
 abbrev pub tally_by : State → ℕ → Option Tally
 tally_by s buffer = option_and_then (tally_in s buffer) (buffer_at s.plan buffer)
 
+-- the oldest frame of the receive queue, where there is a queue and it holds one
+abbrev pub oldest_of : State → Option Arrival
+oldest_of s = option_and_then (λ q. oldest q.capacity (moves s.params s.plan q s.entries)) s.plan.queue
+
+-- how many frames the receive queue holds
+abbrev pub length_of : State → Option ℕ
+length_of s = option_map (λ q. queue_length q.capacity (moves s.params s.plan q s.entries)) s.plan.queue
+
+-- how many frames the receive queue lost
+abbrev pub lost_of : State → Option ℕ
+lost_of s = option_map (λ q. queue_lost s.params s.plan q s.entries) s.plan.queue
+
 -- ---- the refusals, in the order in which they are tested
 
 abbrev pub is_host_full : State → Bool
@@ -91,6 +105,13 @@ unless_receive s (Some b) = if not (is_receive b.mode) then Some NotReceive else
 
 abbrev pub read_refusal : State → ℕ → ℕ → Option HostError
 read_refusal s task buffer = if nat_le s.plan.tasks task then Some UnknownTask else unless_receive s (buffer_at s.plan buffer)
+
+abbrev pub unless_queued : State → Option Queue → Option HostError
+unless_queued s None = Some NoQueue
+unless_queued s (Some q) = if is_host_full s then Some HostFull else None
+
+abbrev pub pop_refusal : State → ℕ → Option HostError
+pop_refusal s task = if nat_le s.plan.tasks task then Some UnknownTask else unless_queued s s.plan.queue
 
 abbrev pub is_not_above : ℕ → Option ℕ → Bool
 is_not_above number None = false

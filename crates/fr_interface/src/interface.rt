@@ -9,9 +9,11 @@ ghost use Rattle.fr_journal.specs.Legal.{window_fits, static_slot_fits, dynamic_
 ghost use Rattle.fr_slots.specs.Plans.{is_receive};
 ghost use Rattle.fr_slots.specs.Windows.{IsInRange, IsSlotOrNone};
 
+use crate::counting::counters_of;
 use crate::errors::{HostError, InterfaceError, SlotError};
 use crate::fate::{last_commit, tally_of};
 use crate::offers::{buffer_at, handed_out, offered};
+use crate::queue::{length_of, lost_of, oldest};
 use crate::scan::{held, opening_of};
 use crate::source::Source;
 use fr_frame::frame::{Bytes, Frame};
@@ -24,6 +26,7 @@ use fr_slots::numbers::{SlotId, TaskId};
 use fr_slots::params::Params;
 use fr_slots::plan::{Mode, NodePlan};
 use fr_slots::window::Window;
+use fr_status::counters::Counters;
 use fr_status::seen::Seen;
 use std::alloc::Global;
 use std::marker::Model;
@@ -70,9 +73,10 @@ impl Interface {
     ghost use Rattle.std.specs.Prelude.{◌≡◌, [], None, length, IfOk, OnOk, OnErr, option_map};
     ghost use Rattle.std.specs.Result.{result_err};
     ghost use Rattle.fr_journal.specs.declared.entry.Entry.TheVariants as entries;
+    ghost use Rattle.fr_journal.specs.Counts.{counters_of};
     ghost use Rattle.fr_journal.specs.Held.{frame_of, origin_of};
     ghost use Rattle.fr_journal.specs.Offers.{frame_offered, offered, IsHandedOut};
-    ghost use Rattle.fr_interface.specs.State.{with_entry, received_by, source_of, tally_by, commit_refusal, read_refusal, fetch_refusal, observe_refusal, IsLegalInterface};
+    ghost use Rattle.fr_interface.specs.State.{with_entry, received_by, source_of, tally_by, oldest_of, length_of, lost_of, commit_refusal, read_refusal, pop_refusal, fetch_refusal, observe_refusal, IsLegalInterface};
     ghost use Rattle.fr_slots.specs.Faults.{plan_fault};
 
     /// An interface with an empty journal, for which it reserves all the room that the plan asks for.
@@ -159,6 +163,31 @@ impl Interface {
         let from = origin_in(&held);
         self.journal.push_host(Entry::Read { task, buffer, from });
         Ok(frame_in(held))
+    }
+
+    /// Takes the oldest frame of the receive queue for a task, if the queue holds one (own profile).
+    ///
+    /// Refused, in this order, with `UnknownTask`, `NoQueue` where the plan has no queue, and `HostFull` where the
+    /// journal has no room for the pop. A pop of an empty queue is accepted, and is an entry too.
+    pub fn pop(&mut self, task: TaskId) -> Result<Option<Frame>, HostError>
+        ensures refusal { result_err result ≡ pop_refusal self.old task }
+        ensures answer { IfOk result (λ frame. frame ≡ option_map frame_of (oldest_of self.old)) }
+        ensures accepted { OnOk result (self.new ≡ with_entry self.old (entries.Pop task (option_map origin_of (oldest_of self.old)))) }
+        ensures refused { OnErr result (self.new ≡ self.old) }
+    {
+        if task.number() >= self.plan.tasks() {
+            return Err(HostError::UnknownTask);
+        }
+        let Some(queue) = self.plan.queue() else {
+            return Err(HostError::NoQueue);
+        };
+        if self.journal.host_room() == 0 {
+            return Err(HostError::HostFull);
+        }
+        let oldest = oldest(&self.params, &self.plan, &queue, self.journal.entries());
+        let from = origin_in(&oldest);
+        self.journal.push_host(Entry::Pop { task, from });
+        Ok(frame_in(oldest))
     }
 
     /// Opens a window, and hands out what the node sends in it (chapters 5 and 9): on each channel the data frame
@@ -258,6 +287,31 @@ impl Interface {
             return None;
         }
         held(&self.params, &line.filter, self.journal.entries())
+    }
+
+    /// How many frames the receive queue holds, at most its capacity (own profile). None where the plan has no queue.
+    pub fn queue_len(&self) -> Option<u32>
+        ensures { result ≡ length_of self.now }
+    {
+        let queue = self.plan.queue()?;
+        Some(length_of(&self.params, &self.plan, &queue, self.journal.entries()))
+    }
+
+    /// How many frames the receive queue lost since others took their places (own profile). None where the plan has no
+    /// queue.
+    pub fn queue_lost(&self) -> Option<u32>
+        ensures { result ≡ lost_of self.now }
+    {
+        let queue = self.plan.queue()?;
+        Some(lost_of(&self.params, &self.plan, &queue, self.journal.entries()))
+    }
+
+    /// How many observed windows had each bit of the slot status on each channel (chapter 6). A channel without a
+    /// slot counts nothing.
+    pub fn counters(&self) -> Counters
+        ensures { result ≡ counters_of self.now.params self.now.entries }
+    {
+        counters_of(&self.params, self.journal.entries())
     }
 
     /// The journal, which holds each accepted call.

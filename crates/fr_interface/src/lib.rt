@@ -1,10 +1,12 @@
 //! The calls of a host and of a controller on a journal, and the answers that scans of the journal find.
 #![tactic(auto)]
 
+mod counting;
 pub mod errors;
 mod fate;
 pub mod interface;
 mod offers;
+mod queue;
 mod scan;
 pub mod source;
 #[cfg(test)]

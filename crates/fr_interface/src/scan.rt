@@ -25,13 +25,13 @@ pub(crate) struct Opening {
 
 impl Opening {
     /// What is known before any entry.
-    const NONE: Opening = Opening {
+    pub(crate) const NONE: Opening = Opening {
         window: None,
         last: None,
     };
 
     /// What is known with one more entry.
-    fn after(self, entry: &Entry) -> Opening
+    pub(crate) fn after(self, entry: &Entry) -> Opening
         ensures { result ≡ next_opening self entry.now }
     {
         match entry {
@@ -60,7 +60,12 @@ pub(crate) fn opening_of(entries: &[Entry]) -> Opening
 }
 
 /// The valid data frame that was seen on the channel.
-fn data_frame_seen(params: &Params, window: &Window, channel: Channel, seen: &Seen) -> Option<Frame>
+pub(crate) fn data_frame_seen(
+    params: &Params,
+    window: &Window,
+    channel: Channel,
+    seen: &Seen,
+) -> Option<Frame>
     ensures { result ≡ data_frame_seen params.now window.now channel seen.now }
 {
     let slot = window.slot(channel)?;

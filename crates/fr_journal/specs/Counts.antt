@@ -1,5 +1,5 @@
 -- The status counters of a channel: how many observed windows had each bit there (chapter 6).
-use Rattle.std.specs.Prelude.{ℕ, Bool, false, List, [], Option, Some, None}
+use Rattle.std.specs.Prelude.{ℕ, Bool, false, List, [], ◌∷◌, Option, Some, None}
 use Rattle.fr_journal.specs.declared.entry.Entry.{Entry}
 use Rattle.fr_journal.specs.declared.entry.Entry.TheVariants.{Commit, Read, Pop, Fetch, Observe}
 use Rattle.fr_journal.specs.OpenWindow.{open_window}
@@ -8,6 +8,7 @@ use Rattle.fr_slots.specs.declared.channel.Channel.TheVariants as channel
 use Rattle.fr_slots.specs.History.{count_after}
 use Rattle.fr_slots.specs.Parameters.{Parameters}
 use Rattle.fr_slots.specs.Windows.{Opportunity, slot_of}
+use Rattle.fr_status.specs.declared.counters.Counters.{Counters}
 use Rattle.fr_status.specs.declared.seen.Seen.{Seen}
 use Rattle.fr_status.specs.declared.status.SlotStatus.{SlotStatus}
 use Rattle.fr_status.specs.Status.{status_in}
@@ -50,3 +51,12 @@ counts_of params channel entries = record {
   boundary_violations = count_of (λ s. s.boundary) params channel entries;
   conflicts = count_of (λ s. s.conflict) params channel entries;
 }
+
+-- the counts of a channel in their order
+abbrev pub in_order : StatusCounts → List ℕ
+in_order c = c.valid ∷ c.syntax_errors ∷ c.content_errors ∷ c.boundary_violations ∷ c.conflicts ∷ []
+
+-- the counters that some entries give
+abbrev pub counters_of : Parameters → List Entry → Counters
+counters_of params entries =
+    record { a = in_order (counts_of params channel.A entries); b = in_order (counts_of params channel.B entries) }

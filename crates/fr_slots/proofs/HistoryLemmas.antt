@@ -1,9 +1,9 @@
 -- One more at the end of a history.
-use Rattle.std.proofs.Common.{◌≡◌, List, [], ◌∷◌, ◌++◌, Option, Some, None, refl, sym, ap, subst, ◌∙◌}
+use Rattle.std.proofs.Common.{◌≡◌, ℕ, ◌+◌, Bool, cond, List, [], ◌∷◌, ◌++◌, Option, Some, None, refl, sym, ap, subst, ◌∙◌, arith}
 use Rattle.std.specs.Prelude.{IfSome}
 use Rattle.std.specs.Option.{option_or}
 use Rattle.std.proofs.lemmas.List.{append_assoc, append-nil}
-use Rattle.fr_slots.specs.History.{AllAfter, last_after}
+use Rattle.fr_slots.specs.History.{AllAfter, last_after, each_after, count_after}
 
 option_or-assoc : {A : Type 0} (x y z : Option A) → option_or x (option_or y z) ≡ option_or (option_or x y) z
 option_or-assoc None y z = refl
@@ -25,6 +25,32 @@ module _ {X : Type 0} where
   pub last_after-snoc : {A : Type 0} (f : List X → X → Option A) (xs : List X) (e : X)
       → last_after f [] (xs ++ e ∷ []) ≡ option_or (f xs e) (last_after f [] xs)
   last_after-snoc f xs e = last_after-snoc_from f [] xs e
+
+  each_after-snoc_from : {A : Type 0} (f : List X → X → List A) (before xs : List X) (e : X)
+      → each_after f before (xs ++ e ∷ []) ≡ each_after f before xs ++ f (before ++ xs) e
+  unfolding each_after
+  each_after-snoc_from f before [] e = append-nil (f before e) ∙ ap (λ (b : List X). f b e) (sym (append-nil before))
+  each_after-snoc_from f before (x ∷ xs) e =
+      ap (λ l. f before x ++ l) (each_after-snoc_from f (before ++ x ∷ []) xs e ∙ ap (λ (b : List X). each_after f (before ++ x ∷ []) xs ++ f b e) (append_assoc before (x ∷ []) xs))
+      ∙ sym (append_assoc (f before x) (each_after f (before ++ x ∷ []) xs) (f (before ++ x ∷ xs) e))
+
+  pub each_after-snoc : {A : Type 0} (f : List X → X → List A) (xs : List X) (e : X)
+      → each_after f [] (xs ++ e ∷ []) ≡ each_after f [] xs ++ f xs e
+  each_after-snoc f xs e = each_after-snoc_from f [] xs e
+
+  count_after-snoc_from : (test : List X → X → Bool) (before xs : List X) (e : X)
+      → count_after test before (xs ++ e ∷ []) ≡ count_after test before xs + cond (test (before ++ xs) e) 1 0
+  unfolding count_after
+  count_after-snoc_from test before [] e =
+      let same : cond {A = ℕ} (test (before ++ []) e) 1 0 ≡ cond (test before e) 1 0 = ap (λ (b : List X). cond {A = ℕ} (test b e) 1 0) (append-nil before) in
+      omega (arith, same)
+  count_after-snoc_from test before (x ∷ xs) e =
+      let same : cond {A = ℕ} (test ((before ++ x ∷ []) ++ xs) e) 1 0 ≡ cond (test (before ++ x ∷ xs) e) 1 0 = ap (λ (b : List X). cond {A = ℕ} (test b e) 1 0) (append_assoc before (x ∷ []) xs) in
+      omega (arith, same, count_after-snoc_from test (before ++ x ∷ []) xs e)
+
+  pub count_after-snoc : (test : List X → X → Bool) (xs : List X) (e : X)
+      → count_after test [] (xs ++ e ∷ []) ≡ count_after test [] xs + cond (test xs e) 1 0
+  count_after-snoc test xs e = count_after-snoc_from test [] xs e
 
   AllAfter-snoc_from : (P : List X → X → Type 0) (before xs : List X) (e : X) → AllAfter P before xs → P (before ++ xs) e → AllAfter P before (xs ++ e ∷ [])
   unfolding AllAfter
