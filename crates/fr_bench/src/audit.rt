@@ -3,7 +3,7 @@ ghost use Rattle.std.specs.Prelude.{◌≡◌, Some};
 ghost use Rattle.fr_bench.specs.Audits.{Ends};
 ghost use Rattle.fr_interface.specs.State.{State, IsLegalInterface};
 ghost use Rattle.fr_trace.specs.Audit.{Audits, IsNotRefused};
-ghost use Rattle.fr_trace.specs.TraceText.{IsTold, trace_text};
+ghost use Rattle.fr_trace.specs.TraceText.{trace_text};
 
 use fr_trace::error::TraceError;
 use std::alloc::Global;
@@ -26,7 +26,7 @@ pub fn audit<R: Read, W: Write>(
     // It reads in pieces of at most 4096 bytes, and none behind the one that has the fault.
     ensures read { Ends (R.remaining reader.old) (R.remaining reader.new) result }
     // The text of a legal interface is not refused.
-    ensures only { (s : State) → IsLegalInterface s → IsTold s.plan → R.remaining reader.old ≡ Some (trace_text s) → IsNotRefused result }
+    ensures only { (s : State) → IsLegalInterface s → R.remaining reader.old ≡ Some (trace_text s) → IsNotRefused result }
 {
     let mut report = Vec::new(alloc);
     match fr_trace::audit::audit(alloc, reader, &mut report) {

@@ -55,7 +55,8 @@ fn audit_writes_the_report(rt: HostRuntime) -> Result<(), Fail> {
     // With room of its own, so that memory refused later is the audit's and not the writer's.
     let mut report = Vec::with_capacity(rt.alloc(), 64)?;
     audit(rt.alloc(), &mut reader, &mut report)?;
-    assert_eq!(rt; report.as_slice(), b"rx 0 2:A x0a0b\n".as_slice());
+    let told = b"rx 0 2:A x0a0b\nA 2 0 0 0 0\nB 0 1 0 0 0\n";
+    assert_eq!(rt; report.as_slice(), told.as_slice());
     Ok(())
 }
 

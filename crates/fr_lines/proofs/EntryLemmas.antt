@@ -1,5 +1,5 @@
 -- The line of an entry, for the entries that are read.
-use Rattle.std.proofs.Common.{◌≡◌, ℕ, ◌≤◌, ◌^◌, inl, inr, true, false, List, [], ◌∷◌, length, codes, Some, refl, sym, ap, ◌∙◌, arith}
+use Rattle.std.proofs.Common.{◌≡◌, ℕ, ◌≤◌, ◌^◌, inl, inr, true, false, List, [], ◌∷◌, length, codes, None, Some, refl, sym, ap, ◌∙◌, arith, if◌then◌else◌}
 use Rattle.std.specs.Fmt.{decimal}
 use Rattle.std.specs.Str.{bytes_eq}
 use Rattle.fr_journal.specs.declared.entry.Entry.{Entry}
@@ -10,7 +10,7 @@ use Rattle.fr_lines.proofs.WindowLemmas.{window_takes, window_again}
 use Rattle.fr_lines.proofs.WordLemmas.{number_word, long_word, payload_word, slot_word, from_plain, offered_plain, seen_plain}
 use Rattle.fr_lines.specs.PartReading.{payload_in, from_in, offered_in, seen_in, window_in}
 use Rattle.fr_lines.specs.Parts.{optional_number, from_word, offered_word, seen_word}
-use Rattle.fr_lines.specs.Reading.{commit_in, read_in, fetch_in, observe_in, entry_in}
+use Rattle.fr_lines.specs.Reading.{commit_in, read_in, pop_in, fetch_in, observe_in, entry_in}
 use Rattle.fr_lines.specs.Spelled.{IsSpelledEntry}
 use Rattle.fr_lines.specs.Spelling.{entry_words, begin_line, end_line}
 use Rattle.fr_slots.specs.Windows.{IsInRange}
@@ -60,6 +60,19 @@ read_takes (a ∷ b ∷ c ∷ []) e h =
     rw (← is) (cons_same refl (cons_same (sym task.0) (cons_same (sym buffer.0) (cons_same origin.0 refl))), ((low, omega arith, origin.1), few))
 read_takes (a ∷ b ∷ c ∷ d ∷ words) e h = cc h
 
+pop_takes : (words : List (List ℕ)) (e : Entry) → pop_in words ≡ Some e → (codes "pop" ∷ words ≡ entry_words e) × IsSpelledEntry e
+unfolding pop_in
+pop_takes [] e h = cc h
+pop_takes (a ∷ []) e h = cc h
+pop_takes (a ∷ b ∷ []) e h =
+    let (t, ht, h1) = bind_some (number_in 8 a) _ e h in
+    let (from, hf, h2) = bind_some (from_in b) _ e h1 in
+    let is : Pop t from ≡ e = cc h2 in
+    let task = number_takes 8 a t ht in
+    let origin = from_takes b from hf in
+    rw (← is) (cons_same refl (cons_same (sym task.0) (cons_same origin.0 refl)), (task.1, origin.1))
+pop_takes (a ∷ b ∷ c ∷ words) e h = cc h
+
 fetch_takes : (words : List (List ℕ)) (e : Entry) → fetch_in words ≡ Some e → (codes "fetch" ∷ words ≡ entry_words e) × IsSpelledEntry e
 unfolding fetch_in
 fetch_takes [] e h = cc h
@@ -101,6 +114,20 @@ observe_takes (w ∷ sa ∷ sb ∷ []) e h =
     rw (← is) (cons_same refl (cons_same (sym window.0) (cons_same ta.0 (cons_same tb.0 refl))), (window.1, ta.1, tb.1))
 observe_takes (w ∷ sa ∷ sb ∷ more ∷ words) e h = cc h
 
+-- a fetch or an observe, where it is no entry of the host
+slot_taken : (kind : List ℕ) (words : List (List ℕ)) (e : Entry)
+    → (if bytes_eq kind (codes "fetch") then fetch_in words else if bytes_eq kind (codes "see") then observe_in words else None) ≡ Some e
+    → (kind ∷ words ≡ entry_words e) × IsSpelledEntry e
+slot_taken kind words e h =
+    elim (word_or kind (codes "fetch") (fetch_in words) _ e h) [
+      | inl fetch ↦ let t = fetch_takes words e fetch.1 in (cons_same fetch.0 refl ∙ t.0, t.1)
+      | inr h1 ↦
+          elim (word_or kind (codes "see") (observe_in words) _ e h1) [
+            | inl see ↦ let t = observe_takes words e see.1 in (cons_same see.0 refl ∙ t.0, t.1)
+            | inr h2 ↦ cc h2
+          ]
+    ]
+
 taken : (words : List (List ℕ)) (e : Entry) → entry_in words ≡ Some e → (words ≡ entry_words e) × IsSpelledEntry e
 unfolding entry_in
 taken [] e h = cc h
@@ -111,13 +138,9 @@ taken (kind ∷ words) e h =
           elim (word_or kind (codes "read") (read_in words) _ e h1) [
             | inl read ↦ let t = read_takes words e read.1 in (cons_same read.0 refl ∙ t.0, t.1)
             | inr h2 ↦
-                elim (word_or kind (codes "fetch") (fetch_in words) _ e h2) [
-                  | inl fetch ↦ let t = fetch_takes words e fetch.1 in (cons_same fetch.0 refl ∙ t.0, t.1)
-                  | inr h3 ↦
-                      elim (word_or kind (codes "see") (observe_in words) _ e h3) [
-                        | inl see ↦ let t = observe_takes words e see.1 in (cons_same see.0 refl ∙ t.0, t.1)
-                        | inr h4 ↦ cc h4
-                      ]
+                elim (word_or kind (codes "pop") (pop_in words) _ e h2) [
+                  | inl pop ↦ let t = pop_takes words e pop.1 in (cons_same pop.0 refl ∙ t.0, t.1)
+                  | inr h3 ↦ slot_taken kind words e h3
                 ]
           ]
     ]
@@ -135,12 +158,12 @@ entry_line_takes line e h = sym (line_of-words_of line) ∙ ap line_of (entry_ta
 -- ---- what is spelled so is read
 
 pub entry_again : (e : Entry) → IsSpelledEntry e → entry_in (entry_words e) ≡ Some e
-unfolding entry_in commit_in read_in fetch_in observe_in
+unfolding entry_in commit_in read_in pop_in fetch_in observe_in
 entry_again (Commit task buffer payload) fits =
     rw (number_again 8 task fits.0.0 (omega arith), number_again 64 buffer fits.1 (omega arith), payload_again payload fits.0.2 fits.0.3) refl
 entry_again (Read task buffer from) fits =
     rw (number_again 8 task fits.0.0 (omega arith), number_again 64 buffer fits.1 (omega arith), from_again from fits.0.2) refl
-entry_again (Pop task from) fits = absurd fits
+entry_again (Pop task from) fits = rw (number_again 8 task fits.0 (omega arith), from_again from fits.1) refl
 entry_again (Fetch window a b) fits =
     let is : IsInRange window = fits.window_is in
     rw (window_again window is, offered_again a fits.a_fits, offered_again b fits.b_fits) refl
@@ -174,7 +197,9 @@ entry_plain (Read task buffer from) fits =
         ),
       ),
     )
-entry_plain (Pop task from) fits = absurd fits
+entry_plain (Pop task from) fits =
+    let t = fits.0 in
+    (refl, ((number_word 1 task (omega arith) (omega arith) (omega arith)).plain, ((from_plain from fits.1).plain, tt)))
 entry_plain (Fetch window a b) fits =
     let c = fits.window_is.cycle_fits in
     let m = fits.window_is.window_is.minislot_fits in (
@@ -208,7 +233,7 @@ entry_cut (Commit task buffer payload) fits =
     words_of-line_of (codes "commit") (decimal task ∷ decimal buffer ∷ hex_text payload ∷ []) (entry_plain (Commit task buffer payload) fits)
 entry_cut (Read task buffer from) fits =
     words_of-line_of (codes "read") (decimal task ∷ decimal buffer ∷ from_word from ∷ []) (entry_plain (Read task buffer from) fits)
-entry_cut (Pop task from) fits = absurd fits
+entry_cut (Pop task from) fits = words_of-line_of (codes "pop") (decimal task ∷ from_word from ∷ []) (entry_plain (Pop task from) fits)
 entry_cut (Fetch window a b) fits =
     words_of-line_of (codes "fetch") (decimal window.number ∷ decimal window.cycle ∷ decimal window.minislot ∷ optional_number window.a ∷ optional_number window.b ∷ offered_word a ∷ offered_word b ∷ [])
     (entry_plain (Fetch window a b) fits)
@@ -237,7 +262,12 @@ entry_short (Read task buffer from) fits =
     let from_short = (from_plain from fits.0.2).short in
     let all = length-line_of-le (entry_words (Read task buffer from)) in
     omega arith
-entry_short (Pop task from) fits = absurd fits
+entry_short (Pop task from) fits =
+    let t = fits.0 in
+    let task_short = (number_word 1 task (omega arith) (omega arith) (omega arith)).short in
+    let from_short = (from_plain from fits.1).short in
+    let all = length-line_of-le (entry_words (Pop task from)) in
+    omega arith
 entry_short (Fetch window a b) fits =
     let c = fits.window_is.cycle_fits in
     let m = fits.window_is.window_is.minislot_fits in

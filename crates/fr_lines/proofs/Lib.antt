@@ -7,3 +7,4 @@ pub mod BufferLemmas
 pub mod NodeLemmas
 pub mod OwnLemmas
 pub mod ParameterLemmas
+pub mod QueueLemmas

@@ -3,12 +3,13 @@ use Rattle.std.specs.Prelude.{ℕ, ◌^◌, ℤ, pos, not, false, ◌||◌, List
 use Rattle.std.specs.Result.{result_ok}
 use Rattle.std.specs.Str.{bytes_eq}
 use Rattle.fr_journal.specs.declared.entry.Entry.{Entry}
-use Rattle.fr_journal.specs.declared.entry.Entry.TheVariants.{Commit, Read, Fetch, Observe}
-use Rattle.fr_lines.specs.PartReading.{owned_slot_in, channels_in, filter_in, flag_in, mode_in, size_in, payload_in, from_in, offered_in, seen_in, window_in}
+use Rattle.fr_journal.specs.declared.entry.Entry.TheVariants.{Commit, Read, Pop, Fetch, Observe}
+use Rattle.fr_lines.specs.PartReading.{slot_in, owned_slot_in, channels_in, cycles_in, filter_in, flag_in, mode_in, size_in, payload_in, from_in, offered_in, seen_in, window_in}
 use Rattle.fr_slots.specs.declared.plan.Buffer.{Buffer}
 use Rattle.fr_slots.specs.declared.plan.Mode.TheVariants.{Receive}
 use Rattle.fr_slots.specs.declared.plan.Own.{Own}
-use Rattle.fr_slots.specs.Plans.{Plan, plan_of}
+use Rattle.fr_slots.specs.declared.plan.Queue.{Queue}
+use Rattle.fr_slots.specs.Plans.{Plan, plan_of, queue_fits}
 use Rattle.fr_text.specs.Reading.{◌>>=◌, number_in}
 
 -- ---- parameters: ten numbers below 2^32, whatever their keys' ranges
@@ -110,6 +111,26 @@ buffer_in (kind ∷ words) =
     else if bytes_eq kind (codes "rx") then receive_in words
     else None
 
+-- ---- the queue
+
+-- it holds 1 to 256 frames, and its first slot isn't above its last
+abbrev pub lawful_queue : Queue → Option Queue
+lawful_queue q = if queue_fits q then Some q else None
+
+unfoldable pub reception_in : List (List ℕ) → Option Queue
+reception_in (capacity ∷ first ∷ last ∷ channels ∷ base ∷ repetition ∷ []) = do
+  n ← number_in 257 capacity
+  s ← slot_in first
+  t ← slot_in last
+  c ← channels_in channels
+  y ← cycles_in base repetition
+  lawful_queue (record { capacity = n; first = s; last = t; channels = c; cycles = y })
+reception_in words = None
+
+unfoldable pub queue_in : List (List ℕ) → Option Queue
+queue_in [] = None
+queue_in (kind ∷ words) = if bytes_eq kind (codes "queue") then reception_in words else None
+
 -- ---- entries
 
 unfoldable pub commit_in : List (List ℕ) → Option Entry
@@ -128,6 +149,13 @@ read_in (task ∷ buffer ∷ from ∷ []) = do
   Some (Read t b origin)
 read_in words = None
 
+unfoldable pub pop_in : List (List ℕ) → Option Entry
+pop_in (task ∷ from ∷ []) = do
+  t ← number_in 8 task
+  origin ← from_in from
+  Some (Pop t origin)
+pop_in words = None
+
 unfoldable pub fetch_in : List (List ℕ) → Option Entry
 fetch_in (number ∷ cycle ∷ minislot ∷ slot_a ∷ slot_b ∷ offer_a ∷ offer_b ∷ []) = do
   window ← window_in number cycle minislot slot_a slot_b
@@ -144,12 +172,13 @@ observe_in (window ∷ seen_a ∷ seen_b ∷ []) = do
   Some (Observe w a b)
 observe_in words = None
 
--- a commit, a read, a fetch or an observe
+-- an entry, by its first word
 unfoldable pub entry_in : List (List ℕ) → Option Entry
 entry_in [] = None
 entry_in (kind ∷ words) =
     if bytes_eq kind (codes "commit") then commit_in words
     else if bytes_eq kind (codes "read") then read_in words
+    else if bytes_eq kind (codes "pop") then pop_in words
     else if bytes_eq kind (codes "fetch") then fetch_in words
     else if bytes_eq kind (codes "see") then observe_in words
     else None

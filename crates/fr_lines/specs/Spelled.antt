@@ -5,14 +5,15 @@ use Rattle.fr_journal.specs.declared.entry.Entry.TheVariants.{Commit, Read, Pop,
 use Rattle.fr_journal.specs.Entries.{IsEntry}
 use Rattle.fr_slots.specs.declared.plan.Buffer.{Buffer}
 use Rattle.fr_slots.specs.declared.plan.Own.{Own}
+use Rattle.fr_slots.specs.declared.plan.Queue.{Queue}
 use Rattle.fr_slots.specs.Parameters.{Parameters}
-use Rattle.fr_slots.specs.Plans.{Plan, IsBuffer, IsOwn, buffer_fits, empty_plan, own_fits}
+use Rattle.fr_slots.specs.Plans.{Plan, IsBuffer, IsOwn, IsQueue, buffer_fits, empty_plan, own_fits, queue_fits}
 
--- a commit to or a read of a buffer that a plan can have, a fetch or an observe
+-- an entry whose numbers are in range, and whose buffer is one that a plan can have
 abbrev pub IsSpelledEntry : Entry → Type 0
 IsSpelledEntry (Commit task buffer payload) = IsEntry (Commit task buffer payload) × (buffer < 64)
 IsSpelledEntry (Read task buffer from) = IsEntry (Read task buffer from) × (buffer < 64)
-IsSpelledEntry (Pop task from) = ⊥
+IsSpelledEntry (Pop task from) = IsEntry (Pop task from)
 IsSpelledEntry (Fetch window a b) = IsEntry (Fetch window a b)
 IsSpelledEntry (Observe window a b) = IsEntry (Observe window a b)
 
@@ -25,6 +26,11 @@ pub record IsSpelledOwn (o : Own) : Type 0 where
 pub record IsSpelledBuffer (b : Buffer) : Type 0 where
   pub is : IsBuffer b
   pub fits : buffer_fits b ≡ true
+
+-- a queue that a plan can have
+pub record IsSpelledQueue (q : Queue) : Type 0 where
+  pub is : IsQueue q
+  pub fits : queue_fits q ≡ true
 
 -- the ten numbers, in the order of the keys
 abbrev pub parameter_numbers : Parameters → List ℤ

@@ -2,7 +2,7 @@
 ghost use Rattle.std.specs.Prelude.{◌≡◌, Some, IfSome};
 ghost use Rattle.fr_journal.specs.declared.entry.Entry.{Entry};
 ghost use Rattle.fr_text.specs.Spaces.{words_of, line_of};
-ghost use Rattle.fr_lines.specs.Reading.{commit_in, read_in, fetch_in, observe_in, entry_in};
+ghost use Rattle.fr_lines.specs.Reading.{commit_in, read_in, pop_in, fetch_in, observe_in, entry_in};
 ghost use Rattle.fr_lines.specs.Spelled.{IsSpelledEntry};
 ghost use Rattle.fr_lines.specs.Spelling.{entry_words};
 
@@ -51,6 +51,21 @@ fn read_of(words: &mut Words<'_>) -> Option<Entry>
         buffer: buffer as u8,
         from,
     })
+}
+
+/// The pop that the words spell.
+#[tactic(auto, unfolding(crate::specs::Reading::pop_in))]
+fn pop_of(words: &mut Words<'_>) -> Option<Entry>
+    ensures { result ≡ pop_in words.old }
+{
+    let task = words.next_word()?;
+    let from = words.next_word()?;
+    if words.next_word().is_some() {
+        return None;
+    }
+    let task = task_of(task)?;
+    let from = from_of(from)?;
+    Some(Entry::Pop { task, from })
 }
 
 /// The fetch that the words spell.
@@ -104,18 +119,20 @@ fn parsed(line: &[u8]) -> Option<Entry>
     match words.next_word()? {
         b"commit" => commit_of(&mut words),
         b"read" => read_of(&mut words),
+        b"pop" => pop_of(&mut words),
         b"fetch" => fetch_of(&mut words),
         b"see" => observe_of(&mut words),
         _ => None,
     }
 }
 
-/// The entry of a line `commit`, `read`, `fetch` or `see`.
+/// The entry of a line `commit`, `read`, `pop`, `fetch` or `see`.
 ///
 /// `None` for a line of another form and where a number is out of its range: a task is 0 to 7, a buffer 0 to 63, the
-/// bytes of a commit are an even number, at most 254, the number of a window or of an entry fits 32 bits, a cycle is 0 to 63, a minislot 0 to 8000, a slot 1 to 2047, and at
-/// most 262 bytes were seen. `None` too where the numbers of a fetch are no window: at minislot 0 both channels open
-/// the same slot, and at a minislot above 0 one channel or both open a slot.
+/// bytes of a commit are an even number, at most 254, the number of a window or of an entry fits 32 bits, a cycle is
+/// 0 to 63, a minislot 0 to 8000, a slot 1 to 2047, and at most 262 bytes were seen. `None` too where the numbers of
+/// a fetch are no window: at minislot 0 both channels open the same slot, and at a minislot above 0 one channel or
+/// both open a slot.
 pub fn entry_of(line: &[u8]) -> Option<Entry>
     ensures found { IfSome result (λ e. line.now ≡ line_of (entry_words e)) }
     ensures fits { IfSome result IsSpelledEntry }

@@ -10,6 +10,7 @@ pub mod nodes;
 pub mod owned;
 pub mod parameters;
 mod parts;
+pub mod queues;
 #[cfg(test)]
 mod tests;
 pub mod writing;

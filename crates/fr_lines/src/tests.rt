@@ -5,6 +5,7 @@ use crate::entries::entry_of;
 use crate::nodes::node_of;
 use crate::owned::own_of;
 use crate::parameters::params_of;
+use crate::queues::queue_of;
 use crate::writing::{write_buffer, write_entry, write_node, write_own, write_params, write_queue};
 use arrayvec::ArrayVec;
 use fr_frame::payload::Payload;
@@ -172,6 +173,48 @@ fn entries_have_lines(rt: HostRuntime) {
         b: Seen::Overrun,
     };
     assert_eq!(rt; entry_of(b"see 4 - overrun"), Some(see));
+}
+
+#[test]
+fn pops_have_lines(rt: HostRuntime) {
+    let origin = Origin {
+        entry: 12,
+        channel: Channel::B,
+    };
+    let pop = TaskId::new(7).map(|task| Entry::Pop {
+        task,
+        from: Some(origin),
+    });
+    assert_eq!(rt; entry_of(b"pop 7 12:B"), pop);
+    let empty = TaskId::new(0).map(|task| Entry::Pop { task, from: None });
+    assert_eq!(rt; entry_of(b"pop 0 -"), empty);
+    for line in [b"pop 8 -".as_slice(), b"pop 0", b"pop 0 0 -", b"pop 0 12"] {
+        assert!(rt; entry_of(line).is_none());
+    }
+}
+
+#[test]
+fn a_queue_has_a_range_of_slots(rt: HostRuntime) -> Result<(), Fail> {
+    let queue = Queue {
+        capacity: 256,
+        first: SlotId::new(4).ok_or("no slot")?,
+        last: SlotId::new(2047).ok_or("no slot")?,
+        channels: Channels::Both,
+        cycles: CycleFilter::new(63, 64)?,
+    };
+    assert_eq!(rt; queue_of(b"queue 256 4 2047 AB 63 64"), Some(queue));
+    for line in [
+        b"queue 257 4 7 AB 0 1".as_slice(),
+        b"queue 0 4 7 AB 0 1",
+        b"queue 2 8 7 AB 0 1",
+        b"queue 2 0 7 AB 0 1",
+        b"queue 2 4 2048 AB 0 1",
+        b"queue 2 4 7 AB 1 1",
+        b"queue 2 4 7 AB 0",
+    ] {
+        assert_eq!(rt; queue_of(line), None);
+    }
+    Ok(())
 }
 
 #[test]

@@ -1,5 +1,5 @@
 -- The text of a legal interface is read.
-use Rattle.std.proofs.Common.{◌≡◌, ℕ, zero, suc, ◌+◌, ◌≤◌, ◌<◌, List, [], ◌∷◌, ◌++◌, length, Ok, refl, sym, ap, subst, ◌∙◌, append_assoc, None, arith, length-append}
+use Rattle.std.proofs.Common.{◌≡◌, ℕ, zero, suc, ◌+◌, ◌≤◌, ◌<◌, List, [], ◌∷◌, ◌++◌, length, Option, Some, Ok, refl, sym, ap, subst, ◌∙◌, append_assoc, None, arith, length-append}
 use Rattle.std.specs.Prelude.{slice_get, IsSomeAnd}
 use Rattle.std.proofs.lemmas.List.{append-nil}
 use Rattle.std.proofs.lemmas.List.Sums.{fold-append}
@@ -9,30 +9,32 @@ use Rattle.fr_journal.specs.declared.entry.Entry.TheVariants.{Commit, Read, Pop,
 use Rattle.fr_journal.specs.Entries.{IsEntry}
 use Rattle.fr_journal.specs.Legal.{IsLegal}
 use Rattle.fr_interface.specs.State.{State, IsLegalInterface, with_entry}
-use Rattle.fr_lines.specs.Spelled.{IsSpelledEntry, IsSpelledOwn, IsSpelledBuffer, bare_plan}
-use Rattle.fr_lines.specs.Spelling.{first_line, begin_line, end_line, params_words, node_words, own_words, buffer_words, entry_words}
+use Rattle.fr_lines.specs.Spelled.{IsSpelledEntry, IsSpelledOwn, IsSpelledBuffer, IsSpelledQueue, bare_plan}
+use Rattle.fr_lines.specs.Spelling.{first_line, begin_line, end_line, params_words, node_words, own_words, buffer_words, queue_words, entry_words}
 use Rattle.fr_lines.proofs.BufferLemmas.{buffer_line_again, buffer_no_feed, buffer_short, buffer_not_begin, buffer_not_own}
 use Rattle.fr_lines.proofs.EntryLemmas.{entry_line_again, entry_no_feed, entry_short, entry_not_end}
 use Rattle.fr_lines.proofs.NodeLemmas.{node_line_again, node_no_feed, node_short}
 use Rattle.fr_lines.proofs.OwnLemmas.{own_line_again, own_no_feed, own_short, own_not_begin}
+use Rattle.fr_lines.proofs.QueueLemmas.{queue_line_again, queue_no_feed, queue_short, queue_not_begin, queue_not_own, queue_not_buffer}
 use Rattle.fr_lines.proofs.ParameterLemmas.{params_line_again, parameters_again, params_no_feed, params_short}
 use Rattle.fr_slots.specs.declared.plan.Buffer.{Buffer}
 use Rattle.fr_slots.specs.declared.plan.Own.{Own}
+use Rattle.fr_slots.specs.declared.plan.Queue.{Queue}
 use Rattle.fr_slots.specs.Faults.{plan_fault}
 use Rattle.fr_slots.specs.History.{AllAfter}
 use Rattle.fr_slots.specs.Parameters.{Parameters, IsParameters}
-use Rattle.fr_slots.specs.Plans.{Plan, IsPlan, IsBuffer, IsOwn, Each, AllFit, buffer_fits, own_fits, with_buffer, with_own}
+use Rattle.fr_slots.specs.Plans.{Plan, IsPlan, IsBuffer, IsOwn, IsQueueOrNone, QueueFits, Each, AllFit, buffer_fits, own_fits, with_buffer, with_own, with_queue}
 use Rattle.fr_text.specs.Spaces.{line_of}
 use Rattle.fr_trace.specs.Answers.{made_by}
 use Rattle.fr_trace.specs.Stream.{magic, params, node, lines, body, finished, reading, after_parameters, after_numbers, after_node, take_line, take_byte, take_bytes, fresh}
 use Rattle.fr_lines.specs.Spelling.{line_feed, line_text}
-use Rattle.fr_trace.specs.TraceText.{IsTold, entry_line, head_text, params_text, plan_text, begin_text, body_text, trace_text}
-use Rattle.fr_trace.proofs.AnswerLemmas.{no_queue, no_fault, legal_accepted, made-answered}
+use Rattle.fr_trace.specs.TraceText.{entry_line, head_text, params_text, plan_text, begin_text, body_text, trace_text}
+use Rattle.fr_trace.proofs.AnswerLemmas.{no_fault, legal_accepted, made-answered}
 use Rattle.fr_trace.specs.Feeds.{IsAtBegin, Begins}
 use Rattle.fr_trace.proofs.FeedLemmas.{begins_before}
 use Rattle.fr_trace.proofs.LineLemmas.{next_line}
-use Rattle.fr_trace.proofs.PlanLemmas.{own_taken}
-use Rattle.fr_trace.proofs.TextLemmas.{bare_text, own_text, buffer_text}
+use Rattle.fr_trace.proofs.PlanLemmas.{own_taken, buffer_taken, queue_taken}
+use Rattle.fr_trace.proofs.TextLemmas.{bare_text, own_text, buffer_text, queue_text}
 
 -- ---- parameters
 
@@ -56,8 +58,8 @@ bare_read p plan is plan_is = ap (take_bytes fresh) (bare_text p (bare_plan plan
 abbrev with_lines : Plan → List Own → List Buffer → Plan
 with_lines plan owned buffers = record (bare_plan plan) { owned = owned; buffers = buffers }
 
-own_line_read : (p : Parameters) (plan : Plan) (o : Own) → plan.buffers ≡ [] → length plan.owned < 64 → IsSpelledOwn o → take_line (lines p plan) (line_of (own_words o)) ≡ Ok (lines p (with_own plan o))
-own_line_read p plan o no_buffer room spelled = rw (own_not_begin o, own_line_again o spelled, no_buffer, own_taken plan o spelled.fits room) refl
+own_line_read : (p : Parameters) (plan : Plan) (o : Own) → plan.buffers ≡ [] → plan.queue ≡ None → length plan.owned < 64 → IsSpelledOwn o → take_line (lines p plan) (line_of (own_words o)) ≡ Ok (lines p (with_own plan o))
+own_line_read p plan o no_buffer no_queue room spelled = rw (own_not_begin o, own_line_again o spelled, no_buffer, no_queue, own_taken plan o spelled.fits room) refl
 
 -- further ownership lines
 owned_read : (p : Parameters) (plan : Plan) (more before : List Own) → length before + length more ≤ 64 → AllFit own_fits more → Each IsOwn more
@@ -71,28 +73,43 @@ owned_read p plan (o ∷ more) before few fit ranges came =
     let next : take_bytes fresh (plan_text p (with_own here o)) ≡ reading (lines p (with_own here o)) [] =
     ap (take_bytes fresh) (own_text p here o refl refl)
     ∙ next_line fresh (plan_text p here) (line_of (own_words o)) (lines p here) (lines p (with_own here o)) came refl (own_no_feed o spelled) (own_short o spelled)
-    (own_line_read p here o refl (omega arith) spelled) in
+    (own_line_read p here o refl refl (omega arith) spelled) in
     subst (λ (owned : List Own). take_bytes fresh (plan_text p (with_lines plan owned [])) ≡ reading (lines p (with_lines plan owned [])) []) (append_assoc before (o ∷ []) more)
     (owned_read p plan more (before ++ o ∷ []) (omega (arith, length-append before (o ∷ []))) fit.1 ranges.1 next)
 
-buffer_line_read : (p : Parameters) (plan : Plan) (b : Buffer) → plan.buffers ≡ [] → IsSpelledBuffer b → take_line (lines p plan) (line_of (buffer_words b)) ≡ Ok (lines p (with_buffer plan b))
-buffer_line_read p plan b no_buffer spelled = rw (buffer_not_begin b, buffer_not_own b spelled, buffer_line_again b spelled, no_buffer) refl
+buffer_line_read : (p : Parameters) (plan : Plan) (b : Buffer) → plan.queue ≡ None → length plan.buffers < 64 → IsSpelledBuffer b → take_line (lines p plan) (line_of (buffer_words b)) ≡ Ok (lines p (with_buffer plan b))
+buffer_line_read p plan b none room spelled =
+    rw (buffer_not_begin b, buffer_not_own b spelled, buffer_line_again b spelled, none, buffer_taken plan b spelled.fits room) refl
 
-buffers_read : (p : Parameters) (plan : Plan) (owned : List Own) (buffers : List Buffer) → length buffers ≤ 1 → AllFit buffer_fits buffers → Each IsBuffer buffers
-    → take_bytes fresh (plan_text p (with_lines plan owned [])) ≡ reading (lines p (with_lines plan owned [])) []
-    → take_bytes fresh (plan_text p (with_lines plan owned buffers)) ≡ reading (lines p (with_lines plan owned buffers)) []
-buffers_read p plan owned [] few fit ranges came = came
-buffers_read p plan owned (b ∷ []) few fit ranges came =
+-- further buffers
+buffers_read : (p : Parameters) (plan : Plan) (owned : List Own) (more before : List Buffer) → length before + length more ≤ 64 → AllFit buffer_fits more → Each IsBuffer more
+    → take_bytes fresh (plan_text p (with_lines plan owned before)) ≡ reading (lines p (with_lines plan owned before)) []
+    → take_bytes fresh (plan_text p (with_lines plan owned (before ++ more))) ≡ reading (lines p (with_lines plan owned (before ++ more))) []
+buffers_read p plan owned [] before few fit ranges came =
+    subst (λ (buffers : List Buffer). take_bytes fresh (plan_text p (with_lines plan owned buffers)) ≡ reading (lines p (with_lines plan owned buffers)) []) (sym (append-nil before)) came
+buffers_read p plan owned (b ∷ more) before few fit ranges came =
     let spelled : IsSpelledBuffer b = record { is = ranges.0; fits = fit.0 } in
-    let here = with_lines plan owned [] in
+    let here = with_lines plan owned before in
+    let next : take_bytes fresh (plan_text p (with_buffer here b)) ≡ reading (lines p (with_buffer here b)) [] =
     ap (take_bytes fresh) (buffer_text p here b refl)
-    ∙ next_line fresh (plan_text p here) (line_of (buffer_words b)) (lines p here) (lines p (with_buffer here b)) came refl
-    (buffer_no_feed b spelled) (buffer_short b spelled) (buffer_line_read p here b refl spelled)
-buffers_read p plan owned (b ∷ c ∷ buffers) few fit ranges came = absurd (omega arith)
+    ∙ next_line fresh (plan_text p here) (line_of (buffer_words b)) (lines p here) (lines p (with_buffer here b)) came refl (buffer_no_feed b spelled) (buffer_short b spelled)
+    (buffer_line_read p here b refl (omega arith) spelled) in
+    subst (λ (buffers : List Buffer). take_bytes fresh (plan_text p (with_lines plan owned buffers)) ≡ reading (lines p (with_lines plan owned buffers)) []) (append_assoc before (b ∷ []) more)
+    (buffers_read p plan owned more (before ++ b ∷ []) (omega (arith, length-append before (b ∷ []))) fit.1 ranges.1 next)
 
-plan_read : (p : Parameters) (plan : Plan) → IsParameters p → IsPlan plan → IsTold plan → take_bytes fresh (plan_text p plan) ≡ reading (lines p plan) []
-plan_read p plan is plan_is told =
-    let same : with_lines plan plan.owned plan.buffers ≡ plan = λ i. record {
+-- the queue
+queue_line_read : (p : Parameters) (plan : Plan) (q : Queue) → plan.queue ≡ None → IsSpelledQueue q → take_line (lines p plan) (line_of (queue_words q)) ≡ Ok (lines p (with_queue plan q))
+queue_line_read p plan q none spelled =
+    rw (queue_not_begin q, queue_not_own q spelled, queue_not_buffer q spelled, queue_line_again q spelled, queue_taken plan q spelled.fits none) refl
+
+abbrev with_queue_or_none : Plan → Option Queue → Plan
+with_queue_or_none plan o = record plan { queue = o }
+
+queue_read : (p : Parameters) (plan : Plan) (o : Option Queue) → plan.queue ≡ None → QueueFits o → IsQueueOrNone o
+    → take_bytes fresh (plan_text p plan) ≡ reading (lines p plan) []
+    → take_bytes fresh (plan_text p (with_queue_or_none plan o)) ≡ reading (lines p (with_queue_or_none plan o)) []
+queue_read p plan None none fits ranges came =
+    let same : plan ≡ with_queue_or_none plan None = λ i. record {
       tasks = plan.tasks;
       latest_a = plan.latest_a;
       latest_b = plan.latest_b;
@@ -100,16 +117,26 @@ plan_read p plan is plan_is told =
       slot_entries = plan.slot_entries;
       owned = plan.owned;
       buffers = plan.buffers;
-      queue = (sym told.no_queue) i;
+      queue = none i;
     } in
-    let few = plan_is.few_owned in
-    let owned = owned_read p plan plan.owned [] (omega arith) plan_is.owned_fit plan_is.owned_are (bare_read p plan is plan_is) in
-    subst (λ (x : Plan). take_bytes fresh (plan_text p x) ≡ reading (lines p x) []) same
-    (buffers_read p plan plan.owned plan.buffers told.one_buffer plan_is.buffers_fit plan_is.buffers_are owned)
+    subst (λ (x : Plan). take_bytes fresh (plan_text p x) ≡ reading (lines p x) []) same came
+queue_read p plan (Some q) none fits ranges came =
+    let spelled : IsSpelledQueue q = record { is = ranges; fits = fits } in
+    ap (take_bytes fresh) (queue_text p plan q none)
+    ∙ next_line fresh (plan_text p plan) (line_of (queue_words q)) (lines p plan) (lines p (with_queue plan q)) came refl (queue_no_feed q spelled) (queue_short q spelled)
+    (queue_line_read p plan q none spelled)
 
-begin_read : (p : Parameters) (plan : Plan) → IsParameters p → IsPlan plan → IsTold plan → plan_fault p plan ≡ None → take_bytes fresh (begin_text p plan) ≡ reading (body (record { params = p; plan = plan; entries = [] })) []
-begin_read p plan is plan_is told faultless =
-    next_line fresh (plan_text p plan) begin_line (lines p plan) (body (record { params = p; plan = plan; entries = [] })) (plan_read p plan is plan_is told) refl refl (omega arith)
+plan_read : (p : Parameters) (plan : Plan) → IsParameters p → IsPlan plan → take_bytes fresh (plan_text p plan) ≡ reading (lines p plan) []
+plan_read p plan is plan_is =
+    let few_owned = plan_is.few_owned in
+    let few_buffers = plan_is.few_buffers in
+    let owned = owned_read p plan plan.owned [] (omega arith) plan_is.owned_fit plan_is.owned_are (bare_read p plan is plan_is) in
+    let buffers = buffers_read p plan plan.owned plan.buffers [] (omega arith) plan_is.buffers_fit plan_is.buffers_are owned in
+    queue_read p (with_lines plan plan.owned plan.buffers) plan.queue refl plan_is.queue_fits plan_is.queue_is buffers
+
+begin_read : (p : Parameters) (plan : Plan) → IsParameters p → IsPlan plan → plan_fault p plan ≡ None → take_bytes fresh (begin_text p plan) ≡ reading (body (record { params = p; plan = plan; entries = [] })) []
+begin_read p plan is plan_is faultless =
+    next_line fresh (plan_text p plan) begin_line (lines p plan) (body (record { params = p; plan = plan; entries = [] })) (plan_read p plan is plan_is) refl refl (omega arith)
     (rw faultless refl)
 
 -- ---- entries
@@ -119,52 +146,55 @@ get_below [] buffer P h = absurd h
 get_below (b ∷ buffers) zero P h = omega arith
 get_below (b ∷ buffers) (suc buffer) P h = let lt = get_below buffers buffer P h in omega arith
 
-spelled_entry : (s : State) (e : Entry) → IsTold s.plan → IsEntry e → IsLegal s.params s.plan s.entries e → IsSpelledEntry e
-spelled_entry s (Commit task buffer payload) told ranges legal =
+-- a buffer that is there is one of at most 64
+spelled_entry : (s : State) (e : Entry) → IsPlan s.plan → IsEntry e → IsLegal s.params s.plan s.entries e → IsSpelledEntry e
+spelled_entry s (Commit task buffer payload) plan_is ranges legal =
     let lt = get_below s.plan.buffers buffer _ legal.transmits in
-    (ranges, omega (arith, told.one_buffer))
-spelled_entry s (Read task buffer from) told ranges legal =
+    let few = plan_is.few_buffers in
+    (ranges, omega arith)
+spelled_entry s (Read task buffer from) plan_is ranges legal =
     let lt = get_below s.plan.buffers buffer _ legal.receives in
-    (ranges, omega (arith, told.one_buffer))
-spelled_entry s (Pop task from) told ranges legal = no_queue s.plan.queue _ told.no_queue legal.queued
-spelled_entry s (Fetch window a b) told ranges legal = ranges
-spelled_entry s (Observe window a b) told ranges legal = ranges
+    let few = plan_is.few_buffers in
+    (ranges, omega arith)
+spelled_entry s (Pop task from) plan_is ranges legal = ranges
+spelled_entry s (Fetch window a b) plan_is ranges legal = ranges
+spelled_entry s (Observe window a b) plan_is ranges legal = ranges
 
-entry_line_read : (s : State) (e : Entry) → IsTold s.plan → IsEntry e → IsLegal s.params s.plan s.entries e → take_line (body s) (line_of (entry_words e)) ≡ Ok (body (with_entry s e))
-entry_line_read s e told ranges legal =
-    let spelled = spelled_entry s e told ranges legal in
-    let made : made_by s e ≡ e = made-answered s e (legal_accepted s e told legal).1 in
-    rw (entry_not_end e, entry_line_again e spelled, no_fault s e told legal, made) refl
+entry_line_read : (s : State) (e : Entry) → IsPlan s.plan → IsEntry e → IsLegal s.params s.plan s.entries e → take_line (body s) (line_of (entry_words e)) ≡ Ok (body (with_entry s e))
+entry_line_read s e plan_is ranges legal =
+    let spelled = spelled_entry s e plan_is ranges legal in
+    let made : made_by s e ≡ e = made-answered s e (legal_accepted s e legal).1 in
+    rw (entry_not_end e, entry_line_again e spelled, no_fault s e legal, made) refl
 
-entries_read : (p : Parameters) (plan : Plan) (items before : List Entry) (front : List ℕ) → IsTold plan
+entries_read : (p : Parameters) (plan : Plan) (items before : List Entry) (front : List ℕ) → IsPlan plan
     → AllAfter (IsLegal p plan) before items → AllAfter (λ _ e. IsEntry e) before items
     → take_bytes fresh front ≡ reading (body (record { params = p; plan = plan; entries = before })) []
     → take_bytes fresh (front ++ flat_map entry_line items) ≡ reading (body (record { params = p; plan = plan; entries = before ++ items })) []
 unfolding AllAfter
-entries_read p plan [] before front told legal ranges came =
+entries_read p plan [] before front plan_is legal ranges came =
     ap (take_bytes fresh) (append-nil front) ∙ came ∙ ap (λ xs. reading (body (record { params = p; plan = plan; entries = xs })) []) (sym (append-nil before))
-entries_read p plan (e ∷ items) before front told legal ranges came =
+entries_read p plan (e ∷ items) before front plan_is legal ranges came =
     let s : State = record { params = p; plan = plan; entries = before } in
-    let spelled = spelled_entry s e told ranges.0 legal.0 in
+    let spelled = spelled_entry s e plan_is ranges.0 legal.0 in
     let next : take_bytes fresh (front ++ entry_line e) ≡ reading (body (with_entry s e)) [] =
-    next_line fresh front (line_of (entry_words e)) (body s) (body (with_entry s e)) came refl (entry_no_feed e spelled) (entry_short e spelled) (entry_line_read s e told ranges.0 legal.0) in
+    next_line fresh front (line_of (entry_words e)) (body s) (body (with_entry s e)) came refl (entry_no_feed e spelled) (entry_short e spelled) (entry_line_read s e plan_is ranges.0 legal.0) in
     ap (take_bytes fresh) (sym (append_assoc front (entry_line e) (flat_map entry_line items)))
-    ∙ entries_read p plan items (before ++ e ∷ []) (front ++ entry_line e) told legal.1 ranges.1 next
+    ∙ entries_read p plan items (before ++ e ∷ []) (front ++ entry_line e) plan_is legal.1 ranges.1 next
     ∙ ap (λ xs. reading (body (record { params = p; plan = plan; entries = xs })) []) (append_assoc before (e ∷ []) items)
 
 -- ---- the whole text
 
-pub text_again : (s : State) → IsLegalInterface s → IsTold s.plan → take_bytes fresh (trace_text s) ≡ reading (finished s) []
-text_again s is told =
-    let begun = begin_read s.params s.plan is.params_are is.plan_is told is.faultless in
-    let entries = entries_read s.params s.plan s.entries [] (begin_text s.params s.plan) told is.legal is.entries_are begun in
+pub text_again : (s : State) → IsLegalInterface s → take_bytes fresh (trace_text s) ≡ reading (finished s) []
+text_again s is =
+    let begun = begin_read s.params s.plan is.params_are is.plan_is is.faultless in
+    let entries = entries_read s.params s.plan s.entries [] (begin_text s.params s.plan) is.plan_is is.legal is.entries_are begun in
     next_line fresh (body_text s) end_line (body s) (finished s) entries refl refl (omega arith) refl
 
 -- its line feed of `begin` comes behind the plan
-pub text_begins : (s : State) → IsLegalInterface s → IsTold s.plan → Begins fresh (trace_text s)
-text_begins s is told =
+pub text_begins : (s : State) → IsLegalInterface s → Begins fresh (trace_text s)
+text_begins s is =
     let front = plan_text s.params s.plan ++ begin_line in
-    let before : take_bytes fresh (plan_text s.params s.plan) ≡ reading (lines s.params s.plan) [] = plan_read s.params s.plan is.params_are is.plan_is told in
+    let before : take_bytes fresh (plan_text s.params s.plan) ≡ reading (lines s.params s.plan) [] = plan_read s.params s.plan is.params_are is.plan_is in
     let at : take_bytes fresh front ≡ reading (lines s.params s.plan) begin_line = fold-append take_byte fresh (plan_text s.params s.plan) begin_line ∙ ap (λ p. take_bytes p begin_line) before in
     let begins : Begins fresh (begin_text s.params s.plan) =
     (front, [], sym (append_assoc (plan_text s.params s.plan) begin_line line_feed), subst IsAtBegin (sym at) (refl, is.faultless)) in

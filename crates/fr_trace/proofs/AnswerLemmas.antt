@@ -8,19 +8,19 @@ use Rattle.fr_journal.specs.declared.entry.Entry.TheVariants.{Commit, Read, Pop,
 use Rattle.fr_journal.specs.declared.entry.Offered.{Offered}
 use Rattle.fr_journal.specs.declared.entry.Offered.TheVariants.{Nothing, Null, Data}
 use Rattle.fr_journal.specs.declared.entry.Origin.{Origin}
+use Rattle.fr_journal.specs.Arrivals.{oldest, moves}
 use Rattle.fr_journal.specs.Held.{held, origin_of}
 use Rattle.fr_journal.specs.Entries.{is_host, is_slot}
-use Rattle.fr_journal.specs.Legal.{IsLegal, IsLegalCommit, IsLegalRead, IsLegalFetch, words_of}
+use Rattle.fr_journal.specs.Legal.{IsLegal, IsLegalCommit, IsLegalRead, IsLegalPop, IsLegalFetch, words_of}
 use Rattle.fr_journal.specs.Offers.{buffer_at, offered}
 use Rattle.fr_journal.specs.OpenWindow.{open_window, last_number}
-use Rattle.fr_interface.specs.State.{State, received_by, commit_refusal, unless_transmit, received_in, read_refusal, unless_receive, fetch_refusal, observe_refusal, unless_open, is_not_above, is_host_full}
+use Rattle.fr_interface.specs.State.{State, received_by, commit_refusal, unless_transmit, received_in, read_refusal, unless_receive, pop_refusal, unless_queued, oldest_of, fetch_refusal, observe_refusal, unless_open, is_not_above, is_host_full}
 use Rattle.fr_slots.specs.declared.channel.Channel.{Channel}
 use Rattle.fr_slots.specs.declared.channel.Channel.TheVariants.{A, B}
 use Rattle.fr_slots.specs.declared.plan.Buffer.{Buffer}
 use Rattle.fr_slots.specs.declared.plan.Queue.{Queue}
 use Rattle.fr_slots.specs.Plans.{is_receive}
 use Rattle.fr_slots.specs.Windows.{Opportunity}
-use Rattle.fr_trace.specs.TraceText.{IsTold}
 use Rattle.fr_trace.specs.Answers.{same_channel, same_origin, same_offered, is_refused, made_by, is_answered, fault_of}
 
 -- ---- equal answers
@@ -69,7 +69,7 @@ offered_again (Data n) = eq-eqb n n refl
 pub made-answered : (s : State) (e : Entry) → is_answered s e ≡ true → made_by s e ≡ e
 made-answered s (Commit task buffer payload) h = refl
 made-answered s (Read task buffer from) h = ap (Read task buffer) (same_origin_is (option_map origin_of (received_by s buffer)) from h)
-made-answered s (Pop task from) h = refl
+made-answered s (Pop task from) h = ap (Pop task) (same_origin_is (option_map origin_of (oldest_of s)) from h)
 made-answered s (Fetch window a b) h =
     let parts = and_parts (same_offered (offered s.plan s.entries window A) a) (same_offered (offered s.plan s.entries window B) b) h in
     let offer_a = same_offered_is (offered s.plan s.entries window A) a parts.0 in
@@ -110,6 +110,21 @@ legal_read s task buffer from legal =
     let there = read_receives s (buffer_at s.plan buffer) from legal.receives room in
     (no_refusal (read_refusal s task buffer) (rw few there.0), rw there.1 (origin_again from))
 
+-- a legal pop
+
+pop_queued : (s : State) (o : Option Queue) (from : Option Origin) → IsSomeAnd o (λ q. from ≡ option_map origin_of (oldest q.capacity (moves s.params s.plan q s.entries))) → is_host_full s ≡ false
+    → (unless_queued s o ≡ None) × (option_map origin_of (option_and_then (λ q. oldest q.capacity (moves s.params s.plan q s.entries)) o) ≡ from)
+pop_queued s None from h room = absurd h
+pop_queued s (Some q) from h room = (rw room refl, sym h)
+
+legal_pop : (s : State) (task : ℕ) (from : Option Origin) → IsLegalPop s.params s.plan s.entries task from
+    → (is_refused s (Pop task from) ≡ false) × (is_answered s (Pop task from) ≡ true)
+legal_pop s task from legal =
+    let few : leb s.plan.tasks task ≡ false = lt-leb s.plan.tasks task legal.task_is in
+    let room : is_host_full s ≡ false = lt-leb s.plan.host_entries (count_by is_host s.entries) legal.room in
+    let there = pop_queued s s.plan.queue from legal.queued room in
+    (no_refusal (pop_refusal s task) (rw few there.0), rw there.1 (origin_again from))
+
 -- a legal fetch
 
 not_above : (number : ℕ) (last : Option ℕ) → IfSome last (λ n. n < number) → is_not_above number last ≡ false
@@ -131,18 +146,12 @@ closes : (number : ℕ) (o : Option Opportunity) → IsSomeAnd o (λ w. w.number
 closes number None h = absurd h
 closes number (Some w) h = rw (eq-eqb w.number number h) refl
 
--- nothing is popped where a plan has no queue
+pub legal_accepted : (s : State) (e : Entry) → IsLegal s.params s.plan s.entries e → (is_refused s e ≡ false) × (is_answered s e ≡ true)
+legal_accepted s (Commit task buffer payload) legal = (no_refusal (commit_refusal s task buffer payload) (legal_commit s task buffer payload legal), refl)
+legal_accepted s (Read task buffer from) legal = legal_read s task buffer from legal
+legal_accepted s (Pop task from) legal = legal_pop s task from legal
+legal_accepted s (Fetch window a b) legal = legal_fetch s window a b legal
+legal_accepted s (Observe window a b) legal = (no_refusal (observe_refusal s window) (closes window (open_window s.entries) legal), refl)
 
-pub no_queue : (o : Option Queue) (P : Queue → Type 0) → o ≡ None → IsSomeAnd o P → ⊥
-no_queue None P is h = h
-no_queue (Some q) P is h = cc is
-
-pub legal_accepted : (s : State) (e : Entry) → IsTold s.plan → IsLegal s.params s.plan s.entries e → (is_refused s e ≡ false) × (is_answered s e ≡ true)
-legal_accepted s (Commit task buffer payload) told legal = (no_refusal (commit_refusal s task buffer payload) (legal_commit s task buffer payload legal), refl)
-legal_accepted s (Read task buffer from) told legal = legal_read s task buffer from legal
-legal_accepted s (Pop task from) told legal = absurd (no_queue s.plan.queue _ told.no_queue legal.queued)
-legal_accepted s (Fetch window a b) told legal = legal_fetch s window a b legal
-legal_accepted s (Observe window a b) told legal = (no_refusal (observe_refusal s window) (closes window (open_window s.entries) legal), refl)
-
-pub no_fault : (s : State) (e : Entry) → IsTold s.plan → IsLegal s.params s.plan s.entries e → fault_of s e ≡ None
-no_fault s e told legal = let fine = legal_accepted s e told legal in rw (fine.0, fine.1) refl
+pub no_fault : (s : State) (e : Entry) → IsLegal s.params s.plan s.entries e → fault_of s e ≡ None
+no_fault s e legal = let fine = legal_accepted s e legal in rw (fine.0, fine.1) refl

@@ -5,21 +5,22 @@ use Rattle.std.specs.Str.{bytes_eq}
 use Rattle.std.proofs.lemmas.Bool.{cases_Bool}
 use Rattle.fr_journal.specs.declared.entry.Entry.{Entry}
 use Rattle.fr_interface.specs.State.{State}
-use Rattle.fr_lines.specs.Reading.{params_in, node_in, own_in, buffer_in, entry_in}
+use Rattle.fr_lines.specs.Reading.{params_in, node_in, own_in, buffer_in, queue_in, entry_in}
 use Rattle.fr_lines.specs.Spelling.{first_line, begin_line, end_line}
 use Rattle.fr_slots.specs.declared.params.RangeError.{RangeError}
 use Rattle.fr_slots.specs.declared.plan.Buffer.{Buffer}
 use Rattle.fr_slots.specs.Parameters.{Parameters, parameters_of}
 use Rattle.fr_slots.specs.declared.plan.Own.{Own}
+use Rattle.fr_slots.specs.declared.plan.Queue.{Queue}
 use Rattle.fr_slots.specs.Faults.{plan_fault}
-use Rattle.fr_slots.specs.Plans.{Plan, own_refusal}
+use Rattle.fr_slots.specs.Plans.{Plan, own_refusal, buffer_refusal, queue_refusal}
 use Rattle.fr_text.specs.Spaces.{words_of}
 use Rattle.fr_trace.specs.Answers.{fault_of}
 use Rattle.fr_trace.specs.Audit.{IsOfText}
 use Rattle.fr_trace.specs.declared.error.TraceError.{TraceError}
 use Rattle.fr_trace.specs.declared.replay.Fault.{Fault}
 use Rattle.fr_trace.specs.declared.replay.Fault.TheVariants.{Refused, WrongAnswer}
-use Rattle.fr_trace.specs.Stream.{Phase, magic, params, node, lines, body, finished, Progress, reading, failed, after_parameters, after_numbers, after_node, after_buffer, after_own, after_owned, after_begin, error_of, after_fault, after_entry, take_line, too_long, after_line, take_open, take_byte, take_bytes, longest_line, outcome_of}
+use Rattle.fr_trace.specs.Stream.{Phase, magic, params, node, lines, body, finished, Progress, reading, failed, after_parameters, after_numbers, after_node, after_queue, after_buffer, has_owned_alone, after_own, after_buffered, after_owned, after_begin, error_of, after_fault, after_entry, take_line, too_long, after_line, take_open, take_byte, take_bytes, longest_line, outcome_of}
 
 abbrev pub FaultOfText : {A : Type 0} → Result A TraceError → Type 0
 FaultOfText (Ok x) = Unit {0}
@@ -43,21 +44,31 @@ node_fault : (p : Parameters) (o : Option Plan) → FaultOfText (after_node p o)
 node_fault p None = tt
 node_fault p (Some plan) = tt
 
-buffer_fault : (p : Parameters) (plan : Plan) (o : Option Buffer) → FaultOfText (after_buffer p plan o)
-buffer_fault p plan None = tt
-buffer_fault p plan (Some b) = elim (cases_Bool (length plan.buffers == 0)) [
-  | inl first ↦ rw first tt
-  | inr second ↦ rw second tt
+queue_fault : (p : Parameters) (plan : Plan) (o : Option Queue) → FaultOfText (after_queue p plan o)
+queue_fault p plan None = tt
+queue_fault p plan (Some q) = elim (cases_Bool (is_none (queue_refusal plan q))) [
+  | inl taken ↦ rw taken tt
+  | inr refused ↦ rw refused tt
 ]
 
+buffer_fault : (p : Parameters) (plan : Plan) (b : Buffer) → FaultOfText (after_buffer p plan b)
+buffer_fault p plan b = elim (cases_Bool (is_none plan.queue && is_none (buffer_refusal plan b))) [
+  | inl taken ↦ rw taken tt
+  | inr refused ↦ rw refused tt
+]
+
+buffered_fault : (p : Parameters) (plan : Plan) (o : Option Buffer) (words : List (List ℕ)) → FaultOfText (after_buffered p plan o words)
+buffered_fault p plan None words = queue_fault p plan (queue_in words)
+buffered_fault p plan (Some b) words = buffer_fault p plan b
+
 own_fault : (p : Parameters) (plan : Plan) (o : Own) → FaultOfText (after_own p plan o)
-own_fault p plan o = elim (cases_Bool (length plan.buffers == 0 && is_none (own_refusal plan o))) [
+own_fault p plan o = elim (cases_Bool (has_owned_alone plan && is_none (own_refusal plan o))) [
   | inl taken ↦ rw taken tt
   | inr refused ↦ rw refused tt
 ]
 
 owned_fault : (p : Parameters) (plan : Plan) (o : Option Own) (words : List (List ℕ)) → FaultOfText (after_owned p plan o words)
-owned_fault p plan None words = buffer_fault p plan (buffer_in words)
+owned_fault p plan None words = buffered_fault p plan (buffer_in words) words
 owned_fault p plan (Some o) words = own_fault p plan o
 
 begin_fault : (p : Parameters) (plan : Plan) → FaultOfText (after_begin p plan)

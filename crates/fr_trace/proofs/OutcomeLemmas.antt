@@ -7,12 +7,12 @@ use Rattle.fr_trace.specs.Feeds.{Begins}
 use Rattle.fr_trace.specs.declared.error.TraceError.{TraceError}
 use Rattle.fr_trace.specs.declared.error.TraceError.TheVariants.{BadMagic, BadLine, LineTooLong, Refused, WrongAnswer, Truncated, Read, Write, Memory}
 use Rattle.fr_trace.specs.Stream.{Progress, magic, params, node, lines, body, finished, reading, failed, fresh, take_bytes, outcome_of}
-use Rattle.fr_trace.specs.TraceText.{IsTold, trace_text}
+use Rattle.fr_trace.specs.TraceText.{trace_text}
 use Rattle.fr_trace.proofs.AgainLemmas.{text_again, text_begins}
 use Rattle.fr_trace.proofs.FeedLemmas.{begins_before, begins_behind}
 use Rattle.fr_trace.proofs.TextLemmas.{Spelled, text_spelled}
 
-found_in : (p : Progress) (text : List ℕ) (s : State) → Spelled p text → outcome_of p ≡ Ok s → (text ≡ trace_text s) × IsTold s.plan
+found_in : (p : Progress) (text : List ℕ) (s : State) → Spelled p text → outcome_of p ≡ Ok s → text ≡ trace_text s
 found_in (failed e) text s spelled h = cc h
 found_in (reading magic line) text s spelled h = cc h
 found_in (reading params line) text s spelled h = cc h
@@ -21,15 +21,15 @@ found_in (reading (lines p plan) line) text s spelled h = cc h
 found_in (reading (body t) line) text s spelled h = cc h
 found_in (reading (finished t) line) text s spelled h =
     let same : t ≡ s = cc h in
-    (spelled.0 ∙ (ap (λ l. trace_text t ++ l) spelled.2 ∙ (append-nil (trace_text t) ∙ ap trace_text same)), subst (λ (x : State). IsTold x.plan) same spelled.1)
+    spelled.0 ∙ (ap (λ l. trace_text t ++ l) spelled.1 ∙ (append-nil (trace_text t) ∙ ap trace_text same))
 
 -- what is accepted is the text of that interface
-pub accepted_text : (text : List ℕ) (s : State) → outcome_of (take_bytes fresh text) ≡ Ok s → (text ≡ trace_text s) × IsTold s.plan
+pub accepted_text : (text : List ℕ) (s : State) → outcome_of (take_bytes fresh text) ≡ Ok s → text ≡ trace_text s
 accepted_text text s h = found_in (take_bytes fresh text) text s (text_spelled text) h
 
 -- the text of a legal interface is accepted
-pub legal_outcome : (text : List ℕ) (s : State) → IsLegalInterface s → IsTold s.plan → text ≡ trace_text s → outcome_of (take_bytes fresh text) ≡ Ok s
-legal_outcome text s is told same = ap (λ t. outcome_of (take_bytes fresh t)) same ∙ ap outcome_of (text_again s is told)
+pub legal_outcome : (text : List ℕ) (s : State) → IsLegalInterface s → text ≡ trace_text s → outcome_of (take_bytes fresh text) ≡ Ok s
+legal_outcome text s is same = ap (λ t. outcome_of (take_bytes fresh t)) same ∙ ap outcome_of (text_again s is)
 
 -- ---- an audit
 
@@ -41,7 +41,7 @@ text_given (Some text) (Some rest) s h = accepted_text text s h.1
 -- a text that is accepted has the line at which its interface is made
 pub accepted_begins : (text : Option (List ℕ)) (s : State) → IsLegalInterface s → IsTextOf s text → HasBegin text
 accepted_begins None s is same = tt
-accepted_begins (Some text) s is same = subst (λ t. Begins fresh t) (sym same.0) (text_begins s is same.1)
+accepted_begins (Some text) s is same = subst (λ t. Begins fresh t) (sym same) (text_begins s is)
 
 piece_begins : (text rest : List ℕ) → StopsIn BeginsIn text rest → Begins fresh text
 piece_begins text rest h =
@@ -115,8 +115,8 @@ given_fault text old new Read h of_text = absurd of_text
 given_fault text old new Write h of_text = absurd of_text
 given_fault text old new Memory h of_text = absurd of_text
 
-pub not_refused : (text old new : Option (List ℕ)) (r : Result (Unit {0}) TraceError) (s : State) → Audits text old new r → IsLegalInterface s → IsTold s.plan → text ≡ Some (trace_text s) → IsNotRefused r
-not_refused text old new (Ok x) s h is told same = tt
-not_refused text old new (Err e) s h is told same =
-    λ of_text. clash (outcome_of (take_bytes fresh (trace_text s))) s e (legal_outcome (trace_text s) s is told refl)
+pub not_refused : (text old new : Option (List ℕ)) (r : Result (Unit {0}) TraceError) (s : State) → Audits text old new r → IsLegalInterface s → text ≡ Some (trace_text s) → IsNotRefused r
+not_refused text old new (Ok x) s h is same = tt
+not_refused text old new (Err e) s h is same =
+    λ of_text. clash (outcome_of (take_bytes fresh (trace_text s))) s e (legal_outcome (trace_text s) s is refl)
     (subst (λ (t : Option (List ℕ)). IsRefused e t) same (given_fault text old new e h of_text))

@@ -9,6 +9,7 @@ use Rattle.fr_slots.specs.declared.plan.Buffer.{Buffer}
 use Rattle.fr_slots.specs.Plans.{is_receive}
 use Rattle.fr_trace.specs.ReportText.{answer_words, reports_from, buffer_report, report_words, held_words, tally_words}
 use Rattle.fr_lines.specs.Spelling.{line_text}
+use Rattle.fr_text.specs.Spaces.{line_of}
 
 -- the buffer of a number that there is
 line_at : (buffers : List Buffer) (place : ℕ) → place < length buffers → (b : Buffer) × (slice_get buffers place ≡ Some b)
@@ -54,3 +55,13 @@ report-more s place lt =
 pub report-none : (s : State) → reports_from s 0 (take 0 s.plan.buffers) ≡ []
 unfolding reports_from
 report-none s = refl
+
+-- a line, from its fourth word on and before it
+pub line-behind_three : (a b c d : List ℕ) (words : List (List ℕ)) → line_text (a ∷ b ∷ c ∷ d ∷ words) ≡ (a ++ 32 ∷ (b ++ 32 ∷ c)) ++ (32 ∷ line_text (d ∷ words))
+line-behind_three a b c d words =
+    let rest = line_of (d ∷ words) in
+    append_assoc a (32 ∷ (b ++ 32 ∷ (c ++ 32 ∷ rest))) (10 ∷ [])
+    ∙ ap (λ (t : List ℕ). a ++ 32 ∷ t) (append_assoc b (32 ∷ (c ++ 32 ∷ rest)) (10 ∷ []))
+    ∙ ap (λ (t : List ℕ). a ++ 32 ∷ (b ++ 32 ∷ t)) (append_assoc c (32 ∷ rest) (10 ∷ []))
+    ∙ ap (λ (t : List ℕ). a ++ 32 ∷ t) (sym (append_assoc b (32 ∷ c) (32 ∷ (rest ++ 10 ∷ []))))
+    ∙ sym (append_assoc a (32 ∷ (b ++ 32 ∷ c)) (32 ∷ (rest ++ 10 ∷ [])))

@@ -1,5 +1,5 @@
 -- What has been read spells the phase and the front of a line.
-use Rattle.std.proofs.Common.{◌≡◌, ℕ, ◌==◌, ◌&&◌, arith, length-append, Bool, true, false, List, [], ◌∷◌, ◌++◌, length, Option, Some, None, Result, Ok, Err, refl, sym, ap, subst, ◌∙◌, append_assoc, inl, inr}
+use Rattle.std.proofs.Common.{◌≡◌, ℕ, ◌==◌, ◌&&◌, Bool, true, false, List, [], ◌∷◌, ◌++◌, length, Option, Some, None, Result, Ok, Err, refl, sym, ap, subst, ◌∙◌, append_assoc, inl, inr}
 use Rattle.std.specs.Prelude.{ℤ, is_none}
 use Rattle.std.proofs.lemmas.Bool.{and_parts, cases_Bool, eqb-true}
 use Rattle.std.proofs.lemmas.List.{append-nil, flat_map_more}
@@ -8,29 +8,30 @@ use Rattle.std.specs.List.{flat_map}
 use Rattle.std.specs.Str.{bytes_eq}
 use Rattle.fr_journal.specs.declared.entry.Entry.{Entry}
 use Rattle.fr_interface.specs.State.{State, with_entry}
-use Rattle.fr_lines.specs.Reading.{params_in, node_in, own_in, buffer_in, entry_in}
-use Rattle.fr_lines.specs.Spelling.{first_line, begin_line, end_line, node_words, entry_words}
+use Rattle.fr_lines.specs.Reading.{params_in, node_in, own_in, buffer_in, queue_in, entry_in}
+use Rattle.fr_lines.specs.Spelling.{first_line, begin_line, end_line, node_words, queue_words, entry_words}
 use Rattle.fr_lines.proofs.BufferLemmas.{buffer_line_takes}
 use Rattle.fr_lines.proofs.EntryLemmas.{entry_line_takes}
 use Rattle.fr_lines.proofs.NodeLemmas.{node_line_takes, node_no_lines}
 use Rattle.fr_lines.proofs.OwnLemmas.{own_line_takes}
 use Rattle.fr_lines.proofs.ParameterLemmas.{params_line_takes}
+use Rattle.fr_lines.proofs.QueueLemmas.{queue_line_takes}
 use Rattle.fr_slots.specs.declared.params.RangeError.{RangeError}
 use Rattle.fr_slots.specs.declared.plan.Buffer.{Buffer}
 use Rattle.fr_slots.specs.declared.plan.Own.{Own}
 use Rattle.fr_slots.specs.declared.plan.Queue.{Queue}
 use Rattle.fr_slots.specs.Parameters.{Parameters, parameters_of}
-use Rattle.fr_slots.specs.Plans.{Plan, own_refusal, with_buffer, with_own}
+use Rattle.fr_slots.specs.Plans.{Plan, own_refusal, buffer_refusal, queue_refusal, with_own, with_buffer, with_queue}
 use Rattle.fr_text.specs.Spaces.{words_of, line_of}
 use Rattle.fr_trace.specs.Answers.{fault_of, made_by, is_answered, is_refused}
 use Rattle.fr_trace.specs.declared.error.TraceError.{TraceError}
 use Rattle.fr_trace.specs.declared.replay.Fault.{Fault}
 use Rattle.fr_slots.specs.Faults.{plan_fault}
 use Rattle.fr_lines.specs.Spelling.{line_feed, line_text}
-use Rattle.fr_trace.specs.TraceText.{IsTold, own_line, buffer_line, queue_lines, entry_line, head_text, params_text, plan_text, begin_text, body_text, trace_text}
-use Rattle.fr_trace.specs.Stream.{Phase, magic, params, node, lines, body, finished, Progress, reading, failed, after_parameters, after_numbers, after_node, after_buffer, after_own, after_owned, after_begin, after_fault, after_entry, take_line, after_line, take_open, take_in, take_byte, take_bytes, fresh, longest_line}
+use Rattle.fr_trace.specs.TraceText.{own_line, buffer_line, queue_lines, entry_line, head_text, params_text, plan_text, begin_text, body_text, trace_text}
+use Rattle.fr_trace.specs.Stream.{Phase, magic, params, node, lines, body, finished, Progress, reading, failed, after_parameters, after_numbers, after_node, after_queue, after_buffer, has_owned_alone, after_own, after_buffered, after_owned, after_begin, after_fault, after_entry, take_line, after_line, take_open, take_in, take_byte, take_bytes, fresh, longest_line}
 use Rattle.fr_trace.proofs.AnswerLemmas.{made-answered}
-use Rattle.fr_trace.proofs.PlanLemmas.{nil_is}
+use Rattle.fr_trace.proofs.PlanLemmas.{nil_is, none_is, no_queue_yet}
 
 -- the lines that led to a phase
 abbrev pub text_of : Phase → List ℕ
@@ -41,20 +42,13 @@ text_of (lines p plan) = plan_text p plan
 text_of (body s) = body_text s
 text_of (finished s) = trace_text s
 
--- the plan, once it is there, is one that traces tell of
-abbrev pub IsPlanned : Phase → Type 0
-IsPlanned (lines p plan) = IsTold plan
-IsPlanned (body s) = IsTold s.plan
-IsPlanned (finished s) = IsTold s.plan
-IsPlanned p = Unit {0}
-
 abbrev pub IsFront : Phase → List ℕ → Type 0
 IsFront (finished s) line = line ≡ []
 IsFront p line = Unit {0}
 
 abbrev pub Spelled : Progress → List ℕ → Type 0
 Spelled (failed e) text = Unit {0}
-Spelled (reading p line) text = (text ≡ text_of p ++ line) × IsPlanned p × IsFront p line
+Spelled (reading p line) text = (text ≡ text_of p ++ line) × IsFront p line
 
 front_nil : (p : Phase) → IsFront p []
 front_nil magic = tt
@@ -66,7 +60,7 @@ front_nil (finished s) = refl
 
 -- a line that leads from one phase to the next
 abbrev Leads : Phase → List ℕ → Phase → Type 0
-Leads p line q = (text_of q ≡ text_of p ++ (line ++ line_feed)) × IsPlanned q
+Leads p line q = text_of q ≡ text_of p ++ (line ++ line_feed)
 
 -- ---- parameters
 
@@ -75,7 +69,7 @@ after_parameters_leads : (line : List ℕ) (numbers : List ℤ) (r : Result Para
 after_parameters_leads line numbers (Err e) q read is h = cc h
 after_parameters_leads line numbers (Ok p) q read is h =
     let end : node p ≡ q = cc h in
-    subst (λ x. Leads params line x) end (ap (λ t. head_text ++ (t ++ line_feed)) (sym (params_line_takes line numbers p read is)), tt)
+    subst (λ x. Leads params line x) end (ap (λ t. head_text ++ (t ++ line_feed)) (sym (params_line_takes line numbers p read is)))
 
 after_numbers_leads : (line : List ℕ) (o : Option (List ℤ)) (q : Phase) → params_in (words_of line) ≡ o → after_numbers o ≡ Ok q → Leads params line q
 after_numbers_leads line None q read h = cc h
@@ -100,7 +94,7 @@ after_node_leads line p (Some plan) q read h =
     let end : lines p plan ≡ q = cc h in
     let bare = node_no_lines (words_of line) plan read in
     subst (λ x. Leads (node p) line x) end
-    (bare_text p plan bare.0 bare.1 bare.2 ∙ ap (λ t. params_text p ++ (t ++ line_feed)) (sym (node_line_takes line plan read)), record { one_buffer = omega (arith, ap length bare.1); no_queue = bare.2 })
+    (bare_text p plan bare.0 bare.1 bare.2 ∙ ap (λ t. params_text p ++ (t ++ line_feed)) (sym (node_line_takes line plan read)))
 
 -- a plan without buffers
 owned_text : (p : Parameters) (plan : Plan) → plan.buffers ≡ [] → plan.queue ≡ None → plan_text p plan ≡ params_text p ++ line_text (node_words plan) ++ flat_map own_line plan.owned
@@ -118,16 +112,14 @@ own_text p plan o no_buffer no_queue =
     ∙ sym (flat_map_more own_line (params_text p ++ line_text (node_words plan)) plan.owned o)
     ∙ ap (λ t. t ++ own_line o) (sym (owned_text p plan no_buffer no_queue))
 
-after_own_leads : (line : List ℕ) (p : Parameters) (plan : Plan) (o : Own) (q : Phase) → IsTold plan → own_in (words_of line) ≡ Some o → after_own p plan o ≡ Ok q → Leads (lines p plan) line q
-after_own_leads line p plan o q told read h =
-    elim (cases_Bool (length plan.buffers == 0 && is_none (own_refusal plan o))) [
+after_own_leads : (line : List ℕ) (p : Parameters) (plan : Plan) (o : Own) (q : Phase) → own_in (words_of line) ≡ Some o → after_own p plan o ≡ Ok q → Leads (lines p plan) line q
+after_own_leads line p plan o q read h =
+    elim (cases_Bool (has_owned_alone plan && is_none (own_refusal plan o))) [
       | inl taken ↦
-          let first = (and_parts (length plan.buffers == 0) (is_none (own_refusal plan o)) taken).0 in
+          let alone = and_parts (length plan.buffers == 0) (is_none plan.queue) (and_parts (has_owned_alone plan) (is_none (own_refusal plan o)) taken).0 in
           let end : lines p (with_own plan o) ≡ q = cc (rw taken at h) in
-          subst (λ x. Leads (lines p plan) line x) end (
-            own_text p plan o (nil_is plan.buffers first) told.no_queue ∙ ap (λ t. plan_text p plan ++ (t ++ line_feed)) (sym (own_line_takes line o read)),
-            record { one_buffer = told.one_buffer; no_queue = told.no_queue },
-          )
+          subst (λ x. Leads (lines p plan) line x) end
+          (own_text p plan o (nil_is plan.buffers alone.0) (none_is plan.queue alone.1) ∙ ap (λ t. plan_text p plan ++ (t ++ line_feed)) (sym (own_line_takes line o read)))
       | inr refused ↦ cc (rw refused at h)
     ]
 
@@ -142,31 +134,53 @@ buffer_text p plan b no_queue =
     ∙ ap (λ t. t ++ buffer_line b) (sym (append-nil before))
     ∙ ap (λ (q : Option Queue). (before ++ queue_lines q) ++ buffer_line b) (sym no_queue)
 
-after_buffer_leads : (line : List ℕ) (p : Parameters) (plan : Plan) (o : Option Buffer) (q : Phase) → IsTold plan → buffer_in (words_of line) ≡ o → after_buffer p plan o ≡ Ok q
+after_buffer_leads : (line : List ℕ) (p : Parameters) (plan : Plan) (b : Buffer) (q : Phase) → buffer_in (words_of line) ≡ Some b → after_buffer p plan b ≡ Ok q
     → Leads (lines p plan) line q
-after_buffer_leads line p plan None q told read h = cc h
-after_buffer_leads line p plan (Some b) q told read h =
-    elim (cases_Bool (length plan.buffers == 0)) [
-      | inl first ↦
-          let end : lines p (with_buffer plan b) ≡ q = cc (rw first at h) in
-          subst (λ x. Leads (lines p plan) line x) end (
-            buffer_text p plan b told.no_queue ∙ ap (λ t. plan_text p plan ++ (t ++ line_feed)) (sym (buffer_line_takes line b read)),
-            record { one_buffer = omega (arith, eqb-true (length plan.buffers) 0 first, length-append plan.buffers (b ∷ [])); no_queue = told.no_queue },
-          )
-      | inr second ↦ cc (rw second at h)
+after_buffer_leads line p plan b q read h =
+    elim (cases_Bool (is_none plan.queue && is_none (buffer_refusal plan b))) [
+      | inl taken ↦
+          let no_queue = (and_parts (is_none plan.queue) (is_none (buffer_refusal plan b)) taken).0 in
+          let end : lines p (with_buffer plan b) ≡ q = cc (rw taken at h) in
+          subst (λ x. Leads (lines p plan) line x) end
+          (buffer_text p plan b (none_is plan.queue no_queue) ∙ ap (λ t. plan_text p plan ++ (t ++ line_feed)) (sym (buffer_line_takes line b read)))
+      | inr refused ↦ cc (rw refused at h)
     ]
 
-after_owned_leads : (line : List ℕ) (p : Parameters) (plan : Plan) (o : Option Own) (q : Phase) → IsTold plan → own_in (words_of line) ≡ o → after_owned p plan o (words_of line) ≡ Ok q
-    → Leads (lines p plan) line q
-after_owned_leads line p plan None q told read h = after_buffer_leads line p plan (buffer_in (words_of line)) q told refl h
-after_owned_leads line p plan (Some o) q told read h = after_own_leads line p plan o q told read h
+-- the queue
+pub queue_text : (p : Parameters) (plan : Plan) (q : Queue) → plan.queue ≡ None → plan_text p (with_queue plan q) ≡ plan_text p plan ++ line_text (queue_words q)
+queue_text p plan q no_queue =
+    let before = params_text p ++ line_text (node_words plan) ++ flat_map own_line plan.owned ++ flat_map buffer_line plan.buffers in
+    ap (λ t. t ++ line_text (queue_words q)) (sym (append-nil before))
+    ∙ ap (λ (o : Option Queue). (before ++ queue_lines o) ++ line_text (queue_words q)) (sym no_queue)
 
-after_begin_leads : (line : List ℕ) (p : Parameters) (plan : Plan) (q : Phase) → IsTold plan → line ≡ begin_line → after_begin p plan ≡ Ok q → Leads (lines p plan) line q
-after_begin_leads line p plan q told is h =
+after_queue_leads : (line : List ℕ) (p : Parameters) (plan : Plan) (o : Option Queue) (x : Phase) → queue_in (words_of line) ≡ o → after_queue p plan o ≡ Ok x
+    → Leads (lines p plan) line x
+after_queue_leads line p plan None x read h = cc h
+after_queue_leads line p plan (Some q) x read h =
+    elim (cases_Bool (is_none (queue_refusal plan q))) [
+      | inl taken ↦
+          let end : lines p (with_queue plan q) ≡ x = cc (rw taken at h) in
+          subst (λ y. Leads (lines p plan) line y) end
+          (queue_text p plan q (no_queue_yet plan q taken) ∙ ap (λ t. plan_text p plan ++ (t ++ line_feed)) (sym (queue_line_takes line q read)))
+      | inr refused ↦ cc (rw refused at h)
+    ]
+
+after_buffered_leads : (line : List ℕ) (p : Parameters) (plan : Plan) (o : Option Buffer) (q : Phase) → buffer_in (words_of line) ≡ o → after_buffered p plan o (words_of line) ≡ Ok q
+    → Leads (lines p plan) line q
+after_buffered_leads line p plan None q read h = after_queue_leads line p plan (queue_in (words_of line)) q refl h
+after_buffered_leads line p plan (Some b) q read h = after_buffer_leads line p plan b q read h
+
+after_owned_leads : (line : List ℕ) (p : Parameters) (plan : Plan) (o : Option Own) (q : Phase) → own_in (words_of line) ≡ o → after_owned p plan o (words_of line) ≡ Ok q
+    → Leads (lines p plan) line q
+after_owned_leads line p plan None q read h = after_buffered_leads line p plan (buffer_in (words_of line)) q refl h
+after_owned_leads line p plan (Some o) q read h = after_own_leads line p plan o q read h
+
+after_begin_leads : (line : List ℕ) (p : Parameters) (plan : Plan) (q : Phase) → line ≡ begin_line → after_begin p plan ≡ Ok q → Leads (lines p plan) line q
+after_begin_leads line p plan q is h =
     elim (cases_Bool (is_none (plan_fault p plan))) [
       | inl pass ↦
           let end : body (record { params = p; plan = plan; entries = [] }) ≡ q = cc (rw pass at h) in
-          subst (λ x. Leads (lines p plan) line x) end (append-nil (begin_text p plan) ∙ ap (λ t. plan_text p plan ++ (t ++ line_feed)) (sym is), told)
+          subst (λ x. Leads (lines p plan) line x) end (append-nil (begin_text p plan) ∙ ap (λ t. plan_text p plan ++ (t ++ line_feed)) (sym is))
       | inr fail ↦ cc (rw fail at h)
     ]
 
@@ -184,53 +198,53 @@ fault_none s e h =
           ]
     ]
 
-after_fault_leads : (s : State) (line : List ℕ) (e : Entry) (o : Option Fault) (q : Phase) → IsTold s.plan → line ≡ line_of (entry_words e) → fault_of s e ≡ o → after_fault s e o ≡ Ok q → Leads (body s) line q
-after_fault_leads s line e (Some f) q told text is h = cc h
-after_fault_leads s line e None q told text is h =
+after_fault_leads : (s : State) (line : List ℕ) (e : Entry) (o : Option Fault) (q : Phase) → line ≡ line_of (entry_words e) → fault_of s e ≡ o → after_fault s e o ≡ Ok q → Leads (body s) line q
+after_fault_leads s line e (Some f) q text is h = cc h
+after_fault_leads s line e None q text is h =
     let made : made_by s e ≡ e = made-answered s e (fault_none s e is) in
     let end : body (with_entry s e) ≡ q = ap (λ (x : Entry). body (with_entry s x)) (sym made) ∙ cc h in
     let spelled : body_text (with_entry s e) ≡ body_text s ++ (line ++ line_feed) =
     sym (flat_map_more entry_line (begin_text s.params s.plan) s.entries e) ∙ ap (λ t. body_text s ++ (t ++ line_feed)) (sym text) in
-    subst (λ x. Leads (body s) line x) end (spelled, told)
+    subst (λ x. Leads (body s) line x) end spelled
 
-after_entry_leads : (s : State) (line : List ℕ) (o : Option Entry) (q : Phase) → IsTold s.plan → entry_in (words_of line) ≡ o → after_entry s o ≡ Ok q → Leads (body s) line q
-after_entry_leads s line None q told is h = cc h
-after_entry_leads s line (Some e) q told is h = after_fault_leads s line e (fault_of s e) q told (entry_line_takes line e is) refl h
+after_entry_leads : (s : State) (line : List ℕ) (o : Option Entry) (q : Phase) → entry_in (words_of line) ≡ o → after_entry s o ≡ Ok q → Leads (body s) line q
+after_entry_leads s line None q is h = cc h
+after_entry_leads s line (Some e) q is h = after_fault_leads s line e (fault_of s e) q (entry_line_takes line e is) refl h
 
 -- ---- whole lines
 
-line_leads : (p : Phase) (line : List ℕ) (q : Phase) → IsPlanned p → take_line p line ≡ Ok q → Leads p line q
-line_leads magic line q planned h =
+line_leads : (p : Phase) (line : List ℕ) (q : Phase) → take_line p line ≡ Ok q → Leads p line q
+line_leads magic line q h =
     elim (cases_Bool (bytes_eq line first_line)) [
       | inl pass ↦
           let is : line ≡ first_line = (bytes_eq-Decides line first_line).0 pass in
           let end : params ≡ q = cc (rw pass at h) in
-          subst (λ x. Leads magic line x) end (ap (λ t. t ++ line_feed) (sym is), tt)
+          subst (λ x. Leads magic line x) end (ap (λ t. t ++ line_feed) (sym is))
       | inr fail ↦ cc (rw fail at h)
     ]
-line_leads params line q planned h = after_numbers_leads line (params_in (words_of line)) q refl h
-line_leads (node p) line q planned h = after_node_leads line p (node_in (words_of line)) q refl h
-line_leads (lines p plan) line q planned h =
+line_leads params line q h = after_numbers_leads line (params_in (words_of line)) q refl h
+line_leads (node p) line q h = after_node_leads line p (node_in (words_of line)) q refl h
+line_leads (lines p plan) line q h =
     elim (cases_Bool (bytes_eq line begin_line)) [
-      | inl pass ↦ after_begin_leads line p plan q planned ((bytes_eq-Decides line begin_line).0 pass) (rw pass at h)
-      | inr fail ↦ after_owned_leads line p plan (own_in (words_of line)) q planned refl (rw fail at h)
+      | inl pass ↦ after_begin_leads line p plan q ((bytes_eq-Decides line begin_line).0 pass) (rw pass at h)
+      | inr fail ↦ after_owned_leads line p plan (own_in (words_of line)) q refl (rw fail at h)
     ]
-line_leads (body s) line q planned h =
+line_leads (body s) line q h =
     elim (cases_Bool (bytes_eq line end_line)) [
       | inl pass ↦
           let is : line ≡ end_line = (bytes_eq-Decides line end_line).0 pass in
           let end : finished s ≡ q = cc (rw pass at h) in
-          subst (λ x. Leads (body s) line x) end (ap (λ t. body_text s ++ (t ++ line_feed)) (sym is), planned)
-      | inr fail ↦ after_entry_leads s line (entry_in (words_of line)) q planned refl (rw fail at h)
+          subst (λ x. Leads (body s) line x) end (ap (λ t. body_text s ++ (t ++ line_feed)) (sym is))
+      | inr fail ↦ after_entry_leads s line (entry_in (words_of line)) q refl (rw fail at h)
     ]
-line_leads (finished s) line q planned h = cc h
+line_leads (finished s) line q h = cc h
 
-after_line_spelled : (p : Phase) (line text : List ℕ) (r : Result Phase TraceError) → IsPlanned p → text ≡ text_of p ++ line → take_line p line ≡ r
+after_line_spelled : (p : Phase) (line text : List ℕ) (r : Result Phase TraceError) → text ≡ text_of p ++ line → take_line p line ≡ r
     → Spelled (after_line r) (text ++ line_feed)
-after_line_spelled p line text (Err e) planned is h = tt
-after_line_spelled p line text (Ok q) planned is h =
-    let led = line_leads p line q planned h in
-    (ap (λ t. t ++ line_feed) is ∙ (append_assoc (text_of p) line line_feed ∙ (sym led.0 ∙ sym (append-nil (text_of q)))), led.1, front_nil q)
+after_line_spelled p line text (Err e) is h = tt
+after_line_spelled p line text (Ok q) is h =
+    let led = line_leads p line q h in
+    (ap (λ t. t ++ line_feed) is ∙ (append_assoc (text_of p) line line_feed ∙ (sym led ∙ sym (append-nil (text_of q)))), front_nil q)
 
 -- ---- bytes
 
@@ -261,10 +275,10 @@ open_spelled p line text b opened h =
     (elim (cases_Bool (b == 10)) [
       | inl feed ↦
           let is : b ≡ 10 = eqb-true b 10 feed in
-          rw feed (subst (λ x. Spelled (after_line (take_line p line)) (text ++ x ∷ [])) (sym is) (after_line_spelled p line text (take_line p line) h.1 h.0 refl))
+          rw feed (subst (λ x. Spelled (after_line (take_line p line)) (text ++ x ∷ [])) (sym is) (after_line_spelled p line text (take_line p line) h.0 refl))
       | inr other ↦ rw other (elim (cases_Bool (length line == longest_line)) [
         | inl full ↦ rw full tt
-        | inr room ↦ rw room (ap (λ t. t ++ b ∷ []) h.0 ∙ append_assoc (text_of p) line (b ∷ []), h.1, front_open p (line ++ b ∷ []) opened)
+        | inr room ↦ rw room (ap (λ t. t ++ b ∷ []) h.0 ∙ append_assoc (text_of p) line (b ∷ []), front_open p (line ++ b ∷ []) opened)
       ])
     ])
 
@@ -285,4 +299,4 @@ bytes_spelled (b ∷ bytes) s text h =
 
 -- what has come spells the phase that it left
 pub text_spelled : (text : List ℕ) → Spelled (take_bytes fresh text) text
-text_spelled text = bytes_spelled text fresh [] (refl, tt, tt)
+text_spelled text = bytes_spelled text fresh [] (refl, tt)

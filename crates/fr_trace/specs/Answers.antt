@@ -7,7 +7,7 @@ use Rattle.fr_journal.specs.declared.entry.Offered.TheVariants.{Nothing, Null, D
 use Rattle.fr_journal.specs.declared.entry.Origin.{Origin}
 use Rattle.fr_journal.specs.Held.{origin_of}
 use Rattle.fr_journal.specs.Offers.{offered}
-use Rattle.fr_interface.specs.State.{State, received_by, commit_refusal, read_refusal, fetch_refusal, observe_refusal}
+use Rattle.fr_interface.specs.State.{State, received_by, oldest_of, commit_refusal, read_refusal, pop_refusal, fetch_refusal, observe_refusal}
 use Rattle.fr_slots.specs.declared.channel.Channel.{Channel}
 use Rattle.fr_slots.specs.declared.channel.Channel.TheVariants as channel
 use Rattle.fr_trace.specs.declared.replay.Fault.{Fault}
@@ -35,11 +35,11 @@ same_offered made told = false
 
 -- ---- calls
 
--- The interface refuses the call of an entry. No call is made today for pops.
+-- the interface refuses the call of an entry
 abbrev pub is_refused : State → Entry → Bool
 is_refused s (Commit task buffer payload) = is_some (commit_refusal s task buffer payload)
 is_refused s (Read task buffer from) = is_some (read_refusal s task buffer)
-is_refused s (Pop task from) = true
+is_refused s (Pop task from) = is_some (pop_refusal s task)
 is_refused s (Fetch window a b) = is_some (fetch_refusal s window)
 is_refused s (Observe window a b) = is_some (observe_refusal s window)
 
@@ -47,13 +47,14 @@ is_refused s (Observe window a b) = is_some (observe_refusal s window)
 abbrev pub made_by : State → Entry → Entry
 made_by s (Commit task buffer payload) = Commit task buffer payload
 made_by s (Read task buffer from) = Read task buffer (option_map origin_of (received_by s buffer))
-made_by s (Pop task from) = Pop task from
+made_by s (Pop task from) = Pop task (option_map origin_of (oldest_of s))
 made_by s (Fetch window a b) = Fetch window (offered s.plan s.entries window channel.A) (offered s.plan s.entries window channel.B)
 made_by s (Observe window a b) = Observe window a b
 
 -- two entries of one call have the same answers
 abbrev pub same_answer : Entry → Entry → Bool
 same_answer (Read task buffer made) (Read t b told) = same_origin made told
+same_answer (Pop task made) (Pop t told) = same_origin made told
 same_answer (Fetch window made_a made_b) (Fetch w told_a told_b) = same_offered made_a told_a && same_offered made_b told_b
 same_answer made told = true
 

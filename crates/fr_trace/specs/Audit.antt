@@ -7,7 +7,7 @@ use Rattle.fr_trace.specs.declared.error.TraceError.TheVariants.{Read, Write, Me
 use Rattle.fr_trace.specs.Feeds.{Begins}
 use Rattle.fr_trace.specs.ReportText.{report_text}
 use Rattle.fr_trace.specs.Stream.{failed, fresh, take_bytes, answer_of, outcome_of}
-use Rattle.fr_trace.specs.TraceText.{IsTold, trace_text}
+use Rattle.fr_trace.specs.TraceText.{trace_text}
 
 -- an error that the text alone gives
 abbrev pub IsOfText : TraceError → Type 0
@@ -23,10 +23,10 @@ IsNotRefused (Err e) = IsOfText e → ⊥
 
 -- ---- what is done with a text, where it is known
 
--- the text is that of the interface, of whose plan traces tell today
+-- the text is that of the interface
 abbrev pub IsTextOf : State → Option (List ℕ) → Type 0
 IsTextOf s None = Unit {0}
-IsTextOf s (Some text) = (text ≡ trace_text s) × IsTold s.plan
+IsTextOf s (Some text) = text ≡ trace_text s
 
 -- the text is refused by this first fault
 abbrev pub IsRefused : TraceError → Option (List ℕ) → Type 0

@@ -1,10 +1,10 @@
 -- What has been read of a trace, byte by byte. A line is looked at as its line feed comes.
-use Rattle.std.specs.Prelude.{ℕ, ◌+◌, ◌==◌, ◌&&◌, List, [], ◌∷◌, ◌++◌, length, ℤ, Option, Some, None, is_none, Result, Ok, Err, if◌then◌else◌}
+use Rattle.std.specs.Prelude.{ℕ, Bool, ◌+◌, ◌==◌, ◌&&◌, List, [], ◌∷◌, ◌++◌, length, ℤ, Option, Some, None, is_none, Result, Ok, Err, if◌then◌else◌}
 use Rattle.std.specs.List.{fold}
 use Rattle.std.specs.Str.{bytes_eq}
 use Rattle.fr_journal.specs.declared.entry.Entry.{Entry}
 use Rattle.fr_interface.specs.State.{State, with_entry}
-use Rattle.fr_lines.specs.Reading.{params_in, node_in, own_in, buffer_in, entry_in}
+use Rattle.fr_lines.specs.Reading.{params_in, node_in, own_in, buffer_in, queue_in, entry_in}
 use Rattle.fr_lines.specs.Spelling.{first_line, begin_line, end_line}
 use Rattle.fr_slots.specs.declared.params.RangeError.{RangeError}
 use Rattle.fr_slots.specs.declared.plan.Buffer.{Buffer}
@@ -12,7 +12,7 @@ use Rattle.fr_slots.specs.declared.plan.Own.{Own}
 use Rattle.fr_slots.specs.declared.plan.Queue.{Queue}
 use Rattle.fr_slots.specs.Faults.{plan_fault}
 use Rattle.fr_slots.specs.Parameters.{Parameters, parameters_of}
-use Rattle.fr_slots.specs.Plans.{Plan, own_refusal, with_buffer, with_own}
+use Rattle.fr_slots.specs.Plans.{Plan, own_refusal, buffer_refusal, queue_refusal, with_own, with_buffer, with_queue}
 use Rattle.fr_text.specs.Spaces.{words_of}
 use Rattle.fr_trace.specs.Answers.{made_by, fault_of}
 use Rattle.fr_trace.specs.declared.replay.Fault.{Fault}
@@ -70,18 +70,29 @@ after_node p (Some plan) = Ok (lines p plan)
 abbrev pub bad_line : Plan → Result Phase TraceError
 bad_line plan = Err (BadLine (line_count plan + 4))
 
--- today a trace's plan has one buffer at most
-abbrev pub after_buffer : Parameters → Plan → Option Buffer → Result Phase TraceError
-after_buffer p plan None = bad_line plan
-after_buffer p plan (Some b) = if length plan.buffers == 0 then Ok (lines p (with_buffer plan b)) else bad_line plan
+-- the queue stands behind all other lines of the plan, and there is one at the most
+abbrev pub after_queue : Parameters → Plan → Option Queue → Result Phase TraceError
+after_queue p plan None = bad_line plan
+after_queue p plan (Some q) = if is_none (queue_refusal plan q) then Ok (lines p (with_queue plan q)) else bad_line plan
 
--- ownership lines stand before the buffers, and there is room for 64
+-- buffers stand before the queue, and there is room for 64
+abbrev pub after_buffer : Parameters → Plan → Buffer → Result Phase TraceError
+after_buffer p plan b = if is_none plan.queue && is_none (buffer_refusal plan b) then Ok (lines p (with_buffer plan b)) else bad_line plan
+
+-- ownership lines stand before the buffers and the queue, and there is room for 64
+abbrev pub has_owned_alone : Plan → Bool
+has_owned_alone plan = length plan.buffers == 0 && is_none plan.queue
+
 abbrev pub after_own : Parameters → Plan → Own → Result Phase TraceError
-after_own p plan o = if length plan.buffers == 0 && is_none (own_refusal plan o) then Ok (lines p (with_own plan o)) else bad_line plan
+after_own p plan o = if has_owned_alone plan && is_none (own_refusal plan o) then Ok (lines p (with_own plan o)) else bad_line plan
 
--- an ownership line, or else a buffer
+-- an ownership line, or else a buffer, or else a queue
+abbrev pub after_buffered : Parameters → Plan → Option Buffer → List (List ℕ) → Result Phase TraceError
+after_buffered p plan None words = after_queue p plan (queue_in words)
+after_buffered p plan (Some b) words = after_buffer p plan b
+
 abbrev pub after_owned : Parameters → Plan → Option Own → List (List ℕ) → Result Phase TraceError
-after_owned p plan None words = after_buffer p plan (buffer_in words)
+after_owned p plan None words = after_buffered p plan (buffer_in words) words
 after_owned p plan (Some o) words = after_own p plan o
 
 abbrev pub after_plan_line : Parameters → Plan → List (List ℕ) → Result Phase TraceError

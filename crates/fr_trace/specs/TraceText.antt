@@ -1,5 +1,5 @@
 -- The text of a trace: the one spelling of parameters, a plan and a journal.
-use Rattle.std.specs.Prelude.{◌≡◌, ℕ, ◌≤◌, List, [], ◌++◌, length, Option, Some, None}
+use Rattle.std.specs.Prelude.{ℕ, List, [], ◌++◌, Option, Some, None}
 use Rattle.std.specs.List.{flat_map}
 use Rattle.fr_journal.specs.declared.entry.Entry.{Entry}
 use Rattle.fr_interface.specs.State.{State}
@@ -48,8 +48,3 @@ body_text s = begin_text s.params s.plan ++ flat_map entry_line s.entries
 -- the one text of parameters, a plan and a journal
 abbrev pub trace_text : State → List ℕ
 trace_text s = body_text s ++ (end_line ++ line_feed)
-
--- The plans that traces tell of today: at most one buffer, and no queue.
-pub record IsTold (plan : Plan) : Type 0 where
-  pub one_buffer : length plan.buffers ≤ 1
-  pub no_queue : plan.queue ≡ None

@@ -2,12 +2,12 @@
 //! or the interface.
 
 ghost use Rattle.std.specs.Prelude.{◌≡◌, ◌+◌, ◌≤◌, length, None};
-ghost use Rattle.fr_lines.specs.Reading.{buffer_in};
+ghost use Rattle.fr_lines.specs.Reading.{queue_in};
 ghost use Rattle.fr_slots.specs.Faults.{plan_fault};
 ghost use Rattle.fr_text.specs.Spaces.{words_of};
 ghost use Rattle.fr_trace.specs.Auditor.{phase_of};
 ghost use Rattle.fr_trace.specs.Feeds.{GivesPhase, GivesUnless, IsBegin};
-ghost use Rattle.fr_trace.specs.Stream.{params, node, lines, body, take_line, too_long, line_number, line_count, after_begin, after_buffer, after_own};
+ghost use Rattle.fr_trace.specs.Stream.{params, node, lines, body, take_line, too_long, line_number, line_count, has_owned_alone, after_begin, after_queue, after_buffer, after_own};
 
 use crate::error::TraceError;
 use crate::replay::{Fault, replay};
@@ -18,8 +18,9 @@ use fr_lines::entries::entry_of;
 use fr_lines::nodes::node_of;
 use fr_lines::owned::own_of;
 use fr_lines::parameters::params_of;
+use fr_lines::queues::queue_of;
 use fr_slots::params::Params;
-use fr_slots::plan::{NodePlan, Own};
+use fr_slots::plan::{Buffer, NodePlan, Own};
 use std::alloc::Global;
 use std::marker::Model;
 use std::mem;
@@ -108,15 +109,26 @@ fn begin(alloc: Global, params: Params, plan: NodePlan) -> Result<Phase, TraceEr
     }
 }
 
-/// A buffer of the plan, of which a trace may have one today.
-fn buffer_line(params: Params, mut plan: NodePlan, line: &[u8]) -> Result<Phase, TraceError>
-    ensures { GivesPhase phase_of result (after_buffer params plan (buffer_in (words_of line.now))) }
+/// The queue of the plan, which stands behind all its other lines.
+fn queue_line(params: Params, mut plan: NodePlan, line: &[u8]) -> Result<Phase, TraceError>
+    ensures { GivesPhase phase_of result (after_queue params plan (queue_in (words_of line.now))) }
 {
     let number = line_count(&plan) + 4;
-    let Some(buffer) = buffer_of(line) else {
+    let Some(queue) = queue_of(line) else {
         return Err(TraceError::BadLine(number));
     };
-    if !plan.buffers().is_empty() {
+    match plan.set_queue(queue) {
+        Ok(()) => Ok(Phase::Lines(params, plan)),
+        Err(_) => Err(TraceError::BadLine(number)),
+    }
+}
+
+/// A buffer of the plan, which stands before its queue.
+fn buffer_line(params: Params, mut plan: NodePlan, buffer: Buffer) -> Result<Phase, TraceError>
+    ensures { GivesPhase phase_of result (after_buffer params plan buffer) }
+{
+    let number = line_count(&plan) + 4;
+    if plan.queue().is_some() {
         return Err(TraceError::BadLine(number));
     }
     match plan.add_buffer(buffer) {
@@ -125,12 +137,19 @@ fn buffer_line(params: Params, mut plan: NodePlan, line: &[u8]) -> Result<Phase,
     }
 }
 
-/// An ownership line of the plan, which stands before its buffers.
+/// Whether a plan has neither a buffer nor a queue.
+fn has_owned_alone(plan: &NodePlan) -> bool
+    ensures { result ≡ has_owned_alone plan.now }
+{
+    plan.buffers().is_empty() && plan.queue().is_none()
+}
+
+/// An ownership line of the plan, which stands before its buffers and its queue.
 fn own_line(params: Params, mut plan: NodePlan, own: Own) -> Result<Phase, TraceError>
     ensures { GivesPhase phase_of result (after_own params plan own) }
 {
     let number = line_count(&plan) + 4;
-    if !plan.buffers().is_empty() {
+    if !has_owned_alone(&plan) {
         return Err(TraceError::BadLine(number));
     }
     match plan.add_own(own) {
@@ -151,9 +170,12 @@ fn plan_line(
     if line == b"begin".as_slice() {
         return begin(alloc, params, plan);
     }
-    match own_of(line) {
-        Some(own) => own_line(params, plan, own),
-        None => buffer_line(params, plan, line),
+    if let Some(own) = own_of(line) {
+        return own_line(params, plan, own);
+    }
+    match buffer_of(line) {
+        Some(buffer) => buffer_line(params, plan, buffer),
+        None => queue_line(params, plan, line),
     }
 }
 

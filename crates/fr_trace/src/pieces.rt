@@ -5,7 +5,7 @@ ghost use Rattle.std.specs.List.{flat_map};
 ghost use Rattle.fr_interface.specs.State.{State, IsLegalInterface};
 ghost use Rattle.fr_trace.specs.Feeds.{Begins, Reads};
 ghost use Rattle.fr_trace.specs.Stream.{fresh, take_bytes, outcome_of};
-ghost use Rattle.fr_trace.specs.TraceText.{IsTold, trace_text};
+ghost use Rattle.fr_trace.specs.TraceText.{trace_text};
 
 use crate::auditor::Auditor;
 use crate::error::TraceError;
@@ -28,9 +28,9 @@ fn fed(alloc: Global, pieces: &[&[u8]]) -> Auditor
 /// Refused with the error of the first line at fault, and with `Memory` where memory is refused.
 pub fn audit_pieces(alloc: Global, pieces: &[&[u8]]) -> Result<Interface, TraceError>
     // What is accepted is the text of the interface that is given, however it was cut.
-    ensures found { IfOk result (λ s. (flat_map (λ p. p.now) pieces.now ≡ trace_text s) × IsTold s.plan × IsLegalInterface s) }
+    ensures found { IfOk result (λ s. (flat_map (λ p. p.now) pieces.now ≡ trace_text s) × IsLegalInterface s) }
     // The text of a legal interface is accepted as that interface, unless memory runs out.
-    ensures only { (s : State) → IsLegalInterface s → IsTold s.plan → flat_map (λ p. p.now) pieces.now ≡ trace_text s → (result ≡ Ok s) ⊎ (result ≡ Err TraceError.Memory) }
+    ensures only { (s : State) → IsLegalInterface s → flat_map (λ p. p.now) pieces.now ≡ trace_text s → (result ≡ Ok s) ⊎ (result ≡ Err TraceError.Memory) }
     // Which refusal comes. Memory can run out at the line `begin` alone.
     ensures exact { (result ≡ outcome_of (take_bytes fresh (flat_map (λ p. p.now) pieces.now))) ⊎ ((result ≡ Err TraceError.Memory) × Begins fresh (flat_map (λ p. p.now) pieces.now)) }
 {

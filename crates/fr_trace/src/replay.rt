@@ -57,6 +57,7 @@ fn same_answer(made: &Entry, told: &Entry) -> bool
         (Entry::Read { from: made, .. }, Entry::Read { from: told, .. }) => {
             same_origin(*made, *told)
         }
+        (Entry::Pop { from: made, .. }, Entry::Pop { from: told, .. }) => same_origin(*made, *told),
         (
             Entry::Fetch {
                 a: made_a,
@@ -73,8 +74,7 @@ fn same_answer(made: &Entry, told: &Entry) -> bool
     }
 }
 
-/// Makes the call of the entry, and says whether the interface accepts it. No call is made today for
-/// pops, whose lines aren't read.
+/// Makes the call of the entry, and says whether the interface accepts it.
 fn is_accepted(interface: &mut Interface, entry: &Entry) -> bool
     ensures accepted { result ≡ not (is_refused interface.old entry.now) }
     ensures made { result ≡ true → interface.new ≡ with_entry interface.old (made_by interface.old entry.now) }
@@ -86,9 +86,9 @@ fn is_accepted(interface: &mut Interface, entry: &Entry) -> bool
             payload,
         } => interface.commit(*task, *buffer, payload).is_ok(),
         Entry::Read { task, buffer, .. } => interface.read(*task, *buffer).is_ok(),
+        Entry::Pop { task, .. } => interface.pop(*task).is_ok(),
         Entry::Fetch { window, .. } => interface.fetch(window).is_ok(),
         Entry::Observe { window, a, b } => interface.observe(*window, a, b).is_ok(),
-        Entry::Pop { .. } => false,
     }
 }
 

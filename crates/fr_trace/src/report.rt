@@ -3,7 +3,7 @@
 ghost use Rattle.std.specs.Prelude.{◌≡◌, OnOk, IfErr};
 ghost use Rattle.std.specs.Io.KnownBytes.{Appends};
 ghost use Rattle.fr_interface.specs.State.{received_by, tally_by};
-ghost use Rattle.fr_trace.specs.ReportText.{answer_words, held_words, report_text, tally_words};
+ghost use Rattle.fr_trace.specs.ReportText.{answer_words, channels_report, counts_in, errors_text, channel_words, held_words, queue_report, report_text, reports_from, tally_words};
 ghost use Rattle.fr_lines.specs.Spelling.{line_text};
 
 use crate::error::TraceError;
@@ -51,7 +51,7 @@ fn write_buffer<W: Write>(interface: &Interface, writer: &mut W, number: u8) -> 
 
 /// Writes the lines of the buffers.
 fn write_buffers<W: Write>(interface: &Interface, writer: &mut W) -> io::Result<()>
-    ensures { OnOk result (Appends (W.contents writer.old) (W.contents writer.new) (report_text interface.now)) }
+    ensures { OnOk result (Appends (W.contents writer.old) (W.contents writer.new) (reports_from interface.now 0 interface.now.plan.buffers)) }
 {
     let count = interface.plan().buffers().len() as u8;
     for number in 0..count {
@@ -60,7 +60,57 @@ fn write_buffers<W: Write>(interface: &Interface, writer: &mut W) -> io::Result<
     Ok(())
 }
 
-/// Writes the report of an interface: a line for each buffer, in order of their numbers.
+/// Writes the line of the queue, where there is one.
+fn write_queue<W: Write>(interface: &Interface, writer: &mut W) -> io::Result<()>
+    ensures { OnOk result (Appends (W.contents writer.old) (W.contents writer.new) (queue_report interface.now interface.now.plan.queue)) }
+{
+    match (interface.queue_len(), interface.queue_lost()) {
+        (Some(length), Some(lost)) => writeln!(writer, "queue {length} {lost}"),
+        _ => Ok(()),
+    }
+}
+
+/// Writes the line of a channel.
+fn write_channel<W: Write>(writer: &mut W, channel: Channel, counts: [u32; 5]) -> io::Result<()>
+    ensures { OnOk result (Appends (W.contents writer.old) (W.contents writer.new) (line_text (channel_words channel (counts_in counts)))) }
+{
+    let [valid, syntax, content, boundary, conflict] = counts;
+    write!(writer, "{channel} {valid} {syntax}")?;
+    write_errors(writer, content, boundary, conflict)
+}
+
+/// Writes the last three counts of a channel's line.
+fn write_errors<W: Write>(
+    writer: &mut W,
+    content: u32,
+    boundary: u32,
+    conflict: u32,
+) -> io::Result<()>
+    ensures { OnOk result (Appends (W.contents writer.old) (W.contents writer.new) (errors_text content boundary conflict)) }
+{
+    writeln!(writer, " {content} {boundary} {conflict}")
+}
+
+/// Writes the lines of both channels.
+fn write_channels<W: Write>(interface: &Interface, writer: &mut W) -> io::Result<()>
+    ensures { OnOk result (Appends (W.contents writer.old) (W.contents writer.new) (channels_report interface.now)) }
+{
+    let counters = interface.counters();
+    write_channel(writer, Channel::A, counters.a)?;
+    write_channel(writer, Channel::B, counters.b)
+}
+
+/// Writes the whole report.
+fn write_lines<W: Write>(interface: &Interface, writer: &mut W) -> io::Result<()>
+    ensures { OnOk result (Appends (W.contents writer.old) (W.contents writer.new) (report_text interface.now)) }
+{
+    write_buffers(interface, writer)?;
+    write_queue(interface, writer)?;
+    write_channels(interface, writer)
+}
+
+/// Writes the report of an interface: a line for each buffer in order of their numbers, one for the queue where there
+/// is one, and one for each channel.
 ///
 /// Refused with `Write` where the writer fails, and then some of the report may have been
 /// written.
@@ -68,7 +118,7 @@ pub fn write_report<W: Write>(interface: &Interface, writer: &mut W) -> Result<(
     ensures written { OnOk result (Appends (W.contents writer.old) (W.contents writer.new) (report_text interface.now)) }
     ensures refused { IfErr result (λ e. e ≡ TraceError.Write) }
 {
-    match write_buffers(interface, writer) {
+    match write_lines(interface, writer) {
         Ok(()) => Ok(()),
         Err(_) => Err(TraceError::Write),
     }

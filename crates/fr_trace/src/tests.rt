@@ -136,7 +136,8 @@ fn a_trace_gives_its_report(rt: HostRuntime) -> Result<(), Fail> {
     // With room of its own, so that memory refused later is the audit's and not the writer's.
     let mut report = Vec::with_capacity(rt.alloc(), 64)?;
     audit(rt.alloc(), &mut reader(&LINES), &mut report)?;
-    assert_eq!(rt; report.as_slice(), b"rx 0 2:A x0a0b\n".as_slice());
+    let told = b"rx 0 2:A x0a0b\nA 2 0 0 0 0\nB 0 1 0 0 0\n";
+    assert_eq!(rt; report.as_slice(), told.as_slice());
     assert_eq!(rt; refusals(rt.alloc(), &LINES), [None; 3]);
     Ok(())
 }
@@ -147,18 +148,20 @@ fn an_empty_buffer_holds_nothing(rt: HostRuntime) -> Result<(), Fail> {
     let mut lines = LINES;
     lines[5] = b"end\n";
     audit(rt.alloc(), &mut reader(&lines[..6]), &mut report)?;
-    assert_eq!(rt; report.as_slice(), b"rx 0 - -\n".as_slice());
+    let told = b"rx 0 - -\nA 0 0 0 0 0\nB 0 0 0 0 0\n";
+    assert_eq!(rt; report.as_slice(), told.as_slice());
     Ok(())
 }
 
 #[test]
-fn a_plan_without_buffers_has_an_empty_report(rt: HostRuntime) -> Result<(), Fail> {
+fn a_plan_without_buffers_has_the_channels_lines(rt: HostRuntime) -> Result<(), Fail> {
     let mut report = Vec::with_capacity(rt.alloc(), 64)?;
     let mut lines = LINES;
     lines[3] = b"begin\n";
     lines[4] = b"end\n";
     audit(rt.alloc(), &mut reader(&lines[..5]), &mut report)?;
-    assert_eq!(rt; report.as_slice(), b"".as_slice());
+    let told = b"A 0 0 0 0 0\nB 0 0 0 0 0\n";
+    assert_eq!(rt; report.as_slice(), told.as_slice());
     Ok(())
 }
 
@@ -231,23 +234,74 @@ fn an_offer_of_a_commit_is_a_wrong_answer(rt: HostRuntime) {
     );
 }
 
-// Lines of a plan or a journal that no trace has today.
+// Several buffers and the queue.
+
+/// The lines of a trace in which a queue of two frames loses the first of three, and pops the others.
+const QUEUE: [&[u8]; 14] = [
+    b"frtrace 1\n",
+    b"params 3 4 1 20 5 0 10 90 0 5\n",
+    b"node 1 0 0 8 8\n",
+    b"rx 1 A 0 1\n",
+    b"queue 2 1 3 AB 0 1\n",
+    b"begin\n",
+    b"fetch 0 0 0 2 2 - -\n",
+    b"see 0 x200203c1400a0ba32217 x200203c1400a0b85a2c6\n",
+    b"fetch 1 0 0 2 2 - -\n",
+    b"see 1 x200203c1400a0ba32217 conflict\n",
+    b"pop 0 1:B\n",
+    b"pop 0 3:A\n",
+    b"pop 0 -\n",
+    b"end\n",
+];
 
 #[test]
-fn a_plan_has_one_buffer_and_no_queue(rt: HostRuntime) {
-    let mut lines = LINES;
-    lines[3] = b"queue 2 4 7 AB 0 1\n";
-    assert_eq!(rt; refusals(rt.alloc(), &lines), all(TraceError::BadLine(4)));
-    let mut lines = LINES;
-    lines[4] = lines[3];
-    assert_eq!(rt; refusals(rt.alloc(), &lines), all(TraceError::BadLine(5)));
+fn a_full_queue_loses_its_oldest_frame(rt: HostRuntime) -> Result<(), Fail> {
+    let mut report = Vec::with_capacity(rt.alloc(), 64)?;
+    audit(rt.alloc(), &mut reader(&QUEUE), &mut report)?;
+    let told = b"rx 0 - -\nqueue 0 1\nA 2 0 0 0 0\nB 1 0 0 0 1\n";
+    assert_eq!(rt; report.as_slice(), told.as_slice());
+    assert_eq!(rt; refusals(rt.alloc(), &QUEUE), [None; 3]);
+    Ok(())
 }
 
 #[test]
-fn a_journal_has_no_pops(rt: HostRuntime) {
+fn a_pop_is_what_the_queue_gives(rt: HostRuntime) {
+    let mut lines = QUEUE;
+    lines[10] = b"pop 0 1:A\n";
+    assert_eq!(rt;
+        refusals(rt.alloc(), &lines),
+        all(TraceError::WrongAnswer(11))
+    );
     let mut lines = LINES;
     lines[5] = b"pop 0 -\n";
+    assert_eq!(rt; refusals(rt.alloc(), &lines), all(TraceError::Refused(6)));
+}
+
+#[test]
+fn a_plan_has_at_most_64_buffers_and_one_queue(rt: HostRuntime) {
+    let mut lines = [b"rx 1 A 0 1\n".as_slice(); 68];
+    lines[0] = THREE_COMMITS[0];
+    lines[1] = THREE_COMMITS[1];
+    lines[2] = THREE_COMMITS[2];
+    assert_eq!(rt;
+        refusals(rt.alloc(), &lines[..67]),
+        all(TraceError::Truncated)
+    );
+    assert_eq!(rt; refusals(rt.alloc(), &lines), all(TraceError::BadLine(68)));
+    let mut lines = QUEUE;
+    lines[5] = lines[4];
     assert_eq!(rt; refusals(rt.alloc(), &lines), all(TraceError::BadLine(6)));
+}
+
+#[test]
+fn ownership_lines_come_before_buffers_and_buffers_before_the_queue(rt: HostRuntime) {
+    let mut lines = QUEUE;
+    lines.swap(3, 4);
+    assert_eq!(rt; refusals(rt.alloc(), &lines), all(TraceError::BadLine(5)));
+    let mut lines = QUEUE;
+    lines[3] = lines[4];
+    lines[4] = b"own 1 A 0 0\n";
+    assert_eq!(rt; refusals(rt.alloc(), &lines), all(TraceError::BadLine(5)));
 }
 
 // Transmit buffers.
@@ -256,7 +310,8 @@ fn a_journal_has_no_pops(rt: HostRuntime) {
 fn commits_are_told_by_their_fates(rt: HostRuntime) -> Result<(), Fail> {
     let mut report = Vec::with_capacity(rt.alloc(), 64)?;
     audit(rt.alloc(), &mut reader(&THREE_COMMITS), &mut report)?;
-    assert_eq!(rt; report.as_slice(), b"tx 0 3 1 1 1\n".as_slice());
+    let told = b"tx 0 3 1 1 1\nA 0 0 0 0 0\nB 0 0 0 0 0\n";
+    assert_eq!(rt; report.as_slice(), told.as_slice());
     assert_eq!(rt; refusals(rt.alloc(), &THREE_COMMITS), [None; 3]);
     Ok(())
 }
@@ -271,7 +326,7 @@ fn written(alloc: Global, lines: &[&[u8]]) -> Result<Vec<u8>, Fail> {
 
 #[test]
 fn an_interface_is_written_as_the_trace_that_told_of_it(rt: HostRuntime) -> Result<(), Fail> {
-    for lines in [LINES.as_slice(), THREE_COMMITS.as_slice()] {
+    for lines in [LINES.as_slice(), THREE_COMMITS.as_slice(), QUEUE.as_slice()] {
         let mut text = Vec::with_capacity(rt.alloc(), 512)?;
         for line in lines {
             text.write_all(line)?;

@@ -3,7 +3,7 @@
 ghost use Rattle.std.specs.Prelude.{◌++◌, OnOk, IfErr, Ok, ◌≡◌};
 ghost use Rattle.std.specs.Io.KnownBytes.{Appends};
 ghost use Rattle.std.specs.List.{flat_map};
-ghost use Rattle.fr_trace.specs.TraceText.{own_line, buffer_line, queue_lines, entry_line, numbers_text, plan_text, trace_text, IsTold};
+ghost use Rattle.fr_trace.specs.TraceText.{own_line, buffer_line, queue_lines, entry_line, numbers_text, plan_text, trace_text};
 ghost use Rattle.fr_interface.specs.State.{IsLegalInterface};
 ghost use Rattle.fr_trace.specs.Stream.{fresh, take_bytes, outcome_of};
 
@@ -97,7 +97,7 @@ pub fn write_trace<W: Write>(interface: &Interface, writer: &mut W) -> Result<()
     ensures written { OnOk result (Appends (W.contents writer.old) (W.contents writer.new) (trace_text interface.now)) }
     ensures refused { IfErr result (λ e. e ≡ TraceError.Write) }
     // That text is accepted, as this interface.
-    ensures again { IsTold interface.now.plan → outcome_of (take_bytes fresh (trace_text interface.now)) ≡ Ok interface.now }
+    ensures again { outcome_of (take_bytes fresh (trace_text interface.now)) ≡ Ok interface.now }
 {
     match write_text(writer, interface) {
         Ok(()) => Ok(()),

@@ -7,5 +7,5 @@ returns g c =
     record {
       found = audited;
       read = leaves_stopped _ _ _ _ c.audit_through.result c.audit_through.ensures;
-      only = λ s is told same. not_refused _ _ _ c.audit_through.result s audited is told same;
+      only = λ s is same. not_refused _ _ _ c.audit_through.result s audited is same;
     }

@@ -4,7 +4,7 @@ use Rattle.std.specs.List.{flat_map}
 use Rattle.fr_interface.specs.State.{State, IsLegalInterface}
 use Rattle.fr_trace.specs.Feeds.{Begins, Reads}
 use Rattle.fr_trace.specs.Stream.{Progress, fresh, take_bytes, outcome_of}
-use Rattle.fr_trace.specs.TraceText.{IsTold, trace_text}
+use Rattle.fr_trace.specs.TraceText.{trace_text}
 use Rattle.fr_trace.specs.declared.error.TraceError.{TraceError}
 use Rattle.fr_trace.specs.declared.error.TraceError.TheVariants.{Memory}
 use Rattle.fr_trace.proofs.OutcomeLemmas.{accepted_text, legal_outcome}
@@ -18,14 +18,14 @@ exact : (p : Progress) (text : List ℕ) (r : Result State TraceError) → Reads
 exact p text r (inl read) is = inl (is ∙ ap outcome_of read)
 exact p text r (inr out) is = inr (is ∙ ap outcome_of out.0, out.1)
 
-found : (text : List ℕ) (r : Result State TraceError) → IfOk r IsLegalInterface → Answers text r → IfOk r (λ s. (text ≡ trace_text s) × IsTold s.plan × IsLegalInterface s)
-found text (Ok s) legal (inl e) = let is = accepted_text text s (cc e) in (is.0, is.1, legal)
+found : (text : List ℕ) (r : Result State TraceError) → IfOk r IsLegalInterface → Answers text r → IfOk r (λ s. (text ≡ trace_text s) × IsLegalInterface s)
+found text (Ok s) legal (inl e) = (accepted_text text s (cc e), legal)
 found text (Ok s) legal (inr e) = cc e.0
 found text (Err f) legal e = tt
 
-only : (text : List ℕ) (r : Result State TraceError) (s : State) → IsLegalInterface s → IsTold s.plan → text ≡ trace_text s → Answers text r → (r ≡ Ok s) ⊎ (r ≡ Err Memory)
-only text r s is told same (inl e) = inl (e ∙ legal_outcome text s is told same)
-only text r s is told same (inr e) = inr e.0
+only : (text : List ℕ) (r : Result State TraceError) (s : State) → IsLegalInterface s → text ≡ trace_text s → Answers text r → (r ≡ Ok s) ⊎ (r ≡ Err Memory)
+only text r s is same (inl e) = inl (e ∙ legal_outcome text s is same)
+only text r s is same (inr e) = inr e.0
 
 pub returns : goal.returns
 returns c =
@@ -34,6 +34,6 @@ returns c =
     let which = exact c.fed-auditor.result text result c.fed-auditor.ensures (c.lawful.ensures.same ∙ c.finish.ensures) in
     record {
       found = found text result c.lawful.ensures.legal which;
-      only = λ s is told same. only text result s is told same which;
+      only = λ s is same. only text result s is same which;
       exact = which;
     }

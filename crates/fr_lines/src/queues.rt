@@ -1,0 +1,78 @@
+//! The line of a queue.
+ghost use Rattle.std.specs.Prelude.{◌≡◌, Some, IfSome};
+ghost use Rattle.fr_slots.specs.declared.plan.Queue.{Queue};
+ghost use Rattle.fr_text.specs.Spaces.{words_of, line_of};
+ghost use Rattle.fr_lines.specs.Reading.{lawful_queue, reception_in, queue_in};
+ghost use Rattle.fr_lines.specs.Spelled.{IsSpelledQueue};
+ghost use Rattle.fr_lines.specs.Spelling.{queue_words};
+
+use crate::parts::{channels_of, cycles_of, slot_of};
+use fr_slots::plan::Queue;
+use fr_text::numbers::number_of;
+use fr_text::words::Words;
+
+/// The queue, where it holds 1 to 256 frames and its first slot isn't above its last.
+fn lawful(queue: Queue) -> Option<Queue>
+    ensures { result ≡ lawful_queue queue }
+{
+    let in_order = queue.first.number() <= queue.last.number();
+    if 1 <= queue.capacity && queue.capacity <= 256 && in_order {
+        Some(queue)
+    } else {
+        None
+    }
+}
+
+/// The queue that the words spell.
+#[tactic(auto, unfolding(crate::specs::Reading::reception_in))]
+fn reception_of(words: &mut Words<'_>) -> Option<Queue>
+    ensures { result ≡ reception_in words.old }
+{
+    let capacity = words.next_word()?;
+    let first = words.next_word()?;
+    let last = words.next_word()?;
+    let channels = words.next_word()?;
+    let base = words.next_word()?;
+    let repetition = words.next_word()?;
+    if words.next_word().is_some() {
+        return None;
+    }
+    let capacity = number_of(capacity, 257)? as u16;
+    let first = slot_of(first)?;
+    let last = slot_of(last)?;
+    let channels = channels_of(channels)?;
+    let cycles = cycles_of(base, repetition)?;
+    lawful(Queue {
+        capacity,
+        first,
+        last,
+        channels,
+        cycles,
+    })
+}
+
+/// The queue that the line spells.
+#[tactic(auto, unfolding(crate::specs::Reading::queue_in))]
+fn parsed(line: &[u8]) -> Option<Queue>
+    ensures { result ≡ queue_in (words_of line.now) }
+{
+    let mut words = Words::new(line);
+    match words.next_word()? {
+        b"queue" => reception_of(&mut words),
+        _ => None,
+    }
+}
+
+/// The receive queue of a line `queue`, which a plan takes where it has none yet.
+///
+/// `None` for a line of another form, for a capacity that isn't 1 to 256, for slots that aren't 1 to 2047 or of which
+/// the first is above the last, and where base and repetition are no cycle filter (chapter 9; the queue is own
+/// profile).
+pub fn queue_of(line: &[u8]) -> Option<Queue>
+    ensures found { IfSome result (λ q. line.now ≡ line_of (queue_words q)) }
+    ensures fits { IfSome result IsSpelledQueue }
+    ensures only { (q : Queue) → IsSpelledQueue q → line.now ≡ line_of (queue_words q) → result ≡ Some q }
+    ensures exact { result ≡ queue_in (words_of line.now) }
+{
+    parsed(line)
+}
