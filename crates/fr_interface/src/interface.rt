@@ -6,7 +6,6 @@ ghost use Rattle.fr_journal.specs.Entries.{AreBytes, IsSeen};
 ghost use Rattle.fr_frame.specs.Payload.{IsPayload};
 ghost use Rattle.fr_interface.specs.State.{is_not_above, has_words};
 ghost use Rattle.fr_journal.specs.Legal.{window_fits, static_slot_fits, dynamic_slot_fits};
-ghost use Rattle.fr_slots.specs.Plans.{is_receive};
 ghost use Rattle.fr_slots.specs.Windows.{IsInRange, IsSlotOrNone};
 
 use crate::counting::counters_of;
@@ -24,7 +23,7 @@ use fr_journal::journal::Journal;
 use fr_slots::channel::Channel;
 use fr_slots::numbers::{SlotId, TaskId};
 use fr_slots::params::Params;
-use fr_slots::plan::{Mode, NodePlan};
+use fr_slots::plan::NodePlan;
 use fr_slots::window::Window;
 use fr_status::counters::Counters;
 use fr_status::seen::Seen;
@@ -118,7 +117,7 @@ impl Interface {
         let Some(line) = buffer_at(&self.plan, buffer) else {
             return Err(HostError::UnknownBuffer);
         };
-        if is_receive(line.mode) {
+        if line.mode.is_receive() {
             return Err(HostError::NotTransmit);
         }
         if !has_words(&self.params, line.words, payload) {
@@ -153,7 +152,7 @@ impl Interface {
         let Some(line) = buffer_at(&self.plan, buffer) else {
             return Err(HostError::UnknownBuffer);
         };
-        if !is_receive(line.mode) {
+        if !line.mode.is_receive() {
             return Err(HostError::NotReceive);
         }
         if self.journal.host_room() == 0 {
@@ -258,7 +257,7 @@ impl Interface {
         ensures { result ≡ source_of self.now buffer }
     {
         let line = buffer_at(&self.plan, buffer)?;
-        if !is_receive(line.mode) {
+        if !line.mode.is_receive() {
             return last_commit(buffer, self.journal.entries()).map(Source::Commit);
         }
         let arrival = held(&self.params, &line.filter, self.journal.entries())?;
@@ -271,7 +270,7 @@ impl Interface {
         ensures { result ≡ tally_by self.now buffer }
     {
         let line = buffer_at(&self.plan, buffer)?;
-        if is_receive(line.mode) {
+        if line.mode.is_receive() {
             return None;
         }
         Some(tally_of(buffer, self.journal.entries()))
@@ -283,7 +282,7 @@ impl Interface {
         ensures { result ≡ received_by self.now buffer }
     {
         let line = buffer_at(&self.plan, buffer)?;
-        if !is_receive(line.mode) {
+        if !line.mode.is_receive() {
             return None;
         }
         held(&self.params, &line.filter, self.journal.entries())
@@ -421,15 +420,6 @@ fn frame_in(arrival: Option<Arrival>) -> Option<Frame>
     match arrival {
         Some(arrival) => Some(arrival.frame),
         None => None,
-    }
-}
-
-fn is_receive(mode: Mode) -> bool
-    ensures { result ≡ is_receive mode }
-{
-    match mode {
-        Mode::Receive => true,
-        Mode::Event | Mode::State => false,
     }
 }
 

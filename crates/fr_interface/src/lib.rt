@@ -7,6 +7,8 @@ mod fate;
 pub mod interface;
 mod offers;
 mod queue;
+#[cfg(test)]
+mod queue_tests;
 mod scan;
 pub mod source;
 #[cfg(test)]

@@ -32,10 +32,7 @@ pub(crate) fn admits(filter: &Filter, window: &Window, channel: Channel) -> bool
 fn is_admitting(window: &Window, channel: Channel, buffer: &Buffer) -> bool
     ensures { result ≡ is_admitting window.now channel buffer.now }
 {
-    match buffer.mode {
-        Mode::Event | Mode::State => admits(&buffer.filter, window, channel),
-        Mode::Receive => false,
-    }
+    !buffer.mode.is_receive() && admits(&buffer.filter, window, channel)
 }
 
 /// The place of the first transmit buffer that admits the window on the channel.

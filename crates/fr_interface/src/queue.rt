@@ -15,7 +15,7 @@ use fr_journal::entry::{Arrival, Entry, Origin};
 use fr_slots::channel::Channel;
 use fr_slots::numbers::SlotId;
 use fr_slots::params::Params;
-use fr_slots::plan::{Buffer, Mode, NodePlan, Queue};
+use fr_slots::plan::{Buffer, NodePlan, Queue};
 use fr_slots::window::Window;
 use fr_status::seen::Seen;
 
@@ -115,10 +115,7 @@ impl Queued {
 fn takes(window: &Window, channel: Channel, buffer: &Buffer) -> bool
     ensures { result ≡ takes_window window.now channel buffer.now }
 {
-    match buffer.mode {
-        Mode::Receive => admits(&buffer.filter, window, channel),
-        Mode::Event | Mode::State => false,
-    }
+    buffer.mode.is_receive() && admits(&buffer.filter, window, channel)
 }
 
 /// Whether one of the buffers is a receive buffer that admits the window on the channel.

@@ -105,7 +105,7 @@ impl Journal {
     pub fn get(&self, number: u32) -> Option<Entry>
         ensures { result ≡ slice_get self.now.entries number }
     {
-        match self.entries.as_slice().get(number as usize) {
+        match self.entries().get(number as usize) {
             Some(entry) => Some(entry.duplicate()),
             None => None,
         }

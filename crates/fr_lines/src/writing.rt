@@ -17,8 +17,8 @@ use fr_slots::plan::{Buffer, Mode, NodePlan, Own, Queue};
 use fr_slots::window::Window;
 use fr_status::seen::Seen;
 use fr_text::hexes::write_hex;
-use std::io::Write;
 use std::io;
+use std::io::Write;
 
 /// The word of channels.
 fn channels_word(channels: Channels) -> &'static str

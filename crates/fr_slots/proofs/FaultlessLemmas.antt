@@ -20,11 +20,11 @@ use Rattle.fr_slots.proofs.FaultLemmas.{first-none}
 
 -- ---- nothing found
 
-or_none : {X : Type 0} (p q : Option X) → option_or p q ≡ None → (p ≡ None) × (q ≡ None)
+pub or_none : {X : Type 0} (p q : Option X) → option_or p q ≡ None → (p ≡ None) × (q ≡ None)
 or_none None q none = (refl, none)
 or_none (Some x) q none = cc none
 
-cond_none : {X : Type 0} (b : Bool) (x : X) → cond b (Some x) None ≡ None → b ≡ false
+pub cond_none : {X : Type 0} (b : Bool) (x : X) → cond b (Some x) None ≡ None → b ≡ false
 cond_none true x none = cc none
 cond_none false x none = refl
 
@@ -33,7 +33,7 @@ any_none test [] n x none at = cc at
 any_none test (y ∷ xs) zero x none at = ap test (sym (same_Some y x at)) ∙ (or_parts (test y) (list_any test xs) none).0
 any_none test (y ∷ xs) (suc n) x none at = any_none test xs n x (or_parts (test y) (list_any test xs) none).1 at
 
-position_from-none : {X : Type 0} (test : X → Bool) (i : ℕ) (xs : List X) (n : ℕ) (x : X) → position_from test i xs ≡ None
+pub position_from-none : {X : Type 0} (test : X → Bool) (i : ℕ) (xs : List X) (n : ℕ) (x : X) → position_from test i xs ≡ None
     → slice_get xs n ≡ Some x → test x ≡ false
 position_from-none test i [] n x none at = cc at
 position_from-none test i (y ∷ xs) zero x none at =
@@ -46,7 +46,7 @@ position_from-none test i (y ∷ xs) (suc n) x none at =
       | inr fail ↦ position_from-none test (i + 1) xs n x (sym (cond-false (test y) (Some i) (position_from test (i + 1) xs) fail) ∙ none) at
     ]
 
-map_none : {X Y : Type 0} (f : X → Y) (o : Option X) → option_map f o ≡ None → o ≡ None
+pub map_none : {X Y : Type 0} (f : X → Y) (o : Option X) → option_map f o ≡ None → o ≡ None
 map_none f None none = refl
 map_none f (Some x) none = cc none
 
@@ -75,12 +75,12 @@ two_pass-once test (z ∷ xs) (suc m) (suc n) x y none at_m at_n pass_x pass_y =
 
 -- ---- slots and channels
 
-on_channels : {X : Type 0} (f : Channel → Option X) (channel : Channel) → first_of f channels ≡ None → f channel ≡ None
+pub on_channels : {X : Type 0} (f : Channel → Option X) (channel : Channel) → first_of f channels ≡ None → f channel ≡ None
 unfolding first_of
 on_channels f A none = (or_none (f A) (option_or (f B) None) none).0
 on_channels f B none = (or_none (f B) None (or_none (f A) (option_or (f B) None) none).1).0
 
-in_slots : {X : Type 0} (f : ℕ → Option X) (slot : ℕ) → IsSlot slot → first_of f slots ≡ None → f slot ≡ None
+pub in_slots : {X : Type 0} (f : ℕ → Option X) (slot : ℕ) → IsSlot slot → first_of f slots ≡ None → f slot ≡ None
 in_slots f slot is none = first-none f 1 2047 none slot is.from_one (omega (arith, is.at_most))
 
 any_channel : (test : Channel → Bool) (channel : Channel) → list_any test channels ≡ false → test channel ≡ false

@@ -11,7 +11,7 @@ use crate::channel::Channel;
 use crate::filter::{CycleFilter, Filter};
 use crate::numbers::{Cycle, SlotId};
 use crate::params::Params;
-use crate::plan::{Buffer, LINES, Mode, NodePlan, Own};
+use crate::plan::{Buffer, LINES, NodePlan, Own};
 use crate::sharing::first_shared;
 use arrayvec::ArrayVec;
 use thiserror::Error;
@@ -145,8 +145,8 @@ fn first_taken(owned: &[Own]) -> Option<PlanFault>
     Some(PlanFault::SlotTaken(shared.slot, shared.channel))
 }
 
-/// The ownership lines as filters.
-fn own_filters(owned: &[Own]) -> ArrayVec<Filter, LINES>
+/// The ownership lines, which are at most 64, as filters.
+pub fn own_filters(owned: &[Own]) -> ArrayVec<Filter, LINES>
     requires { length owned.now ≤ 64 }
     ensures { result.items ≡ own_filters owned.now }
 {
@@ -177,7 +177,7 @@ fn first_not_owned(params: &Params, plan: &NodePlan) -> Option<PlanFault>
 }
 
 /// The number of the first transmit buffer for a static slot that the node lacks on one of its channels.
-fn not_owned_number(params: &Params, owned: &[Own], buffers: &[Buffer]) -> Option<usize>
+pub fn not_owned_number(params: &Params, owned: &[Own], buffers: &[Buffer]) -> Option<usize>
     ensures value { result ≡ position (not_owned params.now owned.now) buffers.now }
     ensures within { IfSome result (λ number. number < length buffers.now) }
 {
@@ -203,7 +203,7 @@ fn is_unowned_on(owned: &[Own], filter: &Filter, channel: Channel) -> bool
 }
 
 /// Whether an ownership line is for the slot on the channel.
-fn is_owned(owned: &[Own], slot: SlotId, channel: Channel) -> bool
+pub fn is_owned(owned: &[Own], slot: SlotId, channel: Channel) -> bool
     ensures { result ≡ is_owned owned.now slot channel }
 {
     owned.iter().any(|own| claims(slot, channel, own))
@@ -225,7 +225,7 @@ fn first_dynamic_both(params: &Params, plan: &NodePlan) -> Option<PlanFault>
 }
 
 /// The number of the first dynamic transmit buffer for both channels.
-fn dynamic_both_number(params: &Params, buffers: &[Buffer]) -> Option<usize>
+pub fn dynamic_both_number(params: &Params, buffers: &[Buffer]) -> Option<usize>
     ensures value { result ≡ position (dynamic_both params.now) buffers.now }
     ensures within { IfSome result (λ number. number < length buffers.now) }
 {
@@ -253,8 +253,8 @@ fn first_overlap(buffers: &[Buffer]) -> Option<PlanFault>
     Some(PlanFault::Overlap(shared.slot, shared.channel, shared.cycle))
 }
 
-/// The filters of the transmit buffers.
-fn transmit_filters(buffers: &[Buffer]) -> ArrayVec<Filter, LINES>
+/// The filters of the transmit buffers among these, which are at most 64.
+pub fn transmit_filters(buffers: &[Buffer]) -> ArrayVec<Filter, LINES>
     requires { length buffers.now ≤ 64 }
     ensures { result.items ≡ transmit_filters buffers.now }
 {
@@ -276,7 +276,7 @@ fn first_too_long(params: &Params, plan: &NodePlan) -> Option<PlanFault>
 }
 
 /// The number of the first dynamic transmit buffer whose frame would end behind the dynamic segment.
-fn too_long_number(params: &Params, plan: &NodePlan, buffers: &[Buffer]) -> Option<usize>
+pub fn too_long_number(params: &Params, plan: &NodePlan, buffers: &[Buffer]) -> Option<usize>
     ensures value { result ≡ position (too_long params.now plan.now) buffers.now }
     ensures within { IfSome result (λ number. number < length buffers.now) }
 {
@@ -349,17 +349,14 @@ fn transmits_dynamic(params: &Params, buffer: &Buffer) -> bool
 }
 
 /// Whether the buffer is a transmit buffer.
-fn transmits(buffer: &Buffer) -> bool
+pub fn transmits(buffer: &Buffer) -> bool
     ensures { result ≡ transmits buffer.now }
 {
-    match buffer.mode {
-        Mode::Event | Mode::State => true,
-        Mode::Receive => false,
-    }
+    !buffer.mode.is_receive()
 }
 
-/// Whether the slot is a static one.
-fn is_static_slot(params: &Params, slot: SlotId) -> bool
+/// Whether the slot is a static one (chapter 5).
+pub fn is_static_slot(params: &Params, slot: SlotId) -> bool
     ensures { result ≡ is_static_slot params.now slot }
 {
     slot.number() <= params.static_slots

@@ -37,6 +37,21 @@ pub enum Mode {
     Receive,
 }
 
+impl Mode {
+    ghost use Rattle.std.specs.Prelude.{◌≡◌};
+    ghost use Rattle.fr_slots.specs.Plans.{is_receive};
+
+    /// Whether a buffer of this mode receives. One of the others transmits.
+    pub fn is_receive(self) -> bool
+        ensures { result ≡ is_receive self }
+    {
+        match self {
+            Mode::Receive => true,
+            Mode::Event | Mode::State => false,
+        }
+    }
+}
+
 /// A buffer of a node.
 #[derive(Clone, Copy, Debug, Default, PartialEq, Eq)]
 pub struct Buffer {
@@ -161,7 +176,7 @@ impl NodePlan {
         ensures accepted { OnOk result (self.new ≡ with_buffer self.old buffer) }
         ensures refused { OnErr result (self.new ≡ self.old) }
     {
-        if !fits(&buffer) {
+        if !buffer_fits(&buffer) {
             return Err(PlanError::OutOfRange);
         }
         if self.buffers.is_full() {
@@ -280,7 +295,7 @@ fn collected<T: Copy + Default + Drop, const N: usize>(lines: &[T]) -> ArrayVec<
 }
 
 /// Whether an ownership line is in range by itself.
-fn own_fits(own: &Own) -> bool
+pub fn own_fits(own: &Own) -> bool
     ensures value { result ≡ own_fits own.now }
     ensures ranges { IsOwn own.now }
 {
@@ -288,7 +303,7 @@ fn own_fits(own: &Own) -> bool
 }
 
 /// Whether a buffer is in range by itself.
-fn fits(buffer: &Buffer) -> bool
+pub fn buffer_fits(buffer: &Buffer) -> bool
     ensures value { result ≡ buffer_fits buffer.now }
     ensures ranges { IsBuffer buffer.now }
 {
@@ -298,15 +313,11 @@ fn fits(buffer: &Buffer) -> bool
         Some(words) => words <= 127,
         None => true,
     };
-    let is_receive = match buffer.mode {
-        Mode::Receive => true,
-        Mode::Event | Mode::State => false,
-    };
-    few_words && (!is_receive || !(buffer.words.is_some() || buffer.preamble))
+    few_words && (!buffer.mode.is_receive() || !(buffer.words.is_some() || buffer.preamble))
 }
 
 /// Whether a queue is in range by itself.
-fn queue_fits(queue: &Queue) -> bool
+pub fn queue_fits(queue: &Queue) -> bool
     ensures value { result ≡ queue_fits queue.now }
     ensures ranges { IsQueue queue.now }
 {
