@@ -1,0 +1,14 @@
+pub mod TableLemmas
+pub mod OwnLemmas
+pub mod RowLemmas
+pub mod StepLemmas
+pub mod EachLemmas
+pub mod HeadLemmas
+pub mod BufferLemmas
+pub mod PlanRowLemmas
+pub mod FilterLemmas
+pub mod TwoLemmas
+pub mod ClusterLemmas
+pub mod FitLemmas
+pub mod SenderLemmas
+pub mod FileLemmas

@@ -1,2 +1,6 @@
 pub mod Clusters
 pub mod ClusterFields
+pub mod FileFaults
+pub mod Files
+pub mod NodeTables
+pub mod TableReading

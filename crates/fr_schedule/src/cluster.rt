@@ -1,13 +1,24 @@
 //! A cluster without fault.
 
-ghost use Rattle.std.specs.Prelude.{◌≡◌, length, option_map, slice_get};
-ghost use Rattle.fr_schedule.specs.Clusters.{is_guarded, IsCluster};
+ghost use Rattle.std.specs.Prelude.{◌≡◌, ◌<◌, Err, length, option_map, position, slice_get, IfOk, IfSome, IfNone, ℕ};
+ghost use Rattle.std.specs.List.{list_any};
+ghost use Rattle.fr_schedule.specs.Clusters.{is_guarded, may_send, IsSender, IsCluster};
+ghost use Rattle.fr_schedule.specs.declared.error.ConfigError.TheVariants as error;
+ghost use Rattle.fr_schedule.specs.Files.{described, description_of, IsTableOf};
+ghost use Rattle.fr_slots.specs.Faults.{sends_at};
+ghost use Rattle.toml.specs.View.{table_view};
 
+use crate::error::ConfigError;
+use crate::faults::file_fault;
+use crate::file::{guard_in, nodes_in, params_in, plans_of};
 use fr_slots::channel::{Channel, Channels};
-use fr_slots::numbers::NodeId;
+use fr_slots::fault::{is_owned, is_static_slot, transmits};
+use fr_slots::numbers::{Cycle, NodeId, SlotId};
 use fr_slots::params::Params;
-use fr_slots::plan::NodePlan;
+use fr_slots::plan::{Buffer, NodePlan};
+use std::alloc::Global;
 use std::marker::Model;
+use toml::Table;
 
 /// A cluster of 1 to 16 nodes whose plans have no fault, by themselves and among each other.
 #[derive(Drop)]
@@ -29,7 +40,114 @@ impl Model for Cluster {
     ghost invariant = { IsLawful };
 }
 
+/// The table that a cluster file spells.
+fn table_of(alloc: Global, text: &str) -> Result<Table, ConfigError>
+    ensures { IsTableOf text.now result }
+{
+    match toml::table_from_str(alloc, text) {
+        Ok(table) => Ok(table),
+        Err(error) if error.is_memory() => Err(ConfigError::Memory),
+        Err(_) => Err(ConfigError::Toml),
+    }
+}
+
+/// The cluster that a file's table gives.
+fn cluster_of(alloc: Global, root: &Table) -> Result<Cluster, ConfigError>
+    ensures told { ¬ (result ≡ Err error.Memory) → result ≡ description_of (table_view root.now) }
+    ensures lawful { IfOk result IsCluster }
+{
+    let params = params_in(alloc, root)?;
+    let guard = guard_in(root)?;
+    let Some(values) = nodes_in(root) else {
+        return Err(ConfigError::TooManyNodes);
+    };
+    let plans = plans_of(alloc, &params, values)?;
+    if let Some(fault) = file_fault(&params, plans.as_slice()) {
+        return Err(fault);
+    }
+    Ok(Cluster {
+        params: params.duplicate(),
+        guard,
+        plans,
+    })
+}
+
+/// Whether the node sends in the slot on the channel in the cycle.
+fn may_send(params: &Params, cycle: Cycle, slot: SlotId, channel: Channel, plan: &NodePlan) -> bool
+    ensures { result ≡ may_send params.now cycle slot channel plan.now }
+{
+    if is_static_slot(params, slot) {
+        is_owned(plan.owned(), slot, channel)
+    } else {
+        any_sends_at(plan.buffers(), cycle, slot, channel)
+    }
+}
+
+/// Whether a transmit buffer admits the slot on the channel in the cycle.
+fn any_sends_at(buffers: &[Buffer], cycle: Cycle, slot: SlotId, channel: Channel) -> bool
+    ensures { result ≡ list_any (sends_at slot channel cycle) buffers.now }
+{
+    buffers
+        .iter()
+        .any(|buffer| sends_at(buffer, cycle, slot, channel))
+}
+
+/// Whether the buffer is a transmit buffer that admits the slot on the channel in the cycle.
+fn sends_at(buffer: &Buffer, cycle: Cycle, slot: SlotId, channel: Channel) -> bool
+    ensures { result ≡ sends_at slot channel cycle buffer.now }
+{
+    transmits(buffer) && buffer.filter.admits(cycle, slot, channel)
+}
+
+/// The number of the first plan whose node sends in the slot on the channel in the cycle.
+fn sender_number(
+    params: &Params,
+    plans: &[NodePlan],
+    cycle: Cycle,
+    slot: SlotId,
+    channel: Channel,
+) -> Option<usize>
+    ensures value { result ≡ position (may_send params.now cycle slot channel) plans.now }
+    ensures within { IfSome result (λ number. number < length plans.now) }
+{
+    plans
+        .iter()
+        .position(|plan| may_send(params, cycle, slot, channel, plan))
+}
+
 impl Cluster {
+    /// The cluster that a cluster file describes (own profile).
+    ///
+    /// Refused, in this order:
+    ///
+    /// - `Toml` for a text that is no TOML,
+    /// - `Params` for a table `params` that gives no parameters; one that is absent or no table is read as empty,
+    /// - `BadGuard`, and then `TooManyNodes`,
+    /// - node by node, in the order of the file, `BadNode` and then `BadBuffer` for the first of its buffers at fault,
+    /// - `SlotTaken`, `NotOwned`, `DynamicBoth`, `Overlap` and `TooLong`, each kind looked for in the whole file before
+    ///   the next, and of a kind the first in order of its numbers, channel A before B.
+    ///
+    /// Keys that have no meaning where they stand aren't read. `Memory` comes where memory was refused; that it comes
+    /// for no other cause isn't stated of the parse, since `toml` says nothing of a text for which memory ran out.
+    pub fn from_text(alloc: Global, text: &str) -> Result<Cluster, ConfigError>
+        ensures told { ¬ (result ≡ Err error.Memory) → result ≡ described text.now }
+        ensures lawful { IfOk result IsCluster }
+    {
+        let root = table_of(alloc, text)?;
+        cluster_of(alloc, &root)
+    }
+
+    /// The node that sends in the slot on the channel in the cycle, or None where there is none: the owner of a static
+    /// slot, and in a dynamic slot the node with a transmit buffer that admits it (chapter 5).
+    pub fn sender(&self, cycle: Cycle, slot: SlotId, channel: Channel) -> Option<NodeId>
+        ensures sender { IfSome result (λ node. IsSender self.now cycle slot channel node) }
+        ensures nobody { IfNone result ((node : ℕ) → ¬ IsSender self.now cycle slot channel node) }
+        ensures lawful { IsCluster self.now }
+    {
+        let number = sender_number(&self.params, self.plans.as_slice(), cycle, slot, channel)?;
+        NodeId::new(number as u8)
+    }
+
     /// The parameters of the cluster.
     pub fn params(&self) -> &Params
         ensures value { result.now ≡ self.now.params }

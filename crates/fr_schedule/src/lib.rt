@@ -3,3 +3,10 @@
 #![tactic(auto)]
 
 pub mod cluster;
+pub mod error;
+mod faults;
+mod file;
+mod node;
+mod table;
+#[cfg(test)]
+mod tests;

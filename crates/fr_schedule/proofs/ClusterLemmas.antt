@@ -1,0 +1,241 @@
+-- Plans that are lawful and for these parameters, without a fault among them, are those of a cluster.
+use Rattle.std.proofs.Common.{◌≡◌, ℕ, zero, suc, ◌+◌, ◌<◌, ◌≤◌, ◌==◌, Bool, true, false, ◌&&◌, if◌then◌else◌, List, [], ◌∷◌, ◌++◌, length, Option, Some, None, option_map, refl, sym, ap, subst, ◌∙◌, inl, inr, arith}
+use Rattle.std.proofs.lemmas.Bool.{cases_Bool, cases_eq, eqb-true, and_parts, or_cases, cond-true, cond-false, both_ways}
+use Rattle.std.proofs.lemmas.Option.{same_Some}
+use Rattle.std.specs.List.{list_any, slice_get}
+use Rattle.std.specs.Option.{option_or}
+use Rattle.std.specs.Prelude.{position}
+use Rattle.fr_schedule.proofs.FilterLemmas.{no_taken_plans, no_overlap_plans}
+use Rattle.fr_schedule.proofs.TwoLemmas.{two_left, two_right, two_at}
+use Rattle.fr_schedule.specs.Clusters.{Description, HasOneSender, may_send, IsNode, IsCluster}
+use Rattle.fr_schedule.specs.declared.error.ConfigError.{ConfigError}
+use Rattle.fr_schedule.specs.declared.error.ConfigError.TheVariants as error
+use Rattle.fr_schedule.specs.declared.faults.Rule.TheVariants.{Owned, OneChannel, EndsInTime}
+use Rattle.fr_schedule.specs.FileFaults.{all_owned, all_buffers, first_taken, first_overlap, buffer_fault, first_in_nodes, first_by, owner_fault, sender_fault, file_fault}
+use Rattle.fr_slots.proofs.FaultLemmas.{first-none}
+use Rattle.fr_slots.proofs.FaultlessLemmas.{or_none, cond_none, map_none, on_channels, in_slots}
+use Rattle.fr_slots.specs.declared.channel.Channel.{Channel}
+use Rattle.fr_slots.specs.declared.fault.PlanFault.TheVariants as fault
+use Rattle.fr_slots.specs.declared.plan.Own.{Own}
+use Rattle.fr_slots.specs.declared.plan.Buffer.{Buffer}
+use Rattle.fr_slots.specs.Admission.{includes, cycle_admitted}
+use Rattle.fr_slots.specs.Faults as plan
+use Rattle.fr_slots.specs.Faults.{buffer_fault as sending_fault}
+use Rattle.fr_slots.specs.Faults.{first_of, two_pass, slots, channels, cycles, claims, sends_at, is_owned, is_static_slot, transmits, not_owned, dynamic_both, too_long, is_out_of_params, out_of_params, ownership_fault, plan_fault}
+use Rattle.fr_slots.specs.Numbers.{IsSlot}
+use Rattle.fr_slots.specs.Parameters.{Parameters, IsParameters}
+use Rattle.fr_slots.specs.Plans.{Plan, IsPlan, IsOwn, IsBuffer, Each, filter_admits}
+
+-- ---- each of a list
+
+module _ {X : Type 0} where
+  each_at : (P : X → Type 0) (xs : List X) (n : ℕ) (x : X) → Each P xs → slice_get xs n ≡ Some x → P x
+  each_at P [] n x all at = cc at
+  each_at P (y ∷ xs) zero x all at = subst P (same_Some y x at) all.0
+  each_at P (y ∷ xs) (suc n) x all at = each_at P xs n x all.1 at
+
+  each_both : (P Q : X → Type 0) (xs : List X) → Each P xs → Each Q xs → Each (λ x. P x × Q x) xs
+  each_both P Q [] ps qs = tt
+  each_both P Q (x ∷ xs) ps qs = ((ps.0, qs.0), each_both P Q xs ps.1 qs.1)
+
+  each_so : (P Q : X → Type 0) → ((x : X) → P x → Q x) → (xs : List X) → Each P xs → Each Q xs
+  each_so P Q so [] ps = tt
+  each_so P Q so (x ∷ xs) ps = (so x ps.0, each_so P Q so xs ps.1)
+
+-- ---- nothing in all lines, so nothing in those of one node
+
+module _ {X A : Type 0} (f g : X → Option A) (so : (x : X) → f x ≡ None → g x ≡ None) where
+  none_so : (xs : List X) → first_of f xs ≡ None → first_of g xs ≡ None
+  unfolding first_of
+  none_so [] none = refl
+  none_so (x ∷ xs) none =
+      let (here, later) = or_none (f x) (first_of f xs) none in
+      ap (λ o. option_or o (first_of g xs)) (so x here) ∙ none_so xs later
+
+none_if : {A : Type 0} (b c : Bool) (x : A) → (c ≡ true → b ≡ true) → (if b then Some x else None) ≡ None → (if c then Some x else None) ≡ None
+none_if b false x so none = refl
+none_if true true x so none = none
+none_if false true x so none = cc (so refl)
+
+taken_so : (xs ys : List Own) → ((t : Own → Bool) → two_pass t ys ≡ true → two_pass t xs ≡ true) → plan.first_taken xs ≡ None → plan.first_taken ys ≡ None
+taken_so xs ys so =
+    none_so (plan.taken_in xs) (plan.taken_in ys)
+    (λ slot.
+    none_so (plan.taken_at xs slot) (plan.taken_at ys slot)
+    (λ channel. none_if (two_pass (claims slot channel) xs) (two_pass (claims slot channel) ys) (fault.SlotTaken slot channel) (so (claims slot channel))) channels)
+    slots
+
+overlap_so : (xs ys : List Buffer) → ((t : Buffer → Bool) → two_pass t ys ≡ true → two_pass t xs ≡ true) → plan.first_overlap xs ≡ None
+    → plan.first_overlap ys ≡ None
+overlap_so xs ys so =
+    none_so (plan.overlap_in xs) (plan.overlap_in ys)
+    (λ slot.
+    none_so (plan.overlap_on xs slot) (plan.overlap_on ys slot)
+    (λ channel.
+    none_so (plan.overlap_at xs slot channel) (plan.overlap_at ys slot channel)
+    (λ cycle.
+    none_if (two_pass (sends_at slot channel cycle) xs) (two_pass (sends_at slot channel cycle) ys) (fault.Overlap slot channel cycle) (so (sends_at slot channel cycle)))
+    cycles)
+    channels)
+    slots
+
+none_taken : (plans : List Plan) → plan.first_taken (all_owned plans) ≡ None → Each (λ q. plan.first_taken q.owned ≡ None) plans
+none_taken [] none = tt
+none_taken (q ∷ plans) none = (
+  taken_so (q.owned ++ all_owned plans) q.owned (λ t. two_left t q.owned (all_owned plans)) none,
+  none_taken plans (taken_so (q.owned ++ all_owned plans) (all_owned plans) (λ t. two_right t q.owned (all_owned plans)) none),
+)
+
+none_overlap : (plans : List Plan) → plan.first_overlap (all_buffers plans) ≡ None → Each (λ q. plan.first_overlap q.buffers ≡ None) plans
+none_overlap [] none = tt
+none_overlap (q ∷ plans) none = (
+  overlap_so (q.buffers ++ all_buffers plans) q.buffers (λ t. two_left t q.buffers (all_buffers plans)) none,
+  none_overlap plans (overlap_so (q.buffers ++ all_buffers plans) (all_buffers plans) (λ t. two_right t q.buffers (all_buffers plans)) none),
+)
+
+-- ---- buffers at fault by themselves
+
+-- no buffer passes the test
+abbrev HasNone : (Plan → Buffer → Bool) → Plan → Type 0
+HasNone test q = position (test q) q.buffers ≡ None
+
+none_in_nodes : (made : ℕ → ℕ → ConfigError) (test : Plan → Buffer → Bool) (n : ℕ) (plans : List Plan)
+    → first_in_nodes (buffer_fault made test) n plans ≡ None → Each (HasNone test) plans
+unfolding first_in_nodes
+none_in_nodes made test n [] none = tt
+none_in_nodes made test n (q ∷ plans) none =
+    let (here, later) = or_none (buffer_fault made test n q) (first_in_nodes (buffer_fault made test) (n + 1) plans) none in
+    (map_none (made n) (position (test q) q.buffers) here, none_in_nodes made test (n + 1) plans later)
+
+-- ---- a node without fault
+
+-- what the file's tests leave of a node
+record IsFree (p : Parameters) (q : Plan) : Type 0 where
+  pub untaken : plan.first_taken q.owned ≡ None
+  pub owned : HasNone (λ r. not_owned p r.owned) q
+  pub one_channel : HasNone (λ r. dynamic_both p) q
+  pub apart : plan.first_overlap q.buffers ≡ None
+  pub in_time : HasNone (too_long p) q
+
+-- the plan is one for these parameters
+abbrev pub IsFor : Parameters → Plan → Type 0
+IsFor p q = is_out_of_params p q ≡ false
+
+or_of_none : {A : Type 0} (o r : Option A) → o ≡ None → r ≡ None → option_or o r ≡ None
+or_of_none o r none_o none_r = ap (λ x. option_or x r) none_o ∙ none_r
+
+no_fault : (p : Parameters) (q : Plan) → IsFor p q → IsFree p q → plan_fault p q ≡ None
+unfolding plan_fault ownership_fault sending_fault
+no_fault p q is_for free =
+    or_of_none (ownership_fault p q) (sending_fault p q)
+    (or_of_none (out_of_params p q) _ (cond-false (is_out_of_params p q) (Some fault.OutOfParams) None is_for)
+    (or_of_none (plan.first_taken q.owned) _ free.untaken (ap (option_map fault.NotOwned) free.owned)))
+    (or_of_none (plan.first_buffer fault.DynamicBoth (dynamic_both p) q.buffers) _ (ap (option_map fault.DynamicBoth) free.one_channel)
+    (or_of_none (plan.first_overlap q.buffers) _ free.apart (ap (option_map fault.TooLong) free.in_time)))
+
+-- the five parts of a file without fault
+record HasNoFault (p : Parameters) (plans : List Plan) : Type 0 where
+  pub untaken : first_taken plans ≡ None
+  pub owned : first_by Owned p plans ≡ None
+  pub one_channel : first_by OneChannel p plans ≡ None
+  pub apart : first_overlap plans ≡ None
+  pub in_time : first_by EndsInTime p plans ≡ None
+
+parts : (p : Parameters) (plans : List Plan) → file_fault p plans ≡ None → HasNoFault p plans
+unfolding file_fault owner_fault sender_fault
+parts p plans none =
+    let (owner, sender) = or_none (owner_fault p plans) (sender_fault p plans) none in
+    let (untaken, owned) = or_none (first_taken plans) (first_by Owned p plans) owner in
+    let (one_channel, later) = or_none (first_by OneChannel p plans) (option_or (first_overlap plans) (first_by EndsInTime p plans)) sender in
+    let (apart, in_time) = or_none (first_overlap plans) (first_by EndsInTime p plans) later in
+    record { untaken = untaken; owned = owned; one_channel = one_channel; apart = apart; in_time = in_time }
+
+each_free : (p : Parameters) (plans : List Plan) → HasNoFault p plans → Each (IsFree p) plans
+each_free p plans none =
+    each_so _ (IsFree p)
+    (λ q h. record { untaken = h.0; owned = h.1.0; one_channel = h.1.1.0; apart = h.1.1.1.0; in_time = h.1.1.1.1 }) plans
+    (each_both _ _ plans (none_taken plans (no_taken_plans plans none.untaken))
+    (each_both _ _ plans (none_in_nodes error.NotOwned (λ r. not_owned p r.owned) 0 plans none.owned)
+    (each_both _ _ plans (none_in_nodes error.DynamicBoth (λ r. dynamic_both p) 0 plans none.one_channel)
+    (each_both _ _ plans (none_overlap plans (no_overlap_plans plans none.apart))
+    (none_in_nodes error.TooLong (too_long p) 0 plans none.in_time)))))
+
+nodes_are : (p : Parameters) (plans : List Plan) → Each IsPlan plans → Each (IsFor p) plans → HasNoFault p plans → Each (IsNode p) plans
+nodes_are p plans lawful fit none =
+    each_so _ (IsNode p) (λ q h. (h.0, no_fault p q h.1.0 h.1.1)) plans
+    (each_both IsPlan _ plans lawful (each_both (IsFor p) (IsFree p) plans fit (each_free p plans none)))
+
+-- ---- one sender
+
+claimed_slot : (owned : List Own) (slot : ℕ) (channel : Channel) → Each IsOwn owned → is_owned owned slot channel ≡ true → IsSlot slot
+claimed_slot [] slot channel each any = cc any
+claimed_slot (own ∷ owned) slot channel each any =
+    elim (or_cases (claims slot channel own) (is_owned owned slot channel) any) [
+      | inl here ↦
+          (let (same, includes_it) = and_parts (own.slot == slot) (includes own.channels channel) here in
+          subst IsSlot (eqb-true own.slot slot same) each.0)
+      | inr later ↦ claimed_slot owned slot channel each.1 later
+    ]
+
+sent_slot : (buffers : List Buffer) (slot : ℕ) (channel : Channel) (cycle : ℕ) → Each IsBuffer buffers
+    → list_any (sends_at slot channel cycle) buffers ≡ true → IsSlot slot
+sent_slot [] slot channel cycle each any = cc any
+sent_slot (b ∷ buffers) slot channel cycle each any =
+    elim (or_cases (sends_at slot channel cycle b) (list_any (sends_at slot channel cycle) buffers) any) [
+      | inl here ↦
+          (let (sends, admits) = and_parts (transmits b) (filter_admits b.filter cycle slot channel) here in
+          let (front, in_cycle) = and_parts (b.filter.slot == slot && includes b.filter.channels channel) (cycle_admitted b.filter.cycles cycle) admits in
+          let (same, includes_it) = and_parts (b.filter.slot == slot) (includes b.filter.channels channel) front in
+          subst IsSlot (eqb-true b.filter.slot slot same) each.0.slot_is)
+      | inr later ↦ sent_slot buffers slot channel cycle each.1 later
+    ]
+
+two_owners : (plans : List Plan) (slot : ℕ) (channel : Channel) → IsSlot slot → first_taken plans ≡ None → two_pass (claims slot channel) (all_owned plans) ≡ false
+two_owners plans slot channel is none =
+    cond_none (two_pass (claims slot channel) (all_owned plans)) (fault.SlotTaken slot channel)
+    (on_channels (plan.taken_at (all_owned plans) slot) channel (in_slots (plan.taken_in (all_owned plans)) slot is (no_taken_plans plans none)))
+
+two_senders : (plans : List Plan) (slot : ℕ) (channel : Channel) (cycle : ℕ) → IsSlot slot → cycle < 64 → first_overlap plans ≡ None
+    → two_pass (sends_at slot channel cycle) (all_buffers plans) ≡ false
+two_senders plans slot channel cycle is few none =
+    cond_none (two_pass (sends_at slot channel cycle) (all_buffers plans)) (fault.Overlap slot channel cycle)
+    (first-none (plan.overlap_at (all_buffers plans) slot channel) 0 64
+    (on_channels (plan.overlap_on (all_buffers plans) slot) channel (in_slots (plan.overlap_in (all_buffers plans)) slot is (no_overlap_plans plans none))) cycle
+    (omega arith) (omega (arith, few)))
+
+one_sender : (d : Description) → Each IsPlan d.plans → HasNoFault d.params d.plans → HasOneSender d
+one_sender d lawful none cycle slot channel m n few at_m at_n =
+    elim (cases_eq m n) [
+      | inl same ↦ same
+      | inr differ ↦
+          elim (cases_Bool (is_static_slot d.params slot)) [
+            | inl static ↦
+                (let by_line : (q : Plan) → may_send d.params cycle slot channel q ≡ true → is_owned q.owned slot channel ≡ true =
+                λ q sends. sym (cond-true (is_static_slot d.params slot) (is_owned q.owned slot channel) (list_any (sends_at slot channel cycle) q.buffers) static) ∙ sends in
+                let owner = by_line at_m.plan at_m.sends in
+                let is = claimed_slot at_m.plan.owned slot channel (each_at IsPlan d.plans m at_m.plan lawful at_m.at).owned_are owner in
+                absurd (both_ways (two_pass (claims slot channel) (all_owned d.plans)) (two_owners d.plans slot channel is none.untaken)
+                (two_at (claims slot channel) (λ q. q.owned) d.plans m n at_m.plan at_n.plan differ at_m.at at_n.at owner (by_line at_n.plan at_n.sends))))
+            | inr dynamic ↦
+                (let by_buffer : (q : Plan) → may_send d.params cycle slot channel q ≡ true → list_any (sends_at slot channel cycle) q.buffers ≡ true =
+                λ q sends. sym (cond-false (is_static_slot d.params slot) (is_owned q.owned slot channel) (list_any (sends_at slot channel cycle) q.buffers) dynamic) ∙ sends in
+                let sender = by_buffer at_m.plan at_m.sends in
+                let is = sent_slot at_m.plan.buffers slot channel cycle (each_at IsPlan d.plans m at_m.plan lawful at_m.at).buffers_are sender in
+                absurd (both_ways (two_pass (sends_at slot channel cycle) (all_buffers d.plans)) (two_senders d.plans slot channel cycle is few none.apart)
+                (two_at (sends_at slot channel cycle) (λ q. q.buffers) d.plans m n at_m.plan at_n.plan differ at_m.at at_n.at sender (by_buffer at_n.plan at_n.sends))))
+          ]
+    ]
+
+-- ---- a cluster
+
+pub cluster_is : (d : Description) → IsParameters d.params → 1 ≤ length d.plans → length d.plans ≤ 16 → Each IsPlan d.plans → Each (IsFor d.params) d.plans
+    → file_fault d.params d.plans ≡ None → IsCluster d
+cluster_is d params some few lawful fit free =
+    let none = parts d.params d.plans free in
+    record {
+      params_are = params;
+      some_nodes = some;
+      few_nodes = few;
+      nodes_are = nodes_are d.params d.plans lawful fit none;
+      one_sender = one_sender d lawful none;
+    }

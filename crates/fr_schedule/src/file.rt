@@ -1,0 +1,184 @@
+//! What a cluster file's table gives, before its nodes are held against each other.
+
+ghost use Rattle.std.specs.Prelude.{◌≡◌, ◌≤◌, ◌<◌, [], true, None, Ok, Err, length, map, option_map, ok_or, IfSome, IfOk, IfErr};
+ghost use Rattle.fr_params.specs.Table.{parameters_in};
+ghost use Rattle.fr_schedule.specs.declared.error.ConfigError.TheVariants as error;
+ghost use Rattle.fr_schedule.specs.Files.{params_table, params_in, guard_named, guard_in, nodes_in, each_of, buffer_read, with_buffers_of, plan_of};
+ghost use Rattle.fr_slots.specs.Plans.{buffer_fits, IsPlan, Each};
+ghost use Rattle.toml.specs.View.{view, table_view};
+
+use crate::error::ConfigError;
+use crate::node::{buffer_of, head_in};
+use crate::table::{array_in, channels_named, tables_at, value_under};
+use fr_params::table::from_table;
+use fr_slots::channel::Channels;
+use fr_slots::numbers::NodeId;
+use fr_slots::params::Params;
+use fr_slots::plan::{Buffer, NodePlan};
+use std::alloc::Global;
+use toml::{Table, Value};
+
+/// The most nodes of a cluster (own profile).
+const MOST_NODES: usize = 16;
+
+/// The table `params`, if there is one.
+fn params_table(root: &Table) -> Option<&Table>
+    ensures { option_map (λ table. table_view table.now) result ≡ params_table (table_view root.now) }
+{
+    match value_under(root, "params") {
+        Some(value) => value.as_table(),
+        None => None,
+    }
+}
+
+/// The parameters. A table `params` that is absent is read as an empty one.
+#[tactic(auto, unfolding(crate::specs::Files::params_in))]
+pub(crate) fn params_in(alloc: Global, root: &Table) -> Result<Params, ConfigError>
+    ensures { result ≡ params_in (table_view root.now) }
+{
+    let outcome = match params_table(root) {
+        Some(table) => from_table(table),
+        None => from_table(&Table::new(alloc)),
+    };
+    match outcome {
+        Ok(params) => Ok(params),
+        Err(error) => Err(ConfigError::Params(error)),
+    }
+}
+
+/// The guarded channels of this name.
+fn guard_named(word: &str) -> Option<Option<Channels>>
+    ensures { result ≡ guard_named word.now }
+{
+    if word == "none" {
+        return Some(None);
+    }
+    let channels = channels_named(word)?;
+    Some(Some(channels))
+}
+
+/// The guarded channels.
+#[tactic(auto, unfolding(crate::specs::Files::guard_in))]
+pub(crate) fn guard_in(root: &Table) -> Result<Option<Channels>, ConfigError>
+    ensures { result ≡ guard_in (table_view root.now) }
+{
+    let Some(value) = value_under(root, "guard") else {
+        return Ok(Some(Channels::Both));
+    };
+    let Some(word) = value.as_str() else {
+        return Err(ConfigError::BadGuard);
+    };
+    guard_named(word).ok_or(ConfigError::BadGuard)
+}
+
+/// The values of the nodes, of which there are 1 to 16.
+#[tactic(auto, unfolding(crate::specs::Files::nodes_in))]
+pub(crate) fn nodes_in(root: &Table) -> Option<&[Value]>
+    ensures value { option_map (λ values. map view values.now) result ≡ nodes_in (table_view root.now) }
+    ensures some { IfSome result (λ values. 1 ≤ length values.now) }
+    ensures few { IfSome result (λ values. length values.now ≤ 16) }
+{
+    let value = value_under(root, "node")?;
+    let values = array_in(value)?;
+    if 1 <= values.len() && values.len() <= MOST_NODES {
+        Some(values)
+    } else {
+        None
+    }
+}
+
+/// The node of this number.
+pub(crate) fn node_of(number: usize) -> NodeId
+    requires { number < 16 }
+    ensures { result ≡ number }
+{
+    match NodeId::new(number as u8) {
+        Some(node) => node,
+        None => unreachable!(),
+    }
+}
+
+/// The buffer that the value gives.
+fn buffer_read(
+    params: &Params,
+    node: NodeId,
+    number: u8,
+    value: &Value,
+) -> Result<Buffer, ConfigError>
+    ensures value { result ≡ buffer_read params.now node number (view value.now) }
+    ensures fits { IfOk result (λ buffer. buffer_fits buffer ≡ true) }
+{
+    match buffer_of(params, value) {
+        Some(buffer) => Ok(buffer),
+        None => Err(ConfigError::BadBuffer(node, number)),
+    }
+}
+
+/// The plan with the buffers that the values give.
+fn with_buffers_of(
+    params: &Params,
+    node: NodeId,
+    values: &[Value],
+    plan: NodePlan,
+) -> Result<NodePlan, ConfigError>
+    requires few { length values.now ≤ 64 }
+    requires none_yet { plan.buffers ≡ [] }
+    ensures { result ≡ with_buffers_of params.now node (map view values.now) plan }
+{
+    let mut plan = plan;
+    for (number, value) in values.iter().enumerate() {
+        let buffer = buffer_read(params, node, number as u8, value)?;
+        if plan.add_buffer(buffer).is_err() {
+            return Err(ConfigError::BadBuffer(node, number as u8));
+        }
+    }
+    Ok(plan)
+}
+
+/// The plan of a node.
+#[tactic(auto, unfolding(crate::specs::Files::plan_of))]
+fn plan_of(params: &Params, node: NodeId, value: &Value) -> Result<NodePlan, ConfigError>
+    ensures { result ≡ plan_of params.now node (view value.now) }
+{
+    let Some(table) = value.as_table() else {
+        return Err(ConfigError::BadNode(node));
+    };
+    let Some(plan) = head_in(params, table) else {
+        return Err(ConfigError::BadNode(node));
+    };
+    let Some(buffers) = tables_at(table, "buffer") else {
+        return Err(ConfigError::BadNode(node));
+    };
+    with_buffers_of(params, node, buffers, plan)
+}
+
+/// The plan of a node, which is lawful as every plan is.
+fn lawful_plan(params: &Params, node: NodeId, value: &Value) -> Result<NodePlan, ConfigError>
+    ensures value { result ≡ plan_of params.now node (view value.now) }
+    ensures lawful { IfOk result IsPlan }
+{
+    let plan = plan_of(params, node, value)?;
+    let _tasks = plan.tasks();
+    Ok(plan)
+}
+
+/// The plans of the nodes.
+pub(crate) fn plans_of(
+    alloc: Global,
+    params: &Params,
+    values: &[Value],
+) -> Result<Vec<NodePlan>, ConfigError>
+    requires { length values.now ≤ 16 }
+    ensures plans { IfOk result (λ plans. each_of (plan_of params.now) 0 (map view values.now) ≡ Ok plans.items) }
+    ensures lawful { IfOk result (λ plans. Each IsPlan plans.items) }
+    ensures refused { IfErr result (λ e. ¬ (e ≡ error.Memory) → each_of (plan_of params.now) 0 (map view values.now) ≡ Err e) }
+{
+    let mut plans = Vec::new(alloc);
+    for (number, value) in values.iter().enumerate() {
+        let plan = lawful_plan(params, node_of(number), value)?;
+        if plans.push(plan).is_err() {
+            return Err(ConfigError::Memory);
+        }
+    }
+    Ok(plans)
+}

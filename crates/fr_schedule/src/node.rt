@@ -1,0 +1,255 @@
+//! The plan that a node's table gives, its buffers aside.
+
+ghost use Rattle.std.specs.Prelude.{◌≡◌, ◌≤◌, [], true, None, length, map, option_map, IfSome};
+ghost use Rattle.fr_schedule.specs.TableReading.{all_of};
+ghost use Rattle.fr_schedule.specs.NodeTables.{own_in, own_of, queue_in, queue_of, filter_in, words_in, transmit_buffer_in, buffer_by, buffer_in, buffer_of};
+ghost use Rattle.fr_schedule.specs.NodeTables.{limits_in, owning, with_owned_in, with_queue_in, head_in};
+ghost use Rattle.fr_slots.specs.Plans.{own_fits, queue_fits, buffer_fits, with_queue};
+ghost use Rattle.toml.specs.View.{view, table_view};
+
+use crate::table::{
+    channels_in, cycles_in, flag_at, mode_in, number_at, number_or, slot_at, tables_at, value_under,
+};
+use fr_slots::fault::is_static_slot;
+use fr_slots::filter::Filter;
+use fr_slots::numbers::SlotId;
+use fr_slots::params::Params;
+use fr_slots::plan::{Buffer, Mode, NodePlan, Own, Queue, buffer_fits, own_fits, queue_fits};
+use toml::{Table, Value};
+
+/// The greatest slot (chapter 5).
+const LAST_SLOT: u16 = 2047;
+
+/// The ownership line that the table gives.
+#[tactic(auto, unfolding(crate::specs::NodeTables::own_in))]
+fn own_in(params: &Params, table: &Table) -> Option<Own>
+    ensures value { result ≡ own_in params.now (table_view table.now) }
+    ensures fits { IfSome result (λ own. own_fits own ≡ true) }
+{
+    let slot = slot_at(table, "slot", params.static_slots)?;
+    let channels = channels_in(table)?;
+    let sync = flag_at(table, "sync")?;
+    let startup = flag_at(table, "startup")?;
+    let own = Own {
+        slot,
+        channels,
+        sync,
+        startup,
+    };
+    if own_fits(&own) { Some(own) } else { None }
+}
+
+/// The ownership line that the value gives.
+#[tactic(auto, unfolding(crate::specs::NodeTables::own_of))]
+fn own_of(params: &Params, value: &Value) -> Option<Own>
+    ensures value { result ≡ own_of params.now (view value.now) }
+    ensures fits { IfSome result (λ own. own_fits own ≡ true) }
+{
+    let table = value.as_table()?;
+    own_in(params, table)
+}
+
+/// The queue that the table gives.
+#[tactic(auto, unfolding(crate::specs::NodeTables::queue_in))]
+fn queue_in(table: &Table) -> Option<Queue>
+    ensures value { result ≡ queue_in (table_view table.now) }
+    ensures fits { IfSome result (λ queue. queue_fits queue ≡ true) }
+{
+    let capacity = number_at(table, "capacity", 1, 256)?;
+    let first = slot_at(table, "first", LAST_SLOT)?;
+    let last = slot_at(table, "last", LAST_SLOT)?;
+    let channels = channels_in(table)?;
+    let cycles = cycles_in(table)?;
+    let capacity = capacity as u16;
+    let queue = Queue {
+        capacity,
+        first,
+        last,
+        channels,
+        cycles,
+    };
+    if queue_fits(&queue) {
+        Some(queue)
+    } else {
+        None
+    }
+}
+
+/// The queue that the value gives.
+#[tactic(auto, unfolding(crate::specs::NodeTables::queue_of))]
+fn queue_of(value: &Value) -> Option<Queue>
+    ensures value { result ≡ queue_of (view value.now) }
+    ensures fits { IfSome result (λ queue. queue_fits queue ≡ true) }
+{
+    let table = value.as_table()?;
+    queue_in(table)
+}
+
+/// The slot, channels and cycles of a buffer.
+#[tactic(auto, unfolding(crate::specs::NodeTables::filter_in))]
+fn filter_in(table: &Table) -> Option<Filter>
+    ensures { result ≡ filter_in (table_view table.now) }
+{
+    let slot = slot_at(table, "slot", LAST_SLOT)?;
+    let channels = channels_in(table)?;
+    let cycles = cycles_in(table)?;
+    Some(Filter {
+        slot,
+        channels,
+        cycles,
+    })
+}
+
+/// The words of a transmit buffer for the slot. In a static slot the key isn't read.
+#[tactic(auto, unfolding(crate::specs::NodeTables::words_in))]
+fn words_in(params: &Params, slot: SlotId, table: &Table) -> Option<Option<u8>>
+    ensures { result ≡ words_in params.now slot (table_view table.now) }
+{
+    if is_static_slot(params, slot) {
+        return Some(None);
+    }
+    let words = number_at(table, "words", 0, 127)?;
+    Some(Some(words as u8))
+}
+
+/// The transmit buffer that the table gives.
+#[tactic(auto, unfolding(crate::specs::NodeTables::transmit_buffer_in))]
+fn transmit_buffer_in(params: &Params, mode: Mode, filter: Filter, table: &Table) -> Option<Buffer>
+    ensures value { result ≡ transmit_buffer_in params.now mode filter (table_view table.now) }
+    ensures fits { IfSome result (λ buffer. buffer_fits buffer ≡ true) }
+{
+    let preamble = flag_at(table, "preamble")?;
+    let words = words_in(params, filter.slot, table)?;
+    let buffer = Buffer {
+        mode,
+        filter,
+        words,
+        preamble,
+    };
+    if buffer_fits(&buffer) {
+        Some(buffer)
+    } else {
+        None
+    }
+}
+
+/// The buffer of this kind and filter that the table gives.
+#[tactic(auto, unfolding(crate::specs::NodeTables::buffer_by))]
+fn buffer_by(params: &Params, mode: Mode, filter: Filter, table: &Table) -> Option<Buffer>
+    ensures value { result ≡ buffer_by params.now mode filter (table_view table.now) }
+    ensures fits { IfSome result (λ buffer. buffer_fits buffer ≡ true) }
+{
+    match mode {
+        Mode::Event | Mode::State => transmit_buffer_in(params, mode, filter, table),
+        Mode::Receive => Some(Buffer {
+            mode,
+            filter,
+            words: None,
+            preamble: false,
+        }),
+    }
+}
+
+/// The buffer that the table gives.
+#[tactic(auto, unfolding(crate::specs::NodeTables::buffer_in))]
+fn buffer_in(params: &Params, table: &Table) -> Option<Buffer>
+    ensures value { result ≡ buffer_in params.now (table_view table.now) }
+    ensures fits { IfSome result (λ buffer. buffer_fits buffer ≡ true) }
+{
+    let mode = mode_in(table)?;
+    let filter = filter_in(table)?;
+    buffer_by(params, mode, filter, table)
+}
+
+/// The buffer that the value gives.
+#[tactic(auto, unfolding(crate::specs::NodeTables::buffer_of))]
+pub(crate) fn buffer_of(params: &Params, value: &Value) -> Option<Buffer>
+    ensures value { result ≡ buffer_of params.now (view value.now) }
+    ensures fits { IfSome result (λ buffer. buffer_fits buffer ≡ true) }
+{
+    let table = value.as_table()?;
+    buffer_in(params, table)
+}
+
+/// The plan of the limits that a node's table gives.
+#[tactic(auto, unfolding(crate::specs::NodeTables::limits_in))]
+fn limits_in(params: &Params, table: &Table) -> Option<NodePlan>
+    ensures value { result ≡ limits_in params.now (table_view table.now) }
+    ensures no_lines { IfSome result (λ plan. plan.owned ≡ []) }
+    ensures no_buffers { IfSome result (λ plan. plan.buffers ≡ []) }
+    ensures no_queue { IfSome result (λ plan. plan.queue ≡ None) }
+{
+    let minislots = u32::from(params.minislots);
+    let tasks = number_or(table, "tasks", 0, 8, 1)?;
+    let latest_a = number_or(table, "latest_a", 0, minislots, 0)?;
+    let latest_b = number_or(table, "latest_b", 0, minislots, 0)?;
+    let host_entries = number_or(table, "host_entries", 1, 16384, 256)?;
+    let slot_entries = number_or(table, "slot_entries", 2, 65536, 4096)?;
+    let latest = [latest_a as u16, latest_b as u16];
+    match NodePlan::new(tasks as u8, latest, host_entries as u16, slot_entries) {
+        Ok(plan) => Some(plan),
+        Err(_) => None,
+    }
+}
+
+/// The plan with the ownership lines that the values give.
+fn owning(params: &Params, lines: &[Value], plan: NodePlan) -> Option<NodePlan>
+    requires few { length lines.now ≤ 64 }
+    requires none_yet { plan.owned ≡ [] }
+    ensures { result ≡ option_map (owning plan) (all_of (own_of params.now) (map view lines.now)) }
+{
+    let mut plan = plan;
+    for line in lines {
+        let own = own_of(params, line)?;
+        if plan.add_own(own).is_err() {
+            return None;
+        }
+    }
+    Some(plan)
+}
+
+/// The plan with the ownership lines that the node's table gives.
+#[tactic(auto, unfolding(crate::specs::NodeTables::with_owned_in))]
+fn with_owned_in(params: &Params, table: &Table, plan: NodePlan) -> Option<NodePlan>
+    requires { plan.owned ≡ [] }
+    ensures { result ≡ with_owned_in params.now (table_view table.now) plan }
+{
+    let lines = tables_at(table, "own")?;
+    owning(params, lines, plan)
+}
+
+/// The plan with the queue that the value gives.
+fn queueing(value: &Value, plan: NodePlan) -> Option<NodePlan>
+    requires { plan.queue ≡ None }
+    ensures { result ≡ option_map (with_queue plan) (queue_of (view value.now)) }
+{
+    let queue = queue_of(value)?;
+    let mut plan = plan;
+    match plan.set_queue(queue) {
+        Ok(()) => Some(plan),
+        Err(_) => None,
+    }
+}
+
+/// The plan with the queue that the node's table gives, if it gives one.
+#[tactic(auto, unfolding(crate::specs::NodeTables::with_queue_in))]
+fn with_queue_in(table: &Table, plan: NodePlan) -> Option<NodePlan>
+    requires { plan.queue ≡ None }
+    ensures { result ≡ with_queue_in (table_view table.now) plan }
+{
+    match value_under(table, "queue") {
+        Some(value) => queueing(value, plan),
+        None => Some(plan),
+    }
+}
+
+/// The plan that a node's table gives, its buffers aside.
+#[tactic(auto, unfolding(crate::specs::NodeTables::head_in))]
+pub(crate) fn head_in(params: &Params, table: &Table) -> Option<NodePlan>
+    ensures value { result ≡ head_in params.now (table_view table.now) }
+    ensures no_buffers { IfSome result (λ plan. plan.buffers ≡ []) }
+{
+    let limits = limits_in(params, table)?;
+    let plan = with_owned_in(params, table, limits)?;
+    with_queue_in(table, plan)
+}
