@@ -1,0 +1,5 @@
+pub mod OpenLemmas
+pub mod SpanLemmas
+pub mod PostLemmas
+pub mod SameLemmas
+pub mod AloneLemmas

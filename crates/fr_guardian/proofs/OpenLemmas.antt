@@ -1,0 +1,199 @@
+-- The macroticks of static slots and of the dynamic segment, and what lies behind them, open or not.
+use Rattle.std.proofs.Common.{◌≡◌, ℕ, ◌+◌, ◌-◌, ◌*◌, ◌/◌, ◌%◌, ◌<◌, ◌≤◌, Bool, true, false, List, [], ◌++◌, refl, sym, subst, arith, Option, Some, None, inl, inr}
+use Rattle.std.specs.Prelude.{IfSome}
+use Rattle.std.proofs.lemmas.Bool.{cases_lt}
+use Rattle.std.proofs.lemmas.Bool.Decides.{nat_tests}
+use Rattle.std.proofs.lemmas.Nat.{div-mul-add}
+use Rattle.fr_slots.specs.declared.channel.Channel.{Channel}
+use Rattle.fr_slots.specs.declared.plan.Own.{Own}
+use Rattle.fr_slots.specs.Parameters.{Parameters, IsParameters}
+use Rattle.fr_timing.specs.declared.place.Place.{Place}
+use Rattle.fr_timing.specs.declared.place.Place.TheVariants.{Static, Minislot, Symbol, Idle}
+use Rattle.fr_timing.specs.Division.{place_at, dynamic_start, symbol_start, idle_start, cycle_end}
+use Rattle.fr_timing.specs.Layout.{static_slot, part_of, IsAt}
+use Rattle.fr_timing.proofs.LayoutLemmas.{located_found, located_only}
+use Rattle.fr_guardian.specs.Intervals.{Span, AreMaximalIntervals, run}
+use Rattle.fr_guardian.specs.Guarding.{is_open, IsOpenTo}
+use Rattle.fr_guardian.proofs.SpanLemmas.{AllIn, NoneIn, AreBelow, none_below, closed_below, closed_last}
+
+-- the place is known by dividing
+at_place : (p : Parameters) → IsParameters p → (m : ℕ) (place : Place) → place_at p m ≡ Some place → IsAt p m place
+at_place p lawful m place is = subst (λ (o : Option Place). IfSome o (λ x. IsAt p m x)) is (located_found p lawful m (place_at p m) refl)
+
+-- ---- static slots
+
+-- `earlier` static slots lie before the macrotick's
+record IsInSlot (p : Parameters) (earlier m : ℕ) : Type 0 where
+  below : earlier < p.static_slots
+  from : earlier * p.static_mt ≤ m
+  before : m < earlier * p.static_mt + p.static_mt
+
+abbrev in_slot : Parameters → ℕ → ℕ → Place
+in_slot p earlier m = Static (earlier + 1) (m % p.static_mt)
+
+slot_divides : (p : Parameters) (earlier m : ℕ) → IsInSlot p earlier m → m / p.static_mt ≡ earlier
+slot_divides p earlier m h =
+    let offset : m ≡ earlier * p.static_mt + (m - earlier * p.static_mt) = omega arith in
+    rw offset (div-mul-add earlier p.static_mt (m - earlier * p.static_mt) (omega arith))
+
+slot_place : (p : Parameters) (earlier m : ℕ) → IsInSlot p earlier m → place_at p m ≡ Some (in_slot p earlier m)
+unfolding place_at
+slot_place p earlier m h =
+    let divides = slot_divides p earlier m h in
+    let fits : m < p.static_slots * p.static_mt = grind arith in
+    grind (arith, nat_tests)
+
+-- an open static slot
+pub slot_open : (p : Parameters) → IsParameters p → (guarded : Bool) (owned : List Own) (channel : Channel) (earlier : ℕ)
+    → earlier < p.static_slots → is_open guarded owned channel (static_slot (earlier + 1)) ≡ true
+    → AllIn (IsOpenTo p guarded owned channel) (earlier * p.static_mt) (earlier * p.static_mt + p.static_mt)
+slot_open p lawful guarded owned channel earlier below opens m from before =
+    record {
+      place = in_slot p earlier m;
+      at = at_place p lawful m _ (slot_place p earlier m (record { below = below; from = from; before = before }));
+      opens = opens;
+    }
+
+-- a closed one
+pub slot_closed : (p : Parameters) (guarded : Bool) (owned : List Own) (channel : Channel) (earlier : ℕ)
+    → earlier < p.static_slots → is_open guarded owned channel (static_slot (earlier + 1)) ≡ false
+    → NoneIn (IsOpenTo p guarded owned channel) (earlier * p.static_mt) (earlier * p.static_mt + p.static_mt)
+slot_closed p guarded owned channel earlier below closed m from before h =
+    let here = located_only p m (place_at p m) refl h.place h.at in
+    let there = slot_place p earlier m (record { below = below; from = from; before = before }) in
+    let same : h.place ≡ in_slot p earlier m = cc in
+    let opens = subst (λ (x : Place). is_open guarded owned channel (part_of x) ≡ true) same h.opens in
+    cc
+
+-- ---- the dynamic segment, and what lies behind it
+
+dynamic_place : (p : Parameters) (m : ℕ) → dynamic_start p ≤ m → m < symbol_start p
+    → place_at p m ≡ Some (Minislot ((m - dynamic_start p) / p.minislot_mt + 1) ((m - dynamic_start p) % p.minislot_mt))
+unfolding place_at
+dynamic_place p m from before = grind (arith, nat_tests)
+
+pub dynamic_open : (p : Parameters) → IsParameters p → (guarded : Bool) (owned : List Own) (channel : Channel)
+    → AllIn (IsOpenTo p guarded owned channel) (dynamic_start p) (symbol_start p)
+dynamic_open p lawful guarded owned channel m from before =
+    record { place = _; at = at_place p lawful m _ (dynamic_place p m from before); opens = refl }
+
+-- a macrotick behind the dynamic segment is in the symbol window, in the network idle time or in no place
+data IsBehind (found : Option Place) : Type 0 where
+  of_symbol : (offset : ℕ) → found ≡ Some (Symbol offset) → IsBehind found
+  of_idle : (offset : ℕ) → found ≡ Some (Idle offset) → IsBehind found
+  of_none : found ≡ None → IsBehind found
+
+symbol_place : (p : Parameters) (m : ℕ) → symbol_start p ≤ m → m < idle_start p → place_at p m ≡ Some (Symbol (m - symbol_start p))
+unfolding place_at
+symbol_place p m from before = grind (arith, nat_tests)
+
+idle_place : (p : Parameters) (m : ℕ) → idle_start p ≤ m → m < cycle_end p → place_at p m ≡ Some (Idle (m - idle_start p))
+unfolding place_at
+idle_place p m from before = grind (arith, nat_tests)
+
+no_place : (p : Parameters) (m : ℕ) → cycle_end p ≤ m → place_at p m ≡ None
+unfolding place_at
+no_place p m from = grind (arith, nat_tests)
+
+behind_place : (p : Parameters) (m : ℕ) → symbol_start p ≤ m → IsBehind (place_at p m)
+behind_place p m from =
+    elim (cases_lt m (idle_start p)) [
+      | inl in_symbol ↦ of_symbol _ (symbol_place p m from in_symbol)
+      | inr after ↦
+          elim (cases_lt m (cycle_end p)) [
+            | inl in_idle ↦ of_idle _ (idle_place p m after in_idle)
+            | inr last ↦ of_none (no_place p m last)
+          ]
+    ]
+
+never_open : (guarded : Bool) (owned : List Own) (channel : Channel) (place other : Place) → place ≡ other
+    → is_open guarded owned channel (part_of other) ≡ false → is_open guarded owned channel (part_of place) ≡ true → ⊥
+never_open guarded owned channel place other same closed opens =
+    let there = subst (λ (x : Place). is_open guarded owned channel (part_of x) ≡ true) same opens in
+    cc
+
+pub behind_closed : (p : Parameters) (guarded : Bool) (owned : List Own) (channel : Channel) (m : ℕ) → symbol_start p ≤ m → IsOpenTo p guarded owned channel m → ⊥
+behind_closed p guarded owned channel m from h =
+    let here = located_only p m (place_at p m) refl h.place h.at in
+    elim (behind_place p m from) [
+      | of_symbol offset is ↦ never_open guarded owned channel h.place (Symbol offset) (cc) refl h.opens
+      | of_idle offset is ↦ never_open guarded owned channel h.place (Idle offset) (cc) refl h.opens
+      | of_none is ↦ absurd (cc)
+    ]
+
+-- ---- what the loop keeps
+
+-- the intervals before `since`, from which on all is open up to `upto`
+pub record IsFound (p : Parameters) (guarded : Bool) (owned : List Own) (channel : Channel) (since upto : ℕ) (spans : List Span) : Type 0 where
+  pub below : AreBelow (IsOpenTo p guarded owned channel) since spans
+  pub ordered : since ≤ upto
+  pub inside : AllIn (IsOpenTo p guarded owned channel) since upto
+
+next_slot : (earlier size : ℕ) → (earlier + 1) * size ≡ earlier * size + size
+next_slot earlier size = omega arith
+
+module _ (p : Parameters) (lawful : IsParameters p) (guarded : Bool) (owned : List Own) (channel : Channel) where
+  pub found_none : IsFound p guarded owned channel 0 (0 * p.static_mt) []
+  found_none = record { below = none_below (IsOpenTo p guarded owned channel); ordered = omega arith; inside = λ m from before. absurd (omega arith) }
+
+  pub found_open : (earlier since : ℕ) (xs : List Span) → earlier < p.static_slots → IsFound p guarded owned channel since (earlier * p.static_mt) xs
+      → is_open guarded owned channel (static_slot (earlier + 1)) ≡ true → IsFound p guarded owned channel since ((earlier + 1) * p.static_mt) xs
+  found_open earlier since xs below h opens =
+      record {
+        below = h.below;
+        ordered = omega (arith, h.ordered, next_slot earlier p.static_mt);
+        inside = λ m from before.
+            elim (cases_lt m (earlier * p.static_mt)) [
+              | inl sooner ↦ h.inside m from sooner
+              | inr here ↦ slot_open p lawful guarded owned channel earlier below opens m here (omega (arith, next_slot earlier p.static_mt))
+            ];
+      }
+
+  pub found_closed : (earlier since : ℕ) (xs : List Span) → earlier < p.static_slots → IsFound p guarded owned channel since (earlier * p.static_mt) xs
+      → is_open guarded owned channel (static_slot (earlier + 1)) ≡ false
+      → IsFound p guarded owned channel (earlier * p.static_mt + p.static_mt) ((earlier + 1) * p.static_mt) (xs ++ run since (earlier * p.static_mt))
+  found_closed earlier since xs below h closed =
+      record {
+        below = closed_below (IsOpenTo p guarded owned channel) xs since (earlier * p.static_mt) (earlier * p.static_mt + p.static_mt) h.below h.ordered h.inside (omega (arith, lawful.static_mt_fit.from_least)) (slot_closed p guarded owned channel earlier below closed);
+        ordered = omega (arith, next_slot earlier p.static_mt);
+        inside = λ m from before. absurd (omega (arith, next_slot earlier p.static_mt));
+      }
+
+  pub found_all : (since : ℕ) (xs : List Span) → IsFound p guarded owned channel since (p.static_slots * p.static_mt) xs
+      → AreMaximalIntervals (IsOpenTo p guarded owned channel) (xs ++ run since (p.static_slots * p.static_mt + p.minislots * p.minislot_mt))
+  found_all since xs h =
+      closed_last (IsOpenTo p guarded owned channel) xs since (symbol_start p) h.below (omega (arith, h.ordered))
+      (λ m from before.
+      elim (cases_lt m (dynamic_start p)) [
+        | inl sooner ↦ h.inside m from sooner
+        | inr here ↦ dynamic_open p lawful guarded owned channel m here before
+      ])
+      (λ m from inside. behind_closed p guarded owned channel m from inside)
+
+  -- the same, with the length of a slot under another name
+  pub step_open : (size earlier since : ℕ) (xs : List Span) → size ≡ p.static_mt → earlier < p.static_slots → IsFound p guarded owned channel since (earlier * size) xs
+      → is_open guarded owned channel (static_slot (earlier + 1)) ≡ true → IsFound p guarded owned channel since ((earlier + 1) * size) xs
+  step_open size earlier since xs is below h opens =
+      subst (λ n. IsFound p guarded owned channel since ((earlier + 1) * n) xs) (sym is)
+      (found_open earlier since xs below (subst (λ n. IsFound p guarded owned channel since (earlier * n) xs) is h) opens)
+
+  pub step_closed : (size earlier since : ℕ) (xs : List Span) → size ≡ p.static_mt → earlier < p.static_slots → IsFound p guarded owned channel since (earlier * size) xs
+      → is_open guarded owned channel (static_slot (earlier + 1)) ≡ false
+      → IsFound p guarded owned channel (earlier * size + size) ((earlier + 1) * size) (xs ++ run since (earlier * size))
+  step_closed size earlier since xs is below h closed =
+      subst (λ n. IsFound p guarded owned channel (earlier * n + n) ((earlier + 1) * n) (xs ++ run since (earlier * n))) (sym is)
+      (found_closed earlier since xs below (subst (λ n. IsFound p guarded owned channel since (earlier * n) xs) is h) closed)
+
+  pub step_last : (size slots minislots minislot since end : ℕ) (xs : List Span) → size ≡ p.static_mt → slots ≡ p.static_slots → minislots ≡ p.minislots → minislot ≡ p.minislot_mt
+      → end ≡ slots * size + minislots * minislot → IsFound p guarded owned channel since (slots * size) xs
+      → AreMaximalIntervals (IsOpenTo p guarded owned channel) (xs ++ run since end)
+  step_last size slots minislots minislot since end xs a b c d e h =
+      let same : end ≡ p.static_slots * p.static_mt + p.minislots * p.minislot_mt = cc in
+      let upto : slots * size ≡ p.static_slots * p.static_mt = cc in
+      subst (λ n. AreMaximalIntervals (IsOpenTo p guarded owned channel) (xs ++ run since n)) (sym same)
+      (found_all since xs (subst (λ n. IsFound p guarded owned channel since n xs) upto h))
+
+pub same_found : (p : Parameters) (guarded : Bool) (owned : List Own) (channel : Channel) (since other upto : ℕ) (xs ys : List Span) → since ≡ other → xs ≡ ys
+    → IsFound p guarded owned channel other upto ys → IsFound p guarded owned channel since upto xs
+same_found p guarded owned channel since other upto xs ys a b h =
+    subst (λ n. IsFound p guarded owned channel n upto xs) (sym a) (subst (λ (zs : List Span). IsFound p guarded owned channel other upto zs) (sym b) h)

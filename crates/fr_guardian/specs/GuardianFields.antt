@@ -1,0 +1,26 @@
+-- The fields of `Guardian` as the cluster's description, and what they hold.
+use Rattle.std.specs.Prelude.{◌≡◌, List, map}
+use Rattle.std.specs.List.{All}
+use Rattle.fr_slots.specs.declared.channel.Channel.TheVariants.{A, B}
+use Rattle.fr_guardian.specs.declared.guardian.Guardian.TheInside.{Inside}
+use Rattle.fr_guardian.specs.declared.guardian.Post.{Post}
+use Rattle.fr_guardian.specs.Guarding.{IsOpenTo}
+use Rattle.fr_guardian.specs.Intervals.{AreMaximalIntervals}
+use Rattle.fr_schedule.specs.Clusters.{Description, is_guarded, IsCluster}
+
+-- the intervals that the post keeps are the open macroticks of its node in this cluster
+pub record IsPost (d : Description) (post : Post) : Type 0 where
+  pub on_a : AreMaximalIntervals (IsOpenTo d.params (is_guarded d.guard A) post.plan.owned A) post.a.items
+  pub on_b : AreMaximalIntervals (IsOpenTo d.params (is_guarded d.guard B) post.plan.owned B) post.b.items
+
+-- the posts of the cluster's nodes, in their order
+pub record ArePosts (d : Description) (posts : List Post) : Type 0 where
+  pub plans_are : map (λ (post : Post). post.plan) posts ≡ d.plans
+  pub each : All (IsPost d) posts
+
+abbrev pub description_in : Inside → Description
+description_in g = record { params = g.params; guard = g.guard; plans = map (λ (post : Post). post.plan) g.posts.items }
+
+pub record IsLawful (g : Inside) : Type 0 where
+  pub cluster : IsCluster (description_in g)
+  pub each : All (IsPost (description_in g)) g.posts.items

@@ -1,0 +1,55 @@
+-- What a bus guardian lets pass, and when it is open (chapter 5; that it watches over static slots alone, and which channels
+-- are guarded, are own profile).
+use Rattle.std.specs.Prelude.{◌≡◌, ℕ, Bool, true, false, not, ◌&&◌, ◌||◌, List, Option, Some, None, slice_get}
+use Rattle.fr_slots.specs.declared.channel.Channel.{Channel}
+use Rattle.fr_slots.specs.declared.plan.Own.{Own}
+use Rattle.fr_slots.specs.Faults.{is_owned}
+use Rattle.fr_slots.specs.Parameters.{Parameters}
+use Rattle.fr_slots.specs.Plans.{Plan}
+use Rattle.fr_slots.specs.Windows.{Opportunity, slot_of, is_static}
+use Rattle.fr_timing.specs.declared.place.Place.{Place}
+use Rattle.fr_timing.specs.Layout.{Part, static_slot, minislot, symbol_window, idle_time, part_of, IsAt}
+use Rattle.fr_schedule.specs.Clusters.{Description, is_guarded}
+
+-- ---- what passes
+
+-- in a static slot on a guarded channel the owner's transmissions pass, and everywhere else all do
+abbrev pub lets_pass : Description → Opportunity → Channel → Plan → ℕ → Bool
+lets_pass d w channel plan slot = not (is_static w && is_guarded d.guard channel) || is_owned plan.owned slot channel
+
+-- nothing passes of a node that the cluster doesn't have, or on a channel without a slot
+abbrev pub passes_in : Description → Opportunity → Channel → Option Plan → Option ℕ → Bool
+passes_in d w channel None slot = false
+passes_in d w channel (Some plan) None = false
+passes_in d w channel (Some plan) (Some slot) = lets_pass d w channel plan slot
+
+-- a transmission of the node in the window on the channel passes
+abbrev pub passes : Description → ℕ → Opportunity → Channel → Bool
+passes d node w channel = passes_in d w channel (slice_get d.plans node) (slot_of w channel)
+
+-- in a static slot on a guarded channel no other node's transmissions pass
+abbrev pub PassesAlone : Description → ℕ → Opportunity → Channel → Type 0
+PassesAlone d node w channel =
+    is_static w ≡ true → is_guarded d.guard channel ≡ true → (other : ℕ) → passes d other w channel ≡ true → other ≡ node
+
+-- ---- the open macroticks of a cycle
+
+-- the part is open to a node that owns this, where the channel is guarded or not: its own static slots, or all of them, and
+-- the dynamic segment
+abbrev pub is_open : Bool → List Own → Channel → Part → Bool
+is_open guarded owned channel (static_slot slot) = not guarded || is_owned owned slot channel
+is_open guarded owned channel (minislot number) = true
+is_open guarded owned channel symbol_window = false
+is_open guarded owned channel idle_time = false
+
+-- the macrotick lies in an open part
+pub record IsOpenTo (p : Parameters) (guarded : Bool) (owned : List Own) (channel : Channel) (macrotick : ℕ) : Type 0 where
+  pub place : Place
+  pub at : IsAt p macrotick place
+  pub opens : is_open guarded owned channel (part_of place) ≡ true
+
+-- the macrotick is open to the node on the channel, and none is to a node that the cluster doesn't have
+pub record IsOpenMacrotick (d : Description) (node : ℕ) (channel : Channel) (macrotick : ℕ) : Type 0 where
+  pub plan : Plan
+  pub of_node : slice_get d.plans node ≡ Some plan
+  pub open_to : IsOpenTo d.params (is_guarded d.guard channel) plan.owned channel macrotick

@@ -1,0 +1,3 @@
+pub mod Guarding
+pub mod GuardianFields
+pub mod Intervals

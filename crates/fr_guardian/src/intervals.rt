@@ -1,0 +1,60 @@
+//! The intervals of a cycle in which a channel is open to a node.
+
+ghost use Rattle.std.specs.Prelude.{◌≡◌, ◌≤◌, ◌+◌, ◌*◌, ◌^◌, ◌<◌, ◌++◌, ◌||◌, not, length, IfOk, OnOk};
+ghost use Rattle.fr_timing.specs.Layout.{static_slot};
+ghost use Rattle.fr_guardian.specs.Guarding.{is_open, IsOpenTo};
+ghost use Rattle.fr_guardian.specs.Intervals.{AreMaximalIntervals, run};
+
+use crate::ownership::is_owned;
+use fr_slots::channel::Channel;
+use fr_slots::params::Params;
+use fr_slots::plan::Own;
+use std::alloc::{AllocError, Global};
+
+/// Whether a static slot is open to a node that owns this on the channel, which is guarded or not.
+fn is_open_slot(guarded: bool, owned: &[Own], slot: u16, channel: Channel) -> bool
+    ensures { result ≡ is_open guarded owned.now channel (static_slot slot) }
+{
+    !guarded || is_owned(owned, slot, channel)
+}
+
+/// Appends the interval, unless it is empty.
+fn add(intervals: &mut Vec<(u32, u32)>, start: u32, end: u32) -> Result<(), AllocError>
+    ensures { OnOk result (intervals.new.items ≡ intervals.old.items ++ run start end) }
+{
+    if start < end {
+        intervals.push((start, end))?;
+    }
+    Ok(())
+}
+
+/// The macroticks of a cycle in which a channel is open to a node, as half-open intervals: the static slots that it
+/// owns, or all of them where the channel isn't guarded, and the dynamic segment. Where such parts touch they are in one
+/// interval.
+pub fn open_intervals(
+    alloc: Global,
+    params: &Params,
+    guarded: bool,
+    owned: &[Own],
+    channel: Channel,
+) -> Result<Vec<(u32, u32)>, AllocError>
+    ensures { IfOk result
+        (λ intervals. AreMaximalIntervals (IsOpenTo params.now guarded owned.now channel) intervals.items) }
+{
+    let params = params.duplicate();
+    let static_mt = u32::from(params.static_mt);
+    let mut intervals = Vec::new(alloc);
+    // where the interval begins that goes on, or would
+    let mut since = 0;
+    for earlier in 0..params.static_slots {
+        if !is_open_slot(guarded, owned, earlier + 1, channel) {
+            let start = u32::from(earlier) * static_mt;
+            add(&mut intervals, since, start)?;
+            since = start + static_mt;
+        }
+    }
+    let end = u32::from(params.static_slots) * static_mt
+        + u32::from(params.minislots) * u32::from(params.minislot_mt);
+    add(&mut intervals, since, end)?;
+    Ok(intervals)
+}
