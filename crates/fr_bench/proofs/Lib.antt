@@ -2,3 +2,4 @@ pub mod AuditLemmas
 pub mod OrderLemmas
 pub mod NumberLemmas
 pub mod InputLemmas
+pub mod PlanTextLemmas

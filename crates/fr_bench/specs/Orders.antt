@@ -29,13 +29,20 @@ bare = record {
 abbrev pub the_file : Rule
 the_file = record (new_rule (codes "FILE")) { required = true }
 
--- the command `check`, with its file
-abbrev pub the_check : App
-the_check = with_rule (new_app (codes "check")) the_file
+-- a command of this name, with its file
+abbrev pub with_file : Text → App
+with_file name = with_rule (new_app name) the_file
 
--- the program with its commands
+-- the program with the commands `audit` and `check`, and then with `plan` too
+abbrev pub two_commands : App
+two_commands = with_subcommand (with_subcommand bare (named (codes "audit"))) (with_file (codes "check")).top
+
+abbrev pub three_commands : App
+three_commands = with_subcommand two_commands (with_file (codes "plan")).top
+
+-- the program with all its commands
 abbrev pub the_commands : App
-the_commands = with_subcommand (with_subcommand (with_subcommand bare (named (codes "audit"))) the_check.top) (named (codes "midpoint"))
+the_commands = with_subcommand three_commands (named (codes "midpoint"))
 
 -- the name of the command that words enter
 abbrev pub name_in : Option (Text × List Row) → Option Text
@@ -49,6 +56,7 @@ file_in = option_and_then (λ entered. first_of (codes "FILE") entered.1)
 abbrev pub IsOrder : Option (Text × List Row) → Order → Type 0
 IsOrder entered the_order.Audit = name_in entered ≡ Some (codes "audit")
 IsOrder entered (the_order.Check file) = (name_in entered ≡ Some (codes "check")) × (file_in entered ≡ Some file.now)
+IsOrder entered (the_order.Plan file) = (name_in entered ≡ Some (codes "plan")) × (file_in entered ≡ Some file.now)
 IsOrder entered the_order.Midpoint = name_in entered ≡ Some (codes "midpoint")
 
 -- want of memory alone is no fault of the words

@@ -15,6 +15,8 @@ pub enum Order<'a> {
     Audit,
     /// Read the cluster file of this name and print the line of its parameters.
     Check(&'a str),
+    /// Read the cluster file of this name and print who sends where and when each channel is open to each node.
+    Plan(&'a str),
     /// Read numbers on standard input and print their fault-tolerant midpoint.
     Midpoint,
 }

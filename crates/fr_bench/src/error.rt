@@ -1,12 +1,13 @@
 //! Why a command that reads one text has refused it.
 ghost use Rattle.std.specs.Prelude.{◌≡◌};
+ghost use Rattle.fr_bench.specs.ClusterFiles.{given_of};
 ghost use Rattle.fr_bench.specs.declared.error.BenchError.TheVariants as refusal;
 
 use fr_midpoint::ranks::MidpointError;
-use fr_params::error::ParamError;
+use fr_schedule::error::ConfigError;
 use thiserror::Error;
 
-/// Why `check` or `midpoint` hasn't done what it was asked (own profile).
+/// Why `check`, `plan` or `midpoint` hasn't done what it was asked (own profile).
 ///
 /// Printed, it is the error's name, and for an error of a crate below the names and values of that
 /// error.
@@ -27,22 +28,22 @@ pub enum BenchError {
     /// A word of the input is no number.
     #[error("BadNumber")]
     BadNumber,
-    /// The cluster file is no TOML, or not even UTF-8.
-    #[error("Toml")]
-    Toml,
-    /// The cluster file's parameters are refused.
-    #[error("Params {0}")]
-    Params(ParamError),
+    /// The cluster file is refused, for another cause than want of memory.
+    #[error("{0}")]
+    Config(ConfigError),
     /// The values have no midpoint.
     #[error("{0}")]
     Midpoint(MidpointError),
 }
 
-impl From<ParamError> for BenchError {
-    ghost from_gives = { λ error given. given ≡ refusal.Params error };
+impl From<ConfigError> for BenchError {
+    ghost from_gives = { λ error given. given ≡ given_of error };
 
-    fn from(error: ParamError) -> BenchError {
-        BenchError::Params(error)
+    fn from(error: ConfigError) -> BenchError {
+        match error {
+            ConfigError::Memory => BenchError::Memory,
+            _ => BenchError::Config(error),
+        }
     }
 }
 

@@ -8,6 +8,7 @@
 
 mod audit;
 mod check;
+mod cluster_file;
 mod command;
 mod error;
 mod failure;
@@ -15,6 +16,7 @@ mod input;
 mod midpoint;
 mod numbers;
 mod order;
+mod plan;
 
 use command::{Order, OrderError};
 use error::BenchError;
@@ -60,6 +62,10 @@ fn carry_out<R: Files + Input + Print + AllocGlobal>(
         Order::Check(path) => {
             let mut file = opened(rt, path)?;
             Ok(check::check_text(alloc, &mut file, &mut output)?)
+        }
+        Order::Plan(path) => {
+            let mut file = opened(rt, path)?;
+            Ok(plan::plan_text(alloc, &mut file, &mut output)?)
         }
         Order::Midpoint => Ok(midpoint::midpoint_text(alloc, &mut rt.reader(), &mut output)?),
     }

@@ -2,7 +2,7 @@
 ghost use Rattle.std.specs.Prelude.{◌≡◌, ◌∷◌, ◌⊎◌, [], IfOk, IfSome, Some, false, Ok, Err, codes, map};
 ghost use Rattle.clap.specs.Words.{app_of, fault_of, subcommand_name_of, subcommand_of, subcommand_rows_of};
 ghost use Rattle.clap.specs.declared.builder.command.Command.TheViews.{out-Command};
-ghost use Rattle.fr_bench.specs.Orders.{IsOrder, bare, the_check, the_commands};
+ghost use Rattle.fr_bench.specs.Orders.{IsOrder, bare, with_file, the_commands};
 ghost use Rattle.fr_bench.specs.declared.command.Order.TheVariants as the_order;
 ghost use Rattle.fr_bench.specs.declared.command.OrderError.TheVariants as refusal;
 
@@ -10,13 +10,13 @@ use crate::command::{Order, OrderError};
 use clap::{Arg, ArgMatches, Command};
 use std::alloc::{AllocError, Global};
 
-/// The command `check`, with its file.
-fn check<'a>(alloc: Global) -> Result<Command<'a>, AllocError>
-    ensures app { IfOk result (λ c. app_of c ≡ the_check) }
+/// A command of this name with a file.
+fn of_file<'a>(alloc: Global, name: &'a str) -> Result<Command<'a>, AllocError>
+    ensures app { IfOk result (λ c. app_of c ≡ with_file name.now) }
     ensures local { IfOk result (λ c. (out-Command c).has_globals ≡ false) }
 {
     let file = Arg::new(alloc, "FILE").required(true);
-    Command::new(alloc, "check").arg(file)
+    Command::new(alloc, name).arg(file)
 }
 
 /// The program, with no command yet.
@@ -33,8 +33,9 @@ fn commands<'a>(alloc: Global) -> Result<Command<'a>, AllocError>
     ensures { IfOk result (λ c. app_of c ≡ the_commands) }
 {
     let first = program(alloc).subcommand(Command::new(alloc, "audit"))?;
-    let second = first.subcommand(check(alloc)?)?;
-    second.subcommand(Command::new(alloc, "midpoint"))
+    let second = first.subcommand(of_file(alloc, "check")?)?;
+    let third = second.subcommand(of_file(alloc, "plan")?)?;
+    third.subcommand(Command::new(alloc, "midpoint"))
 }
 
 /// The order that the command's name and arguments stand for.
@@ -47,6 +48,7 @@ fn order_in<'a>(matches: &ArgMatches<'a>) -> Option<Order<'a>>
     match name {
         "audit" => Some(Order::Audit),
         "check" => Some(Order::Check(arguments.get_str("FILE")?)),
+        "plan" => Some(Order::Plan(arguments.get_str("FILE")?)),
         "midpoint" => Some(Order::Midpoint),
         _ => None,
     }

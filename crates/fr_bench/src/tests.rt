@@ -7,8 +7,12 @@ use crate::input::read_up_to;
 use crate::midpoint::midpoint_text;
 use crate::numbers::numbers_of;
 use crate::order::order;
+use crate::plan::plan_text;
 use fr_midpoint::ranks::MidpointError;
 use fr_params::error::ParamError;
+use fr_schedule::error::ConfigError;
+use fr_slots::channel::Channel;
+use fr_slots::numbers::{NodeId, SlotId};
 use fr_slots::params::Key;
 use fr_trace::error::TraceError;
 use std::alloc::Global;
@@ -139,18 +143,63 @@ fn check_without_a_file_is_usage(rt: HostRuntime) {
 }
 
 #[test]
+fn plan_takes_a_file(rt: HostRuntime) -> Result<(), Fail> {
+    let words = ["plan", "cluster.toml"];
+    assert_eq!(rt; order(rt.alloc(), &words)?, Order::Plan("cluster.toml"));
+    Ok(())
+}
+
+#[test]
 fn midpoint_is_an_order(rt: HostRuntime) -> Result<(), Fail> {
     assert_eq!(rt; order(rt.alloc(), &["midpoint"])?, Order::Midpoint);
     Ok(())
 }
 
-// ---- check
+// ---- check and plan
 
-/// The beginning of the three-node cluster's file, as far as `check` looks at it, with its length of
-/// the cycle left open.
+/// The parameters of the three-node cluster's file, with its length of the cycle left open.
 const GUARD_AND_PARAMS: &str = "guard = \"A\"\n\n[params]\nstatic_slots = 3\nminislots = 4\n\
 static_words = 1\nstatic_mt = 20\nminislot_mt = 5\nsymbol_mt = 0\nnit_mt = 10\nidle = 0\n\
 words_per_minislot = 5\n";
+
+/// The nodes of the three-node cluster's file.
+const NODES: &str = "\n[[node]]\ntasks = 2\n\
+own = [{slot = 1, channels = \"AB\", sync = true}]\n\
+queue = {capacity = 2, first = 4, last = 7, channels = \"AB\"}\n\
+buffer = [\n\
+  {kind = \"event\", slot = 1, channels = \"AB\"},\n\
+  {kind = \"receive\", slot = 2, channels = \"A\"},\n\
+]\n\
+\n[[node]]\ntasks = 2\n\
+own = [{slot = 2, channels = \"AB\"}]\n\
+buffer = [\n\
+  {kind = \"state\", slot = 2, channels = \"AB\"},\n\
+  {kind = \"receive\", slot = 1, channels = \"A\"},\n\
+  {kind = \"receive\", slot = 1, channels = \"B\"},\n\
+]\n\
+\n[[node]]\ntasks = 2\nlatest_a = 4\n\
+buffer = [\n\
+  {kind = \"event\", slot = 4, channels = \"A\", words = 1},\n\
+  {kind = \"receive\", slot = 2, channels = \"AB\"},\n\
+]\n";
+
+/// A node that owns a slot which another owns already.
+const FURTHER_OWNER: &str = "\n[[node]]\nown = [{slot = 1, channels = \"AB\"}]\n";
+
+/// What `plan` writes for the three-node cluster.
+const PLAN: &[u8] = b"slot 1 A 0\n\
+slot 1 B 0\n\
+slot 2 A 1\n\
+slot 2 B 1\n\
+dynamic 4 A 2 0 1\n\
+guard 0 A 0 20\n\
+guard 0 A 60 80\n\
+guard 0 B 0 80\n\
+guard 1 A 20 40\n\
+guard 1 A 60 80\n\
+guard 1 B 0 80\n\
+guard 2 A 60 80\n\
+guard 2 B 0 80\n";
 
 /// What `check` writes for a file.
 fn checked(alloc: Global, mut file: &[u8]) -> Result<Vec<u8>, BenchError> {
@@ -162,9 +211,18 @@ fn checked(alloc: Global, mut file: &[u8]) -> Result<Vec<u8>, BenchError> {
     Ok(line)
 }
 
+/// What `plan` writes for a file.
+fn planned(alloc: Global, mut file: &[u8]) -> Result<Vec<u8>, BenchError> {
+    let Ok(mut text) = Vec::with_capacity(alloc, 512) else {
+        return Err(BenchError::Memory);
+    };
+    plan_text(alloc, &mut file, &mut text)?;
+    Ok(text)
+}
+
 #[test]
 fn check_writes_the_parameters(rt: HostRuntime) -> Result<(), Fail> {
-    let file = format!(in rt.alloc(); "{GUARD_AND_PARAMS}cycle_mt = 90\n")?;
+    let file = format!(in rt.alloc(); "{GUARD_AND_PARAMS}cycle_mt = 90\n{NODES}")?;
     let line = checked(rt.alloc(), file.as_str().as_bytes())?;
     assert_eq!(rt;
         line.as_slice(),
@@ -174,25 +232,62 @@ fn check_writes_the_parameters(rt: HostRuntime) -> Result<(), Fail> {
 }
 
 #[test]
-fn a_cycle_one_macrotick_longer_is_cycle_sum(rt: HostRuntime) -> Result<(), Fail> {
-    let file = format!(in rt.alloc(); "{GUARD_AND_PARAMS}cycle_mt = 91\n")?;
-    let refused = checked(rt.alloc(), file.as_str().as_bytes()).err();
-    assert_eq!(rt; refused, Some(BenchError::Params(ParamError::CycleSum)));
+fn plan_writes_senders_and_windows(rt: HostRuntime) -> Result<(), Fail> {
+    let file = format!(in rt.alloc(); "{GUARD_AND_PARAMS}cycle_mt = 90\n{NODES}")?;
+    let text = planned(rt.alloc(), file.as_str().as_bytes())?;
+    assert_eq!(rt; text.as_slice(), PLAN);
     Ok(())
 }
 
 #[test]
+fn a_further_owner_takes_a_slot(rt: HostRuntime) -> Result<(), Fail> {
+    let file = format!(in rt.alloc(); "{GUARD_AND_PARAMS}cycle_mt = 90\n{NODES}{FURTHER_OWNER}")?;
+    let slot = SlotId::new(1).ok_or("no slot")?;
+    let taken = Some(BenchError::Config(ConfigError::SlotTaken(slot, Channel::A)));
+    assert_eq!(rt; checked(rt.alloc(), file.as_str().as_bytes()).err(), taken);
+    Ok(())
+}
+
+#[test]
+fn a_cycle_one_macrotick_longer_is_cycle_sum(rt: HostRuntime) -> Result<(), Fail> {
+    let file = format!(in rt.alloc(); "{GUARD_AND_PARAMS}cycle_mt = 91\n")?;
+    let refused = checked(rt.alloc(), file.as_str().as_bytes()).err();
+    let sum = ConfigError::Params(ParamError::CycleSum);
+    assert_eq!(rt; refused, Some(BenchError::Config(sum)));
+    Ok(())
+}
+
+#[test]
+fn a_file_without_nodes_has_too_many(rt: HostRuntime) -> Result<(), Fail> {
+    let file = format!(in rt.alloc(); "{GUARD_AND_PARAMS}cycle_mt = 90\n")?;
+    let refused = checked(rt.alloc(), file.as_str().as_bytes()).err();
+    assert_eq!(rt;
+        refused,
+        Some(BenchError::Config(ConfigError::TooManyNodes))
+    );
+    Ok(())
+}
+
+/// The first key of `params` isn't there.
+fn first_key_missing() -> Option<BenchError> {
+    let missing = ParamError::Missing(Key::StaticSlots);
+    Some(BenchError::Config(ConfigError::Params(missing)))
+}
+
+#[test]
 fn a_file_without_params_misses_the_first_key(rt: HostRuntime) {
-    let missing = Some(BenchError::Params(ParamError::Missing(Key::StaticSlots)));
     for file in [b"".as_slice(), b"params = 1\n", b"[[params]]\nidle = 0\n"] {
-        assert_eq!(rt; checked(rt.alloc(), file).err(), missing);
+        assert_eq!(rt; checked(rt.alloc(), file).err(), first_key_missing());
     }
 }
 
 #[test]
 fn what_is_no_toml_is_toml(rt: HostRuntime) {
     for file in [b"params".as_slice(), b"# \xff\n"] {
-        assert_eq!(rt; checked(rt.alloc(), file).err(), Some(BenchError::Toml));
+        assert_eq!(rt;
+            planned(rt.alloc(), file).err(),
+            Some(BenchError::Config(ConfigError::Toml))
+        );
     }
 }
 
@@ -201,8 +296,19 @@ fn check_tells_who_failed(rt: HostRuntime) -> Result<(), Fail> {
     let mut line = Vec::new(rt.alloc());
     let refused = check_text(rt.alloc(), &mut Broken, &mut line);
     assert_eq!(rt; refused, Err(BenchError::Read));
-    let file = format!(in rt.alloc(); "{GUARD_AND_PARAMS}cycle_mt = 90\n")?;
+    let file = format!(in rt.alloc(); "{GUARD_AND_PARAMS}cycle_mt = 90\n{NODES}")?;
     let refused = check_text(rt.alloc(), &mut file.as_str().as_bytes(), &mut Broken);
+    assert_eq!(rt; refused, Err(BenchError::Write));
+    Ok(())
+}
+
+#[test]
+fn plan_tells_who_failed(rt: HostRuntime) -> Result<(), Fail> {
+    let mut text = Vec::new(rt.alloc());
+    let refused = plan_text(rt.alloc(), &mut Broken, &mut text);
+    assert_eq!(rt; refused, Err(BenchError::Read));
+    let file = format!(in rt.alloc(); "{GUARD_AND_PARAMS}cycle_mt = 90\n{NODES}")?;
+    let refused = plan_text(rt.alloc(), &mut file.as_str().as_bytes(), &mut Broken);
     assert_eq!(rt; refused, Err(BenchError::Write));
     Ok(())
 }
@@ -236,28 +342,34 @@ fn midpoint_writes_value_and_ranks(rt: HostRuntime) -> Result<(), Fail> {
     Ok(())
 }
 
+/// Whether the input was refused as this, as the bench prints it.
+fn is_refused_as(outcome: &Result<Vec<u8>, BenchError>, name: &str) -> bool {
+    let said = match outcome {
+        Err(BenchError::BadNumber) => "BadNumber",
+        Err(BenchError::Midpoint(MidpointError::TooMany)) => "TooMany",
+        Err(BenchError::Midpoint(MidpointError::TooLarge)) => "TooLarge",
+        _ => "another",
+    };
+    said == name
+}
+
 #[test]
 fn midpoint_refuses_in_order(rt: HostRuntime) {
-    let too_many = BenchError::Midpoint(MidpointError::TooMany);
-    let too_large = BenchError::Midpoint(MidpointError::TooLarge);
     let cases = [
-        (b"1 2x".as_slice(), BenchError::BadNumber),
-        (b"+1", BenchError::BadNumber),
-        (b"-", BenchError::BadNumber),
-        (b"--1", BenchError::BadNumber),
-        (b"1\t2", BenchError::BadNumber),
-        (b"12345678901", BenchError::BadNumber),
-        (
-            b"1 1 1 1 1 1 1 1 1 1 1 1 1 1 1 9999999999 x",
-            BenchError::BadNumber,
-        ),
-        (b"1 1 1 1 1 1 1 1 1 1 1 1 1 1 1 9999999999", too_many),
-        (b"1000001", too_large),
-        (b"2147483648", too_large),
-        (b"-9999999999", too_large),
+        (b"1 2x".as_slice(), "BadNumber"),
+        (b"+1", "BadNumber"),
+        (b"-", "BadNumber"),
+        (b"--1", "BadNumber"),
+        (b"1\t2", "BadNumber"),
+        (b"12345678901", "BadNumber"),
+        (b"1 1 1 1 1 1 1 1 1 1 1 1 1 1 1 9999999999 x", "BadNumber"),
+        (b"1 1 1 1 1 1 1 1 1 1 1 1 1 1 1 9999999999", "TooMany"),
+        (b"1000001", "TooLarge"),
+        (b"2147483648", "TooLarge"),
+        (b"-9999999999", "TooLarge"),
     ];
     for (input, refusal) in cases {
-        assert_eq!(rt; midpoint_of(rt.alloc(), input).err(), Some(refusal));
+        assert!(rt; is_refused_as(&midpoint_of(rt.alloc(), input), refusal));
     }
 }
 
@@ -321,23 +433,6 @@ fn failures_print_one_line(rt: HostRuntime) -> Result<(), Fail> {
         (BenchError::Write.into(), "refused Write"),
         (BenchError::Memory.into(), "refused Memory"),
         (BenchError::BadNumber.into(), "refused BadNumber"),
-        (BenchError::Toml.into(), "refused Toml"),
-        (
-            BenchError::Params(ParamError::Missing(Key::Idle)).into(),
-            "refused Params Missing idle",
-        ),
-        (
-            BenchError::Params(ParamError::NotANumber(Key::NitMt)).into(),
-            "refused Params NotANumber nit_mt",
-        ),
-        (
-            BenchError::Params(ParamError::OutOfRange(Key::CycleMt)).into(),
-            "refused Params OutOfRange cycle_mt",
-        ),
-        (
-            BenchError::Params(ParamError::CycleSum).into(),
-            "refused Params CycleSum",
-        ),
         (
             BenchError::Midpoint(MidpointError::TooMany).into(),
             "refused TooMany",
@@ -348,6 +443,38 @@ fn failures_print_one_line(rt: HostRuntime) -> Result<(), Fail> {
         ),
     ];
     for (failure, text) in cases {
+        let line = format!(in rt.alloc(); "{failure}")?;
+        assert_eq!(rt; line.as_str(), text);
+    }
+    Ok(())
+}
+
+#[test]
+fn refused_cluster_files_print_one_line(rt: HostRuntime) -> Result<(), Fail> {
+    let node = NodeId::new(2).ok_or("no node")?;
+    let cases = [
+        (ConfigError::Toml, "refused Toml"),
+        (
+            ConfigError::Params(ParamError::Missing(Key::Idle)),
+            "refused Params Missing idle",
+        ),
+        (
+            ConfigError::Params(ParamError::NotANumber(Key::NitMt)),
+            "refused Params NotANumber nit_mt",
+        ),
+        (
+            ConfigError::Params(ParamError::OutOfRange(Key::CycleMt)),
+            "refused Params OutOfRange cycle_mt",
+        ),
+        (
+            ConfigError::Params(ParamError::CycleSum),
+            "refused Params CycleSum",
+        ),
+        (ConfigError::BadBuffer(node, 7), "refused BadBuffer 2 7"),
+        (ConfigError::Memory, "refused Memory"),
+    ];
+    for (error, text) in cases {
+        let failure = Failure::from(BenchError::from(error));
         let line = format!(in rt.alloc(); "{failure}")?;
         assert_eq!(rt; line.as_str(), text);
     }

@@ -1,0 +1,261 @@
+//! `fr_bench plan`.
+ghost use Rattle.std.specs.Prelude.{◌≡◌, ◌<◌, ◌≤◌, OnOk, IfSome, option_map, slice_get};
+ghost use Rattle.fr_bench.specs.Checks.{Plans};
+ghost use Rattle.std.specs.Io.KnownBytes.{Appends};
+ghost use Rattle.std.specs.List.{flat_map};
+ghost use Rattle.fr_bench.specs.PlanText.{owner_text, owners_text, slot_text, static_text};
+ghost use Rattle.fr_bench.specs.PlanText.{dynamic_line, buffer_text, node_text, dynamic_text};
+ghost use Rattle.fr_bench.specs.PlanText.{guard_line, IsGuardText, AreGuardTexts, IsPlanText, Adds};
+ghost use Rattle.fr_lines.specs.Parts.{channels_word};
+ghost use Rattle.fr_slots.specs.Faults.{transmits_dynamic};
+
+use crate::cluster_file::cluster_of;
+use crate::error::BenchError;
+use fr_guardian::guardian::Guardian;
+use fr_guardian::ownership::is_owned;
+use fr_schedule::cluster::Cluster;
+use fr_slots::channel::{Channel, Channels};
+use fr_slots::numbers::NodeId;
+use fr_slots::params::Params;
+use fr_slots::plan::{Buffer, Mode, NodePlan};
+use std::alloc::Global;
+use std::io::{self, Read, Write};
+
+#[cfg(test)]
+mod tests;
+
+/// The plan of the node of this number, or None where the cluster doesn't have it.
+fn plan_of(cluster: &Cluster, number: u8) -> Option<&NodePlan>
+    requires { number < 16 }
+    ensures { option_map (λ plan. plan.now) result ≡ slice_get cluster.now.plans number }
+{
+    cluster.node(NodeId::new(number)?)
+}
+
+/// Writes the line of a static slot, where the node owns it on the channel.
+fn write_owner<W: Write>(
+    writer: &mut W,
+    slot: u16,
+    channel: Channel,
+    number: u8,
+    plan: &NodePlan,
+) -> io::Result<()>
+    ensures { OnOk result
+        (Appends (W.contents writer.old) (W.contents writer.new) (owner_text slot channel number plan.now)) }
+{
+    if is_owned(plan.owned(), slot, channel) {
+        writeln!(writer, "slot {slot} {channel} {number}")
+    } else {
+        Ok(())
+    }
+}
+
+/// Writes the lines of the owners of a static slot on the channel.
+fn write_owners<W: Write>(
+    writer: &mut W,
+    cluster: &Cluster,
+    slot: u16,
+    channel: Channel,
+) -> io::Result<()>
+    ensures { OnOk result
+        (Appends (W.contents writer.old) (W.contents writer.new) (owners_text cluster.now.plans slot channel)) }
+{
+    for number in 0..cluster.nodes() {
+        if let Some(plan) = plan_of(cluster, number) {
+            write_owner(writer, slot, channel, number, plan)?;
+        }
+    }
+    Ok(())
+}
+
+/// Writes the lines of a static slot.
+fn write_slot<W: Write>(writer: &mut W, cluster: &Cluster, slot: u16) -> io::Result<()>
+    ensures { OnOk result (Appends (W.contents writer.old) (W.contents writer.new) (slot_text cluster.now.plans slot)) }
+{
+    write_owners(writer, cluster, slot, Channel::A)?;
+    write_owners(writer, cluster, slot, Channel::B)
+}
+
+/// Writes the lines of the static slots.
+fn write_slots<W: Write>(writer: &mut W, cluster: &Cluster) -> io::Result<()>
+    ensures { OnOk result (Appends (W.contents writer.old) (W.contents writer.new) (static_text cluster.now)) }
+{
+    let params = cluster.params().duplicate();
+    for earlier in 0..params.static_slots {
+        write_slot(writer, cluster, earlier + 1)?;
+    }
+    Ok(())
+}
+
+/// The word of channels.
+fn channels_word(channels: Channels) -> &'static str
+    ensures { result.now ≡ channels_word channels }
+{
+    match channels {
+        Channels::A => "A",
+        Channels::B => "B",
+        Channels::Both => "AB",
+    }
+}
+
+/// Whether the buffer is a transmit buffer in a dynamic slot.
+fn transmits_dynamic(params: &Params, buffer: &Buffer) -> bool
+    ensures { result ≡ transmits_dynamic params.now buffer.now }
+{
+    match buffer.mode {
+        Mode::Event | Mode::State => params.static_slots < buffer.filter.slot.number(),
+        Mode::Receive => false,
+    }
+}
+
+/// Writes the line of a dynamic transmit buffer.
+fn write_dynamic<W: Write>(writer: &mut W, number: u8, buffer: &Buffer) -> io::Result<()>
+    ensures { OnOk result (Appends (W.contents writer.old) (W.contents writer.new) (dynamic_line number buffer.now)) }
+{
+    let filter = buffer.filter;
+    write!(
+        writer,
+        "dynamic {} {}",
+        filter.slot.number(),
+        channels_word(filter.channels)
+    )?;
+    writeln!(
+        writer,
+        " {number} {} {}",
+        filter.cycles.base(),
+        filter.cycles.repetition()
+    )
+}
+
+/// Writes the line of a buffer, where it is a dynamic transmit buffer.
+fn write_buffer<W: Write>(
+    writer: &mut W,
+    params: &Params,
+    number: u8,
+    buffer: &Buffer,
+) -> io::Result<()>
+    ensures { OnOk result
+        (Appends (W.contents writer.old) (W.contents writer.new) (buffer_text params.now number buffer.now)) }
+{
+    if transmits_dynamic(params, buffer) {
+        write_dynamic(writer, number, buffer)
+    } else {
+        Ok(())
+    }
+}
+
+/// Writes the lines of the dynamic transmit buffers among these.
+fn write_buffers<W: Write>(
+    writer: &mut W,
+    params: &Params,
+    number: u8,
+    buffers: &[Buffer],
+) -> io::Result<()>
+    ensures { OnOk result
+        (Appends
+        (W.contents writer.old)
+        (W.contents writer.new)
+        (flat_map (buffer_text params.now number) buffers.now)) }
+{
+    for buffer in buffers {
+        write_buffer(writer, params, number, buffer)?;
+    }
+    Ok(())
+}
+
+/// Writes the lines of the dynamic transmit buffers of all nodes.
+fn write_dynamics<W: Write>(writer: &mut W, cluster: &Cluster) -> io::Result<()>
+    ensures { OnOk result (Appends (W.contents writer.old) (W.contents writer.new) (dynamic_text cluster.now)) }
+{
+    for number in 0..cluster.nodes() {
+        if let Some(plan) = plan_of(cluster, number) {
+            write_buffers(writer, cluster.params(), number, plan.buffers())?;
+        }
+    }
+    Ok(())
+}
+
+/// Writes a line for each of the intervals.
+fn write_spans<W: Write>(
+    writer: &mut W,
+    number: u8,
+    channel: Channel,
+    spans: &[(u32, u32)],
+) -> io::Result<()>
+    ensures { OnOk result
+        (Appends (W.contents writer.old) (W.contents writer.new) (flat_map (guard_line number channel) spans.now)) }
+{
+    for (start, end) in spans {
+        writeln!(writer, "guard {number} {channel} {start} {end}")?;
+    }
+    Ok(())
+}
+
+/// Writes the lines of the intervals in which the channel is open to the node.
+fn write_guard<W: Write>(
+    writer: &mut W,
+    guardian: &Guardian,
+    node: NodeId,
+    channel: Channel,
+) -> io::Result<()>
+    ensures { OnOk result
+        (Adds (IsGuardText guardian.now node channel) (W.contents writer.old) (W.contents writer.new)) }
+{
+    write_spans(
+        writer,
+        node.number(),
+        channel,
+        guardian.windows(node, channel),
+    )
+}
+
+/// Writes the lines of the open intervals of so many nodes.
+fn write_guards<W: Write>(writer: &mut W, guardian: &Guardian, nodes: u8) -> io::Result<()>
+    requires { nodes ≤ 16 }
+    ensures { OnOk result (Adds (AreGuardTexts guardian.now nodes) (W.contents writer.old) (W.contents writer.new)) }
+{
+    for number in 0..nodes {
+        if let Some(node) = NodeId::new(number) {
+            write_guard(writer, guardian, node, Channel::A)?;
+            write_guard(writer, guardian, node, Channel::B)?;
+        }
+    }
+    Ok(())
+}
+
+/// Writes the plan of a cluster: a line for each static slot and channel that has an owner, one for each dynamic
+/// transmit buffer, and one for each interval of a cycle in which a channel is open to a node (own profile).
+///
+/// Fails where the writer fails, and then a part of the text may have gone out.
+pub fn write_plan<W: Write>(
+    writer: &mut W,
+    cluster: &Cluster,
+    guardian: &Guardian,
+) -> io::Result<()>
+    requires { guardian.now ≡ cluster.now }
+    ensures { OnOk result (Adds (IsPlanText cluster.now) (W.contents writer.old) (W.contents writer.new)) }
+{
+    write_slots(writer, cluster)?;
+    write_dynamics(writer, cluster)?;
+    write_guards(writer, guardian, cluster.nodes())
+}
+
+/// Reads a cluster file to its end, and writes who sends where and when each channel is open to each node (own profile).
+///
+/// Refused as `check` is. On every refusal but `Write` nothing is written.
+pub fn plan_text<R: Read, W: Write>(
+    alloc: Global,
+    reader: &mut R,
+    writer: &mut W,
+) -> Result<(), BenchError>
+    ensures { IfSome (R.remaining reader.old) (λ text. Plans text (W.contents writer.old) (W.contents writer.new) result) }
+{
+    let cluster = cluster_of(alloc, reader)?;
+    let Ok(guardian) = Guardian::new(alloc, &cluster) else {
+        return Err(BenchError::Memory);
+    };
+    match write_plan(writer, &cluster, &guardian) {
+        Ok(()) => Ok(()),
+        Err(_) => Err(BenchError::Write),
+    }
+}
