@@ -110,7 +110,7 @@ fn node(number: u8) -> Result<NodeId, Fail> {
 /// The three-node cluster.
 fn cluster(alloc: Global) -> Result<Cluster, Fail> {
     let text = three_nodes(alloc, 90, "", "")?;
-    Ok(Cluster::from_text(alloc, text.as_str()).map_err(|_| "no cluster")?)
+    Ok(Cluster::from_text(alloc, text.as_str())?)
 }
 
 #[test]
