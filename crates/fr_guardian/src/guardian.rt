@@ -47,7 +47,7 @@ impl Model for Guardian {
 }
 
 impl Guardian {
-    /// The guardians of the cluster's nodes.
+    /// The guardians of the cluster's nodes. Refused where memory for their open intervals is refused.
     pub fn new(alloc: Global, cluster: &Cluster) -> Result<Guardian, AllocError>
         ensures { IfOk result (λ guardian. guardian ≡ cluster.now) }
     {
@@ -59,8 +59,8 @@ impl Guardian {
         })
     }
 
-    /// Whether a transmission of the node passes in the window on the channel: in a static slot of a guarded channel
-    /// exactly if the node owns the slot there, and elsewhere always (own profile).
+    /// Whether a transmission of the node passes in the window on the channel. In a static slot of a guarded channel
+    /// only those of the slot's owner pass, and everywhere else all do (own profile).
     ///
     /// Nothing passes where the window has no slot on the channel, and nothing of a node that the cluster doesn't have.
     pub fn passes(&self, node: NodeId, window: &Window, channel: Channel) -> bool
@@ -76,8 +76,8 @@ impl Guardian {
     }
 
     /// The macroticks of a cycle in which the channel is open to the node, as half-open intervals from the first
-    /// macrotick up to the one after the last, in their order and as long as can be: the static slots that it owns, or
-    /// the whole static segment where the channel isn't guarded, and the dynamic segment (own profile).
+    /// macrotick up to the one after the last, in their order and as long as can be: the dynamic segment, and of the
+    /// static one the slots that it owns, or all of it where the channel isn't guarded (own profile).
     ///
     /// There are none for a node that the cluster doesn't have.
     pub fn windows(&self, node: NodeId, channel: Channel) -> &[(u32, u32)]

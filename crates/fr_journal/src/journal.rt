@@ -33,7 +33,7 @@ impl Model for Journal {
 impl Journal {
     /// A journal without entries, and with room reserved for all that it may have.
     ///
-    /// `host` and `slot` are its limits, at most 16384 and 65536 entries.
+    /// `host` and `slot` are its limits, at most 16384 and 65536 entries. Refused where memory for them is refused.
     pub fn with_limits(alloc: Global, host: u32, slot: u32) -> Result<Journal, AllocError>
         requires host_limit { host ≤ 16384 }
         requires slot_limit { slot ≤ 65536 }
@@ -63,7 +63,7 @@ impl Journal {
         self.slot_limit - self.slot_count
     }
 
-    /// Appends an entry of the host, in the room that was reserved.
+    /// Appends an entry of the host, in the room that was reserved: `host_room` isn't 0 before.
     #[tactic(auto, using(crate::proofs::KindLemmas::kinds_fill))]
     pub fn push_host(&mut self, entry: Entry)
         requires kind { IsTrue (is_host entry) }
@@ -74,7 +74,7 @@ impl Journal {
         self.host_count += 1;
     }
 
-    /// Appends an entry of the controller, in the room that was reserved.
+    /// Appends an entry of the controller, in the room that was reserved: `slot_room` isn't 0 before.
     #[tactic(auto, using(crate::proofs::KindLemmas::kinds_fill))]
     pub fn push_slot(&mut self, entry: Entry)
         requires kind { is_host entry ≡ false }

@@ -16,8 +16,8 @@ use arrayvec::ArrayVec;
 /// The fault-tolerant midpoint of values (chapter 8), or none of no values (own profile).
 ///
 /// Of up to 2 values none is dropped, of 3 to 7 the least and the greatest, and of 8 and more the
-/// two least and the two greatest. The midpoint is half the sum of the least and the greatest that
-/// remain, truncated toward zero (the truncation is own profile).
+/// two least and the two greatest. The midpoint is half of what the least and the greatest of the rest
+/// add up to; of an odd sum it is the half nearer to zero (own profile).
 ///
 /// Refused with `TooMany` where there are more than 15 values, and then with `TooLarge` where one
 /// of them is more than 1,000,000 from 0. It takes no memory.

@@ -26,7 +26,7 @@ abbrev pub ◌>>=◌ : {A B : Type 0} → Result A ConfigError → (A → Result
 (Ok x) >>= f = f x
 (Err e) >>= f = Err e
 
--- ---- the parameters: a `params` that is absent or no table is an empty one
+-- ---- the parameters, of which no key is there where there is no table `params`
 
 abbrev pub members_or_none : Option Members → Members
 members_or_none None = no_members

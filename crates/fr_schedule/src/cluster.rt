@@ -121,7 +121,7 @@ impl Cluster {
     /// Refused, in this order:
     ///
     /// - `Toml` for a text that is no TOML,
-    /// - `Params` for a table `params` that gives no parameters; one that is absent or no table is read as empty,
+    /// - `Params` where the table `params` gives no parameters; without such a table its first key is missing,
     /// - `BadGuard`, and then `TooManyNodes`,
     /// - node by node, in the order of the file, `BadNode` and then `BadBuffer` for the first of its buffers at fault,
     /// - `SlotTaken`, `NotOwned`, `DynamicBoth`, `Overlap` and `TooLong`, each kind looked for in the whole file before

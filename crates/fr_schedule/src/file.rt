@@ -31,7 +31,7 @@ fn params_table(root: &Table) -> Option<&Table>
     }
 }
 
-/// The parameters. A table `params` that is absent is read as an empty one.
+/// The parameters. Where there is no table `params` no key is there.
 #[tactic(auto, unfolding(crate::specs::Files::params_in))]
 pub(crate) fn params_in(alloc: Global, root: &Table) -> Result<Params, ConfigError>
     ensures { result ≡ params_in (table_view root.now) }

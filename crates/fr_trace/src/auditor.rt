@@ -1,5 +1,5 @@
-//! An auditor reads a trace that comes in pieces. It keeps at most one unfinished line beside the plan
-//! or the interface.
+//! An auditor reads a trace that comes in pieces. Of the text it holds no more than a line that isn't over;
+//! what the lines before have told is a plan or an interface by then.
 
 ghost use Rattle.std.specs.Prelude.{◌≡◌, ◌+◌, ◌≤◌, length, None};
 ghost use Rattle.fr_lines.specs.Reading.{queue_in};
