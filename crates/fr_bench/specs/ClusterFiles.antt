@@ -12,18 +12,18 @@ use Rattle.fr_schedule.specs.declared.error.ConfigError.TheVariants as config
 abbrev pub IsShort : List ℕ → Type 0
 IsShort text = length text ≤ 1048576
 
--- the text describes this cluster
+-- the text, which is UTF-8, describes this cluster
 abbrev pub IsDescribed : List ℕ → Description → Type 0
-IsDescribed text d = IsShort text × (described text ≡ Ok d)
+IsDescribed text d = IsShort text × IsUtf8 text × (described text ≡ Ok d)
 
--- The text is refused so: as no TOML also where it isn't UTF-8.
+-- The text is refused so: as no TOML also where it isn't UTF-8, and only so then.
 abbrev pub IsRefused : List ℕ → ConfigError → Type 0
 IsRefused text config.Toml = IsUtf8 text → described text ≡ Err config.Toml
-IsRefused text e = described text ≡ Err e
+IsRefused text e = IsUtf8 text × (described text ≡ Err e)
 
 -- The cluster that the bytes describe, or their first fault. Memory is refused only while text is parsed.
 abbrev pub IsClusterIn : List ℕ → Result Description BenchError → Type 0
-IsClusterIn text (Ok d) = described text ≡ Ok d
+IsClusterIn text (Ok d) = IsUtf8 text × (described text ≡ Ok d)
 IsClusterIn text (Err (error.Config e)) = IsRefused text e
 IsClusterIn text (Err error.Memory) = IsUtf8 text
 IsClusterIn text (Err e) = ⊥

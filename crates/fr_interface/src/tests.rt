@@ -90,6 +90,33 @@ fn channel_a_is_held_before_channel_b(rt: HostRuntime) -> Result<(), Fail> {
 }
 
 #[test]
+fn a_frame_that_is_wrong_for_its_slot_is_not_held(rt: HostRuntime) -> Result<(), Fail> {
+    let two_words = [
+        0x20, 0x02, 0x04, 0xe2, 0x80, 0x0a, 0x0b, 0x0c, 0x0d, 0x11, 0xee, 0xd6,
+    ];
+    let slot_three = [0x20, 0x03, 0x03, 0xbc, 0x00, 0x0a, 0x0b, 0x3e, 0x8b, 0xc8];
+    let cycle_one = [0x20, 0x02, 0x03, 0xc1, 0x41, 0x0a, 0x0b, 0xaa, 0x4d, 0x43];
+    let startup_without_sync = [0x28, 0x02, 0x03, 0x79, 0x00, 0x0a, 0x0b, 0x83, 0x03, 0x20];
+    assert_eq!(rt;
+        held_after(rt.alloc(), &came(&two_words)?, &Seen::Silence)?,
+        None
+    );
+    assert_eq!(rt;
+        held_after(rt.alloc(), &came(&slot_three)?, &Seen::Silence)?,
+        None
+    );
+    assert_eq!(rt;
+        held_after(rt.alloc(), &came(&cycle_one)?, &Seen::Silence)?,
+        None
+    );
+    assert_eq!(rt;
+        held_after(rt.alloc(), &came(&startup_without_sync)?, &Seen::Silence)?,
+        None
+    );
+    Ok(())
+}
+
+#[test]
 fn a_null_frame_changes_no_buffer(rt: HostRuntime) -> Result<(), Fail> {
     let mut interface = interface(rt.alloc(), 8, 8)?;
     let task = task_zero()?;
