@@ -322,8 +322,9 @@ fn minislots_filled(params: &Params, words: u16) -> u16
     (words + 4).div_ceil(params.words_per_minislot)
 }
 
-/// The words that a transmit buffer sends.
-fn words_of(params: &Params, buffer: &Buffer) -> u16
+/// The words of two bytes that a transmit buffer sends: in a static slot those of the cluster's static frames, and in a
+/// dynamic slot its own, or 0 where it has none (chapter 5). At most 127 for a buffer of a plan.
+pub fn words_of(params: &Params, buffer: &Buffer) -> u16
     ensures value { result ≡ words_of params.now buffer.now }
     ensures fits { result < 256 }
 {

@@ -1,7 +1,7 @@
 //! Plans with each fault and with several, and printed faults.
 
 use super::channel::{Channel, Channels};
-use super::fault::PlanFault;
+use super::fault::{PlanFault, words_of};
 use super::filter::{CycleFilter, Filter};
 use super::numbers::{Cycle, SlotId};
 use super::params::Params;
@@ -96,6 +96,14 @@ fn a_plan_of_other_parameters(rt: HostRuntime) -> Result<(), Fail> {
         event(4, Channels::B, Some(0))?,
     ];
     assert_eq!(rt; fault_of([4, 4], &lines, &buffers)?, None);
+    Ok(())
+}
+
+#[test]
+fn words_of_a_static_and_of_a_dynamic_buffer(rt: HostRuntime) -> Result<(), Fail> {
+    let params = Params::new(ONE_WORD_CYCLE)?;
+    assert_eq!(rt; words_of(&params, &event(3, Channels::A, None)?), 1);
+    assert_eq!(rt; words_of(&params, &event(4, Channels::A, Some(7))?), 7);
     Ok(())
 }
 
