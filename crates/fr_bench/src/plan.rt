@@ -12,10 +12,10 @@ ghost use Rattle.fr_slots.specs.Faults.{transmits_dynamic};
 use crate::cluster_file::cluster_of;
 use crate::error::BenchError;
 use fr_guardian::guardian::Guardian;
-use fr_guardian::ownership::is_owned;
 use fr_schedule::cluster::Cluster;
 use fr_slots::channel::{Channel, Channels};
-use fr_slots::numbers::NodeId;
+use fr_slots::fault::is_owned;
+use fr_slots::numbers::{NodeId, SlotId};
 use fr_slots::params::Params;
 use fr_slots::plan::{Buffer, Mode, NodePlan};
 use std::alloc::Global;
@@ -35,7 +35,7 @@ fn plan_of(cluster: &Cluster, number: u8) -> Option<&NodePlan>
 /// Writes the line of a static slot, where the node owns it on the channel.
 fn write_owner<W: Write>(
     writer: &mut W,
-    slot: u16,
+    slot: SlotId,
     channel: Channel,
     number: u8,
     plan: &NodePlan,
@@ -44,7 +44,7 @@ fn write_owner<W: Write>(
         (Appends (W.contents writer.old) (W.contents writer.new) (owner_text slot channel number plan.now)) }
 {
     if is_owned(plan.owned(), slot, channel) {
-        writeln!(writer, "slot {slot} {channel} {number}")
+        writeln!(writer, "slot {} {channel} {number}", slot.number())
     } else {
         Ok(())
     }
@@ -54,7 +54,7 @@ fn write_owner<W: Write>(
 fn write_owners<W: Write>(
     writer: &mut W,
     cluster: &Cluster,
-    slot: u16,
+    slot: SlotId,
     channel: Channel,
 ) -> io::Result<()>
     ensures { OnOk result
@@ -69,7 +69,7 @@ fn write_owners<W: Write>(
 }
 
 /// Writes the lines of a static slot.
-fn write_slot<W: Write>(writer: &mut W, cluster: &Cluster, slot: u16) -> io::Result<()>
+fn write_slot<W: Write>(writer: &mut W, cluster: &Cluster, slot: SlotId) -> io::Result<()>
     ensures { OnOk result (Appends (W.contents writer.old) (W.contents writer.new) (slot_text cluster.now.plans slot)) }
 {
     write_owners(writer, cluster, slot, Channel::A)?;
@@ -82,7 +82,9 @@ fn write_slots<W: Write>(writer: &mut W, cluster: &Cluster) -> io::Result<()>
 {
     let params = cluster.params().duplicate();
     for earlier in 0..params.static_slots {
-        write_slot(writer, cluster, earlier + 1)?;
+        if let Some(slot) = SlotId::new(earlier + 1) {
+            write_slot(writer, cluster, slot)?;
+        }
     }
     Ok(())
 }
