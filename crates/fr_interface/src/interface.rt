@@ -21,7 +21,7 @@ use fr_journal::entry::{Arrival, Entry, Origin};
 use fr_journal::fate::Tally;
 use fr_journal::journal::Journal;
 use fr_slots::channel::Channel;
-use fr_slots::fault::words_of;
+use fr_slots::fault::{is_static_slot, words_of};
 use fr_slots::numbers::{SlotId, TaskId};
 use fr_slots::params::Params;
 use fr_slots::plan::{Buffer, NodePlan};
@@ -438,7 +438,7 @@ fn static_slot_fits(params: &Params, slot: Option<SlotId>) -> bool
     ensures { result ≡ static_slot_fits params.now slot }
 {
     match slot {
-        Some(slot) => slot.number() <= params.static_slots,
+        Some(slot) => is_static_slot(params, slot),
         None => true,
     }
 }
@@ -447,7 +447,7 @@ fn dynamic_slot_fits(params: &Params, slot: Option<SlotId>) -> bool
     ensures { result ≡ dynamic_slot_fits params.now slot }
 {
     match slot {
-        Some(slot) => params.static_slots < slot.number(),
+        Some(slot) => !is_static_slot(params, slot),
         None => true,
     }
 }
