@@ -7,17 +7,16 @@ ghost use Rattle.fr_bench.specs.PlanText.{owner_text, owners_text, slot_text, st
 ghost use Rattle.fr_bench.specs.PlanText.{dynamic_line, buffer_text, node_text, dynamic_text};
 ghost use Rattle.fr_bench.specs.PlanText.{guard_line, IsGuardText, AreGuardTexts, IsPlanText, Adds};
 ghost use Rattle.fr_lines.specs.Parts.{channels_word};
-ghost use Rattle.fr_slots.specs.Faults.{transmits_dynamic};
 
 use crate::cluster_file::cluster_of;
 use crate::error::BenchError;
 use fr_guardian::guardian::Guardian;
 use fr_schedule::cluster::Cluster;
 use fr_slots::channel::{Channel, Channels};
-use fr_slots::fault::is_owned;
+use fr_slots::fault::{is_owned, transmits_dynamic};
 use fr_slots::numbers::{NodeId, SlotId};
 use fr_slots::params::Params;
-use fr_slots::plan::{Buffer, Mode, NodePlan};
+use fr_slots::plan::{Buffer, NodePlan};
 use std::alloc::Global;
 use std::io::{self, Read, Write};
 
@@ -97,16 +96,6 @@ fn channels_word(channels: Channels) -> &'static str
         Channels::A => "A",
         Channels::B => "B",
         Channels::Both => "AB",
-    }
-}
-
-/// Whether the buffer is a transmit buffer in a dynamic slot.
-fn transmits_dynamic(params: &Params, buffer: &Buffer) -> bool
-    ensures { result ≡ transmits_dynamic params.now buffer.now }
-{
-    match buffer.mode {
-        Mode::Event | Mode::State => params.static_slots < buffer.filter.slot.number(),
-        Mode::Receive => false,
     }
 }
 

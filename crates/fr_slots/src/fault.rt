@@ -210,7 +210,7 @@ pub fn is_owned(owned: &[Own], slot: SlotId, channel: Channel) -> bool
 }
 
 /// Whether the ownership line is for the slot on the channel.
-fn claims(slot: SlotId, channel: Channel, own: &Own) -> bool
+pub fn claims(slot: SlotId, channel: Channel, own: &Own) -> bool
     ensures { result ≡ claims slot channel own.now }
 {
     own.slot == slot && own.channels.includes(channel)
@@ -343,7 +343,7 @@ fn transmits_static(params: &Params, buffer: &Buffer) -> bool
 }
 
 /// Whether the buffer is a transmit buffer in a dynamic slot.
-fn transmits_dynamic(params: &Params, buffer: &Buffer) -> bool
+pub fn transmits_dynamic(params: &Params, buffer: &Buffer) -> bool
     ensures { result ≡ transmits_dynamic params.now buffer.now }
 {
     transmits(buffer) && !is_static_slot(params, buffer.filter.slot)
