@@ -7,17 +7,16 @@ ghost use Rattle.fr_bench.specs.PlanText.{owner_text, owners_text, slot_text, st
 ghost use Rattle.fr_bench.specs.PlanText.{dynamic_line, buffer_text, node_text, dynamic_text};
 ghost use Rattle.fr_bench.specs.PlanText.{guard_line, IsGuardText, AreGuardTexts, IsPlanText, Adds};
 ghost use Rattle.fr_lines.specs.Parts.{channels_word};
-ghost use Rattle.fr_slots.specs.Faults.{transmits_dynamic};
 
 use crate::cluster_file::cluster_of;
 use crate::error::BenchError;
 use fr_guardian::guardian::Guardian;
-use fr_guardian::ownership::is_owned;
 use fr_schedule::cluster::Cluster;
 use fr_slots::channel::{Channel, Channels};
-use fr_slots::numbers::NodeId;
+use fr_slots::fault::{is_owned, transmits_dynamic};
+use fr_slots::numbers::{NodeId, SlotId};
 use fr_slots::params::Params;
-use fr_slots::plan::{Buffer, Mode, NodePlan};
+use fr_slots::plan::{Buffer, NodePlan};
 use std::alloc::Global;
 use std::io::{self, Read, Write};
 
@@ -35,7 +34,7 @@ fn plan_of(cluster: &Cluster, number: u8) -> Option<&NodePlan>
 /// Writes the line of a static slot, where the node owns it on the channel.
 fn write_owner<W: Write>(
     writer: &mut W,
-    slot: u16,
+    slot: SlotId,
     channel: Channel,
     number: u8,
     plan: &NodePlan,
@@ -44,7 +43,7 @@ fn write_owner<W: Write>(
         (Appends (W.contents writer.old) (W.contents writer.new) (owner_text slot channel number plan.now)) }
 {
     if is_owned(plan.owned(), slot, channel) {
-        writeln!(writer, "slot {slot} {channel} {number}")
+        writeln!(writer, "slot {} {channel} {number}", slot.number())
     } else {
         Ok(())
     }
@@ -54,7 +53,7 @@ fn write_owner<W: Write>(
 fn write_owners<W: Write>(
     writer: &mut W,
     cluster: &Cluster,
-    slot: u16,
+    slot: SlotId,
     channel: Channel,
 ) -> io::Result<()>
     ensures { OnOk result
@@ -69,7 +68,7 @@ fn write_owners<W: Write>(
 }
 
 /// Writes the lines of a static slot.
-fn write_slot<W: Write>(writer: &mut W, cluster: &Cluster, slot: u16) -> io::Result<()>
+fn write_slot<W: Write>(writer: &mut W, cluster: &Cluster, slot: SlotId) -> io::Result<()>
     ensures { OnOk result (Appends (W.contents writer.old) (W.contents writer.new) (slot_text cluster.now.plans slot)) }
 {
     write_owners(writer, cluster, slot, Channel::A)?;
@@ -82,7 +81,9 @@ fn write_slots<W: Write>(writer: &mut W, cluster: &Cluster) -> io::Result<()>
 {
     let params = cluster.params().duplicate();
     for earlier in 0..params.static_slots {
-        write_slot(writer, cluster, earlier + 1)?;
+        if let Some(slot) = SlotId::new(earlier + 1) {
+            write_slot(writer, cluster, slot)?;
+        }
     }
     Ok(())
 }
@@ -95,16 +96,6 @@ fn channels_word(channels: Channels) -> &'static str
         Channels::A => "A",
         Channels::B => "B",
         Channels::Both => "AB",
-    }
-}
-
-/// Whether the buffer is a transmit buffer in a dynamic slot.
-fn transmits_dynamic(params: &Params, buffer: &Buffer) -> bool
-    ensures { result ≡ transmits_dynamic params.now buffer.now }
-{
-    match buffer.mode {
-        Mode::Event | Mode::State => params.static_slots < buffer.filter.slot.number(),
-        Mode::Receive => false,
     }
 }
 

@@ -7,9 +7,9 @@ ghost use Rattle.fr_schedule.specs.Clusters.{is_guarded};
 ghost use Rattle.fr_guardian.specs.Intervals.{AreMaximalIntervals, Span};
 
 use crate::intervals::open_intervals;
-use crate::ownership::is_owned;
 use fr_schedule::cluster::Cluster;
 use fr_slots::channel::{Channel, Channels};
+use fr_slots::fault::is_owned;
 use fr_slots::numbers::NodeId;
 use fr_slots::params::Params;
 use fr_slots::plan::{NodePlan, Own};
@@ -72,7 +72,7 @@ impl Guardian {
             return false;
         };
         let watched = window.is_static() && is_guarded(self.guard, channel);
-        !watched || is_owned(post.plan.owned(), slot.number(), channel)
+        !watched || is_owned(post.plan.owned(), slot, channel)
     }
 
     /// The macroticks of a cycle in which the channel is open to the node, as half-open intervals from the first

@@ -1,21 +1,27 @@
 //! The intervals of a cycle in which a channel is open to a node.
 
 ghost use Rattle.std.specs.Prelude.{◌≡◌, ◌≤◌, ◌+◌, ◌*◌, ◌^◌, ◌<◌, ◌++◌, ◌||◌, not, length, IfOk, OnOk};
+ghost use Rattle.fr_slots.specs.Numbers.{IsSlot};
 ghost use Rattle.fr_timing.specs.Layout.{static_slot};
 ghost use Rattle.fr_guardian.specs.Guarding.{is_open, IsOpenTo};
 ghost use Rattle.fr_guardian.specs.Intervals.{AreMaximalIntervals, run};
 
-use crate::ownership::is_owned;
 use fr_slots::channel::Channel;
+use fr_slots::fault::is_owned;
+use fr_slots::numbers::SlotId;
 use fr_slots::params::Params;
 use fr_slots::plan::Own;
 use std::alloc::{AllocError, Global};
 
-/// Whether a static slot is open to a node that owns this on the channel, which is guarded or not.
-fn is_open_slot(guarded: bool, owned: &[Own], slot: u16, channel: Channel) -> bool
-    ensures { result ≡ is_open guarded owned.now channel (static_slot slot) }
+/// Whether the static slot of this number is open to a node that owns this on the channel, which is guarded or not.
+fn is_open_slot(guarded: bool, owned: &[Own], number: u16, channel: Channel) -> bool
+    requires { IsSlot number }
+    ensures { result ≡ is_open guarded owned.now channel (static_slot number) }
 {
-    !guarded || is_owned(owned, slot, channel)
+    match SlotId::new(number) {
+        Some(slot) => !guarded || is_owned(owned, slot, channel),
+        None => false,
+    }
 }
 
 /// Appends the interval, unless it is empty.

@@ -3,6 +3,5 @@
 
 pub mod guardian;
 mod intervals;
-pub mod ownership;
 #[cfg(test)]
 mod tests;

@@ -3,7 +3,8 @@ use Rattle.std.proofs.Common.{◌≡◌, ℕ, ◌*◌, ◌<◌, Bool, true, fals
 use Rattle.std.specs.Prelude.{IfSome, is_some}
 use Rattle.std.proofs.lemmas.Bool.{leb-false, eqb-true}
 use Rattle.fr_interface.specs.State.{is_not_above, has_words}
-use Rattle.fr_journal.specs.Legal.{words_of}
+use Rattle.fr_slots.specs.declared.plan.Buffer.{Buffer}
+use Rattle.fr_slots.specs.Faults.{words_of}
 use Rattle.fr_slots.specs.Parameters.{Parameters}
 
 -- ---- what the tests of a fetch tell
@@ -18,5 +19,5 @@ later_from_test number (Some n) e = leb-false number n e
 
 -- ---- what the tests of a commit tell
 
-pub words_from_test : (params : Parameters) (words : Option ℕ) (payload : List ℕ) → has_words params words payload ≡ true → length payload ≡ 2 * words_of params words
-words_from_test params words payload h = eqb-true (length payload) (2 * words_of params words) h
+pub words_from_test : (params : Parameters) (b : Buffer) (payload : List ℕ) → has_words params b payload ≡ true → length payload ≡ 2 * words_of params b
+words_from_test params b payload h = eqb-true (length payload) (2 * words_of params b) h

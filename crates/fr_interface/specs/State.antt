@@ -14,12 +14,12 @@ use Rattle.fr_journal.specs.Arrivals.{moves, oldest, queue_length, queue_lost}
 use Rattle.fr_journal.specs.Entries.{is_host, is_slot}
 use Rattle.fr_journal.specs.Fate.{last_commit, tally_of}
 use Rattle.fr_journal.specs.Held.{held, origin_of}
-use Rattle.fr_journal.specs.Legal.{words_of, window_fits, IsLegalJournal, AreEntries}
+use Rattle.fr_journal.specs.Legal.{window_fits, IsLegalJournal, AreEntries}
 use Rattle.fr_journal.specs.Offers.{buffer_at}
 use Rattle.fr_journal.specs.OpenWindow.{open_window, last_number}
 use Rattle.fr_slots.specs.declared.plan.Buffer.{Buffer}
 use Rattle.fr_slots.specs.declared.plan.Queue.{Queue}
-use Rattle.fr_slots.specs.Faults.{plan_fault}
+use Rattle.fr_slots.specs.Faults.{plan_fault, words_of}
 use Rattle.fr_slots.specs.Parameters.{Parameters, IsParameters}
 use Rattle.fr_slots.specs.Plans.{Plan, IsPlan, is_receive}
 use Rattle.fr_slots.specs.Windows.{Opportunity}
@@ -85,14 +85,14 @@ lost_of s = option_map (λ q. queue_lost s.params s.plan q s.entries) s.plan.que
 abbrev pub is_host_full : State → Bool
 is_host_full s = nat_le s.plan.host_entries (count_by is_host s.entries)
 
-abbrev pub has_words : Parameters → Option ℕ → List ℕ → Bool
-has_words params words payload = length payload == 2 * words_of params words
+abbrev pub has_words : Parameters → Buffer → List ℕ → Bool
+has_words params b payload = length payload == 2 * words_of params b
 
 abbrev pub unless_transmit : State → List ℕ → Option Buffer → Option HostError
 unless_transmit s payload None = Some UnknownBuffer
 unless_transmit s payload (Some b) =
     if is_receive b.mode then Some NotTransmit
-    else if not (has_words s.params b.words payload) then Some WrongLength
+    else if not (has_words s.params b payload) then Some WrongLength
     else if is_host_full s then Some HostFull
     else None
 

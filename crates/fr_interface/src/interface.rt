@@ -21,9 +21,10 @@ use fr_journal::entry::{Arrival, Entry, Origin};
 use fr_journal::fate::Tally;
 use fr_journal::journal::Journal;
 use fr_slots::channel::Channel;
+use fr_slots::fault::{is_static_slot, words_of};
 use fr_slots::numbers::{SlotId, TaskId};
 use fr_slots::params::Params;
-use fr_slots::plan::NodePlan;
+use fr_slots::plan::{Buffer, NodePlan};
 use fr_slots::window::Window;
 use fr_status::counters::Counters;
 use fr_status::seen::Seen;
@@ -98,8 +99,9 @@ impl Interface {
     /// before, and sends it as its mode says.
     ///
     /// Refused, in this order, with `UnknownTask`, `UnknownBuffer`, `NotTransmit` for a receive buffer,
-    /// `WrongLength` where the payload hasn't the words of the cluster's static frames in a static slot, or
-    /// those of the buffer in a dynamic one, and `HostFull` where the journal has no room for the commit.
+    /// `WrongLength` where the payload hasn't the words that the buffer sends by `fr_slots::fault::words_of`: those of
+    /// the cluster's static frames in a static slot, or its own in a dynamic one, and `HostFull` where the journal has
+    /// no room for the commit.
     pub fn commit(
         &mut self,
         task: TaskId,
@@ -120,7 +122,7 @@ impl Interface {
         if line.mode.is_receive() {
             return Err(HostError::NotTransmit);
         }
-        if !has_words(&self.params, line.words, payload) {
+        if !has_words(&self.params, &line, payload) {
             return Err(HostError::WrongLength);
         }
         if self.journal.host_room() == 0 {
@@ -361,15 +363,11 @@ fn kept_window(window: &Window) -> Window
     *window
 }
 
-/// Whether the payload has so many words, or where none is stated those of a static frame.
-fn has_words(params: &Params, words: Option<u8>, payload: &Payload) -> bool
-    ensures { result ≡ has_words params.now words payload.now }
+/// Whether the payload has the words that the transmit buffer sends.
+fn has_words(params: &Params, buffer: &Buffer, payload: &Payload) -> bool
+    ensures { result ≡ has_words params.now buffer.now payload.now }
 {
-    let words = match words {
-        Some(words) => u16::from(words),
-        None => params.static_words,
-    };
-    payload.as_slice().len() == 2 * usize::from(words)
+    payload.as_slice().len() == 2 * usize::from(words_of(params, buffer))
 }
 
 /// The payload once more, in the ranges of its type.
@@ -440,7 +438,7 @@ fn static_slot_fits(params: &Params, slot: Option<SlotId>) -> bool
     ensures { result ≡ static_slot_fits params.now slot }
 {
     match slot {
-        Some(slot) => slot.number() <= params.static_slots,
+        Some(slot) => is_static_slot(params, slot),
         None => true,
     }
 }
@@ -449,7 +447,7 @@ fn dynamic_slot_fits(params: &Params, slot: Option<SlotId>) -> bool
     ensures { result ≡ dynamic_slot_fits params.now slot }
 {
     match slot {
-        Some(slot) => params.static_slots < slot.number(),
+        Some(slot) => !is_static_slot(params, slot),
         None => true,
     }
 }

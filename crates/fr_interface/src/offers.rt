@@ -12,6 +12,7 @@ use fr_frame::frame::{Bytes, Frame};
 use fr_frame::payload::Payload;
 use fr_journal::entry::{Entry, Offered};
 use fr_slots::channel::Channel;
+use fr_slots::fault::claims;
 use fr_slots::filter::Filter;
 use fr_slots::numbers::SlotId;
 use fr_slots::params::Params;
@@ -103,13 +104,6 @@ fn commit_offered(
     }
     let buffer = transmitter(plan, window, channel)?;
     ready_in(plan, entries, buffer)
-}
-
-/// Whether the line is for the slot on the channel.
-fn claims(slot: SlotId, channel: Channel, own: &Own) -> bool
-    ensures { result ≡ claims slot channel own.now }
-{
-    own.slot == slot && own.channels.includes(channel)
 }
 
 /// The place of the first line for the slot on the channel.

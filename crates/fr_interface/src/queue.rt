@@ -10,7 +10,7 @@ ghost use Rattle.fr_journal.specs.Arrivals.{takes_window, queue_admits_slot, is_
 ghost use Rattle.fr_slots.specs.Plans.{queue_admits};
 
 use crate::offers::admits;
-use crate::scan::{Opening, data_frame_seen};
+use crate::scan::{Opening, arrival_seen};
 use fr_journal::entry::{Arrival, Entry, Origin};
 use fr_slots::channel::Channel;
 use fr_slots::numbers::SlotId;
@@ -161,16 +161,7 @@ fn arrival_on(
     if !is_for_queue(plan, queue, window, channel) {
         return None;
     }
-    match data_frame_seen(params, window, channel, seen) {
-        Some(frame) => Some(Arrival {
-            origin: Origin {
-                entry: number,
-                channel,
-            },
-            frame,
-        }),
-        None => None,
-    }
+    arrival_seen(params, number, window, channel, seen)
 }
 
 /// What the entry of this number brings to the queue, by what is known of the windows before it.

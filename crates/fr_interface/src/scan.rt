@@ -1,7 +1,7 @@
 //! What a journal gives, found by a scan from its first entry.
 
-ghost use Rattle.std.specs.Prelude.{◌≡◌, ◌<◌, ◌^◌, [], length};
-ghost use Rattle.fr_journal.specs.Held.{arrival_by, arrival_in, arrival_on, data_frame_seen, held};
+ghost use Rattle.std.specs.Prelude.{◌≡◌, ◌<◌, ◌^◌, [], length, option_map};
+ghost use Rattle.fr_journal.specs.Held.{arrival_of, arrival_by, arrival_in, arrival_on, data_frame_seen, held};
 ghost use Rattle.fr_interface.specs.Opening.{IsOpening, next_opening};
 
 use crate::offers::admits;
@@ -60,12 +60,7 @@ pub(crate) fn opening_of(entries: &[Entry]) -> Opening
 }
 
 /// The valid data frame that was seen on the channel.
-pub(crate) fn data_frame_seen(
-    params: &Params,
-    window: &Window,
-    channel: Channel,
-    seen: &Seen,
-) -> Option<Frame>
+fn data_frame_seen(params: &Params, window: &Window, channel: Channel, seen: &Seen) -> Option<Frame>
     ensures { result ≡ data_frame_seen params.now window.now channel seen.now }
 {
     let slot = window.slot(channel)?;
@@ -74,6 +69,26 @@ pub(crate) fn data_frame_seen(
         Some(frame) => { if frame.has_data { Some(frame) } else { None } }
         None => None,
     }
+}
+
+/// What an observe of this number tells of a frame on the channel.
+pub(crate) fn arrival_seen(
+    params: &Params,
+    number: u32,
+    window: &Window,
+    channel: Channel,
+    seen: &Seen,
+) -> Option<Arrival>
+    ensures { result ≡ option_map (arrival_of number channel) (data_frame_seen params.now window.now channel seen.now) }
+{
+    let frame = data_frame_seen(params, window, channel, seen)?;
+    Some(Arrival {
+        origin: Origin {
+            entry: number,
+            channel,
+        },
+        frame,
+    })
 }
 
 /// What an observe of this number brings to the filter on the channel.
@@ -90,16 +105,7 @@ fn arrival_on(
     if !admits(filter, window, channel) {
         return None;
     }
-    match data_frame_seen(params, window, channel, seen) {
-        Some(frame) => Some(Arrival {
-            origin: Origin {
-                entry: number,
-                channel,
-            },
-            frame,
-        }),
-        None => None,
-    }
+    arrival_seen(params, number, window, channel, seen)
 }
 
 /// What an observe of this number brings to the filter: channel A's frame where A has one.

@@ -1,5 +1,5 @@
 -- Which journals are legal for given parameters and a given plan.
-use Rattle.std.specs.Prelude.{◌≡◌, ℕ, ◌+◌, ◌*◌, ◌≤◌, ◌<◌, nat_lt, nat_le, Bool, true, false, ◌&&◌, List, [], length, Option, Some, None, if◌then◌else◌, count_by, IfSome, IsSomeAnd, option_map}
+use Rattle.std.specs.Prelude.{◌≡◌, ℕ, ◌+◌, ◌*◌, ◌≤◌, ◌<◌, nat_le, not, Bool, true, false, ◌&&◌, List, [], length, Option, Some, None, if◌then◌else◌, count_by, IfSome, IsSomeAnd, option_map}
 use Rattle.fr_journal.specs.Arrivals.{moves, oldest}
 use Rattle.fr_journal.specs.declared.entry.Entry.{Entry}
 use Rattle.fr_journal.specs.declared.entry.Entry.TheVariants.{Commit, Read, Pop, Fetch, Observe}
@@ -10,6 +10,7 @@ use Rattle.fr_journal.specs.Held.{held, origin_of}
 use Rattle.fr_journal.specs.Offers.{buffer_at, offered}
 use Rattle.fr_journal.specs.OpenWindow.{open_window, last_number}
 use Rattle.fr_slots.specs.declared.channel.Channel.TheVariants as channel
+use Rattle.fr_slots.specs.Faults.{is_static_slot, words_of}
 use Rattle.fr_slots.specs.History.{AllAfter}
 use Rattle.fr_slots.specs.Parameters.{Parameters}
 use Rattle.fr_slots.specs.Plans.{Plan, is_receive}
@@ -17,14 +18,10 @@ use Rattle.fr_slots.specs.Windows.{Opportunity, is_static}
 
 -- ---- calls of the host
 
--- a static frame has the cluster's words, and a dynamic one its buffer's
-abbrev pub words_of : Parameters → Option ℕ → ℕ
-words_of params None = params.static_words
-words_of params (Some words) = words
-
+-- a payload has the words that its buffer sends
 pub record IsLegalCommit (params : Parameters) (plan : Plan) (before : List Entry) (task buffer : ℕ) (payload : List ℕ) : Type 0 where
   pub task_is : task < plan.tasks
-  pub transmits : IsSomeAnd (buffer_at plan buffer) (λ b. (is_receive b.mode ≡ false) × (length payload ≡ 2 * words_of params b.words))
+  pub transmits : IsSomeAnd (buffer_at plan buffer) (λ b. (is_receive b.mode ≡ false) × (length payload ≡ 2 * words_of params b))
   pub room : count_by is_host before < plan.host_entries
 
 pub record IsLegalRead (params : Parameters) (plan : Plan) (before : List Entry) (task buffer : ℕ) (from : Option Origin) : Type 0 where
@@ -41,11 +38,11 @@ pub record IsLegalPop (params : Parameters) (plan : Plan) (before : List Entry) 
 
 abbrev pub static_slot_fits : Parameters → Option ℕ → Bool
 static_slot_fits params None = true
-static_slot_fits params (Some slot) = nat_le slot params.static_slots
+static_slot_fits params (Some slot) = is_static_slot params slot
 
 abbrev pub dynamic_slot_fits : Parameters → Option ℕ → Bool
 dynamic_slot_fits params None = true
-dynamic_slot_fits params (Some slot) = nat_lt params.static_slots slot
+dynamic_slot_fits params (Some slot) = not (is_static_slot params slot)
 
 -- The window is one of the cluster's: a static slot is no higher than the last, a minislot no higher than the last, and a
 -- dynamic slot is above the static ones.

@@ -1,17 +1,18 @@
 -- The line of an ownership.
-use Rattle.std.proofs.Common.{◌≡◌, ℕ, ◌≤◌, ◌||◌, inl, inr, true, false, not, List, [], ◌∷◌, length, codes, Some, refl, sym, ap, ◌∙◌, arith, leb}
-use Rattle.std.proofs.lemmas.Bool.{and_parts, cases_Bool, le-leb, leb-true}
+use Rattle.std.proofs.Common.{◌≡◌, ℕ, ◌≤◌, inl, inr, true, false, List, [], ◌∷◌, length, codes, Some, refl, sym, ap, ◌∙◌, arith}
+use Rattle.std.proofs.lemmas.Bool.{cases_Bool}
 use Rattle.std.specs.Fmt.{decimal}
 use Rattle.std.specs.Str.{bytes_eq}
-use Rattle.fr_lines.proofs.PartLemmas.{word_or, channels_takes, channels_again}
-use Rattle.fr_lines.proofs.PlanPartLemmas.{flag_takes, flag_again, owned_slot_takes, owned_slot_again}
+use Rattle.fr_lines.proofs.PartLemmas.{word_or, slot_takes, slot_again, channels_takes, channels_again}
+use Rattle.fr_lines.proofs.PlanPartLemmas.{flag_takes, flag_again}
 use Rattle.fr_lines.proofs.WordLemmas.{number_word, channels_plain, flag_plain}
-use Rattle.fr_lines.specs.PartReading.{channels_in, flag_in, owned_slot_in}
+use Rattle.fr_lines.specs.PartReading.{slot_in, channels_in, flag_in}
 use Rattle.fr_lines.specs.Parts.{channels_word, flag_word}
-use Rattle.fr_lines.specs.Reading.{lawful_own, ownership_in, own_in}
+use Rattle.fr_lines.specs.Reading.{fitting_own, ownership_in, own_in}
 use Rattle.fr_lines.specs.Spelled.{IsSpelledOwn}
 use Rattle.fr_lines.specs.Spelling.{own_words, begin_line}
 use Rattle.fr_slots.specs.declared.plan.Own.{Own}
+use Rattle.fr_slots.specs.Plans.{own_fits}
 use Rattle.fr_text.proofs.BindLemmas.{bind_some}
 use Rattle.fr_text.proofs.LineLemmas.{cons_same, line_of-words_of, words_of-line_of, has_no_feed-line_of, length-line_of-le}
 use Rattle.fr_text.specs.Plain.{ArePlain, has_no_feed}
@@ -19,9 +20,9 @@ use Rattle.fr_text.specs.Spaces.{words_of, line_of}
 
 -- ---- what is read is spelled so
 
-lawful_takes : (o found : Own) → lawful_own found ≡ Some o → (found ≡ o) × ((not found.startup || found.sync) ≡ true)
-lawful_takes o found h =
-    elim (cases_Bool (not found.startup || found.sync)) [
+fitting_takes : (o found : Own) → fitting_own found ≡ Some o → (found ≡ o) × (own_fits found ≡ true)
+fitting_takes o found h =
+    elim (cases_Bool (own_fits found)) [
       | inl pass ↦ (cc (rw pass at h), pass)
       | inr fail ↦ cc (rw fail at h)
     ]
@@ -33,15 +34,15 @@ ownership_takes (s ∷ []) o h = cc h
 ownership_takes (s ∷ c ∷ []) o h = cc h
 ownership_takes (s ∷ c ∷ y ∷ []) o h = cc h
 ownership_takes (s ∷ c ∷ y ∷ t ∷ []) o h =
-    let (slot, hs, h1) = bind_some (owned_slot_in s) _ o h in
+    let (slot, hs, h1) = bind_some (slot_in s) _ o h in
     let (channels, hc, h2) = bind_some (channels_in c) _ o h1 in
     let (sync, hy, h3) = bind_some (flag_in y) _ o h2 in
     let (startup, ht, h4) = bind_some (flag_in t) _ o h3 in
-    let lawful = lawful_takes o (record { slot = slot; channels = channels; sync = sync; startup = startup }) h4 in
-    let ts = owned_slot_takes s slot hs in
-    rw (← lawful.0) (
+    let fitting = fitting_takes o (record { slot = slot; channels = channels; sync = sync; startup = startup }) h4 in
+    let ts = slot_takes s slot hs in
+    rw (← fitting.0) (
       cons_same refl (cons_same ts.0 (cons_same (channels_takes c channels hc) (cons_same (flag_takes y sync hy) (cons_same (flag_takes t startup ht) refl)))),
-      record { is = ts.1; fits = rw (le-leb slot 1023 ts.2, lawful.1) refl },
+      record { is = ts.1; fits = fitting.1 },
     )
 ownership_takes (s ∷ c ∷ y ∷ t ∷ more ∷ words) o h = cc h
 
@@ -66,23 +67,15 @@ own_line_takes line o h = sym (line_of-words_of line) ∙ ap line_of (own_takes 
 
 -- ---- what is spelled so is read
 
--- a static slot of some cluster, whose startup frames are sync frames
-parts : (o : Own) → IsSpelledOwn o → (o.slot ≤ 1023) × ((not o.startup || o.sync) ≡ true)
-parts o is =
-    let both = and_parts (leb o.slot 1023) (not o.startup || o.sync) is.fits in
-    (leb-true o.slot 1023 both.0, both.1)
-
 pub own_again : (o : Own) → IsSpelledOwn o → own_in (own_words o) ≡ Some o
 unfolding own_in ownership_in
-own_again o is =
-    let fit = parts o is in
-    rw (owned_slot_again o.slot is.is fit.0, channels_again o.channels, flag_again o.sync, flag_again o.startup, fit.1) refl
+own_again o is = rw (slot_again o.slot is.is, channels_again o.channels, flag_again o.sync, flag_again o.startup, is.fits) refl
 
 -- ---- the words are plain, and the line is short
 
 both_plain : (o : Own) → IsSpelledOwn o → ArePlain (own_words o) × (length (line_of (own_words o)) ≤ 1200)
 both_plain o is =
-    let few = (parts o is).0 in
+    let high = is.is.at_most in
     let slot_is = number_word 4 o.slot (omega arith) (omega arith) (omega arith) in
     let channels_are = channels_plain o.channels in
     let sync_is = flag_plain o.sync in

@@ -1,16 +1,15 @@
 -- A word is the spelling of at most one part of a plan's line, or of one payload.
-use Rattle.std.proofs.Common.{◌≡◌, ℕ, ◌<◌, ◌≤◌, ◌≢◌, ◌%◌, ◌^◌, ◌==◌, ◌⊎◌, inl, inr, Bool, true, false, List, length, codes, Option, Some, None, refl, sym, ap, ◌∙◌, arith, ltb}
+use Rattle.std.proofs.Common.{◌≡◌, ℕ, ◌<◌, ◌≢◌, ◌%◌, ◌^◌, ◌==◌, ◌⊎◌, inl, inr, Bool, true, false, List, length, codes, Option, Some, None, refl, sym, ap, ◌∙◌, arith, ltb}
 use Rattle.std.proofs.lemmas.Bool.{cases_Bool, eqb-false, le-leb, le-ltb, leb-true}
 use Rattle.std.specs.Fmt.{decimal}
 use Rattle.fr_frame.specs.Payload.{IsPayload}
 use Rattle.fr_journal.specs.Entries.{AreBytes}
-use Rattle.fr_lines.proofs.PartLemmas.{word_or, within_takes, slot_takes, slot_again, channels_takes, channels_again, cycles_takes, cycles_again}
-use Rattle.fr_lines.specs.PartReading.{slot_in, channels_in, cycles_in, filter_in, flag_in, mode_in, size_in, owned_slot_in, payload_in, payload_from}
+use Rattle.fr_lines.proofs.PartLemmas.{word_or, slot_takes, slot_again, channels_takes, channels_again, cycles_takes, cycles_again}
+use Rattle.fr_lines.specs.PartReading.{slot_in, channels_in, cycles_in, filter_in, flag_in, mode_in, size_in, payload_in, payload_from}
 use Rattle.fr_lines.specs.Parts.{absent, flag_word, optional_number, channels_word}
 use Rattle.fr_slots.specs.declared.filter.Filter.{Filter}
 use Rattle.fr_slots.specs.declared.plan.Mode.{Mode}
 use Rattle.fr_slots.specs.declared.plan.Mode.TheVariants.{Event, State}
-use Rattle.fr_slots.specs.Numbers.{IsSlot}
 use Rattle.fr_slots.specs.Plans.{IsFilter, words_fit}
 use Rattle.fr_text.proofs.BindLemmas.{bind_some}
 use Rattle.fr_text.proofs.HexTextLemmas.{bytes_takes, bytes_again}
@@ -100,28 +99,6 @@ size_again (Some n) fits =
     let few = leb-true n 127 fits in
     let small : n < 2 ^ 64 = omega arith in
     rw (decimal_other n absent small refl, number_again 128 n (omega arith) (omega arith)) refl
-
--- ---- owned slots
-
-pub owned_slot_takes : (word : List ℕ) (slot : ℕ) → owned_slot_in word ≡ Some slot → (word ≡ decimal slot) × IsSlot slot × (slot ≤ 1023)
-unfolding owned_slot_in
-owned_slot_takes word slot h =
-    let (n, hn, h1) = bind_some (number_in 1024 word) _ slot h in
-    let within = within_takes 1 2047 n slot h1 in
-    let taken = number_takes 1024 word n hn in
-    let same = within.0 in
-    let few = taken.1 in
-    let low = within.1 in
-    let high = within.2 in
-    (sym taken.0 ∙ ap decimal within.0, record { from_one = omega arith; at_most = omega arith }, omega arith)
-
-pub owned_slot_again : (slot : ℕ) → IsSlot slot → slot ≤ 1023 → owned_slot_in (decimal slot) ≡ Some slot
-unfolding owned_slot_in
-owned_slot_again slot fits static =
-    let below : slot < 1024 = omega arith in
-    let low : 1 ≤ slot = omega arith in
-    let high : slot ≤ 2047 = omega arith in
-    rw (number_again 1024 slot below (omega arith), le-leb 1 slot low, le-leb slot 2047 high) refl
 
 -- ---- payloads
 

@@ -8,7 +8,7 @@ use Rattle.fr_lines.proofs.PartLemmas.{word_or, slot_takes, slot_again, channels
 use Rattle.fr_lines.proofs.WordLemmas.{number_word, channels_plain}
 use Rattle.fr_lines.specs.PartReading.{slot_in, channels_in, cycles_in}
 use Rattle.fr_lines.specs.Parts.{channels_word}
-use Rattle.fr_lines.specs.Reading.{lawful_queue, reception_in, queue_in, own_in, buffer_in}
+use Rattle.fr_lines.specs.Reading.{fitting_queue, reception_in, queue_in, own_in, buffer_in}
 use Rattle.fr_lines.specs.Spelled.{IsSpelledQueue}
 use Rattle.fr_lines.specs.Spelling.{queue_words, begin_line}
 use Rattle.fr_slots.specs.declared.plan.Queue.{Queue}
@@ -22,8 +22,8 @@ use Rattle.fr_text.specs.Spaces.{words_of, line_of}
 
 -- ---- what is read is spelled so
 
-lawful_takes : (q found : Queue) → lawful_queue found ≡ Some q → (found ≡ q) × (queue_fits found ≡ true)
-lawful_takes q found h =
+fitting_takes : (q found : Queue) → fitting_queue found ≡ Some q → (found ≡ q) × (queue_fits found ≡ true)
+fitting_takes q found h =
     elim (cases_Bool (queue_fits found)) [
       | inl pass ↦ (cc (rw pass at h), pass)
       | inr fail ↦ cc (rw fail at h)
@@ -43,14 +43,14 @@ reception_takes (n ∷ f ∷ l ∷ c ∷ b ∷ r ∷ []) q h =
     let (last, hl, h3) = bind_some (slot_in l) _ q h2 in
     let (channels, hc, h4) = bind_some (channels_in c) _ q h3 in
     let (cycles, hy, h5) = bind_some (cycles_in b r) _ q h4 in
-    let lawful = lawful_takes q (record { capacity = capacity; first = first; last = last; channels = channels; cycles = cycles }) h5 in
+    let fitting = fitting_takes q (record { capacity = capacity; first = first; last = last; channels = channels; cycles = cycles }) h5 in
     let tn = number_takes 257 n capacity hn in
     let tf = slot_takes f first hf in
     let tl = slot_takes l last hl in
     let ty = cycles_takes b r cycles hy in
-    rw (← lawful.0) (
+    rw (← fitting.0) (
       cons_same refl (cons_same (sym tn.0) (cons_same tf.0 (cons_same tl.0 (cons_same (channels_takes c channels hc) (cons_same ty.0 (cons_same ty.1 refl)))))),
-      record { is = record { first_is = tf.1; last_is = tl.1; cycles_are = ty.2 }; fits = lawful.1 },
+      record { is = record { first_is = tf.1; last_is = tl.1; cycles_are = ty.2 }; fits = fitting.1 },
     )
 reception_takes (n ∷ f ∷ l ∷ c ∷ b ∷ r ∷ more ∷ words) q h = cc h
 

@@ -73,12 +73,6 @@ size_in word = if bytes_eq word absent then Some None else do
   n ← number_in 128 word
   Some (Some n)
 
--- a static slot of some cluster
-unfoldable pub owned_slot_in : List ℕ → Option ℕ
-owned_slot_in word = do
-  n ← number_in 1024 word
-  number_within 1 2047 n
-
 -- ---- what is committed
 
 -- the bytes, where they are a payload

@@ -1,15 +1,15 @@
 -- What the words of a line spell, for the lines that are read.
-use Rattle.std.specs.Prelude.{ℕ, ◌^◌, ℤ, pos, not, false, ◌||◌, List, [], ◌∷◌, codes, Option, Some, None, if◌then◌else◌}
+use Rattle.std.specs.Prelude.{ℕ, ◌^◌, ℤ, pos, false, List, [], ◌∷◌, codes, Option, Some, None, if◌then◌else◌}
 use Rattle.std.specs.Result.{result_ok}
 use Rattle.std.specs.Str.{bytes_eq}
 use Rattle.fr_journal.specs.declared.entry.Entry.{Entry}
 use Rattle.fr_journal.specs.declared.entry.Entry.TheVariants.{Commit, Read, Pop, Fetch, Observe}
-use Rattle.fr_lines.specs.PartReading.{slot_in, owned_slot_in, channels_in, cycles_in, filter_in, flag_in, mode_in, size_in, payload_in, from_in, offered_in, seen_in, window_in}
+use Rattle.fr_lines.specs.PartReading.{slot_in, channels_in, cycles_in, filter_in, flag_in, mode_in, size_in, payload_in, from_in, offered_in, seen_in, window_in}
 use Rattle.fr_slots.specs.declared.plan.Buffer.{Buffer}
 use Rattle.fr_slots.specs.declared.plan.Mode.TheVariants.{Receive}
 use Rattle.fr_slots.specs.declared.plan.Own.{Own}
 use Rattle.fr_slots.specs.declared.plan.Queue.{Queue}
-use Rattle.fr_slots.specs.Plans.{Plan, plan_of, queue_fits}
+use Rattle.fr_slots.specs.Plans.{Plan, plan_of, own_fits, queue_fits}
 use Rattle.fr_text.specs.Reading.{◌>>=◌, number_in}
 
 -- ---- parameters: ten numbers below 2^32, whatever their keys' ranges
@@ -69,17 +69,17 @@ node_in (kind ∷ words) = if bytes_eq kind (codes "node") then limits_in words 
 
 -- ---- ownership lines
 
--- a startup frame is a sync frame
-abbrev pub lawful_own : Own → Option Own
-lawful_own o = if not o.startup || o.sync then Some o else None
+-- the ownership line, where a plan can have it
+abbrev pub fitting_own : Own → Option Own
+fitting_own o = if own_fits o then Some o else None
 
 unfoldable pub ownership_in : List (List ℕ) → Option Own
 ownership_in (slot ∷ channels ∷ sync ∷ startup ∷ []) = do
-  s ← owned_slot_in slot
+  s ← slot_in slot
   c ← channels_in channels
   y ← flag_in sync
   t ← flag_in startup
-  lawful_own (record { slot = s; channels = c; sync = y; startup = t })
+  fitting_own (record { slot = s; channels = c; sync = y; startup = t })
 ownership_in words = None
 
 unfoldable pub own_in : List (List ℕ) → Option Own
@@ -113,9 +113,9 @@ buffer_in (kind ∷ words) =
 
 -- ---- the queue
 
--- it holds 1 to 256 frames, and its first slot isn't above its last
-abbrev pub lawful_queue : Queue → Option Queue
-lawful_queue q = if queue_fits q then Some q else None
+-- the queue, where a plan can have it
+abbrev pub fitting_queue : Queue → Option Queue
+fitting_queue q = if queue_fits q then Some q else None
 
 unfoldable pub reception_in : List (List ℕ) → Option Queue
 reception_in (capacity ∷ first ∷ last ∷ channels ∷ base ∷ repetition ∷ []) = do
@@ -124,7 +124,7 @@ reception_in (capacity ∷ first ∷ last ∷ channels ∷ base ∷ repetition �
   t ← slot_in last
   c ← channels_in channels
   y ← cycles_in base repetition
-  lawful_queue (record { capacity = n; first = s; last = t; channels = c; cycles = y })
+  fitting_queue (record { capacity = n; first = s; last = t; channels = c; cycles = y })
 reception_in words = None
 
 unfoldable pub queue_in : List (List ℕ) → Option Queue

@@ -2,13 +2,20 @@
 ghost use Rattle.std.specs.Prelude.{◌≡◌, Some, IfSome};
 ghost use Rattle.fr_slots.specs.declared.plan.Own.{Own};
 ghost use Rattle.fr_text.specs.Spaces.{words_of, line_of};
-ghost use Rattle.fr_lines.specs.Reading.{ownership_in, own_in};
+ghost use Rattle.fr_lines.specs.Reading.{fitting_own, ownership_in, own_in};
 ghost use Rattle.fr_lines.specs.Spelled.{IsSpelledOwn};
 ghost use Rattle.fr_lines.specs.Spelling.{own_words};
 
-use crate::parts::{channels_of, flag_of, owned_slot_of};
-use fr_slots::plan::Own;
+use crate::parts::{channels_of, flag_of, slot_of};
+use fr_slots::plan::{Own, own_fits};
 use fr_text::words::Words;
+
+/// The ownership line, where a plan can have it.
+fn fitting(own: Own) -> Option<Own>
+    ensures { result ≡ fitting_own own }
+{
+    if own_fits(&own) { Some(own) } else { None }
+}
 
 /// The ownership line that the words spell.
 #[tactic(auto, unfolding(crate::specs::Reading::ownership_in))]
@@ -22,14 +29,11 @@ fn ownership_of(words: &mut Words<'_>) -> Option<Own>
     if words.next_word().is_some() {
         return None;
     }
-    let slot = owned_slot_of(slot)?;
+    let slot = slot_of(slot)?;
     let channels = channels_of(channels)?;
     let sync = flag_of(sync)?;
     let startup = flag_of(startup)?;
-    if startup && !sync {
-        return None;
-    }
-    Some(Own {
+    fitting(Own {
         slot,
         channels,
         sync,

@@ -1,7 +1,7 @@
 //! The parts of which lines are made.
 ghost use Rattle.std.specs.Prelude.{◌≡◌, ◌<◌, ◌^◌};
 ghost use Rattle.fr_text.specs.Reading.{number_in};
-ghost use Rattle.fr_lines.specs.PartReading.{slot_in, optional_slot_in, channels_in, cycles_in, filter_in, flag_in, mode_in, size_in, owned_slot_in, payload_in, channel_in, origin_in, from_in, offered_in, seen_bytes_in, seen_in, same_slot, window_of, window_in};
+ghost use Rattle.fr_lines.specs.PartReading.{slot_in, optional_slot_in, channels_in, cycles_in, filter_in, flag_in, mode_in, size_in, payload_in, channel_in, origin_in, from_in, offered_in, seen_bytes_in, seen_in, same_slot, window_of, window_in};
 
 use fr_frame::payload::Payload;
 use fr_journal::entry::{Offered, Origin};
@@ -127,15 +127,6 @@ pub(crate) fn size_of(word: &[u8]) -> Option<Option<u8>>
             Some(Some(words as u8))
         }
     }
-}
-
-/// The static slot that the word spells, 1 to 1023.
-#[tactic(auto, unfolding(crate::specs::PartReading::owned_slot_in))]
-pub(crate) fn owned_slot_of(word: &[u8]) -> Option<SlotId>
-    ensures { result ≡ owned_slot_in word.now }
-{
-    let number = number_of(word, 1024)?;
-    SlotId::new(number as u16)
 }
 
 /// The payload that the word spells.

@@ -2,21 +2,20 @@
 ghost use Rattle.std.specs.Prelude.{◌≡◌, Some, IfSome};
 ghost use Rattle.fr_slots.specs.declared.plan.Queue.{Queue};
 ghost use Rattle.fr_text.specs.Spaces.{words_of, line_of};
-ghost use Rattle.fr_lines.specs.Reading.{lawful_queue, reception_in, queue_in};
+ghost use Rattle.fr_lines.specs.Reading.{fitting_queue, reception_in, queue_in};
 ghost use Rattle.fr_lines.specs.Spelled.{IsSpelledQueue};
 ghost use Rattle.fr_lines.specs.Spelling.{queue_words};
 
 use crate::parts::{channels_of, cycles_of, slot_of};
-use fr_slots::plan::Queue;
+use fr_slots::plan::{Queue, queue_fits};
 use fr_text::numbers::number_of;
 use fr_text::words::Words;
 
-/// The queue, where it holds 1 to 256 frames and its first slot isn't above its last.
-fn lawful(queue: Queue) -> Option<Queue>
-    ensures { result ≡ lawful_queue queue }
+/// The queue, where a plan can have it.
+fn fitting(queue: Queue) -> Option<Queue>
+    ensures { result ≡ fitting_queue queue }
 {
-    let in_order = queue.first.number() <= queue.last.number();
-    if 1 <= queue.capacity && queue.capacity <= 256 && in_order {
+    if queue_fits(&queue) {
         Some(queue)
     } else {
         None
@@ -42,7 +41,7 @@ fn reception_of(words: &mut Words<'_>) -> Option<Queue>
     let last = slot_of(last)?;
     let channels = channels_of(channels)?;
     let cycles = cycles_of(base, repetition)?;
-    lawful(Queue {
+    fitting(Queue {
         capacity,
         first,
         last,

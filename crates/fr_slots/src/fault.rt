@@ -210,7 +210,7 @@ pub fn is_owned(owned: &[Own], slot: SlotId, channel: Channel) -> bool
 }
 
 /// Whether the ownership line is for the slot on the channel.
-fn claims(slot: SlotId, channel: Channel, own: &Own) -> bool
+pub fn claims(slot: SlotId, channel: Channel, own: &Own) -> bool
     ensures { result ≡ claims slot channel own.now }
 {
     own.slot == slot && own.channels.includes(channel)
@@ -322,8 +322,9 @@ fn minislots_filled(params: &Params, words: u16) -> u16
     (words + 4).div_ceil(params.words_per_minislot)
 }
 
-/// The words that a transmit buffer sends.
-fn words_of(params: &Params, buffer: &Buffer) -> u16
+/// The words of two bytes that a transmit buffer sends: in a static slot those of the cluster's static frames, and in a
+/// dynamic slot its own, or 0 where it has none (chapter 5). At most 127 for a buffer of a plan.
+pub fn words_of(params: &Params, buffer: &Buffer) -> u16
     ensures value { result ≡ words_of params.now buffer.now }
     ensures fits { result < 256 }
 {
@@ -342,7 +343,7 @@ fn transmits_static(params: &Params, buffer: &Buffer) -> bool
 }
 
 /// Whether the buffer is a transmit buffer in a dynamic slot.
-fn transmits_dynamic(params: &Params, buffer: &Buffer) -> bool
+pub fn transmits_dynamic(params: &Params, buffer: &Buffer) -> bool
     ensures { result ≡ transmits_dynamic params.now buffer.now }
 {
     transmits(buffer) && !is_static_slot(params, buffer.filter.slot)

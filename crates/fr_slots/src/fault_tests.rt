@@ -1,7 +1,7 @@
 //! Plans with each fault and with several, and printed faults.
 
 use super::channel::{Channel, Channels};
-use super::fault::PlanFault;
+use super::fault::{PlanFault, claims, transmits_dynamic, words_of};
 use super::filter::{CycleFilter, Filter};
 use super::numbers::{Cycle, SlotId};
 use super::params::Params;
@@ -96,6 +96,34 @@ fn a_plan_of_other_parameters(rt: HostRuntime) -> Result<(), Fail> {
         event(4, Channels::B, Some(0))?,
     ];
     assert_eq!(rt; fault_of([4, 4], &lines, &buffers)?, None);
+    Ok(())
+}
+
+#[test]
+fn a_line_for_channel_b(rt: HostRuntime) -> Result<(), Fail> {
+    let line = own(2, Channels::B)?;
+    assert!(rt; claims(slot(2)?, Channel::B, &line));
+    assert!(rt; !claims(slot(2)?, Channel::A, &line));
+    assert!(rt; !claims(slot(3)?, Channel::B, &line));
+    Ok(())
+}
+
+#[test]
+fn buffers_that_transmit_in_dynamic_slots(rt: HostRuntime) -> Result<(), Fail> {
+    let params = Params::new(ONE_WORD_CYCLE)?;
+    assert!(rt; transmits_dynamic(&params, &event(4, Channels::A, Some(1))?));
+    assert!(rt; !transmits_dynamic(&params, &event(3, Channels::A, None)?));
+    let mut receiver = event(4, Channels::A, None)?;
+    receiver.mode = Mode::Receive;
+    assert!(rt; !transmits_dynamic(&params, &receiver));
+    Ok(())
+}
+
+#[test]
+fn words_of_a_static_and_of_a_dynamic_buffer(rt: HostRuntime) -> Result<(), Fail> {
+    let params = Params::new(ONE_WORD_CYCLE)?;
+    assert_eq!(rt; words_of(&params, &event(3, Channels::A, None)?), 1);
+    assert_eq!(rt; words_of(&params, &event(4, Channels::A, Some(7))?), 7);
     Ok(())
 }
 

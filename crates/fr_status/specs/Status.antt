@@ -1,6 +1,7 @@
 -- The status of a slot on a channel (chapter 6). Which bit a thing seen gives is own profile.
-use Rattle.std.specs.Prelude.{ℕ, ◌+◌, ◌*◌, ◌==◌, nat_le, Bool, true, false, not, ◌&&◌, ◌||◌, length, Option, Some, None, if◌then◌else◌}
+use Rattle.std.specs.Prelude.{ℕ, ◌+◌, ◌*◌, ◌==◌, Bool, true, false, not, ◌&&◌, ◌||◌, length, Option, Some, None, if◌then◌else◌}
 use Rattle.fr_slots.specs.declared.channel.Channel.{Channel}
+use Rattle.fr_slots.specs.Faults.{is_static_slot}
 use Rattle.fr_slots.specs.Parameters.{Parameters}
 use Rattle.fr_frame.specs.Decoding.{decoded}
 use Rattle.fr_frame.specs.Fields.{Fields}
@@ -48,10 +49,9 @@ fits_static_slot params cycle slot f =
 abbrev pub fits_dynamic_slot : ℕ → ℕ → Fields → Bool
 fits_dynamic_slot cycle slot f = f.id == slot && f.cycle == cycle && not f.sync && not f.startup && f.has_data
 
--- the slots up to `static_slots` are static
 abbrev pub passes : Parameters → ℕ → ℕ → Fields → Bool
 passes params cycle slot f =
-    if nat_le slot params.static_slots then fits_static_slot params cycle slot f else fits_dynamic_slot cycle slot f
+    if is_static_slot params slot then fits_static_slot params cycle slot f else fits_dynamic_slot cycle slot f
 
 -- ---- the table
 

@@ -8,6 +8,7 @@ use crate::seen::Seen;
 use fr_frame::decode::decode;
 use fr_frame::frame::Frame;
 use fr_slots::channel::Channel;
+use fr_slots::fault::is_static_slot;
 use fr_slots::numbers::{Cycle, SlotId};
 use fr_slots::params::Params;
 
@@ -102,7 +103,7 @@ pub fn status_of(
 fn passes(params: &Params, cycle: Cycle, slot: SlotId, frame: &Frame) -> bool
     ensures { result ≡ passes params.now cycle slot frame.now }
 {
-    if slot.number() <= params.static_slots {
+    if is_static_slot(params, slot) {
         fits_static_slot(params, cycle, slot, frame)
     } else {
         fits_dynamic_slot(cycle, slot, frame)

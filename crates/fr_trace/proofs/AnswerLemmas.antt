@@ -11,7 +11,7 @@ use Rattle.fr_journal.specs.declared.entry.Origin.{Origin}
 use Rattle.fr_journal.specs.Arrivals.{oldest, moves}
 use Rattle.fr_journal.specs.Held.{held, origin_of}
 use Rattle.fr_journal.specs.Entries.{is_host, is_slot}
-use Rattle.fr_journal.specs.Legal.{IsLegal, IsLegalCommit, IsLegalRead, IsLegalPop, IsLegalFetch, words_of}
+use Rattle.fr_journal.specs.Legal.{IsLegal, IsLegalCommit, IsLegalRead, IsLegalPop, IsLegalFetch}
 use Rattle.fr_journal.specs.Offers.{buffer_at, offered}
 use Rattle.fr_journal.specs.OpenWindow.{open_window, last_number}
 use Rattle.fr_interface.specs.State.{State, received_by, commit_refusal, unless_transmit, received_in, read_refusal, unless_receive, pop_refusal, unless_queued, oldest_of, fetch_refusal, observe_refusal, unless_open, is_not_above, is_host_full}
@@ -19,6 +19,7 @@ use Rattle.fr_slots.specs.declared.channel.Channel.{Channel}
 use Rattle.fr_slots.specs.declared.channel.Channel.TheVariants.{A, B}
 use Rattle.fr_slots.specs.declared.plan.Buffer.{Buffer}
 use Rattle.fr_slots.specs.declared.plan.Queue.{Queue}
+use Rattle.fr_slots.specs.Faults.{words_of}
 use Rattle.fr_slots.specs.Plans.{is_receive}
 use Rattle.fr_slots.specs.Windows.{Opportunity}
 use Rattle.fr_trace.specs.Answers.{same_channel, same_origin, same_offered, is_refused, made_by, is_answered, fault_of}
@@ -84,10 +85,10 @@ no_refusal o h = ap is_some h
 
 -- a legal commit
 
-commit_taken : (s : State) (payload : List ℕ) (o : Option Buffer) → IsSomeAnd o (λ b. (is_receive b.mode ≡ false) × (length payload ≡ 2 * words_of s.params b.words)) → is_host_full s ≡ false
+commit_taken : (s : State) (payload : List ℕ) (o : Option Buffer) → IsSomeAnd o (λ b. (is_receive b.mode ≡ false) × (length payload ≡ 2 * words_of s.params b)) → is_host_full s ≡ false
     → unless_transmit s payload o ≡ None
 commit_taken s payload None h room = absurd h
-commit_taken s payload (Some b) h room = rw (h.0, eq-eqb (length payload) (2 * words_of s.params b.words) h.1, room) refl
+commit_taken s payload (Some b) h room = rw (h.0, eq-eqb (length payload) (2 * words_of s.params b) h.1, room) refl
 
 legal_commit : (s : State) (task buffer : ℕ) (payload : List ℕ) → IsLegalCommit s.params s.plan s.entries task buffer payload → commit_refusal s task buffer payload ≡ None
 legal_commit s task buffer payload legal =

@@ -1,4 +1,4 @@
-use Rattle.std.proofs.Common.{◌≡◌, ℕ, Some, List, Bor, option_map, subst, sym, ap, ◌∙◌, slice_get}
+use Rattle.std.proofs.Common.{◌≡◌, Some, List, Bor, option_map, subst, sym, ap, ◌∙◌, slice_get}
 use Rattle.fr_slots.specs.declared.plan.Own.{Own}
 use Rattle.fr_slots.specs.Faults.{is_owned}
 use Rattle.fr_schedule.specs.Clusters.{IsCluster}
@@ -18,4 +18,4 @@ returns-else-not-watched-clause-alone c owned =
     let slot = sym c.slot.ensures ∙ c.in-Some-Some.is-1 in
     passes_alone d (subst IsCluster c.self.view_is c.self.invariant.cluster) c.args.node c.args.window.now c.args.channel
     (owner_passes d c.args.node c.args.window.now c.args.channel post.plan c.in-Some-Some.slot plan slot
-    (sym (c.is_owned.ensures ∙ ap (λ (owned : List Own). is_owned owned c.number.result c.args.channel) c.owned.ensures.value ∙ ap (λ (n : ℕ). is_owned post.plan.owned n c.args.channel) c.number.ensures.value) ∙ owned))
+    (sym (c.is_owned.ensures ∙ ap (λ (owned : List Own). is_owned owned c.in-Some-Some.slot c.args.channel) c.owned.ensures.value) ∙ owned))
