@@ -5,17 +5,9 @@ ghost use Rattle.std.specs.Result.{result_err};
 ghost use Rattle.fr_trace.specs.Answers.{same_answer, is_refused, made_by, fault_of};
 ghost use Rattle.fr_interface.specs.State.{with_entry};
 
+use crate::error::TraceError;
 use fr_interface::interface::Interface;
 use fr_journal::entry::Entry;
-
-/// Why an entry can't stand where the trace has it.
-#[derive(Clone, Copy, Debug, PartialEq, Eq)]
-pub(crate) enum Fault {
-    /// The interface refuses its call.
-    Refused,
-    /// Its call has another answer.
-    WrongAnswer,
-}
 
 /// Whether two entries of one call have the same answers.
 fn same_answer(made: &Entry, told: &Entry) -> bool
@@ -58,21 +50,21 @@ fn is_accepted(interface: &mut Interface, entry: &Entry) -> bool
     }
 }
 
-/// Makes the call of the entry, and compares its answers with those that the entry tells.
-pub(crate) fn replay(interface: &mut Interface, entry: &Entry) -> Result<(), Fault>
-    ensures fault { result_err result ≡ fault_of interface.old entry.now }
+/// Makes the call of the entry on the line of this number, and compares its answers with those that the entry tells.
+pub(crate) fn replay(interface: &mut Interface, entry: &Entry, line: u32) -> Result<(), TraceError>
+    ensures fault { result_err result ≡ fault_of line interface.old entry.now }
     ensures made { OnOk result (interface.new ≡ with_entry interface.old (made_by interface.old entry.now)) }
 {
     let number = interface.journal().len();
     if !is_accepted(interface, entry) {
-        return Err(Fault::Refused);
+        return Err(TraceError::Refused(line));
     }
     let Some(made) = interface.journal().get(number) else {
-        return Err(Fault::WrongAnswer);
+        return Err(TraceError::WrongAnswer(line));
     };
     if same_answer(&made, entry) {
         Ok(())
     } else {
-        Err(Fault::WrongAnswer)
+        Err(TraceError::WrongAnswer(line))
     }
 }
