@@ -1,5 +1,5 @@
 //! `fr_bench plan`.
-ghost use Rattle.std.specs.Prelude.{◌≡◌, ◌<◌, ◌≤◌, OnOk, IfSome, option_map, slice_get};
+ghost use Rattle.std.specs.Prelude.{◌≡◌, ◌≤◌, OnOk, IfSome};
 ghost use Rattle.fr_bench.specs.Checks.{Plans};
 ghost use Rattle.std.specs.Io.KnownBytes.{Appends};
 ghost use Rattle.std.specs.List.{flat_map};
@@ -24,20 +24,12 @@ use std::io::{self, Read, Write};
 #[cfg(test)]
 mod tests;
 
-/// The plan of the node of this number, or None where the cluster doesn't have it.
-fn plan_of(cluster: &Cluster, number: u8) -> Option<&NodePlan>
-    requires { number < 16 }
-    ensures { option_map (λ plan. plan.now) result ≡ slice_get cluster.now.plans number }
-{
-    cluster.node(NodeId::new(number)?)
-}
-
 /// Writes the line of a static slot, where the node owns it on the channel.
 fn write_owner<W: Write>(
     writer: &mut W,
     slot: u16,
     channel: Channel,
-    number: u8,
+    number: usize,
     plan: &NodePlan,
 ) -> io::Result<()>
     ensures { OnOk result
@@ -60,10 +52,8 @@ fn write_owners<W: Write>(
     ensures { OnOk result
         (Appends (W.contents writer.old) (W.contents writer.new) (owners_text cluster.now.plans slot channel)) }
 {
-    for number in 0..cluster.nodes() {
-        if let Some(plan) = plan_of(cluster, number) {
-            write_owner(writer, slot, channel, number, plan)?;
-        }
+    for (number, plan) in cluster.plans().iter().enumerate() {
+        write_owner(writer, slot, channel, number, plan)?;
     }
     Ok(())
 }
@@ -109,7 +99,7 @@ fn transmits_dynamic(params: &Params, buffer: &Buffer) -> bool
 }
 
 /// Writes the line of a dynamic transmit buffer.
-fn write_dynamic<W: Write>(writer: &mut W, number: u8, buffer: &Buffer) -> io::Result<()>
+fn write_dynamic<W: Write>(writer: &mut W, number: usize, buffer: &Buffer) -> io::Result<()>
     ensures { OnOk result (Appends (W.contents writer.old) (W.contents writer.new) (dynamic_line number buffer.now)) }
 {
     let filter = buffer.filter;
@@ -131,7 +121,7 @@ fn write_dynamic<W: Write>(writer: &mut W, number: u8, buffer: &Buffer) -> io::R
 fn write_buffer<W: Write>(
     writer: &mut W,
     params: &Params,
-    number: u8,
+    number: usize,
     buffer: &Buffer,
 ) -> io::Result<()>
     ensures { OnOk result
@@ -148,7 +138,7 @@ fn write_buffer<W: Write>(
 fn write_buffers<W: Write>(
     writer: &mut W,
     params: &Params,
-    number: u8,
+    number: usize,
     buffers: &[Buffer],
 ) -> io::Result<()>
     ensures { OnOk result
@@ -167,10 +157,8 @@ fn write_buffers<W: Write>(
 fn write_dynamics<W: Write>(writer: &mut W, cluster: &Cluster) -> io::Result<()>
     ensures { OnOk result (Appends (W.contents writer.old) (W.contents writer.new) (dynamic_text cluster.now)) }
 {
-    for number in 0..cluster.nodes() {
-        if let Some(plan) = plan_of(cluster, number) {
-            write_buffers(writer, cluster.params(), number, plan.buffers())?;
-        }
+    for (number, plan) in cluster.plans().iter().enumerate() {
+        write_buffers(writer, cluster.params(), number, plan.buffers())?;
     }
     Ok(())
 }
