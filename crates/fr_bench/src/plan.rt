@@ -6,15 +6,15 @@ ghost use Rattle.std.specs.List.{flat_map};
 ghost use Rattle.fr_bench.specs.PlanText.{owner_text, owners_text, slot_text, static_text};
 ghost use Rattle.fr_bench.specs.PlanText.{dynamic_line, buffer_text, node_text, dynamic_text};
 ghost use Rattle.fr_bench.specs.PlanText.{guard_line, IsGuardText, AreGuardTexts, IsPlanText, Adds};
-ghost use Rattle.fr_lines.specs.Parts.{channels_word};
 ghost use Rattle.fr_slots.specs.Faults.{transmits_dynamic};
 
 use crate::cluster_file::cluster_of;
 use crate::error::BenchError;
 use fr_guardian::guardian::Guardian;
 use fr_guardian::ownership::is_owned;
+use fr_lines::writing::channels_word;
 use fr_schedule::cluster::Cluster;
-use fr_slots::channel::{Channel, Channels};
+use fr_slots::channel::Channel;
 use fr_slots::numbers::NodeId;
 use fr_slots::params::Params;
 use fr_slots::plan::{Buffer, Mode, NodePlan};
@@ -75,17 +75,6 @@ fn write_slots<W: Write>(writer: &mut W, cluster: &Cluster) -> io::Result<()>
         write_slot(writer, cluster, earlier + 1)?;
     }
     Ok(())
-}
-
-/// The word of channels.
-fn channels_word(channels: Channels) -> &'static str
-    ensures { result.now ≡ channels_word channels }
-{
-    match channels {
-        Channels::A => "A",
-        Channels::B => "B",
-        Channels::Both => "AB",
-    }
 }
 
 /// Whether the buffer is a transmit buffer in a dynamic slot.
