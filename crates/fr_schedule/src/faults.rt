@@ -1,7 +1,8 @@
 //! What is at fault among the nodes of a cluster file.
 
 ghost use Rattle.std.specs.Prelude.{◌≡◌, ◌≤◌, length};
-ghost use Rattle.fr_schedule.specs.FileFaults.{all_owned, all_buffers, first_taken, first_overlap, first_by, owner_fault, sender_fault, file_fault};
+ghost use Rattle.fr_schedule.specs.FileFaults.{all_owned, all_buffers, first_taken, first_overlap, first_by};
+ghost use Rattle.fr_schedule.specs.FileFaults.{owner_fault, sender_fault, file_fault};
 ghost use Rattle.fr_schedule.specs.FileFaults.{not_owned_in, dynamic_both_in, too_long_in};
 ghost use Rattle.fr_schedule.specs.RuleFaults.{fault_by};
 ghost use Rattle.fr_slots.specs.Sharing.{own_filters, transmit_filters};
