@@ -7,7 +7,9 @@ ghost use Rattle.fr_slots.specs.Faults.{plan_fault};
 ghost use Rattle.fr_text.specs.Spaces.{words_of};
 ghost use Rattle.fr_trace.specs.Auditor.{phase_of};
 ghost use Rattle.fr_trace.specs.Feeds.{GivesPhase, GivesUnless, IsBegin};
-ghost use Rattle.fr_trace.specs.Stream.{params, node, lines, body, take_line, too_long, line_number, line_count, has_owned_alone, after_begin, after_queue, after_buffer, after_own};
+ghost use Rattle.fr_trace.specs.Stream.{params, node, lines, body, take_line, too_long, line_number};
+ghost use Rattle.fr_trace.specs.Stream.{line_count, has_owned_alone, after_begin, after_queue, after_buffer};
+ghost use Rattle.fr_trace.specs.Stream.{after_own};
 
 use crate::error::TraceError;
 use crate::replay::replay;
