@@ -1,18 +1,18 @@
 //! `fr_bench plan`.
-ghost use Rattle.std.specs.Prelude.{◌≡◌, ◌<◌, ◌≤◌, OnOk, IfSome, option_map, slice_get};
+ghost use Rattle.std.specs.Prelude.{◌≡◌, ◌≤◌, OnOk, IfSome};
 ghost use Rattle.fr_bench.specs.Checks.{Plans};
 ghost use Rattle.std.specs.Io.KnownBytes.{Appends};
 ghost use Rattle.std.specs.List.{flat_map};
 ghost use Rattle.fr_bench.specs.PlanText.{owner_text, owners_text, slot_text, static_text};
 ghost use Rattle.fr_bench.specs.PlanText.{dynamic_line, buffer_text, node_text, dynamic_text};
 ghost use Rattle.fr_bench.specs.PlanText.{guard_line, IsGuardText, AreGuardTexts, IsPlanText, Adds};
-ghost use Rattle.fr_lines.specs.Parts.{channels_word};
 
 use crate::cluster_file::cluster_of;
 use crate::error::BenchError;
 use fr_guardian::guardian::Guardian;
+use fr_lines::writing::channels_word;
 use fr_schedule::cluster::Cluster;
-use fr_slots::channel::{Channel, Channels};
+use fr_slots::channel::Channel;
 use fr_slots::fault::{is_owned, transmits_dynamic};
 use fr_slots::numbers::{NodeId, SlotId};
 use fr_slots::params::Params;
@@ -23,20 +23,12 @@ use std::io::{self, Read, Write};
 #[cfg(test)]
 mod tests;
 
-/// The plan of the node of this number, or None where the cluster doesn't have it.
-fn plan_of(cluster: &Cluster, number: u8) -> Option<&NodePlan>
-    requires { number < 16 }
-    ensures { option_map (λ plan. plan.now) result ≡ slice_get cluster.now.plans number }
-{
-    cluster.node(NodeId::new(number)?)
-}
-
 /// Writes the line of a static slot, where the node owns it on the channel.
 fn write_owner<W: Write>(
     writer: &mut W,
     slot: SlotId,
     channel: Channel,
-    number: u8,
+    number: usize,
     plan: &NodePlan,
 ) -> io::Result<()>
     ensures { OnOk result
@@ -59,10 +51,8 @@ fn write_owners<W: Write>(
     ensures { OnOk result
         (Appends (W.contents writer.old) (W.contents writer.new) (owners_text cluster.now.plans slot channel)) }
 {
-    for number in 0..cluster.nodes() {
-        if let Some(plan) = plan_of(cluster, number) {
-            write_owner(writer, slot, channel, number, plan)?;
-        }
+    for (number, plan) in cluster.plans().iter().enumerate() {
+        write_owner(writer, slot, channel, number, plan)?;
     }
     Ok(())
 }
@@ -88,19 +78,8 @@ fn write_slots<W: Write>(writer: &mut W, cluster: &Cluster) -> io::Result<()>
     Ok(())
 }
 
-/// The word of channels.
-fn channels_word(channels: Channels) -> &'static str
-    ensures { result.now ≡ channels_word channels }
-{
-    match channels {
-        Channels::A => "A",
-        Channels::B => "B",
-        Channels::Both => "AB",
-    }
-}
-
 /// Writes the line of a dynamic transmit buffer.
-fn write_dynamic<W: Write>(writer: &mut W, number: u8, buffer: &Buffer) -> io::Result<()>
+fn write_dynamic<W: Write>(writer: &mut W, number: usize, buffer: &Buffer) -> io::Result<()>
     ensures { OnOk result (Appends (W.contents writer.old) (W.contents writer.new) (dynamic_line number buffer.now)) }
 {
     let filter = buffer.filter;
@@ -122,7 +101,7 @@ fn write_dynamic<W: Write>(writer: &mut W, number: u8, buffer: &Buffer) -> io::R
 fn write_buffer<W: Write>(
     writer: &mut W,
     params: &Params,
-    number: u8,
+    number: usize,
     buffer: &Buffer,
 ) -> io::Result<()>
     ensures { OnOk result
@@ -139,7 +118,7 @@ fn write_buffer<W: Write>(
 fn write_buffers<W: Write>(
     writer: &mut W,
     params: &Params,
-    number: u8,
+    number: usize,
     buffers: &[Buffer],
 ) -> io::Result<()>
     ensures { OnOk result
@@ -158,10 +137,8 @@ fn write_buffers<W: Write>(
 fn write_dynamics<W: Write>(writer: &mut W, cluster: &Cluster) -> io::Result<()>
     ensures { OnOk result (Appends (W.contents writer.old) (W.contents writer.new) (dynamic_text cluster.now)) }
 {
-    for number in 0..cluster.nodes() {
-        if let Some(plan) = plan_of(cluster, number) {
-            write_buffers(writer, cluster.params(), number, plan.buffers())?;
-        }
+    for (number, plan) in cluster.plans().iter().enumerate() {
+        write_buffers(writer, cluster.params(), number, plan.buffers())?;
     }
     Ok(())
 }

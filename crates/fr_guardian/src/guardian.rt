@@ -1,6 +1,6 @@
 //! The bus guardians of a cluster.
 
-ghost use Rattle.std.specs.Prelude.{◌≡◌, option_map, slice_get, IfOk, ◌<◌, List, true};
+ghost use Rattle.std.specs.Prelude.{◌≡◌, option_map, slice_get, IfOk, List, true};
 ghost use Rattle.fr_guardian.specs.GuardianFields.{IsPost, ArePosts};
 ghost use Rattle.fr_guardian.specs.Guarding.{passes, PassesAlone, IsOpenTo, IsOpenMacrotick};
 ghost use Rattle.fr_schedule.specs.Clusters.{is_guarded};
@@ -130,20 +130,10 @@ fn posts_of(alloc: Global, cluster: &Cluster) -> Result<Vec<Post>, AllocError>
     ensures { IfOk result (λ posts. ArePosts cluster.now posts.items) }
 {
     let mut posts = Vec::new(alloc);
-    for number in 0..cluster.nodes() {
-        if let Some(plan) = plan_of(cluster, number) {
-            posts.push(post_of(alloc, cluster, plan)?)?;
-        }
+    for plan in cluster.plans() {
+        posts.push(post_of(alloc, cluster, plan)?)?;
     }
     Ok(posts)
-}
-
-/// The plan of the node of this number, or None where the cluster doesn't have it.
-fn plan_of(cluster: &Cluster, number: u8) -> Option<&NodePlan>
-    requires { number < 16 }
-    ensures { option_map (λ plan. plan.now) result ≡ slice_get cluster.now.plans number }
-{
-    cluster.node(NodeId::new(number)?)
 }
 
 /// The post of a node with this plan.

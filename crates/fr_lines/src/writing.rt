@@ -20,8 +20,8 @@ use fr_text::hexes::write_hex;
 use std::io;
 use std::io::Write;
 
-/// The word of channels.
-fn channels_word(channels: Channels) -> &'static str
+/// The word of channels: `A`, `B`, or `AB` for both (own profile).
+pub fn channels_word(channels: Channels) -> &'static str
     ensures { result.now ≡ channels_word channels }
 {
     match channels {

@@ -10,8 +10,7 @@ use Rattle.fr_schedule.proofs.TwoLemmas.{two_left, two_right, two_at}
 use Rattle.fr_schedule.specs.Clusters.{Description, HasOneSender, may_send, IsNode, IsCluster}
 use Rattle.fr_schedule.specs.declared.error.ConfigError.{ConfigError}
 use Rattle.fr_schedule.specs.declared.error.ConfigError.TheVariants as error
-use Rattle.fr_schedule.specs.declared.faults.Rule.TheVariants.{Owned, OneChannel, EndsInTime}
-use Rattle.fr_schedule.specs.FileFaults.{all_owned, all_buffers, first_taken, first_overlap, buffer_fault, first_in_nodes, first_by, owner_fault, sender_fault, file_fault}
+use Rattle.fr_schedule.specs.FileFaults.{all_owned, all_buffers, first_taken, first_overlap, buffer_fault, first_in_nodes, first_by, not_owned_in, dynamic_both_in, too_long_in, owner_fault, sender_fault, file_fault}
 use Rattle.fr_slots.proofs.FaultLemmas.{first-none}
 use Rattle.fr_slots.proofs.FaultlessLemmas.{or_none, cond_none, map_none, on_channels, in_slots}
 use Rattle.fr_slots.specs.declared.channel.Channel.{Channel}
@@ -136,18 +135,18 @@ no_fault p q is_for free =
 -- the five parts of a file without fault
 record HasNoFault (p : Parameters) (plans : List Plan) : Type 0 where
   pub untaken : first_taken plans ≡ None
-  pub owned : first_by Owned p plans ≡ None
-  pub one_channel : first_by OneChannel p plans ≡ None
+  pub owned : first_by (not_owned_in p) plans ≡ None
+  pub one_channel : first_by (dynamic_both_in p) plans ≡ None
   pub apart : first_overlap plans ≡ None
-  pub in_time : first_by EndsInTime p plans ≡ None
+  pub in_time : first_by (too_long_in p) plans ≡ None
 
 parts : (p : Parameters) (plans : List Plan) → file_fault p plans ≡ None → HasNoFault p plans
 unfolding file_fault owner_fault sender_fault
 parts p plans none =
     let (owner, sender) = or_none (owner_fault p plans) (sender_fault p plans) none in
-    let (untaken, owned) = or_none (first_taken plans) (first_by Owned p plans) owner in
-    let (one_channel, later) = or_none (first_by OneChannel p plans) (option_or (first_overlap plans) (first_by EndsInTime p plans)) sender in
-    let (apart, in_time) = or_none (first_overlap plans) (first_by EndsInTime p plans) later in
+    let (untaken, owned) = or_none (first_taken plans) (first_by (not_owned_in p) plans) owner in
+    let (one_channel, later) = or_none (first_by (dynamic_both_in p) plans) (option_or (first_overlap plans) (first_by (too_long_in p) plans)) sender in
+    let (apart, in_time) = or_none (first_overlap plans) (first_by (too_long_in p) plans) later in
     record { untaken = untaken; owned = owned; one_channel = one_channel; apart = apart; in_time = in_time }
 
 each_free : (p : Parameters) (plans : List Plan) → HasNoFault p plans → Each (IsFree p) plans

@@ -11,8 +11,6 @@ use Rattle.fr_slots.specs.Parameters.{Parameters}
 use Rattle.fr_slots.specs.Plans.{Plan}
 use Rattle.fr_schedule.specs.declared.error.ConfigError.{ConfigError}
 use Rattle.fr_schedule.specs.declared.error.ConfigError.TheVariants.{SlotTaken, NotOwned, DynamicBoth, Overlap, TooLong}
-use Rattle.fr_schedule.specs.declared.faults.Rule.{Rule}
-use Rattle.fr_schedule.specs.declared.faults.Rule.TheVariants.{Owned, OneChannel, EndsInTime}
 
 -- the ownership lines, and the buffers, of all nodes
 abbrev pub all_owned : List Plan → List Own
@@ -59,23 +57,28 @@ unfoldable pub first_in_nodes : (ℕ → Plan → Option ConfigError) → ℕ �
 first_in_nodes fault node [] = None
 first_in_nodes fault node (plan ∷ plans) = option_or (fault node plan) (first_in_nodes fault (node + 1) plans)
 
--- a static transmit buffer, whose slot the node doesn't own on all the buffer's channels; a dynamic one for both channels; and
--- a dynamic one, whose frame would end behind the dynamic segment if it began at the node's latest minislot
-abbrev pub fault_by : Rule → Parameters → ℕ → Plan → Option ConfigError
-fault_by Owned p = buffer_fault NotOwned (λ plan. not_owned p plan.owned)
-fault_by OneChannel p = buffer_fault DynamicBoth (λ plan. dynamic_both p)
-fault_by EndsInTime p = buffer_fault TooLong (too_long p)
+abbrev pub first_by : (ℕ → Plan → Option ConfigError) → List Plan → Option ConfigError
+first_by fault plans = first_in_nodes fault 0 plans
 
-abbrev pub first_by : Rule → Parameters → List Plan → Option ConfigError
-first_by rule p plans = first_in_nodes (fault_by rule p) 0 plans
+-- a static transmit buffer, whose slot the node doesn't own on all the buffer's channels
+abbrev pub not_owned_in : Parameters → ℕ → Plan → Option ConfigError
+not_owned_in p = buffer_fault NotOwned (λ plan. not_owned p plan.owned)
+
+-- a dynamic transmit buffer for both channels
+abbrev pub dynamic_both_in : Parameters → ℕ → Plan → Option ConfigError
+dynamic_both_in p = buffer_fault DynamicBoth (λ plan. dynamic_both p)
+
+-- a dynamic transmit buffer, whose frame would end behind the dynamic segment if it began at the node's latest minislot
+abbrev pub too_long_in : Parameters → ℕ → Plan → Option ConfigError
+too_long_in p = buffer_fault TooLong (too_long p)
 
 -- ---- the first fault: each kind over all nodes before the next, and of a kind the first in order of its numbers
 
 unfoldable pub owner_fault : Parameters → List Plan → Option ConfigError
-owner_fault p plans = option_or (first_taken plans) (first_by Owned p plans)
+owner_fault p plans = option_or (first_taken plans) (first_by (not_owned_in p) plans)
 
 unfoldable pub sender_fault : Parameters → List Plan → Option ConfigError
-sender_fault p plans = option_or (first_by OneChannel p plans) (option_or (first_overlap plans) (first_by EndsInTime p plans))
+sender_fault p plans = option_or (first_by (dynamic_both_in p) plans) (option_or (first_overlap plans) (first_by (too_long_in p) plans))
 
 unfoldable pub file_fault : Parameters → List Plan → Option ConfigError
 file_fault p plans = option_or (owner_fault p plans) (sender_fault p plans)

@@ -144,7 +144,7 @@ impl Cluster {
         ensures nobody { IfNone result ((node : ℕ) → ¬ IsSender self.now cycle slot channel node) }
         ensures lawful { IsCluster self.now }
     {
-        let number = sender_number(&self.params, self.plans.as_slice(), cycle, slot, channel)?;
+        let number = sender_number(&self.params, self.plans(), cycle, slot, channel)?;
         NodeId::new(number as u8)
     }
 
@@ -154,6 +154,14 @@ impl Cluster {
         ensures lawful { IsCluster self.now }
     {
         &self.params
+    }
+
+    /// The plans of all nodes, 1 to 16, in the order of their numbers.
+    pub fn plans(&self) -> &[NodePlan]
+        ensures value { result.now ≡ self.now.plans }
+        ensures lawful { IsCluster self.now }
+    {
+        self.plans.as_slice()
     }
 
     /// The plan of a node, or None where the cluster doesn't have it.

@@ -1,8 +1,10 @@
 //! What is at fault among the nodes of a cluster file.
 
 ghost use Rattle.std.specs.Prelude.{◌≡◌, ◌≤◌, length};
-ghost use Rattle.fr_schedule.specs.FileFaults.{all_owned, all_buffers, first_taken, first_overlap, fault_by, first_by, owner_fault, sender_fault, file_fault};
-ghost use Rattle.fr_schedule.specs.declared.faults.Rule.TheVariants as rules_of;
+ghost use Rattle.fr_schedule.specs.FileFaults.{all_owned, all_buffers, first_taken, first_overlap, first_by};
+ghost use Rattle.fr_schedule.specs.FileFaults.{owner_fault, sender_fault, file_fault};
+ghost use Rattle.fr_schedule.specs.FileFaults.{not_owned_in, dynamic_both_in, too_long_in};
+ghost use Rattle.fr_schedule.specs.RuleFaults.{fault_by};
 ghost use Rattle.fr_slots.specs.Sharing.{own_filters, transmit_filters};
 
 use crate::error::ConfigError;
@@ -81,7 +83,7 @@ fn first_overlap(plans: &[NodePlan]) -> Option<ConfigError>
 
 /// The fault of the first buffer of the node for a static slot that the node lacks on one of the buffer's channels.
 fn not_owned_in(params: &Params, node: NodeId, plan: &NodePlan) -> Option<ConfigError>
-    ensures { result ≡ fault_by rules_of.Owned params.now node plan.now }
+    ensures { result ≡ not_owned_in params.now node plan.now }
 {
     let number = not_owned_number(params, plan.owned(), plan.buffers())?;
     Some(ConfigError::NotOwned(node, number as u8))
@@ -89,7 +91,7 @@ fn not_owned_in(params: &Params, node: NodeId, plan: &NodePlan) -> Option<Config
 
 /// The fault of the first dynamic buffer of the node for both channels.
 fn dynamic_both_in(params: &Params, node: NodeId, plan: &NodePlan) -> Option<ConfigError>
-    ensures { result ≡ fault_by rules_of.OneChannel params.now node plan.now }
+    ensures { result ≡ dynamic_both_in params.now node plan.now }
 {
     let number = dynamic_both_number(params, plan.buffers())?;
     Some(ConfigError::DynamicBoth(node, number as u8))
@@ -97,7 +99,7 @@ fn dynamic_both_in(params: &Params, node: NodeId, plan: &NodePlan) -> Option<Con
 
 /// The fault of the first dynamic buffer of the node whose frame would end behind the dynamic segment.
 fn too_long_in(params: &Params, node: NodeId, plan: &NodePlan) -> Option<ConfigError>
-    ensures { result ≡ fault_by rules_of.EndsInTime params.now node plan.now }
+    ensures { result ≡ too_long_in params.now node plan.now }
 {
     let number = too_long_number(params, plan, plan.buffers())?;
     Some(ConfigError::TooLong(node, number as u8))
@@ -117,7 +119,7 @@ fn fault_by(rule: Rule, params: &Params, node: NodeId, plan: &NodePlan) -> Optio
 /// The fault of the first buffer, in the order of nodes, that doesn't keep the rule.
 fn first_by(rule: Rule, params: &Params, plans: &[NodePlan]) -> Option<ConfigError>
     requires { length plans.now ≤ 16 }
-    ensures { result ≡ first_by rule params.now plans.now }
+    ensures { result ≡ first_by (fault_by rule params.now) plans.now }
 {
     for (number, plan) in plans.iter().enumerate() {
         if let Some(fault) = fault_by(rule, params, node_of(number), plan) {

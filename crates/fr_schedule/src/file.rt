@@ -1,9 +1,11 @@
 //! What a cluster file's table gives, before its nodes are held against each other.
 
-ghost use Rattle.std.specs.Prelude.{◌≡◌, ◌≤◌, ◌<◌, [], true, None, Ok, Err, length, map, option_map, ok_or, IfSome, IfOk, IfErr};
+ghost use Rattle.std.specs.Prelude.{◌≡◌, ◌≤◌, ◌<◌, [], true, None, Ok, Err, length, map, option_map, ok_or};
+ghost use Rattle.std.specs.Prelude.{IfSome, IfOk, IfErr};
 ghost use Rattle.fr_params.specs.Table.{parameters_in};
 ghost use Rattle.fr_schedule.specs.declared.error.ConfigError.TheVariants as error;
-ghost use Rattle.fr_schedule.specs.Files.{params_table, params_in, guard_named, guard_in, nodes_in, each_of, buffer_read, with_buffers_of, plan_of};
+ghost use Rattle.fr_schedule.specs.Files.{params_table, params_in, guard_named, guard_in, nodes_in, each_of};
+ghost use Rattle.fr_schedule.specs.Files.{buffer_read, with_buffers_of, plan_of};
 ghost use Rattle.fr_slots.specs.Plans.{buffer_fits, IsPlan, Each};
 ghost use Rattle.toml.specs.View.{view, table_view};
 

@@ -2,7 +2,8 @@
 
 ghost use Rattle.std.specs.Prelude.{◌≡◌, ◌≤◌, [], true, None, length, map, option_map, IfSome};
 ghost use Rattle.fr_schedule.specs.TableReading.{all_of};
-ghost use Rattle.fr_schedule.specs.NodeTables.{own_in, own_of, queue_in, queue_of, filter_in, words_in, transmit_buffer_in, buffer_by, buffer_in, buffer_of};
+ghost use Rattle.fr_schedule.specs.NodeTables.{own_in, own_of, queue_in, queue_of, filter_in, words_in};
+ghost use Rattle.fr_schedule.specs.NodeTables.{transmit_buffer_in, buffer_by, buffer_in, buffer_of};
 ghost use Rattle.fr_schedule.specs.NodeTables.{limits_in, owning, with_owned_in, with_queue_in, head_in};
 ghost use Rattle.fr_slots.specs.Plans.{own_fits, queue_fits, buffer_fits, with_queue};
 ghost use Rattle.toml.specs.View.{view, table_view};

@@ -1,9 +1,11 @@
 //! What a table of a cluster file has under a key.
 
-ghost use Rattle.std.specs.Prelude.{◌≡◌, ◌≤◌, ◌<◌, length, map, option_map, option_copied, IfSome, IsTrue, nat_le, ◌&&◌};
+ghost use Rattle.std.specs.Prelude.{◌≡◌, ◌≤◌, ◌<◌, length, map, option_map, option_copied, IfSome, IsTrue};
+ghost use Rattle.std.specs.Prelude.{nat_le, ◌&&◌};
 ghost use Rattle.fr_slots.specs.Plans.{most_lines};
 ghost use Rattle.std.specs.List.{list_all};
-ghost use Rattle.fr_schedule.specs.TableReading.{number_in, number_at, number_or, flag_at, word_at, channels_named, mode_named, channels_in, mode_in, cycles_in};
+ghost use Rattle.fr_schedule.specs.TableReading.{number_in, number_at, number_or, flag_at, word_at};
+ghost use Rattle.fr_schedule.specs.TableReading.{channels_named, mode_named, channels_in, mode_in, cycles_in};
 ghost use Rattle.fr_schedule.specs.TableReading.{array_in, is_table, tables_in, tables_at};
 ghost use Rattle.toml.specs.Data.{get_member};
 ghost use Rattle.toml.specs.View.{view, table_view};

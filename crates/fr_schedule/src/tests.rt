@@ -134,6 +134,17 @@ fn its_plans_are_those_of_the_file(rt: HostRuntime) -> Result<(), Fail> {
 }
 
 #[test]
+fn its_plans_come_in_the_order_of_their_nodes(rt: HostRuntime) -> Result<(), Fail> {
+    let cluster = cluster(rt.alloc())?;
+    let mut counts = Vec::new(rt.alloc());
+    for plan in cluster.plans() {
+        counts.push(plan.buffers().len())?;
+    }
+    assert_eq!(rt; counts.as_slice(), [2, 3, 2].as_slice());
+    Ok(())
+}
+
+#[test]
 fn owners_send_in_static_slots(rt: HostRuntime) -> Result<(), Fail> {
     let cluster = cluster(rt.alloc())?;
     let first = cluster.sender(cycle(0)?, slot(1)?, Channel::A);

@@ -26,7 +26,7 @@ use Rattle.fr_slots.specs.Parameters.{Parameters, IsParameters}
 use Rattle.fr_slots.specs.Plans.{Plan, IsPlan, IsBuffer, IsOwn, IsQueueOrNone, QueueFits, Each, AllFit, buffer_fits, own_fits, with_buffer, with_own, with_queue}
 use Rattle.fr_text.specs.Spaces.{line_of}
 use Rattle.fr_trace.specs.Answers.{made_by}
-use Rattle.fr_trace.specs.Stream.{magic, params, node, lines, body, finished, reading, after_parameters, after_numbers, after_node, take_line, take_byte, take_bytes, fresh}
+use Rattle.fr_trace.specs.Stream.{magic, params, node, lines, body, finished, reading, after_parameters, after_numbers, after_node, line_number, take_line, take_byte, take_bytes, fresh}
 use Rattle.fr_lines.specs.Spelling.{line_feed, line_text}
 use Rattle.fr_trace.specs.TraceText.{entry_line, head_text, params_text, plan_text, begin_text, body_text, trace_text}
 use Rattle.fr_trace.proofs.AnswerLemmas.{no_fault, legal_accepted, made-answered}
@@ -164,7 +164,7 @@ entry_line_read : (s : State) (e : Entry) → IsPlan s.plan → IsEntry e → Is
 entry_line_read s e plan_is ranges legal =
     let spelled = spelled_entry s e plan_is ranges legal in
     let made : made_by s e ≡ e = made-answered s e (legal_accepted s e legal).1 in
-    rw (entry_not_end e, entry_line_again e spelled, no_fault s e legal, made) refl
+    rw (entry_not_end e, entry_line_again e spelled, no_fault (line_number (body s)) s e legal, made) refl
 
 entries_read : (p : Parameters) (plan : Plan) (items before : List Entry) (front : List ℕ) → IsPlan plan
     → AllAfter (IsLegal p plan) before items → AllAfter (λ _ e. IsEntry e) before items

@@ -154,5 +154,5 @@ legal_accepted s (Pop task from) legal = legal_pop s task from legal
 legal_accepted s (Fetch window a b) legal = legal_fetch s window a b legal
 legal_accepted s (Observe window a b) legal = (no_refusal (observe_refusal s window) (closes window (open_window s.entries) legal), refl)
 
-pub no_fault : (s : State) (e : Entry) → IsLegal s.params s.plan s.entries e → fault_of s e ≡ None
-no_fault s e legal = let fine = legal_accepted s e legal in rw (fine.0, fine.1) refl
+pub no_fault : (line : ℕ) (s : State) (e : Entry) → IsLegal s.params s.plan s.entries e → fault_of line s e ≡ None
+no_fault line s e legal = let fine = legal_accepted s e legal in rw (fine.0, fine.1) refl

@@ -15,12 +15,10 @@ use Rattle.fr_slots.specs.declared.plan.Queue.{Queue}
 use Rattle.fr_slots.specs.Faults.{plan_fault}
 use Rattle.fr_slots.specs.Plans.{Plan, own_refusal, buffer_refusal, queue_refusal}
 use Rattle.fr_text.specs.Spaces.{words_of}
-use Rattle.fr_trace.specs.Answers.{fault_of}
+use Rattle.fr_trace.specs.Answers.{is_refused, is_answered}
 use Rattle.fr_trace.specs.Audit.{IsOfText}
 use Rattle.fr_trace.specs.declared.error.TraceError.{TraceError}
-use Rattle.fr_trace.specs.declared.replay.Fault.{Fault}
-use Rattle.fr_trace.specs.declared.replay.Fault.TheVariants.{Refused, WrongAnswer}
-use Rattle.fr_trace.specs.Stream.{Phase, magic, params, node, lines, body, finished, Progress, reading, failed, after_parameters, after_numbers, after_node, after_queue, after_buffer, has_owned_alone, after_own, after_buffered, after_owned, after_begin, error_of, after_fault, after_entry, take_line, too_long, after_line, take_open, take_byte, take_bytes, longest_line, outcome_of}
+use Rattle.fr_trace.specs.Stream.{Phase, magic, params, node, lines, body, finished, Progress, reading, failed, after_parameters, after_numbers, after_node, after_queue, after_buffer, has_owned_alone, after_own, after_buffered, after_owned, after_begin, after_call, after_entry, take_line, too_long, after_line, take_open, take_byte, take_bytes, longest_line, outcome_of}
 
 abbrev pub FaultOfText : {A : Type 0} → Result A TraceError → Type 0
 FaultOfText (Ok x) = Unit {0}
@@ -77,17 +75,20 @@ begin_fault p plan = elim (cases_Bool (is_none (plan_fault p plan))) [
   | inr fail ↦ rw fail tt
 ]
 
-number_fault : (number : ℕ) (f : Fault) → IsOfText (error_of number f)
-number_fault number Refused = tt
-number_fault number WrongAnswer = tt
-
-call_fault : (s : State) (e : Entry) (o : Option Fault) → FaultOfText (after_fault s e o)
-call_fault s e None = tt
-call_fault s e (Some f) = number_fault _ f
+call_fault : (s : State) (e : Entry) → FaultOfText (after_call s e)
+call_fault s e = elim (cases_Bool (is_refused s e)) [
+  | inl refused ↦ rw refused tt
+  | inr accepted ↦
+      rw accepted
+      (elim (cases_Bool (is_answered s e)) [
+        | inl answered ↦ rw answered tt
+        | inr wrong ↦ rw wrong tt
+      ])
+]
 
 entry_fault : (s : State) (o : Option Entry) → FaultOfText (after_entry s o)
 entry_fault s None = tt
-entry_fault s (Some e) = call_fault s e (fault_of s e)
+entry_fault s (Some e) = call_fault s e
 
 line_fault : (p : Phase) (line : List ℕ) → FaultOfText (take_line p line)
 line_fault magic line = elim (cases_Bool (bytes_eq line first_line)) [

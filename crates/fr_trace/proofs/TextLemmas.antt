@@ -25,11 +25,10 @@ use Rattle.fr_slots.specs.Plans.{Plan, own_refusal, buffer_refusal, queue_refusa
 use Rattle.fr_text.specs.Spaces.{words_of, line_of}
 use Rattle.fr_trace.specs.Answers.{fault_of, made_by, is_answered, is_refused}
 use Rattle.fr_trace.specs.declared.error.TraceError.{TraceError}
-use Rattle.fr_trace.specs.declared.replay.Fault.{Fault}
 use Rattle.fr_slots.specs.Faults.{plan_fault}
 use Rattle.fr_lines.specs.Spelling.{line_feed, line_text}
 use Rattle.fr_trace.specs.TraceText.{own_line, buffer_line, queue_lines, entry_line, head_text, params_text, plan_text, begin_text, body_text, trace_text}
-use Rattle.fr_trace.specs.Stream.{Phase, magic, params, node, lines, body, finished, Progress, reading, failed, after_parameters, after_numbers, after_node, after_queue, after_buffer, has_owned_alone, after_own, after_buffered, after_owned, after_begin, after_fault, after_entry, take_line, after_line, take_open, take_in, take_byte, take_bytes, fresh, longest_line}
+use Rattle.fr_trace.specs.Stream.{Phase, magic, params, node, lines, body, finished, Progress, reading, failed, after_parameters, after_numbers, after_node, after_queue, after_buffer, has_owned_alone, after_own, after_buffered, after_owned, after_begin, line_number, after_fault, after_entry, take_line, after_line, take_open, take_in, take_byte, take_bytes, fresh, longest_line}
 use Rattle.fr_trace.proofs.AnswerLemmas.{made-answered}
 use Rattle.fr_trace.proofs.PlanLemmas.{nil_is, none_is, no_queue_yet}
 
@@ -186,8 +185,8 @@ after_begin_leads line p plan q is h =
 
 -- ---- entries
 
-fault_none : (s : State) (e : Entry) → fault_of s e ≡ None → is_answered s e ≡ true
-fault_none s e h =
+fault_none : (line : ℕ) (s : State) (e : Entry) → fault_of line s e ≡ None → is_answered s e ≡ true
+fault_none line s e h =
     elim (cases_Bool (is_refused s e)) [
       | inl refused ↦ cc (rw refused at h)
       | inr accepted ↦
@@ -198,10 +197,10 @@ fault_none s e h =
           ]
     ]
 
-after_fault_leads : (s : State) (line : List ℕ) (e : Entry) (o : Option Fault) (q : Phase) → line ≡ line_of (entry_words e) → fault_of s e ≡ o → after_fault s e o ≡ Ok q → Leads (body s) line q
+after_fault_leads : (s : State) (line : List ℕ) (e : Entry) (o : Option TraceError) (q : Phase) → line ≡ line_of (entry_words e) → fault_of (line_number (body s)) s e ≡ o → after_fault s e o ≡ Ok q → Leads (body s) line q
 after_fault_leads s line e (Some f) q text is h = cc h
 after_fault_leads s line e None q text is h =
-    let made : made_by s e ≡ e = made-answered s e (fault_none s e is) in
+    let made : made_by s e ≡ e = made-answered s e (fault_none (line_number (body s)) s e is) in
     let end : body (with_entry s e) ≡ q = ap (λ (x : Entry). body (with_entry s x)) (sym made) ∙ cc h in
     let spelled : body_text (with_entry s e) ≡ body_text s ++ (line ++ line_feed) =
     sym (flat_map_more entry_line (begin_text s.params s.plan) s.entries e) ∙ ap (λ t. body_text s ++ (t ++ line_feed)) (sym text) in
@@ -209,7 +208,7 @@ after_fault_leads s line e None q text is h =
 
 after_entry_leads : (s : State) (line : List ℕ) (o : Option Entry) (q : Phase) → entry_in (words_of line) ≡ o → after_entry s o ≡ Ok q → Leads (body s) line q
 after_entry_leads s line None q is h = cc h
-after_entry_leads s line (Some e) q is h = after_fault_leads s line e (fault_of s e) q (entry_line_takes line e is) refl h
+after_entry_leads s line (Some e) q is h = after_fault_leads s line e (fault_of (line_number (body s)) s e) q (entry_line_takes line e is) refl h
 
 -- ---- whole lines
 

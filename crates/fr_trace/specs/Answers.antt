@@ -1,5 +1,5 @@
 -- Whether an entry that a trace tells is the one that its call makes.
-use Rattle.std.specs.Prelude.{◌==◌, Bool, true, false, ◌&&◌, Option, Some, None, is_some, option_map, if◌then◌else◌}
+use Rattle.std.specs.Prelude.{ℕ, ◌==◌, Bool, true, false, ◌&&◌, Option, Some, None, is_some, option_map, if◌then◌else◌}
 use Rattle.fr_journal.specs.declared.entry.Entry.{Entry}
 use Rattle.fr_journal.specs.declared.entry.Entry.TheVariants.{Commit, Read, Pop, Fetch, Observe}
 use Rattle.fr_journal.specs.declared.entry.Offered.{Offered}
@@ -10,8 +10,8 @@ use Rattle.fr_journal.specs.Offers.{offered}
 use Rattle.fr_interface.specs.State.{State, received_by, oldest_of, commit_refusal, read_refusal, pop_refusal, fetch_refusal, observe_refusal}
 use Rattle.fr_slots.specs.declared.channel.Channel.{Channel}
 use Rattle.fr_slots.specs.declared.channel.Channel.TheVariants as channel
-use Rattle.fr_trace.specs.declared.replay.Fault.{Fault}
-use Rattle.fr_trace.specs.declared.replay.Fault.TheVariants.{Refused, WrongAnswer}
+use Rattle.fr_trace.specs.declared.error.TraceError.{TraceError}
+use Rattle.fr_trace.specs.declared.error.TraceError.TheVariants.{Refused, WrongAnswer}
 
 -- ---- equal answers
 
@@ -62,6 +62,6 @@ same_answer made told = true
 abbrev pub is_answered : State → Entry → Bool
 is_answered s e = same_answer (made_by s e) e
 
--- why an entry can't stand where the trace has it
-abbrev pub fault_of : State → Entry → Option Fault
-fault_of s e = if is_refused s e then Some Refused else if is_answered s e then None else Some WrongAnswer
+-- why an entry can't stand on the line of this number
+abbrev pub fault_of : ℕ → State → Entry → Option TraceError
+fault_of line s e = if is_refused s e then Some (Refused line) else if is_answered s e then None else Some (WrongAnswer line)

@@ -15,10 +15,8 @@ use Rattle.fr_slots.specs.Parameters.{Parameters, parameters_of}
 use Rattle.fr_slots.specs.Plans.{Plan, own_refusal, buffer_refusal, queue_refusal, with_own, with_buffer, with_queue}
 use Rattle.fr_text.specs.Spaces.{words_of}
 use Rattle.fr_trace.specs.Answers.{made_by, fault_of}
-use Rattle.fr_trace.specs.declared.replay.Fault.{Fault}
-use Rattle.fr_trace.specs.declared.replay.Fault.TheVariants as fault
 use Rattle.fr_trace.specs.declared.error.TraceError.{TraceError}
-use Rattle.fr_trace.specs.declared.error.TraceError.TheVariants.{BadMagic, BadLine, LineTooLong, Refused, WrongAnswer, Truncated}
+use Rattle.fr_trace.specs.declared.error.TraceError.TheVariants.{BadMagic, BadLine, LineTooLong, Refused, Truncated}
 
 -- what the next line may be
 pub data Phase : Type 0 where
@@ -103,17 +101,13 @@ abbrev pub after_begin : Parameters → Plan → Result Phase TraceError
 after_begin p plan =
     if is_none (plan_fault p plan) then Ok (body (record { params = p; plan = plan; entries = [] })) else Err (Refused (line_count plan + 4))
 
-abbrev pub error_of : ℕ → Fault → TraceError
-error_of number fault.Refused = Refused number
-error_of number fault.WrongAnswer = WrongAnswer number
-
-abbrev pub after_fault : State → Entry → Option Fault → Result Phase TraceError
+abbrev pub after_fault : State → Entry → Option TraceError → Result Phase TraceError
 after_fault s e None = Ok (body (with_entry s (made_by s e)))
-after_fault s e (Some f) = Err (error_of (line_number (body s)) f)
+after_fault s e (Some error) = Err error
 
 -- the interface makes the call of the entry again
 abbrev pub after_call : State → Entry → Result Phase TraceError
-after_call s e = after_fault s e (fault_of s e)
+after_call s e = after_fault s e (fault_of (line_number (body s)) s e)
 
 abbrev pub after_entry : State → Option Entry → Result Phase TraceError
 after_entry s None = Err (BadLine (line_number (body s)))

@@ -7,10 +7,12 @@ ghost use Rattle.fr_slots.specs.Faults.{plan_fault};
 ghost use Rattle.fr_text.specs.Spaces.{words_of};
 ghost use Rattle.fr_trace.specs.Auditor.{phase_of};
 ghost use Rattle.fr_trace.specs.Feeds.{GivesPhase, GivesUnless, IsBegin};
-ghost use Rattle.fr_trace.specs.Stream.{params, node, lines, body, take_line, too_long, line_number, line_count, has_owned_alone, after_begin, after_queue, after_buffer, after_own};
+ghost use Rattle.fr_trace.specs.Stream.{params, node, lines, body, take_line, too_long, line_number};
+ghost use Rattle.fr_trace.specs.Stream.{line_count, has_owned_alone, after_begin, after_queue, after_buffer};
+ghost use Rattle.fr_trace.specs.Stream.{after_own};
 
 use crate::error::TraceError;
-use crate::replay::{Fault, replay};
+use crate::replay::replay;
 use arrayvec::ArrayVec;
 use fr_interface::interface::Interface;
 use fr_lines::buffers::buffer_of;
@@ -190,11 +192,8 @@ fn body_line(mut interface: Interface, line: &[u8]) -> Result<Phase, TraceError>
     let Some(entry) = entry_of(line) else {
         return Err(TraceError::BadLine(number));
     };
-    match replay(&mut interface, &entry) {
-        Ok(()) => Ok(Phase::Body(interface)),
-        Err(Fault::Refused) => Err(TraceError::Refused(number)),
-        Err(Fault::WrongAnswer) => Err(TraceError::WrongAnswer(number)),
-    }
+    replay(&mut interface, &entry, number)?;
+    Ok(Phase::Body(interface))
 }
 
 /// What follows a whole line.

@@ -2,62 +2,20 @@
 
 ghost use Rattle.std.specs.Prelude.{◌≡◌, not, true, OnOk};
 ghost use Rattle.std.specs.Result.{result_err};
-ghost use Rattle.fr_trace.specs.Answers.{same_channel, same_origin, same_offered, same_answer, is_refused, made_by, fault_of};
+ghost use Rattle.fr_trace.specs.Answers.{same_answer, is_refused, made_by, fault_of};
 ghost use Rattle.fr_interface.specs.State.{with_entry};
 
+use crate::error::TraceError;
 use fr_interface::interface::Interface;
-use fr_journal::entry::{Entry, Offered, Origin};
-use fr_slots::channel::Channel;
-
-/// Why an entry can't stand where the trace has it.
-#[derive(Clone, Copy, Debug, PartialEq, Eq)]
-pub(crate) enum Fault {
-    /// The interface refuses its call.
-    Refused,
-    /// Its call has another answer.
-    WrongAnswer,
-}
-
-fn same_channel(made: Channel, told: Channel) -> bool
-    ensures { result ≡ same_channel made told }
-{
-    match (made, told) {
-        (Channel::A, Channel::A) | (Channel::B, Channel::B) => true,
-        (Channel::A, Channel::B) | (Channel::B, Channel::A) => false,
-    }
-}
-
-fn same_origin(made: Option<Origin>, told: Option<Origin>) -> bool
-    ensures { result ≡ same_origin made told }
-{
-    match (made, told) {
-        (None, None) => true,
-        (Some(made), Some(told)) => {
-            made.entry == told.entry && same_channel(made.channel, told.channel)
-        }
-        (None, Some(_)) | (Some(_), None) => false,
-    }
-}
-
-fn same_offered(made: Offered, told: Offered) -> bool
-    ensures { result ≡ same_offered made told }
-{
-    match (made, told) {
-        (Offered::Nothing, Offered::Nothing) | (Offered::Null, Offered::Null) => true,
-        (Offered::Data(made), Offered::Data(told)) => made == told,
-        _ => false,
-    }
-}
+use fr_journal::entry::Entry;
 
 /// Whether two entries of one call have the same answers.
 fn same_answer(made: &Entry, told: &Entry) -> bool
     ensures { result ≡ same_answer made.now told.now }
 {
     match (made, told) {
-        (Entry::Read { from: made, .. }, Entry::Read { from: told, .. }) => {
-            same_origin(*made, *told)
-        }
-        (Entry::Pop { from: made, .. }, Entry::Pop { from: told, .. }) => same_origin(*made, *told),
+        (Entry::Read { from: made, .. }, Entry::Read { from: told, .. }) => made == told,
+        (Entry::Pop { from: made, .. }, Entry::Pop { from: told, .. }) => made == told,
         (
             Entry::Fetch {
                 a: made_a,
@@ -69,7 +27,7 @@ fn same_answer(made: &Entry, told: &Entry) -> bool
                 b: told_b,
                 ..
             },
-        ) => same_offered(*made_a, *told_a) && same_offered(*made_b, *told_b),
+        ) => made_a == told_a && made_b == told_b,
         _ => true,
     }
 }
@@ -92,21 +50,21 @@ fn is_accepted(interface: &mut Interface, entry: &Entry) -> bool
     }
 }
 
-/// Makes the call of the entry, and compares its answers with those that the entry tells.
-pub(crate) fn replay(interface: &mut Interface, entry: &Entry) -> Result<(), Fault>
-    ensures fault { result_err result ≡ fault_of interface.old entry.now }
+/// Makes the call of the entry on the line of this number, and compares its answers with those that the entry tells.
+pub(crate) fn replay(interface: &mut Interface, entry: &Entry, line: u32) -> Result<(), TraceError>
+    ensures fault { result_err result ≡ fault_of line interface.old entry.now }
     ensures made { OnOk result (interface.new ≡ with_entry interface.old (made_by interface.old entry.now)) }
 {
     let number = interface.journal().len();
     if !is_accepted(interface, entry) {
-        return Err(Fault::Refused);
+        return Err(TraceError::Refused(line));
     }
     let Some(made) = interface.journal().get(number) else {
-        return Err(Fault::WrongAnswer);
+        return Err(TraceError::WrongAnswer(line));
     };
     if same_answer(&made, entry) {
         Ok(())
     } else {
-        Err(Fault::WrongAnswer)
+        Err(TraceError::WrongAnswer(line))
     }
 }

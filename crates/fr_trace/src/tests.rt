@@ -42,6 +42,72 @@ const THREE_COMMITS: [&[u8]; 12] = [
     b"end\n",
 ];
 
+/// The lines of a trace with buffers of each mode, frames on both channels and a queue that loses one of three.
+const SEVERAL_BUFFERS: [&[u8]; 62] = [
+    b"frtrace 1\n",
+    b"params 4 6 2 20 5 5 15 130 1 4\n",
+    b"node 2 4 0 16 40\n",
+    b"own 1 AB 1 0\n",
+    b"own 3 A 0 0\n",
+    b"tx event 1 AB 0 1 - 0\n",
+    b"tx state 3 A 0 1 - 0\n",
+    b"tx event 6 A 1 2 2 1\n",
+    b"rx 2 AB 0 1\n",
+    b"rx 7 B 0 1\n",
+    b"queue 2 2 8 AB 0 1\n",
+    b"begin\n",
+    b"commit 0 0 x00000001\n",
+    b"commit 1 1 xc0ffee00\n",
+    b"commit 0 0 x00000002\n",
+    b"fetch 0 0 0 1 1 2 2\n",
+    b"see 0 own own\n",
+    b"fetch 1 0 0 2 2 - -\n",
+    b"see 1 x200204e28020a000010fc975 x200204e28020b00001ff6630\n",
+    b"fetch 2 0 0 3 3 1 -\n",
+    b"see 2 own x2003049fc030b000013f60f7\n",
+    b"fetch 3 0 0 4 4 - -\n",
+    b"see 3 x200405ed0040a00001350471 noise\n",
+    b"fetch 4 0 1 5 5 - -\n",
+    b"see 4 x200502b38050011ef8f2 -\n",
+    b"fetch 5 0 2 - 6 - -\n",
+    b"see 5 - -\n",
+    b"fetch 6 0 3 - 7 - -\n",
+    b"see 6 - x2007056ac0700170021badeb\n",
+    b"commit 1 2 x60016002\n",
+    b"fetch 7 0 4 6 - - -\n",
+    b"see 7 - -\n",
+    b"fetch 8 0 5 7 - - -\n",
+    b"see 8 - -\n",
+    b"fetch 9 0 6 8 8 - -\n",
+    b"see 9 - overrun\n",
+    b"pop 1 10:A\n",
+    b"fetch 10 1 0 1 1 null null\n",
+    b"see 10 own conflict\n",
+    b"fetch 11 1 0 2 2 - -\n",
+    b"see 11 x000204e28100000000180d0c x200204e28120b000025fac25\n",
+    b"fetch 12 1 0 3 3 1 -\n",
+    b"see 12 own -\n",
+    b"fetch 13 1 0 4 4 - -\n",
+    b"see 13 - -\n",
+    b"fetch 14 1 1 5 5 - -\n",
+    b"see 14 - -\n",
+    b"fetch 15 1 2 6 6 17 -\n",
+    b"see 15 own -\n",
+    b"fetch 16 1 3 - 7 - -\n",
+    b"see 16 - -\n",
+    b"fetch 17 1 4 - 8 - -\n",
+    b"see 17 - -\n",
+    b"fetch 18 1 5 7 9 - -\n",
+    b"see 18 - -\n",
+    b"fetch 19 1 6 8 10 - -\n",
+    b"see 19 - -\n",
+    b"read 0 3 28:B\n",
+    b"pop 1 12:A\n",
+    b"pop 1 -\n",
+    b"commit 0 0 x00000003\n",
+    b"end\n",
+];
+
 /// A reader that gives a piece at each read, and fails at the read of this number, counted from 0.
 #[derive(Drop)]
 struct Pieces<'a> {
@@ -115,6 +181,15 @@ fn fed_by_bytes(alloc: Global, pieces: &[&[u8]]) -> Result<(), TraceError> {
     }
     auditor.finish()?;
     Ok(())
+}
+
+/// These lines as one text.
+fn joined(alloc: Global, lines: &[&[u8]]) -> Result<Vec<u8>, Fail> {
+    let mut text = Vec::with_capacity(alloc, 2048)?;
+    for line in lines {
+        text.write_all(line)?;
+    }
+    Ok(text)
 }
 
 /// Why the trace is refused by the calls that take these pieces, and in pieces of one byte.
@@ -265,6 +340,25 @@ fn a_full_queue_loses_its_oldest_frame(rt: HostRuntime) -> Result<(), Fail> {
 }
 
 #[test]
+fn several_buffers_give_their_report(rt: HostRuntime) -> Result<(), Fail> {
+    let mut report = Vec::with_capacity(rt.alloc(), 128)?;
+    audit(rt.alloc(), &mut reader(&SEVERAL_BUFFERS), &mut report)?;
+    let told: [&[u8]; 8] = [
+        b"tx 0 3 1 1 1\n",
+        b"tx 1 1 1 0 0\n",
+        b"tx 2 1 1 0 0\n",
+        b"rx 3 28:B x20b00002\n",
+        b"rx 4 16:B x70017002\n",
+        b"queue 0 1\n",
+        b"A 4 0 0 0 0\n",
+        b"B 4 1 0 1 1\n",
+    ];
+    assert_eq!(rt; report.as_slice(), joined(rt.alloc(), &told)?.as_slice());
+    assert_eq!(rt; refusals(rt.alloc(), &SEVERAL_BUFFERS), [None; 3]);
+    Ok(())
+}
+
+#[test]
 fn a_pop_is_what_the_queue_gives(rt: HostRuntime) {
     let mut lines = QUEUE;
     lines[10] = b"pop 0 1:A\n";
@@ -319,18 +413,20 @@ fn commits_are_told_by_their_fates(rt: HostRuntime) -> Result<(), Fail> {
 /// The trace that is written of the interface that these lines leave.
 fn written(alloc: Global, lines: &[&[u8]]) -> Result<Vec<u8>, Fail> {
     let interface = audit_pieces(alloc, lines)?;
-    let mut text = Vec::with_capacity(alloc, 512)?;
+    let mut text = Vec::with_capacity(alloc, 2048)?;
     write_trace(&interface, &mut text)?;
     Ok(text)
 }
 
 #[test]
 fn an_interface_is_written_as_the_trace_that_told_of_it(rt: HostRuntime) -> Result<(), Fail> {
-    for lines in [LINES.as_slice(), THREE_COMMITS.as_slice(), QUEUE.as_slice()] {
-        let mut text = Vec::with_capacity(rt.alloc(), 512)?;
-        for line in lines {
-            text.write_all(line)?;
-        }
+    for lines in [
+        LINES.as_slice(),
+        THREE_COMMITS.as_slice(),
+        QUEUE.as_slice(),
+        SEVERAL_BUFFERS.as_slice(),
+    ] {
+        let text = joined(rt.alloc(), lines)?;
         assert_eq!(rt; written(rt.alloc(), lines)?.as_slice(), text.as_slice());
     }
     Ok(())

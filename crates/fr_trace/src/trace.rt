@@ -3,7 +3,8 @@
 ghost use Rattle.std.specs.Prelude.{◌++◌, OnOk, IfErr, Ok, ◌≡◌};
 ghost use Rattle.std.specs.Io.KnownBytes.{Appends};
 ghost use Rattle.std.specs.List.{flat_map};
-ghost use Rattle.fr_trace.specs.TraceText.{own_line, buffer_line, queue_lines, entry_line, numbers_text, plan_text, trace_text};
+ghost use Rattle.fr_trace.specs.TraceText.{own_line, buffer_line, queue_lines, entry_line, numbers_text};
+ghost use Rattle.fr_trace.specs.TraceText.{plan_text, trace_text};
 ghost use Rattle.fr_interface.specs.State.{IsLegalInterface};
 ghost use Rattle.fr_trace.specs.Stream.{fresh, take_bytes, outcome_of};
 

@@ -2,7 +2,8 @@ use Rattle.std.proofs.Common.{◌≡◌, ◌+◌, None, drop, sym, ap, ◌∙◌
 use Rattle.std.proofs.lemmas.List.{at_drop_all}
 use Rattle.fr_schedule.proofs.FilterLemmas.{nodes_some, nodes_none, nodes_end}
 use Rattle.fr_schedule.proofs.RowLemmas.{at_item}
-use Rattle.fr_schedule.specs.FileFaults.{fault_by, first_in_nodes}
+use Rattle.fr_schedule.specs.FileFaults.{first_in_nodes}
+use Rattle.fr_schedule.specs.RuleFaults.{fault_by}
 use Rattle.fr_schedule.proofs.faults.first_by.Goals as goal
 
 pub returns-in-Some : goal.returns-in-Some
