@@ -27,16 +27,17 @@ fn event(number: u16) -> Result<Buffer, Fail> {
 
 #[test]
 fn an_owner_has_a_line_for_its_slot(rt: HostRuntime) -> Result<(), Fail> {
+    let slot = SlotId::new(2).ok_or("no slot")?;
     let mut plan = NodePlan::new(1, [0, 0], 256, 4096)?;
     plan.add_own(Own {
-        slot: SlotId::new(2).ok_or("no slot")?,
+        slot,
         channels: Channels::B,
         sync: false,
         startup: false,
     })?;
     let mut text = Vec::with_capacity(rt.alloc(), 64)?;
-    write_owner(&mut text, 2, Channel::A, 1, &plan)?;
-    write_owner(&mut text, 2, Channel::B, 1, &plan)?;
+    write_owner(&mut text, slot, Channel::A, 1, &plan)?;
+    write_owner(&mut text, slot, Channel::B, 1, &plan)?;
     assert_eq!(rt; text.as_slice(), b"slot 2 B 1\n".as_slice());
     Ok(())
 }
