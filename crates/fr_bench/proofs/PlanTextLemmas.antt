@@ -6,7 +6,7 @@ use Rattle.std.specs.Prelude.{slice_get, OnOk}
 use Rattle.std.proofs.KnownBytes.{Appends-nil, Appends-trans}
 use Rattle.std.proofs.lemmas.Grind.{flat_map-append}
 use Rattle.std.proofs.lemmas.List.{take_all}
-use Rattle.fr_schedule.specs.Clusters.{Description}
+use Rattle.fr_schedule.specs.Descriptions.{Description}
 use Rattle.fr_slots.specs.declared.channel.Channel.TheVariants.{A, B}
 use Rattle.fr_slots.specs.Plans.{Plan}
 use Rattle.fr_bench.specs.PlanText.{of_nodes, static_text, dynamic_text, IsGuardText, AreGuardTexts, IsPlanText, Adds}

@@ -6,7 +6,7 @@ use Rattle.fr_bench.specs.PlanText.{IsPlanText, Adds}
 use Rattle.fr_bench.specs.declared.error.BenchError.{BenchError}
 use Rattle.fr_bench.specs.declared.error.BenchError.TheVariants as error
 use Rattle.fr_lines.specs.Spelling.{line_text, params_words}
-use Rattle.fr_schedule.specs.Clusters.{Description}
+use Rattle.fr_schedule.specs.Descriptions.{Description}
 
 -- The text describes a cluster of which this has been written, or the writer failed at that. Or the text is refused by the
 -- first fault that it has, or the reader failed or memory ran out, and nothing has been written.

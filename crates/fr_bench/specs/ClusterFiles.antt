@@ -3,7 +3,7 @@ use Rattle.std.specs.Prelude.{⊤, ◌≡◌, ◌<◌, ◌≤◌, ℕ, List, len
 use Rattle.std.specs.Str.{IsUtf8}
 use Rattle.fr_bench.specs.declared.error.BenchError.{BenchError}
 use Rattle.fr_bench.specs.declared.error.BenchError.TheVariants as error
-use Rattle.fr_schedule.specs.Clusters.{Description}
+use Rattle.fr_schedule.specs.Descriptions.{Description}
 use Rattle.fr_schedule.specs.Files.{described}
 use Rattle.fr_schedule.specs.declared.error.ConfigError.{ConfigError}
 use Rattle.fr_schedule.specs.declared.error.ConfigError.TheVariants as config

@@ -7,7 +7,7 @@ use Rattle.fr_guardian.specs.Guarding.{IsOpenMacrotick}
 use Rattle.fr_guardian.specs.Intervals.{Span, AreMaximalIntervals}
 use Rattle.fr_lines.specs.Parts.{channels_word}
 use Rattle.fr_lines.specs.Spelling.{line_text}
-use Rattle.fr_schedule.specs.Clusters.{Description}
+use Rattle.fr_schedule.specs.Descriptions.{Description}
 use Rattle.fr_slots.specs.declared.channel.Channel.{Channel}
 use Rattle.fr_slots.specs.declared.channel.Channel.TheVariants.{A, B}
 use Rattle.fr_slots.specs.declared.plan.Buffer.{Buffer}

@@ -11,7 +11,9 @@ use Rattle.fr_slots.specs.Parameters.{Parameters}
 use Rattle.fr_slots.specs.Plans.{Plan, Each}
 use Rattle.fr_slots.specs.Windows.{Opportunity, slot_of, is_static}
 use Rattle.fr_slots.proofs.FaultlessLemmas.{faultless}
-use Rattle.fr_schedule.specs.Clusters.{Description, is_guarded, IsSender, IsNode, IsCluster}
+use Rattle.fr_schedule.specs.Clusters.{IsNode, IsCluster}
+use Rattle.fr_schedule.specs.Descriptions.{Description, is_guarded}
+use Rattle.fr_schedule.specs.SenderTable.{IsSender}
 use Rattle.fr_guardian.specs.Guarding.{passes_in, passes, PassesAlone}
 
 each_at : {X : Type 0} (P : X → Type 0) (xs : List X) (k : ℕ) (x : X) → Each P xs → slice_get xs k ≡ Some x → P x

@@ -9,7 +9,8 @@ use Rattle.fr_slots.specs.declared.channel.Channel.TheVariants.{A, B}
 use Rattle.fr_slots.specs.declared.channel.Channels.{Channels}
 use Rattle.fr_slots.specs.Parameters.{Parameters}
 use Rattle.fr_slots.specs.Plans.{Plan}
-use Rattle.fr_schedule.specs.Clusters.{Description, is_guarded, IsCluster}
+use Rattle.fr_schedule.specs.Clusters.{IsCluster}
+use Rattle.fr_schedule.specs.Descriptions.{Description, is_guarded}
 use Rattle.fr_guardian.specs.declared.guardian.Post.{Post}
 use Rattle.fr_guardian.specs.GuardianFields.{IsPost, ArePosts, IsLawful, description_in}
 use Rattle.fr_guardian.specs.declared.guardian.Guardian.TheInside.{Inside}

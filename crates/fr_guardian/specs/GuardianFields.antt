@@ -6,7 +6,8 @@ use Rattle.fr_guardian.specs.declared.guardian.Guardian.TheInside.{Inside}
 use Rattle.fr_guardian.specs.declared.guardian.Post.{Post}
 use Rattle.fr_guardian.specs.Guarding.{IsOpenTo}
 use Rattle.fr_guardian.specs.Intervals.{AreMaximalIntervals}
-use Rattle.fr_schedule.specs.Clusters.{Description, is_guarded, IsCluster}
+use Rattle.fr_schedule.specs.Clusters.{IsCluster}
+use Rattle.fr_schedule.specs.Descriptions.{Description, is_guarded}
 
 -- the intervals that the post keeps are the open macroticks of its node in this cluster
 pub record IsPost (d : Description) (post : Post) : Type 0 where

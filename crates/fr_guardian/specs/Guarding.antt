@@ -9,7 +9,7 @@ use Rattle.fr_slots.specs.Plans.{Plan}
 use Rattle.fr_slots.specs.Windows.{Opportunity, slot_of, is_static}
 use Rattle.fr_timing.specs.declared.place.Place.{Place}
 use Rattle.fr_timing.specs.Layout.{Part, static_slot, minislot, symbol_window, idle_time, part_of, IsAt}
-use Rattle.fr_schedule.specs.Clusters.{Description, is_guarded}
+use Rattle.fr_schedule.specs.Descriptions.{Description, is_guarded}
 
 -- ---- what passes
 

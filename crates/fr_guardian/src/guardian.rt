@@ -3,7 +3,7 @@
 ghost use Rattle.std.specs.Prelude.{◌≡◌, option_map, slice_get, IfOk, List, true};
 ghost use Rattle.fr_guardian.specs.GuardianFields.{IsPost, ArePosts};
 ghost use Rattle.fr_guardian.specs.Guarding.{passes, PassesAlone, IsOpenTo, IsOpenMacrotick};
-ghost use Rattle.fr_schedule.specs.Clusters.{is_guarded};
+ghost use Rattle.fr_schedule.specs.Descriptions.{is_guarded};
 ghost use Rattle.fr_guardian.specs.Intervals.{AreMaximalIntervals, Span};
 
 use crate::intervals::open_intervals;
@@ -35,7 +35,7 @@ pub struct Guardian {
 }
 
 impl Model for Guardian {
-    ghost use Rattle.fr_schedule.specs.Clusters.{Description};
+    ghost use Rattle.fr_schedule.specs.Descriptions.{Description};
 
     ghost Value = { Description };
 

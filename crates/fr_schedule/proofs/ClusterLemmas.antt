@@ -7,7 +7,9 @@ use Rattle.std.specs.Option.{option_or}
 use Rattle.std.specs.Prelude.{position}
 use Rattle.fr_schedule.proofs.FilterLemmas.{no_taken_plans, no_overlap_plans}
 use Rattle.fr_schedule.proofs.TwoLemmas.{two_left, two_right, two_at}
-use Rattle.fr_schedule.specs.Clusters.{Description, HasOneSender, may_send, IsNode, IsCluster}
+use Rattle.fr_schedule.specs.Clusters.{IsNode, IsCluster}
+use Rattle.fr_schedule.specs.Descriptions.{Description}
+use Rattle.fr_schedule.specs.SenderTable.{HasOneSender, may_send}
 use Rattle.fr_schedule.specs.declared.error.ConfigError.{ConfigError}
 use Rattle.fr_schedule.specs.declared.error.ConfigError.TheVariants as error
 use Rattle.fr_schedule.specs.FileFaults.{all_owned, all_buffers, first_taken, first_overlap, buffer_fault, first_in_nodes, first_by, not_owned_in, dynamic_both_in, too_long_in, owner_fault, sender_fault, file_fault}

@@ -5,7 +5,8 @@ use Rattle.std.proofs.lemmas.Iterator.Adapters.{position_from-zero}
 use Rattle.std.proofs.lemmas.List.Quantifiers.{position-Some}
 use Rattle.std.proofs.lemmas.Option.{slice_get_cases}
 use Rattle.std.specs.Prelude.{position}
-use Rattle.fr_schedule.specs.Clusters.{Description, IsSender, may_send}
+use Rattle.fr_schedule.specs.Descriptions.{Description}
+use Rattle.fr_schedule.specs.SenderTable.{IsSender, may_send}
 use Rattle.fr_slots.proofs.FaultlessLemmas.{position_from-none}
 use Rattle.fr_slots.specs.declared.channel.Channel.{Channel}
 

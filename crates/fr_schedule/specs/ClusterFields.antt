@@ -1,6 +1,7 @@
 -- The fields of `Cluster` as its description.
 use Rattle.fr_schedule.specs.declared.cluster.Cluster.TheInside.{Inside}
-use Rattle.fr_schedule.specs.Clusters.{Description, IsCluster}
+use Rattle.fr_schedule.specs.Clusters.{IsCluster}
+use Rattle.fr_schedule.specs.Descriptions.{Description}
 
 abbrev pub description_in : Inside → Description
 description_in c = record { params = c.params; guard = c.guard; plans = c.plans.items }

@@ -10,7 +10,8 @@ use Rattle.fr_slots.specs.declared.channel.Channels.TheVariants as channels
 use Rattle.fr_slots.specs.declared.plan.Buffer.{Buffer}
 use Rattle.fr_slots.specs.Parameters.{Parameters}
 use Rattle.fr_slots.specs.Plans.{Plan}
-use Rattle.fr_schedule.specs.Clusters.{Description, most_nodes}
+use Rattle.fr_schedule.specs.Clusters.{most_nodes}
+use Rattle.fr_schedule.specs.Descriptions.{Description}
 use Rattle.fr_schedule.specs.declared.error.ConfigError.{ConfigError}
 use Rattle.fr_schedule.specs.declared.error.ConfigError.TheVariants.{Toml, Params, BadGuard, TooManyNodes, BadNode, BadBuffer, Memory}
 use Rattle.fr_schedule.specs.FileFaults.{file_fault}

@@ -1,7 +1,9 @@
 pub mod Clusters
+pub mod Descriptions
 pub mod ClusterFields
 pub mod FileFaults
 pub mod RuleFaults
+pub mod SenderTable
 pub mod Files
 pub mod NodeTables
 pub mod TableReading

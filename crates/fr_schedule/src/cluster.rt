@@ -2,7 +2,9 @@
 
 ghost use Rattle.std.specs.Prelude.{◌≡◌, ◌<◌, Err, length, option_map, position, slice_get, IfOk, IfSome, IfNone, ℕ};
 ghost use Rattle.std.specs.List.{list_any};
-ghost use Rattle.fr_schedule.specs.Clusters.{is_guarded, may_send, IsSender, IsCluster};
+ghost use Rattle.fr_schedule.specs.Clusters.{IsCluster};
+ghost use Rattle.fr_schedule.specs.Descriptions.{is_guarded};
+ghost use Rattle.fr_schedule.specs.SenderTable.{may_send, IsSender};
 ghost use Rattle.fr_schedule.specs.declared.error.ConfigError.TheVariants as error;
 ghost use Rattle.fr_schedule.specs.Files.{described, description_of, IsTableOf};
 ghost use Rattle.fr_slots.specs.Faults.{sends_at};
@@ -29,7 +31,7 @@ pub struct Cluster {
 }
 
 impl Model for Cluster {
-    ghost use Rattle.fr_schedule.specs.Clusters.{Description};
+    ghost use Rattle.fr_schedule.specs.Descriptions.{Description};
 
     ghost Value = { Description };
 

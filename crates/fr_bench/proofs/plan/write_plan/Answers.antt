@@ -1,6 +1,6 @@
 use Rattle.std.proofs.Common.{subst}
 use Rattle.std.specs.Prelude.{OnOk}
-use Rattle.fr_schedule.specs.Clusters.{Description}
+use Rattle.fr_schedule.specs.Descriptions.{Description}
 use Rattle.fr_bench.specs.PlanText.{AreGuardTexts, Adds}
 use Rattle.fr_bench.proofs.PlanTextLemmas.{plan_done}
 use Rattle.fr_bench.proofs.plan.write_plan.Goals as goal

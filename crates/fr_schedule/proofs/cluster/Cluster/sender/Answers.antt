@@ -1,7 +1,7 @@
 use Rattle.std.proofs.Common.{◌≡◌, ◌<◌, Some, None, rules}
 use Rattle.std.specs.Prelude.{length, position}
 use Rattle.fr_schedule.proofs.SenderLemmas.{sender_found, no_sender}
-use Rattle.fr_schedule.specs.Clusters.{may_send}
+use Rattle.fr_schedule.specs.SenderTable.{may_send}
 use Rattle.fr_schedule.proofs.cluster.Cluster.sender.Goals as goal
 
 pub returns-in_err-number-clause-nobody : goal.returns-in_err-number-clause-nobody
