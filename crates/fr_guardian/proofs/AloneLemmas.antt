@@ -6,8 +6,8 @@ use Rattle.std.proofs.lemmas.Option.{slice_get-get_or}
 use Rattle.std.proofs.lemmas.Bool.Decides.{nat_tests}
 use Rattle.fr_slots.specs.declared.channel.Channel.{Channel}
 use Rattle.fr_slots.specs.declared.plan.Own.{Own}
-use Rattle.fr_slots.specs.Faults.{sends_at, claims, is_owned, is_static_slot, IsFaultless}
-use Rattle.fr_slots.specs.Parameters.{Parameters}
+use Rattle.fr_slots.specs.Faults.{sends_at, claims, is_owned, IsFaultless}
+use Rattle.fr_slots.specs.Parameters.{Parameters, is_static_slot}
 use Rattle.fr_slots.specs.Plans.{Plan, Each}
 use Rattle.fr_slots.specs.Windows.{Opportunity, slot_of, is_static}
 use Rattle.fr_slots.proofs.FaultlessLemmas.{faultless}

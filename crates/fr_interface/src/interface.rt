@@ -5,13 +5,12 @@ ghost use Rattle.fr_journal.specs.Held.{frame_of, origin_of};
 ghost use Rattle.fr_journal.specs.Entries.{AreBytes, IsSeen};
 ghost use Rattle.fr_frame.specs.Payload.{IsPayload};
 ghost use Rattle.fr_interface.specs.State.{is_not_above, has_words};
-ghost use Rattle.fr_journal.specs.Legal.{window_fits, static_slot_fits, dynamic_slot_fits};
 ghost use Rattle.fr_slots.specs.Windows.{IsInRange, IsSlotOrNone};
 
 use crate::counting::counters_of;
 use crate::errors::{HostError, InterfaceError, SlotError};
 use crate::fate::{last_commit, tally_of};
-use crate::offers::{buffer_at, handed_out, offered};
+use crate::offers::{handed_out, offered};
 use crate::queue::{length_of, lost_of, oldest};
 use crate::scan::{held, opening_of};
 use crate::source::Source;
@@ -21,7 +20,6 @@ use fr_journal::entry::{Arrival, Entry, Origin};
 use fr_journal::fate::Tally;
 use fr_journal::journal::Journal;
 use fr_slots::channel::Channel;
-use fr_slots::fault::{is_static_slot, words_of};
 use fr_slots::numbers::{SlotId, TaskId};
 use fr_slots::params::Params;
 use fr_slots::plan::{Buffer, NodePlan};
@@ -99,7 +97,7 @@ impl Interface {
     /// before, and sends it as its mode says.
     ///
     /// Refused, in this order, with `UnknownTask`, `UnknownBuffer`, `NotTransmit` for a receive buffer,
-    /// `WrongLength` where the payload hasn't the words that the buffer sends by `fr_slots::fault::words_of`: those of
+    /// `WrongLength` where the payload hasn't the words that the buffer sends by `Buffer::words`: those of
     /// the cluster's static frames in a static slot, or its own in a dynamic one, and `HostFull` where the journal has
     /// no room for the commit.
     pub fn commit(
@@ -116,7 +114,7 @@ impl Interface {
         if task.number() >= self.plan.tasks() {
             return Err(HostError::UnknownTask);
         }
-        let Some(line) = buffer_at(&self.plan, buffer) else {
+        let Some(line) = self.plan.buffer(buffer) else {
             return Err(HostError::UnknownBuffer);
         };
         if line.mode.is_receive() {
@@ -151,7 +149,7 @@ impl Interface {
         if task.number() >= self.plan.tasks() {
             return Err(HostError::UnknownTask);
         }
-        let Some(line) = buffer_at(&self.plan, buffer) else {
+        let Some(line) = self.plan.buffer(buffer) else {
             return Err(HostError::UnknownBuffer);
         };
         if !line.mode.is_receive() {
@@ -209,7 +207,7 @@ impl Interface {
         if opening.window.is_some() {
             return Err(SlotError::NotObserved);
         }
-        if !fits(&self.params, window) {
+        if !self.params.has_window(window) {
             return Err(SlotError::BadWindow);
         }
         if is_not_above(window.number, opening.last) {
@@ -258,7 +256,7 @@ impl Interface {
     pub fn held(&self, buffer: u8) -> Option<Source>
         ensures { result ≡ source_of self.now buffer }
     {
-        let line = buffer_at(&self.plan, buffer)?;
+        let line = self.plan.buffer(buffer)?;
         if !line.mode.is_receive() {
             return last_commit(buffer, self.journal.entries()).map(Source::Commit);
         }
@@ -271,7 +269,7 @@ impl Interface {
     pub fn tally(&self, buffer: u8) -> Option<Tally>
         ensures { result ≡ tally_by self.now buffer }
     {
-        let line = buffer_at(&self.plan, buffer)?;
+        let line = self.plan.buffer(buffer)?;
         if line.mode.is_receive() {
             return None;
         }
@@ -283,7 +281,7 @@ impl Interface {
     pub fn received(&self, buffer: u8) -> Option<Arrival>
         ensures { result ≡ received_by self.now buffer }
     {
-        let line = buffer_at(&self.plan, buffer)?;
+        let line = self.plan.buffer(buffer)?;
         if !line.mode.is_receive() {
             return None;
         }
@@ -367,7 +365,7 @@ fn kept_window(window: &Window) -> Window
 fn has_words(params: &Params, buffer: &Buffer, payload: &Payload) -> bool
     ensures { result ≡ has_words params.now buffer.now payload.now }
 {
-    payload.as_slice().len() == 2 * usize::from(words_of(params, buffer))
+    payload.as_slice().len() == 2 * usize::from(buffer.words(params))
 }
 
 /// The payload once more, in the ranges of its type.
@@ -418,37 +416,6 @@ fn frame_in(arrival: Option<Arrival>) -> Option<Frame>
     match arrival {
         Some(arrival) => Some(arrival.frame),
         None => None,
-    }
-}
-
-/// Whether the parameters have the window.
-fn fits(params: &Params, window: &Window) -> bool
-    ensures { result ≡ window_fits params.now window.now }
-{
-    if window.is_static() {
-        static_slot_fits(params, window.a) && static_slot_fits(params, window.b)
-    } else {
-        window.minislot <= params.minislots
-            && dynamic_slot_fits(params, window.a)
-            && dynamic_slot_fits(params, window.b)
-    }
-}
-
-fn static_slot_fits(params: &Params, slot: Option<SlotId>) -> bool
-    ensures { result ≡ static_slot_fits params.now slot }
-{
-    match slot {
-        Some(slot) => is_static_slot(params, slot),
-        None => true,
-    }
-}
-
-fn dynamic_slot_fits(params: &Params, slot: Option<SlotId>) -> bool
-    ensures { result ≡ dynamic_slot_fits params.now slot }
-{
-    match slot {
-        Some(slot) => !is_static_slot(params, slot),
-        None => true,
     }
 }
 

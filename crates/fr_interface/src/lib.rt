@@ -1,4 +1,15 @@
-//! The calls of a host and of a controller on a journal, and the answers that scans of the journal find.
+//! The calls of a host and of a controller on a journal, and the answers that the journal gives.
+//!
+//! ```text
+//! let mut interface = Interface::new(alloc, &params, &plan)?; // of a plan without fault
+//! let receipt = interface.commit(task, 0, &payload)?;
+//! let offer = interface.fetch(&window)?; // the bytes for each channel
+//! interface.observe(window.number, &Seen::Own, &Seen::Silence)?;
+//! let frame = interface.read(task, 1)?; // the last one that buffer 1 admitted
+//! ```
+//!
+//! A chapter in parentheses is one of the FlexRay Protocol Specification 2.1, revision A, whose rule it is.
+//! *(own profile)* marks a rule of this project's own, which says nothing of the standard.
 #![tactic(auto)]
 
 mod counting;

@@ -4,7 +4,7 @@ ghost use Rattle.std.specs.Prelude.{◌≡◌, ◌*◌, ◌<◌, ◌≤◌, ◌^
 ghost use Rattle.std.specs.List.{position};
 ghost use Rattle.fr_journal.specs.Entries.{IsOffered};
 ghost use Rattle.fr_slots.specs.Faults.{claims};
-ghost use Rattle.fr_journal.specs.Offers.{admits_window, is_admitting, transmitter, buffer_at, may_begin, ready, ready_in, commit_offered, ownership, offered, line_of, sync_of, startup_of, payload_of, preamble_in, null_frame, data_frame_of, frame_with, IsHandedOut};
+ghost use Rattle.fr_journal.specs.Offers.{is_admitting, transmitter, may_begin, ready, ready_in, commit_offered, ownership, offered, line_of, sync_of, startup_of, payload_of, preamble_in, null_frame, data_frame_of, frame_with, IsHandedOut};
 
 use crate::fate::{last_commit, pending_commit};
 use fr_frame::encode::encode;
@@ -12,28 +12,16 @@ use fr_frame::frame::{Bytes, Frame};
 use fr_frame::payload::Payload;
 use fr_journal::entry::{Entry, Offered};
 use fr_slots::channel::Channel;
-use fr_slots::fault::claims;
-use fr_slots::filter::Filter;
 use fr_slots::numbers::SlotId;
 use fr_slots::params::Params;
 use fr_slots::plan::{Buffer, Mode, NodePlan, Own};
 use fr_slots::window::Window;
 
-/// Whether the filter admits the slot that the window has on the channel.
-pub(crate) fn admits(filter: &Filter, window: &Window, channel: Channel) -> bool
-    ensures { result ≡ admits_window filter.now window.now channel }
-{
-    match window.slot(channel) {
-        Some(slot) => filter.admits(window.cycle, slot, channel),
-        None => false,
-    }
-}
-
 /// Whether this is a transmit buffer that admits the window on the channel.
 fn is_admitting(window: &Window, channel: Channel, buffer: &Buffer) -> bool
     ensures { result ≡ is_admitting window.now channel buffer.now }
 {
-    !buffer.mode.is_receive() && admits(&buffer.filter, window, channel)
+    buffer.transmits() && buffer.filter.admits_window(window, channel)
 }
 
 /// The place of the first transmit buffer that admits the window on the channel.
@@ -52,13 +40,6 @@ fn transmitter(plan: &NodePlan, window: &Window, channel: Channel) -> Option<u8>
 {
     let place = first_admitting(plan.buffers(), window, channel)?;
     Some(place as u8)
-}
-
-/// The buffer of this number.
-pub(crate) fn buffer_at(plan: &NodePlan, buffer: u8) -> Option<Buffer>
-    ensures { result ≡ buffer_at plan.now buffer }
-{
-    plan.buffers().get(buffer as usize).copied()
 }
 
 /// Whether the node may begin to transmit in the window on the channel.
@@ -85,7 +66,7 @@ fn ready_in(plan: &NodePlan, entries: &[Entry], buffer: u8) -> Option<u32>
     requires { length entries.now < 2 ^ 32 }
     ensures { result ≡ ready_in plan.now entries.now buffer }
 {
-    let line = buffer_at(plan, buffer)?;
+    let line = plan.buffer(buffer)?;
     ready(line.mode, buffer, entries)
 }
 
@@ -110,7 +91,7 @@ fn commit_offered(
 fn first_owned_at(owned: &[Own], slot: SlotId, channel: Channel) -> Option<usize>
     ensures { result ≡ position (claims slot channel) owned.now }
 {
-    owned.iter().position(|own| claims(slot, channel, own))
+    owned.iter().position(|own| own.claims(slot, channel))
 }
 
 /// The ownership line for the slot on the channel.
@@ -195,7 +176,7 @@ fn preamble_in(plan: &NodePlan, window: &Window, channel: Channel) -> bool
     let Some(number) = transmitter(plan, window, channel) else {
         return false;
     };
-    match buffer_at(plan, number) {
+    match plan.buffer(number) {
         Some(buffer) => buffer.preamble,
         None => false,
     }

@@ -7,13 +7,10 @@ ghost use Rattle.std.specs.Prelude.{◌≡◌, ◌<◌, ◌≤◌, IfSome, lengt
 ghost use Rattle.std.specs.List.{list_any};
 ghost use Rattle.fr_interface.specs.Queueing.{arrivals_by, in_order, with_arrival, with_pop, next_queued, picked, IsQueued, IsAfter};
 ghost use Rattle.fr_journal.specs.Arrivals.{takes_window, queue_admits_slot, is_for_queue, queue_arrival_on, queue_arrivals_in, moves, arrived, oldest, queue_length, queue_lost};
-ghost use Rattle.fr_slots.specs.Plans.{queue_admits};
 
-use crate::offers::admits;
 use crate::scan::{Opening, arrival_seen};
 use fr_journal::entry::{Arrival, Entry, Origin};
 use fr_slots::channel::Channel;
-use fr_slots::numbers::SlotId;
 use fr_slots::params::Params;
 use fr_slots::plan::{Buffer, NodePlan, Queue};
 use fr_slots::window::Window;
@@ -115,7 +112,7 @@ impl Queued {
 fn takes(window: &Window, channel: Channel, buffer: &Buffer) -> bool
     ensures { result ≡ takes_window window.now channel buffer.now }
 {
-    buffer.mode.is_receive() && admits(&buffer.filter, window, channel)
+    buffer.mode.is_receive() && buffer.filter.admits_window(window, channel)
 }
 
 /// Whether one of the buffers is a receive buffer that admits the window on the channel.
@@ -125,22 +122,12 @@ fn is_taken(buffers: &[Buffer], window: &Window, channel: Channel) -> bool
     buffers.iter().any(|buffer| takes(window, channel, buffer))
 }
 
-/// Whether the slot on the channel is the queue's.
-fn admits_slot(queue: &Queue, window: &Window, channel: Channel, slot: SlotId) -> bool
-    ensures { result ≡ queue_admits queue.now window.now.cycle slot channel }
-{
-    queue.first.number() <= slot.number()
-        && slot.number() <= queue.last.number()
-        && queue.channels.includes(channel)
-        && queue.cycles.admits(window.cycle)
-}
-
 /// Whether the queue, and no receive buffer, takes what comes in the window on the channel.
 fn is_for_queue(plan: &NodePlan, queue: &Queue, window: &Window, channel: Channel) -> bool
     ensures { result ≡ is_for_queue plan.now queue.now window.now channel }
 {
     match window.slot(channel) {
-        Some(slot) => admits_slot(queue, window, channel, slot)
+        Some(slot) => queue.admits(window.cycle, slot, channel)
             && !is_taken(plan.buffers(), window, channel),
         None => false,
     }

@@ -4,7 +4,6 @@ ghost use Rattle.std.specs.Prelude.{◌≡◌, ◌<◌, ◌^◌, [], length, opt
 ghost use Rattle.fr_journal.specs.Held.{arrival_of, arrival_by, arrival_in, arrival_on, data_frame_seen, held};
 ghost use Rattle.fr_interface.specs.Opening.{IsOpening, next_opening};
 
-use crate::offers::admits;
 use fr_frame::frame::Frame;
 use fr_journal::entry::{Arrival, Entry, Origin};
 use fr_slots::channel::Channel;
@@ -102,7 +101,7 @@ fn arrival_on(
 ) -> Option<Arrival>
     ensures { result ≡ arrival_on params.now filter.now number window.now channel seen.now }
 {
-    if !admits(filter, window, channel) {
+    if !filter.admits_window(window, channel) {
         return None;
     }
     arrival_seen(params, number, window, channel, seen)

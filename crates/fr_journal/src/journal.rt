@@ -3,6 +3,7 @@
 ghost use Rattle.std.specs.Prelude.{◌≡◌, ◌<◌, ◌≤◌, ◌∷◌, [], ◌++◌, IfOk, IsTrue, ◌↔◌, false, length, slice_get};
 ghost use Rattle.fr_journal.specs.Entries.{is_host};
 ghost use Rattle.fr_journal.specs.Kept.{host_room, slot_room, IsWithin};
+ghost use Rattle.fr_slots.specs.Numbers.{most_host_entries, most_slot_entries, most_entries};
 
 use crate::entry::Entry;
 use std::alloc::{AllocError, Global};
@@ -35,8 +36,8 @@ impl Journal {
     ///
     /// `host` and `slot` are its limits, at most 16384 and 65536 entries. Refused where memory for them is refused.
     pub fn with_limits(alloc: Global, host: u32, slot: u32) -> Result<Journal, AllocError>
-        requires host_limit { host ≤ 16384 }
-        requires slot_limit { slot ≤ 65536 }
+        requires host_limit { host ≤ most_host_entries }
+        requires slot_limit { slot ≤ most_slot_entries }
         ensures { IfOk result (λ j. j ≡ record { host_limit = host; slot_limit = slot; entries = [] }) }
     {
         let entries = Vec::with_capacity(alloc, (host + slot) as usize)?;
@@ -89,7 +90,7 @@ impl Journal {
     #[tactic(auto, using(crate::proofs::KindLemmas::kinds_fill))]
     pub fn len(&self) -> u32
         ensures value { result ≡ length self.now.entries }
-        ensures few { result ≤ 81920 }
+        ensures few { result ≤ most_entries }
     {
         self.host_count + self.slot_count
     }
@@ -116,7 +117,7 @@ impl Journal {
     pub fn entries(&self) -> &[Entry]
         ensures value { result.now ≡ self.now.entries }
         ensures within { IsWithin self.now }
-        ensures few { length self.now.entries ≤ 81920 }
+        ensures few { length self.now.entries ≤ most_entries }
     {
         self.entries.as_slice()
     }

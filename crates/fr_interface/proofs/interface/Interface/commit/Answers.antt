@@ -2,11 +2,10 @@ use Rattle.std.proofs.Common.{◌≡◌, ◌*◌, false, Option, Some, length, a
 use Rattle.std.specs.Prelude.{IsSomeAnd}
 use Rattle.fr_frame.specs.Payload.{IsPayload}
 use Rattle.fr_journal.specs.Entries.{AreBytes}
-use Rattle.fr_journal.specs.Offers.{buffer_at}
 use Rattle.fr_interface.proofs.TestLemmas.{words_from_test}
 use Rattle.fr_slots.specs.declared.plan.Buffer.{Buffer}
 use Rattle.fr_slots.specs.Faults.{words_of}
-use Rattle.fr_slots.specs.Plans.{is_receive}
+use Rattle.fr_slots.specs.Plans.{is_receive, buffer_at}
 use Rattle.fr_slots.proofs.HistoryLemmas.{AllAfter-snoc}
 use Rattle.fr_interface.proofs.interface.Interface.commit.Goals as goal
 
@@ -18,7 +17,7 @@ invariant_of-self c =
     let line = c.in-Some.line in
     let kept = c.kept_payload-payload.result in
     let is : kept ≡ c.args.payload.now = c.kept_payload-payload.ensures.value in
-    let there : buffer_at plan c.args.buffer ≡ Some line = sym c.buffer_at.ensures ∙ c.in-Some.is in
+    let there : buffer_at plan c.args.buffer ≡ Some line = sym c.buffer.ensures ∙ c.in-Some.is in
     let transmits : is_receive line.mode ≡ false = sym c.is_receive.ensures ∙ c.if-is_receive.false in
     let words : length kept ≡ 2 * words_of params line = ap length is ∙ words_from_test params line c.args.payload.now (sym c.has_words.ensures ∙ c.if-not-has_words.false) in
     rw c.push_host.ensures (record {

@@ -5,13 +5,12 @@ use Rattle.fr_journal.specs.declared.entry.Entry.{Entry}
 use Rattle.fr_journal.specs.declared.entry.Entry.TheVariants.{Fetch}
 use Rattle.fr_journal.specs.declared.entry.Offered.{Offered}
 use Rattle.fr_journal.specs.Kept.{Kept}
-use Rattle.fr_journal.specs.Legal.{window_fits}
 use Rattle.fr_journal.specs.Offers.{offered, frame_with, frame_offered, IsHandedOut}
 use Rattle.fr_journal.specs.OpenWindow.{open_window, last_number}
 use Rattle.fr_interface.specs.State.{State, with_entry, is_not_above}
 use Rattle.fr_interface.proofs.TestLemmas.{none_from_test, later_from_test}
 use Rattle.fr_slots.specs.declared.channel.Channel.TheVariants.{A, B}
-use Rattle.fr_slots.specs.Windows.{Opportunity, IsInRange}
+use Rattle.fr_slots.specs.Windows.{Opportunity, IsInRange, window_fits}
 use Rattle.fr_slots.proofs.HistoryLemmas.{AllAfter-snoc}
 use Rattle.fr_interface.proofs.interface.Interface.fetch.Goals as goal
 
@@ -42,7 +41,7 @@ invariant_of-self c =
         });
         legal = AllAfter-snoc _ _ _ legal.legal (record {
           closed = sym is ∙ none_from_test _ _ c.is_some.ensures c.if-is_some.false;
-          fits = ap (window_fits c.self.inside.params) window_is ∙ sym c.fits.ensures ∙ c.if-not-fits.false;
+          fits = ap (window_fits c.self.inside.params) window_is ∙ sym c.has_window.ensures ∙ c.if-not-has_window.false;
           later = subst (λ (n : ℕ). IfSome (last_number entries) (λ m. m < n)) number_is (later_from_test c.window.inside.number (last_number entries) (ap (is_not_above c.window.inside.number) (sym last) ∙ sym c.is_not_above.ensures ∙ c.if-is_not_above.false));
           room = omega (arith, c.slot_room.ensures, c.self.invariant.slot_limit);
           offer_a = c.offered-a.ensures.value ∙ ap (λ (es : List Entry). offered plan es c.args.window.now A) entries_is ∙ ap (λ (w : Opportunity). offered plan entries w A) (sym window_is);

@@ -2,10 +2,9 @@ use Rattle.std.proofs.Common.{◌≡◌, Option, ap, arith, rules, Some, sym, su
 use Rattle.std.specs.Prelude.{IsSomeAnd}
 use Rattle.fr_journal.specs.Entries.{IsOrigin}
 use Rattle.fr_journal.specs.Held.{held, origin_of}
-use Rattle.fr_journal.specs.Offers.{buffer_at}
 use Rattle.fr_journal.proofs.HeldPlaceLemmas.{origin_fits}
 use Rattle.fr_slots.specs.declared.plan.Buffer.{Buffer}
-use Rattle.fr_slots.specs.Plans.{is_receive}
+use Rattle.fr_slots.specs.Plans.{is_receive, buffer_at}
 use Rattle.fr_slots.proofs.HistoryLemmas.{AllAfter-snoc}
 use Rattle.fr_interface.proofs.interface.Interface.read.Goals as goal
 
@@ -18,7 +17,7 @@ invariant_of-self c =
     let filter = c.in-Some.line.filter in
     let from_is : c.origin_in-from.result ≡ option_map origin_of (held params filter entries) = c.origin_in-from.ensures ∙ ap (option_map origin_of) (c.held-held.ensures ∙ ap (held params filter) c.entries.ensures.value) in
     let few : length entries ≤ 2 ^ 32 = omega (arith, c.entries.ensures.few) in
-    let there : buffer_at plan c.args.buffer ≡ Some c.in-Some.line = sym c.buffer_at.ensures ∙ c.in-Some.is in
+    let there : buffer_at plan c.args.buffer ≡ Some c.in-Some.line = sym c.buffer.ensures ∙ c.in-Some.is in
     rw c.push_host.ensures (record {
       host_limit = c.self.invariant.host_limit;
       slot_limit = c.self.invariant.slot_limit;
