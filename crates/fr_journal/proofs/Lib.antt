@@ -4,4 +4,5 @@ pub mod MoveLemmas
 pub mod OpenWindowLemmas
 pub mod QueuePlaceLemmas
 pub mod RoomLemmas
+pub mod SeenPlaceLemmas
 pub mod WorkedLemmas
