@@ -69,13 +69,13 @@ impl Model for Interface {
 }
 
 impl Interface {
-    ghost use Rattle.std.specs.Prelude.{◌≡◌, [], None, length, IfOk, IfSome, OnOk, OnErr, option_map};
+    ghost use Rattle.std.specs.Prelude.{◌≡◌, ◌+◌, ◌≤◌, [], None, length, IfOk, IfSome, OnOk, OnErr, option_map};
     ghost use Rattle.std.specs.Result.{result_err};
     ghost use Rattle.fr_journal.specs.declared.entry.Entry.TheVariants as entries;
     ghost use Rattle.fr_journal.specs.Counts.{counters_of};
     ghost use Rattle.fr_journal.specs.Held.{frame_named, frame_of, origin_of, IsReceivable};
     ghost use Rattle.fr_journal.specs.Offers.{frame_offered, offered, IsHandedOut, bytes_of};
-    ghost use Rattle.fr_interface.specs.State.{with_entry, received_by, source_of, tally_by, oldest_of, length_of, lost_of, commit_refusal, read_refusal, pop_refusal, fetch_refusal, observe_refusal, IsLegalInterface};
+    ghost use Rattle.fr_interface.specs.State.{with_entry, received_by, source_of, tally_by, oldest_of, length_of, lost_of, arrived_of, popped_of, queued_of, commit_refusal, read_refusal, pop_refusal, fetch_refusal, observe_refusal, IsLegalInterface};
     ghost use Rattle.fr_slots.specs.Faults.{plan_fault};
 
     /// An interface with an empty journal, for which it reserves all the room that the plan asks for.
@@ -272,7 +272,10 @@ impl Interface {
     /// What became of the commits on a transmit buffer (own profile). None for a receive buffer, and for one that the plan
     /// doesn't have.
     pub fn tally(&self, buffer: u8) -> Option<Tally>
-        ensures { result ≡ tally_by self.now buffer }
+        ensures value { result ≡ tally_by self.now buffer }
+        // Each commit met one fate, and at most one is pending.
+        ensures fates { IfSome result (λ t. t.committed ≡ t.sent + t.overwritten + t.pending) }
+        ensures one_pending { IfSome result (λ t. t.pending ≤ 1) }
     {
         let line = self.plan.buffer(buffer)?;
         if line.mode.is_receive() {
@@ -303,7 +306,8 @@ impl Interface {
 
     /// How many frames the receive queue holds, at most its capacity (own profile). None where the plan has no queue.
     pub fn queue_len(&self) -> Option<u32>
-        ensures { result ≡ length_of self.now }
+        ensures value { result ≡ length_of self.now }
+        ensures within { IfSome result (λ n. IfSome self.now.plan.queue (λ q. n ≤ q.capacity)) }
     {
         let queue = self.plan.queue()?;
         Some(length_of(&self.params, &self.plan, &queue, self.journal.entries()))
@@ -312,7 +316,9 @@ impl Interface {
     /// How many frames the receive queue lost since others took their places (own profile). None where the plan has no
     /// queue.
     pub fn queue_lost(&self) -> Option<u32>
-        ensures { result ≡ lost_of self.now }
+        ensures value { result ≡ lost_of self.now }
+        // What arrived was popped, is still there, or was lost.
+        ensures balance { IfSome result (λ lost. IfSome self.now.plan.queue (λ q. arrived_of self.now q ≡ popped_of self.now + queued_of self.now q + lost)) }
     {
         let queue = self.plan.queue()?;
         Some(lost_of(&self.params, &self.plan, &queue, self.journal.entries()))
