@@ -1,10 +1,10 @@
 //! Worked traces with the answers that the format gives, and readers and writers that fail.
 
-use crate::audit::audit;
-use crate::auditor::Auditor;
-use crate::error::TraceError;
-use crate::pieces::audit_pieces;
-use crate::trace::write_trace;
+use fr_trace::audit::audit;
+use fr_trace::auditor::Auditor;
+use fr_trace::error::TraceError;
+use fr_trace::pieces::audit_pieces;
+use fr_trace::trace::write_trace;
 use std::alloc::Global;
 use std::io::{self, Read, Write};
 use std::test::Fail;
