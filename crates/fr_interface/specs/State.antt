@@ -10,7 +10,7 @@ use Rattle.fr_journal.specs.declared.entry.Arrival.{Arrival}
 use Rattle.fr_journal.specs.declared.fate.Tally.{Tally}
 use Rattle.fr_interface.specs.declared.source.Source.{Source}
 use Rattle.fr_interface.specs.declared.source.Source.TheVariants as source
-use Rattle.fr_journal.specs.Arrivals.{moves, oldest, queue_length, queue_lost}
+use Rattle.fr_journal.specs.Arrivals.{moves, arrived, oldest, queue_length, queue_lost, is_answered_pop}
 use Rattle.fr_journal.specs.Entries.{is_host, is_slot}
 use Rattle.fr_journal.specs.Fate.{last_commit, tally_of}
 use Rattle.fr_journal.specs.Held.{held, origin_of}
@@ -71,11 +71,23 @@ tally_by s buffer = option_and_then (tally_in s buffer) (buffer_at s.plan buffer
 abbrev pub oldest_of : State → Option Arrival
 oldest_of s = option_and_then (λ q. oldest q.capacity (moves s.params s.plan q s.entries)) s.plan.queue
 
--- how many frames the receive queue holds
-abbrev pub length_of : State → Option ℕ
-length_of s = option_map (λ q. queue_length q.capacity (moves s.params s.plan q s.entries)) s.plan.queue
+-- how many frames arrived for a receive queue
+abbrev pub arrived_of : State → Queue → ℕ
+arrived_of s q = length (arrived (moves s.params s.plan q s.entries))
 
--- how many frames the receive queue lost
+-- how many pops were answered with a frame
+abbrev pub popped_of : State → ℕ
+popped_of s = count_by is_answered_pop s.entries
+
+-- how many frames a receive queue holds
+abbrev pub queued_of : State → Queue → ℕ
+queued_of s q = queue_length q.capacity (moves s.params s.plan q s.entries)
+
+-- how many frames the node's queue holds
+abbrev pub length_of : State → Option ℕ
+length_of s = option_map (queued_of s) s.plan.queue
+
+-- how many frames the node's queue lost
 abbrev pub lost_of : State → Option ℕ
 lost_of s = option_map (λ q. queue_lost s.params s.plan q s.entries) s.plan.queue
 

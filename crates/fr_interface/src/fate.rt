@@ -151,7 +151,9 @@ fn tallied(tally: Tally, buffer: u8, number: u32, entry: &Entry, later: &[Entry]
 /// What became of the commits on the buffer.
 pub(crate) fn tally_of(buffer: u8, entries: &[Entry]) -> Tally
     requires { length entries.now ≤ 81920 }
-    ensures { result ≡ tally_of buffer entries.now }
+    ensures value { result ≡ tally_of buffer entries.now }
+    ensures fates { result.committed ≡ result.sent + result.overwritten + result.pending }
+    ensures one_pending { result.pending ≤ 1 }
 {
     let mut tally = NONE;
     for (place, entry) in entries.iter().enumerate() {

@@ -10,6 +10,7 @@ ghost use Rattle.fr_slots.specs.Windows.{IsInRange, IsSlotOrNone};
 use crate::counting::counters_of;
 use crate::errors::{HostError, InterfaceError, SlotError};
 use crate::fate::{last_commit, tally_of};
+use crate::naming::frame_named;
 use crate::offers::{handed_out, offered};
 use crate::queue::{length_of, lost_of, oldest};
 use crate::scan::{held, opening_of};
@@ -68,13 +69,13 @@ impl Model for Interface {
 }
 
 impl Interface {
-    ghost use Rattle.std.specs.Prelude.{◌≡◌, [], None, length, IfOk, OnOk, OnErr, option_map};
+    ghost use Rattle.std.specs.Prelude.{◌≡◌, ◌+◌, ◌≤◌, [], None, length, IfOk, IfSome, OnOk, OnErr, option_map};
     ghost use Rattle.std.specs.Result.{result_err};
     ghost use Rattle.fr_journal.specs.declared.entry.Entry.TheVariants as entries;
     ghost use Rattle.fr_journal.specs.Counts.{counters_of};
-    ghost use Rattle.fr_journal.specs.Held.{frame_of, origin_of};
-    ghost use Rattle.fr_journal.specs.Offers.{frame_offered, offered, IsHandedOut};
-    ghost use Rattle.fr_interface.specs.State.{with_entry, received_by, source_of, tally_by, oldest_of, length_of, lost_of, commit_refusal, read_refusal, pop_refusal, fetch_refusal, observe_refusal, IsLegalInterface};
+    ghost use Rattle.fr_journal.specs.Held.{frame_named, frame_of, origin_of, IsReceivable};
+    ghost use Rattle.fr_journal.specs.Offers.{frame_offered, offered, IsHandedOut, bytes_of};
+    ghost use Rattle.fr_interface.specs.State.{with_entry, received_by, source_of, tally_by, oldest_of, length_of, lost_of, arrived_of, popped_of, queued_of, commit_refusal, read_refusal, pop_refusal, fetch_refusal, observe_refusal, IsLegalInterface};
     ghost use Rattle.fr_slots.specs.Faults.{plan_fault};
 
     /// An interface with an empty journal, for which it reserves all the room that the plan asks for.
@@ -143,6 +144,7 @@ impl Interface {
     pub fn read(&mut self, task: TaskId, buffer: u8) -> Result<Option<Frame>, HostError>
         ensures refusal { result_err result ≡ read_refusal self.old task buffer }
         ensures answer { IfOk result (λ frame. frame ≡ option_map frame_of (received_by self.old buffer)) }
+        ensures frames { IfOk result (λ frame. IfSome frame IsReceivable) }
         ensures accepted { OnOk result (self.new ≡ with_entry self.old (entries.Read task buffer (option_map origin_of (received_by self.old buffer)))) }
         ensures refused { OnErr result (self.new ≡ self.old) }
     {
@@ -171,6 +173,7 @@ impl Interface {
     pub fn pop(&mut self, task: TaskId) -> Result<Option<Frame>, HostError>
         ensures refusal { result_err result ≡ pop_refusal self.old task }
         ensures answer { IfOk result (λ frame. frame ≡ option_map frame_of (oldest_of self.old)) }
+        ensures frames { IfOk result (λ frame. IfSome frame IsReceivable) }
         ensures accepted { OnOk result (self.new ≡ with_entry self.old (entries.Pop task (option_map origin_of (oldest_of self.old)))) }
         ensures refused { OnErr result (self.new ≡ self.old) }
     {
@@ -200,6 +203,8 @@ impl Interface {
         ensures refusal { result_err result ≡ fetch_refusal self.old window.now }
         ensures offer_a { IfOk result (λ o. IsHandedOut Channel.A (frame_offered self.old.params self.old.plan self.old.entries window.now Channel.A) o.a) }
         ensures offer_b { IfOk result (λ o. IsHandedOut Channel.B (frame_offered self.old.params self.old.plan self.old.entries window.now Channel.B) o.b) }
+        ensures bytes_a { IfOk result (λ o. o.a ≡ bytes_of Channel.A (frame_offered self.old.params self.old.plan self.old.entries window.now Channel.A)) }
+        ensures bytes_b { IfOk result (λ o. o.b ≡ bytes_of Channel.B (frame_offered self.old.params self.old.plan self.old.entries window.now Channel.B)) }
         ensures accepted { OnOk result (self.new ≡ with_entry self.old (entries.Fetch window.now (offered self.old.plan self.old.entries window.now Channel.A) (offered self.old.plan self.old.entries window.now Channel.B))) }
         ensures refused { OnErr result (self.new ≡ self.old) }
     {
@@ -267,7 +272,10 @@ impl Interface {
     /// What became of the commits on a transmit buffer (own profile). None for a receive buffer, and for one that the plan
     /// doesn't have.
     pub fn tally(&self, buffer: u8) -> Option<Tally>
-        ensures { result ≡ tally_by self.now buffer }
+        ensures value { result ≡ tally_by self.now buffer }
+        // Each commit met one fate, and at most one is pending.
+        ensures fates { IfSome result (λ t. t.committed ≡ t.sent + t.overwritten + t.pending) }
+        ensures one_pending { IfSome result (λ t. t.pending ≤ 1) }
     {
         let line = self.plan.buffer(buffer)?;
         if line.mode.is_receive() {
@@ -288,9 +296,18 @@ impl Interface {
         held(&self.params, &line.filter, self.journal.entries())
     }
 
+    /// The valid data frame that the origin names: that of the observe of its number on its channel (chapter 9). None
+    /// where that entry is no observe, or had no such frame there.
+    pub fn frame_at(&self, origin: Origin) -> Option<Frame>
+        ensures { result ≡ frame_named self.now.params self.now.entries origin }
+    {
+        frame_named(&self.params, self.journal.entries(), origin)
+    }
+
     /// How many frames the receive queue holds, at most its capacity (own profile). None where the plan has no queue.
     pub fn queue_len(&self) -> Option<u32>
-        ensures { result ≡ length_of self.now }
+        ensures value { result ≡ length_of self.now }
+        ensures within { IfSome result (λ n. IfSome self.now.plan.queue (λ q. n ≤ q.capacity)) }
     {
         let queue = self.plan.queue()?;
         Some(length_of(&self.params, &self.plan, &queue, self.journal.entries()))
@@ -299,7 +316,9 @@ impl Interface {
     /// How many frames the receive queue lost since others took their places (own profile). None where the plan has no
     /// queue.
     pub fn queue_lost(&self) -> Option<u32>
-        ensures { result ≡ lost_of self.now }
+        ensures value { result ≡ lost_of self.now }
+        // What arrived was popped, is still there, or was lost.
+        ensures balance { IfSome result (λ lost. IfSome self.now.plan.queue (λ q. arrived_of self.now q ≡ popped_of self.now + queued_of self.now q + lost)) }
     {
         let queue = self.plan.queue()?;
         Some(lost_of(&self.params, &self.plan, &queue, self.journal.entries()))

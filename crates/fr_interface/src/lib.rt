@@ -16,6 +16,7 @@ mod counting;
 pub mod errors;
 mod fate;
 pub mod interface;
+mod naming;
 mod offers;
 mod queue;
 #[cfg(test)]

@@ -4,7 +4,7 @@ ghost use Rattle.std.specs.Prelude.{◌≡◌, ◌*◌, ◌<◌, ◌≤◌, ◌^
 ghost use Rattle.std.specs.List.{position};
 ghost use Rattle.fr_journal.specs.Entries.{IsOffered};
 ghost use Rattle.fr_slots.specs.Faults.{claims};
-ghost use Rattle.fr_journal.specs.Offers.{is_admitting, transmitter, may_begin, ready, ready_in, commit_offered, ownership, offered, line_of, sync_of, startup_of, payload_of, preamble_in, null_frame, data_frame_of, frame_with, IsHandedOut};
+ghost use Rattle.fr_journal.specs.Offers.{is_admitting, transmitter, may_begin, ready, ready_in, commit_offered, ownership, offered, line_of, sync_of, startup_of, payload_of, preamble_in, null_frame, data_frame_of, frame_with, IsHandedOut, bytes_of};
 
 use crate::fate::{last_commit, pending_commit};
 use fr_frame::encode::encode;
@@ -255,7 +255,8 @@ pub(crate) fn handed_out(
     channel: Channel,
     offered: Offered,
 ) -> Option<Bytes>
-    ensures { IsHandedOut channel (frame_with params.now plan.now entries.now window.now channel offered) result }
+    ensures spelled { IsHandedOut channel (frame_with params.now plan.now entries.now window.now channel offered) result }
+    ensures bytes { result ≡ bytes_of channel (frame_with params.now plan.now entries.now window.now channel offered) }
 {
     match frame_with(params, plan, entries, window, channel, offered) {
         Some(frame) => Some(encode(&frame, channel)),

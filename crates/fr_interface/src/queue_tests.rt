@@ -132,8 +132,8 @@ fn each_pop_is_an_entry(rt: HostRuntime) -> Result<(), Fail> {
         from: None,
     };
     assert_eq!(rt; interface.journal().len(), 9);
-    assert_eq!(rt; interface.journal().get(6), Some(answered));
-    assert_eq!(rt; interface.journal().get(8), Some(unanswered));
+    assert_eq!(rt; interface.journal().get(6), Some(&answered));
+    assert_eq!(rt; interface.journal().get(8), Some(&unanswered));
     Ok(())
 }
 
@@ -151,7 +151,7 @@ fn the_queue_takes_both_channels(rt: HostRuntime) -> Result<(), Fail> {
             channel: Channel::A,
         }),
     };
-    assert_eq!(rt; interface.journal().get(4), Some(from_a));
+    assert_eq!(rt; interface.journal().get(4), Some(&from_a));
     assert_eq!(rt; interface.queue_lost(), Some(0));
     Ok(())
 }
@@ -171,7 +171,7 @@ fn the_queue_leaves_a_buffer_its_frames(rt: HostRuntime) -> Result<(), Fail> {
             channel: Channel::B,
         }),
     };
-    assert_eq!(rt; interface.journal().get(2), Some(from_b));
+    assert_eq!(rt; interface.journal().get(2), Some(&from_b));
     Ok(())
 }
 

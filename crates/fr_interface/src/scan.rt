@@ -59,7 +59,12 @@ pub(crate) fn opening_of(entries: &[Entry]) -> Opening
 }
 
 /// The valid data frame that was seen on the channel.
-fn data_frame_seen(params: &Params, window: &Window, channel: Channel, seen: &Seen) -> Option<Frame>
+pub(crate) fn data_frame_seen(
+    params: &Params,
+    window: &Window,
+    channel: Channel,
+    seen: &Seen,
+) -> Option<Frame>
     ensures { result ≡ data_frame_seen params.now window.now channel seen.now }
 {
     let slot = window.slot(channel)?;

@@ -168,9 +168,9 @@ fn each_accepted_call_is_an_entry(rt: HostRuntime) -> Result<(), Fail> {
         }),
     };
     assert_eq!(rt; interface.journal().len(), 3);
-    assert_eq!(rt; interface.journal().get(0), Some(fetched));
-    assert_eq!(rt; interface.journal().get(1), Some(observed));
-    assert_eq!(rt; interface.journal().get(2), Some(read));
+    assert_eq!(rt; interface.journal().get(0), Some(&fetched));
+    assert_eq!(rt; interface.journal().get(1), Some(&observed));
+    assert_eq!(rt; interface.journal().get(2), Some(&read));
     assert_eq!(rt; interface.journal().get(3), None);
     assert_eq!(rt; interface.params().static_slots, 3);
     assert_eq!(rt; interface.plan().host_entries(), 8);

@@ -88,7 +88,7 @@ fn slot_two(number: u8) -> Result<Window, Fail> {
 /// What the fetch at this entry handed out on channel A.
 fn fetched(interface: &Interface, entry: u32) -> Result<Offered, Fail> {
     match interface.journal().get(entry) {
-        Some(Entry::Fetch { a, .. }) => Ok(a),
+        Some(Entry::Fetch { a, .. }) => Ok(*a),
         _ => Err(Fail::from("no fetch")),
     }
 }

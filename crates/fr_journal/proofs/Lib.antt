@@ -1,7 +1,13 @@
+pub mod BalanceLemmas
+pub mod ContentLemmas
+pub mod FateStepLemmas
 pub mod HeldPlaceLemmas
 pub mod KindLemmas
+pub mod LastCommitLemmas
 pub mod MoveLemmas
 pub mod OpenWindowLemmas
 pub mod QueuePlaceLemmas
 pub mod RoomLemmas
+pub mod SeenPlaceLemmas
+pub mod TallyLemmas
 pub mod WorkedLemmas

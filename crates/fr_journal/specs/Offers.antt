@@ -1,8 +1,9 @@
 -- What a node offers in a window, decided by the entries before the fetch (chapter 5; the modes are own profile).
-use Rattle.std.specs.Prelude.{ℕ, ◌*◌, nat_le, Bool, true, false, ◌&&◌, ◌||◌, List, [], replicate, slice_get, Option, Some, None, is_some, if◌then◌else◌}
+use Rattle.std.specs.Prelude.{ℕ, ◌*◌, nat_le, Bool, true, false, ◌&&◌, ◌||◌, List, [], replicate, slice_get, Option, Some, None, is_some, option_map, if◌then◌else◌}
 use Rattle.std.specs.List.{position}
 use Rattle.std.specs.Option.{option_and_then}
 use Rattle.arrayvec.specs.ArrayVec.{ArrayVec}
+use Rattle.fr_frame.specs.Encoding.{encoded}
 use Rattle.fr_frame.specs.Fields.{Fields}
 use Rattle.fr_frame.specs.Spelling.{SpellsCanonically}
 use Rattle.fr_journal.specs.declared.entry.Entry.{Entry}
@@ -142,3 +143,7 @@ IsHandedOut channel None None = Unit {0}
 IsHandedOut channel (Some frame) (Some bytes) = SpellsCanonically frame channel bytes.items
 IsHandedOut channel None (Some bytes) = ⊥
 IsHandedOut channel (Some frame) None = ⊥
+
+-- the bytes in which a frame, or none, goes to the bus
+abbrev pub bytes_of : Channel → Option Fields → Option (ArrayVec ℕ)
+bytes_of channel frame = option_map (λ f. record { items = encoded f channel }) frame

@@ -1,6 +1,7 @@
 //! A journal, which takes all its memory when it is made.
 
 ghost use Rattle.std.specs.Prelude.{◌≡◌, ◌<◌, ◌≤◌, ◌∷◌, [], ◌++◌, IfOk, IsTrue, ◌↔◌, false, length, slice_get};
+ghost use Rattle.std.specs.Option.{option_copied};
 ghost use Rattle.fr_journal.specs.Entries.{is_host};
 ghost use Rattle.fr_journal.specs.Kept.{host_room, slot_room, IsWithin};
 ghost use Rattle.fr_slots.specs.Numbers.{most_host_entries, most_slot_entries, most_entries};
@@ -103,13 +104,10 @@ impl Journal {
     }
 
     /// The entry of this number, counted from 0.
-    pub fn get(&self, number: u32) -> Option<Entry>
-        ensures { result ≡ slice_get self.now.entries number }
+    pub fn get(&self, number: u32) -> Option<&Entry>
+        ensures { option_copied result ≡ slice_get self.now.entries number }
     {
-        match self.entries().get(number as usize) {
-            Some(entry) => Some(entry.duplicate()),
-            None => None,
-        }
+        self.entries.as_slice().get(number as usize)
     }
 
     /// All entries, in order.

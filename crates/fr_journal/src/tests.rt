@@ -23,6 +23,6 @@ fn a_journal_has_room_for_both_kinds(rt: HostRuntime) -> Result<(), Fail> {
     });
     assert_eq!(rt; journal.host_room(), 0);
     assert_eq!(rt; journal.slot_room(), 1);
-    assert_eq!(rt; journal.get(0), Some(pop));
+    assert_eq!(rt; journal.get(0), Some(&pop));
     Ok(())
 }

@@ -240,3 +240,7 @@ cluster_is d params some few lawful fit free =
       nodes_are = nodes_are d.params d.plans lawful fit none;
       one_sender = one_sender d lawful none;
     }
+
+-- the plan of each of its nodes is without fault
+pub node_faultless : (d : Description) → IsCluster d → (n : ℕ) (plan : Plan) → slice_get d.plans n ≡ Some plan → plan_fault d.params plan ≡ None
+node_faultless d lawful n plan at = (each_at (IsNode d.params) d.plans n plan lawful.nodes_are at).1

@@ -1,13 +1,13 @@
 //! A cluster without fault.
 
-ghost use Rattle.std.specs.Prelude.{◌≡◌, ◌<◌, Err, length, option_map, position, slice_get, IfOk, IfSome, IfNone, ℕ};
+ghost use Rattle.std.specs.Prelude.{◌≡◌, ◌<◌, Err, None, length, option_map, position, slice_get, IfOk, IfSome, IfNone, ℕ};
 ghost use Rattle.std.specs.List.{list_any};
 ghost use Rattle.fr_schedule.specs.Clusters.{IsCluster};
 ghost use Rattle.fr_schedule.specs.Descriptions.{is_guarded};
 ghost use Rattle.fr_schedule.specs.SenderTable.{may_send, IsSender};
 ghost use Rattle.fr_schedule.specs.declared.error.ConfigError.TheVariants as error;
 ghost use Rattle.fr_schedule.specs.Files.{described, description_of, IsTableOf};
-ghost use Rattle.fr_slots.specs.Faults.{sends_at};
+ghost use Rattle.fr_slots.specs.Faults.{plan_fault, sends_at};
 ghost use Rattle.toml.specs.View.{table_view};
 
 use crate::error::ConfigError;
@@ -170,6 +170,7 @@ impl Cluster {
     pub fn node(&self, node: NodeId) -> Option<&NodePlan>
         ensures value { option_map (λ plan. plan.now) result ≡ slice_get self.now.plans node }
         ensures lawful { IsCluster self.now }
+        ensures faultless { IfSome result (λ plan. plan_fault self.now.params plan.now ≡ None) }
     {
         self.plans.get(usize::from(node.number()))
     }

@@ -1,6 +1,6 @@
 //! The plan of a node: what it owns, its buffers and its queue.
 
-ghost use Rattle.std.specs.Prelude.{◌≡◌, ◌≤◌, length};
+ghost use Rattle.std.specs.Prelude.{◌≡◌, ◌≤◌, ◌↔◌, IsTrue, length};
 ghost use Rattle.std.specs.Result.{result_err};
 ghost use Rattle.fr_slots.specs.Plans.{own_fits, buffer_fits, queue_fits, IsOwn, IsBuffer, IsQueue};
 
@@ -193,7 +193,7 @@ impl Model for NodePlan {
 }
 
 impl NodePlan {
-    ghost use Rattle.std.specs.Prelude.{◌≡◌, ◌<◌, IfOk, OnOk, OnErr, IfSome, IfNone, ◌==◌, length, position, slice_index};
+    ghost use Rattle.std.specs.Prelude.{◌≡◌, ◌<◌, ◌↔◌, IfOk, OnOk, OnErr, IfSome, IfNone, IsTrue, ◌==◌, length, position, slice_index};
     ghost use Rattle.fr_slots.specs.Plans.{IsPlan, plan_of, buffer_at};
     ghost use Rattle.fr_slots.specs.Plans.{own_refusal, with_own, buffer_refusal, with_buffer, queue_refusal, with_queue};
     ghost use Rattle.fr_slots.specs.Faults.{latest_on, plan_fault, IsFaultless, not_owned, dynamic_both, too_long};
@@ -304,6 +304,27 @@ impl NodePlan {
             buffers: collected(self.buffers.as_slice()),
             queue: self.queue,
         }
+    }
+
+    /// Whether the other plan has the same content: the same numbers, lines, buffers and queue, in the same order.
+    pub fn is_same(&self, other: &NodePlan) -> bool
+        ensures { IsTrue result ↔ (self.now ≡ other.now) }
+    {
+        let [latest_a, latest_b] = self.latest;
+        let [other_a, other_b] = other.latest;
+        if self.tasks != other.tasks || latest_a != other_a || latest_b != other_b {
+            return false;
+        }
+        if self.host_entries != other.host_entries || self.slot_entries != other.slot_entries {
+            return false;
+        }
+        if !is_same_owned(self.owned(), other.owned()) {
+            return false;
+        }
+        if !are_same_buffers(self.buffers(), other.buffers()) {
+            return false;
+        }
+        is_same_queue(&self.queue, &other.queue)
     }
 
     /// The number of host tasks, 0 to 8.
@@ -426,6 +447,27 @@ fn collected<T: Copy + Default + Drop, const N: usize>(lines: &[T]) -> ArrayVec<
     let fits = outcome.is_ok();
     prove!(fits);
     kept
+}
+
+/// Whether these are the same ownership lines.
+fn is_same_owned(owned: &[Own], other: &[Own]) -> bool
+    ensures { IsTrue result ↔ (owned.now ≡ other.now) }
+{
+    owned == other
+}
+
+/// Whether these are the same buffers.
+fn are_same_buffers(buffers: &[Buffer], other: &[Buffer]) -> bool
+    ensures { IsTrue result ↔ (buffers.now ≡ other.now) }
+{
+    buffers == other
+}
+
+/// Whether this is the same queue.
+fn is_same_queue(queue: &Option<Queue>, other: &Option<Queue>) -> bool
+    ensures { IsTrue result ↔ (queue.now ≡ other.now) }
+{
+    queue == other
 }
 
 /// Whether an ownership line is in range by itself.

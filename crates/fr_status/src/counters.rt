@@ -1,5 +1,11 @@
 //! The status counters of a node.
 
+ghost use Rattle.std.specs.Prelude.{◌≡◌};
+ghost use Rattle.fr_status.specs.Counting.{with_status, with_bits, HasRoom, FitsBits};
+
+use crate::status::SlotStatus;
+use fr_slots::channel::Channel;
+
 /// How many observed windows had each bit of the slot status, for channels A and B (chapter 6).
 ///
 /// The five counts of a channel are those of valid frames, syntax errors, content errors, boundary violations and
@@ -8,4 +14,39 @@
 pub struct Counters {
     pub a: [u32; 5],
     pub b: [u32; 5],
+}
+
+impl Counters {
+    /// Of no windows.
+    pub const NONE: Counters = Counters {
+        a: [0; 5],
+        b: [0; 5],
+    };
+
+    /// Counts a slot of this status on the channel.
+    ///
+    /// A count that rises has to fit 32 bits.
+    pub fn count(&mut self, channel: Channel, status: &SlotStatus)
+        requires { HasRoom self.old channel status.now }
+        ensures { self.new ≡ with_status self.old channel status.now }
+    {
+        match channel {
+            Channel::A => self.a = with_bits(self.a, status),
+            Channel::B => self.b = with_bits(self.b, status),
+        }
+    }
+}
+
+/// The counts of a channel with one slot more.
+fn with_bits(counts: [u32; 5], status: &SlotStatus) -> [u32; 5]
+    requires { FitsBits counts status.now }
+    ensures { result ≡ with_bits counts status.now }
+{
+    [
+        counts[0] + u32::from(status.valid),
+        counts[1] + u32::from(status.syntax),
+        counts[2] + u32::from(status.content),
+        counts[3] + u32::from(status.boundary),
+        counts[4] + u32::from(status.conflict),
+    ]
 }

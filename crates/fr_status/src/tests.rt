@@ -1,5 +1,6 @@
 //! Statuses with small parameters: three static slots of one word, then slots of minislots.
 
+use super::counters::Counters;
 use super::seen::Seen;
 use super::status::{SlotStatus, status_of};
 use fr_frame::frame::{Bytes, Frame};
@@ -85,5 +86,15 @@ fn seen_once_more(rt: HostRuntime) -> Result<(), Fail> {
     came.try_extend_from_slice(b"abc")?;
     let seen = Seen::Bytes(came);
     assert_eq!(rt; seen.duplicate(), seen);
+    Ok(())
+}
+
+#[test]
+fn one_slot_counted_on_channel_b(rt: HostRuntime) -> Result<(), Fail> {
+    let mut counters = Counters::NONE;
+    let noise = seen_in(0, 2, &Seen::Noise)?.0;
+    counters.count(Channel::B, &noise);
+    assert_eq!(rt; counters.a, [0; 5]);
+    assert_eq!(rt; counters.b, [0, 1, 0, 0, 0]);
     Ok(())
 }

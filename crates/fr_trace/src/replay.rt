@@ -62,7 +62,7 @@ pub(crate) fn replay(interface: &mut Interface, entry: &Entry, line: u32) -> Res
     let Some(made) = interface.journal().get(number) else {
         return Err(TraceError::WrongAnswer(line));
     };
-    if same_answer(&made, entry) {
+    if same_answer(made, entry) {
         Ok(())
     } else {
         Err(TraceError::WrongAnswer(line))

@@ -5,7 +5,7 @@ use Rattle.fr_journal.specs.declared.entry.Entry.{Entry}
 use Rattle.fr_journal.specs.declared.entry.Entry.TheVariants.{Fetch}
 use Rattle.fr_journal.specs.declared.entry.Offered.{Offered}
 use Rattle.fr_journal.specs.Kept.{Kept}
-use Rattle.fr_journal.specs.Offers.{offered, frame_with, frame_offered, IsHandedOut}
+use Rattle.fr_journal.specs.Offers.{offered, frame_with, frame_offered, IsHandedOut, bytes_of}
 use Rattle.fr_journal.specs.OpenWindow.{open_window, last_number}
 use Rattle.fr_interface.specs.State.{State, with_entry, is_not_above}
 use Rattle.fr_interface.proofs.TestLemmas.{none_from_test, later_from_test}
@@ -60,7 +60,19 @@ returns-clause-offer_a c =
     let offer : c.offered-a.result ≡ offered plan entries window A = c.offered-a.ensures.value ∙ ap (λ (es : List Entry). offered plan es window A) entries_is in
     let frame : frame_with params plan c.entries-entries.result.now window A c.offered-a.result ≡ frame_offered params plan entries window A =
     ap (λ (es : List Entry). frame_with params plan es window A c.offered-a.result) entries_is ∙ ap (λ (o : Offered). frame_with params plan entries window A o) offer in
-    rw (sym c.self.view_is) (subst (λ (f : Option Fields). IsHandedOut A f c.handed_out.result) frame c.handed_out.ensures)
+    rw (sym c.self.view_is) (subst (λ (f : Option Fields). IsHandedOut A f c.handed_out.result) frame c.handed_out.ensures.spelled)
+
+pub returns-clause-bytes_a : goal.returns-clause-bytes_a
+returns-clause-bytes_a c =
+    let params = c.self.inside.params in
+    let plan = c.self.inside.plan in
+    let entries = c.self.inside.journal.entries in
+    let window = c.args.window.now in
+    let entries_is = c.entries-entries.ensures.value in
+    let offer : c.offered-a.result ≡ offered plan entries window A = c.offered-a.ensures.value ∙ ap (λ (es : List Entry). offered plan es window A) entries_is in
+    let frame : frame_with params plan c.entries-entries.result.now window A c.offered-a.result ≡ frame_offered params plan entries window A =
+    ap (λ (es : List Entry). frame_with params plan es window A c.offered-a.result) entries_is ∙ ap (λ (o : Offered). frame_with params plan entries window A o) offer in
+    rw (sym c.self.view_is) (c.handed_out.ensures.bytes ∙ ap (bytes_of A) frame)
 
 pub returns-clause-offer_b : goal.returns-clause-offer_b
 returns-clause-offer_b c =
@@ -72,7 +84,19 @@ returns-clause-offer_b c =
     let offer : c.offered-b.result ≡ offered plan entries window B = c.offered-b.ensures.value ∙ ap (λ (es : List Entry). offered plan es window B) entries_is in
     let frame : frame_with params plan c.entries-entries.result.now window B c.offered-b.result ≡ frame_offered params plan entries window B =
     ap (λ (es : List Entry). frame_with params plan es window B c.offered-b.result) entries_is ∙ ap (λ (o : Offered). frame_with params plan entries window B o) offer in
-    rw (sym c.self.view_is) (subst (λ (f : Option Fields). IsHandedOut B f c.handed_out-2.result) frame c.handed_out-2.ensures)
+    rw (sym c.self.view_is) (subst (λ (f : Option Fields). IsHandedOut B f c.handed_out-2.result) frame c.handed_out-2.ensures.spelled)
+
+pub returns-clause-bytes_b : goal.returns-clause-bytes_b
+returns-clause-bytes_b c =
+    let params = c.self.inside.params in
+    let plan = c.self.inside.plan in
+    let entries = c.self.inside.journal.entries in
+    let window = c.args.window.now in
+    let entries_is = c.entries-entries.ensures.value in
+    let offer : c.offered-b.result ≡ offered plan entries window B = c.offered-b.ensures.value ∙ ap (λ (es : List Entry). offered plan es window B) entries_is in
+    let frame : frame_with params plan c.entries-entries.result.now window B c.offered-b.result ≡ frame_offered params plan entries window B =
+    ap (λ (es : List Entry). frame_with params plan es window B c.offered-b.result) entries_is ∙ ap (λ (o : Offered). frame_with params plan entries window B o) offer in
+    rw (sym c.self.view_is) (c.handed_out-2.ensures.bytes ∙ ap (bytes_of B) frame)
 
 pub returns-clause-accepted : goal.returns-clause-accepted
 returns-clause-accepted c =

@@ -1,10 +1,12 @@
 use Rattle.std.proofs.Common.{◌≡◌, Option, Some, ap, arith, sym, subst, ◌∙◌, List, option_map, length, ◌≤◌, ◌^◌}
-use Rattle.std.specs.Prelude.{IsSomeAnd}
+use Rattle.std.specs.Prelude.{IfSome, IsSomeAnd}
+use Rattle.fr_frame.specs.Fields.{Fields}
 use Rattle.fr_journal.specs.Arrivals.{moves, oldest}
 use Rattle.fr_journal.specs.declared.entry.Entry.{Entry}
 use Rattle.fr_journal.specs.Entries.{IsOrigin}
-use Rattle.fr_journal.specs.Held.{origin_of}
+use Rattle.fr_journal.specs.Held.{origin_of, frame_of, IsReceivable}
 use Rattle.fr_journal.proofs.QueuePlaceLemmas.{queue_origin_fits}
+use Rattle.fr_journal.proofs.SeenPlaceLemmas.{oldest_is_receivable}
 use Rattle.fr_slots.specs.declared.plan.Queue.{Queue}
 use Rattle.fr_slots.proofs.HistoryLemmas.{AllAfter-snoc}
 use Rattle.fr_interface.proofs.interface.Interface.pop.Goals as goal
@@ -35,3 +37,12 @@ invariant_of-self c =
         });
       };
     })
+
+pub returns-clause-frames : goal.returns-clause-frames
+returns-clause-frames c =
+    let entries = c.self.inside.journal.entries in
+    let q = c.in-Some.queue in
+    let frame_is : c.frame_in.result ≡ option_map frame_of (oldest q.capacity (moves c.self.inside.params c.self.inside.plan q entries)) =
+    c.frame_in.ensures ∙ ap (option_map frame_of) (c.oldest-oldest.ensures ∙ ap (λ (es : List Entry). oldest q.capacity (moves c.self.inside.params c.self.inside.plan q es)) c.entries.ensures.value) in
+    subst (λ (o : Option Fields). IfSome o IsReceivable) (sym frame_is)
+    (oldest_is_receivable c.self.inside.params c.self.inside.plan q q.capacity entries c.self.invariant.legal.entries_are)

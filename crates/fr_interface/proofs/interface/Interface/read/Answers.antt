@@ -1,8 +1,10 @@
 use Rattle.std.proofs.Common.{◌≡◌, Option, ap, arith, rules, Some, sym, subst, ◌∙◌, option_map, true, length, ◌≤◌, ◌^◌}
-use Rattle.std.specs.Prelude.{IsSomeAnd}
+use Rattle.std.specs.Prelude.{IfSome, IsSomeAnd}
+use Rattle.fr_frame.specs.Fields.{Fields}
 use Rattle.fr_journal.specs.Entries.{IsOrigin}
-use Rattle.fr_journal.specs.Held.{held, origin_of}
+use Rattle.fr_journal.specs.Held.{held, origin_of, frame_of, IsReceivable}
 use Rattle.fr_journal.proofs.HeldPlaceLemmas.{origin_fits}
+use Rattle.fr_journal.proofs.SeenPlaceLemmas.{held_is_receivable}
 use Rattle.fr_slots.specs.declared.plan.Buffer.{Buffer}
 use Rattle.fr_slots.specs.Plans.{is_receive, buffer_at}
 use Rattle.fr_slots.proofs.HistoryLemmas.{AllAfter-snoc}
@@ -33,3 +35,11 @@ invariant_of-self c =
         });
       };
     })
+
+pub returns-clause-frames : goal.returns-clause-frames
+returns-clause-frames c =
+    let entries = c.self.inside.journal.entries in
+    let filter = c.in-Some.line.filter in
+    let frame_is : c.frame_in.result ≡ option_map frame_of (held c.self.inside.params filter entries) =
+    c.frame_in.ensures ∙ ap (option_map frame_of) (c.held-held.ensures ∙ ap (held c.self.inside.params filter) c.entries.ensures.value) in
+    subst (λ (o : Option Fields). IfSome o IsReceivable) (sym frame_is) (held_is_receivable c.self.inside.params filter entries c.self.invariant.legal.entries_are)

@@ -1,0 +1,4 @@
+pub mod QueueFields
+pub mod TransmitFields
+pub mod Transmitting
+pub mod Waiting

@@ -1,0 +1,89 @@
+//! The receive queue.
+
+ghost use Rattle.std.specs.Prelude.{◌≡◌, ◌+◌, ◌<◌, ◌≤◌, ◌^◌, ◌↔◌, [], length, slice_get, IfOk, IsTrue};
+
+use circular_buffer::HeapCircularBuffer;
+use fr_frame::frame::Frame;
+use fr_journal::entry::{Arrival, Origin};
+use fr_slots::channel::Channel;
+use std::alloc::{AllocError, Global};
+use std::marker::Model;
+
+/// Frames that wait to be popped, the oldest first, in a ring (own profile).
+#[derive(Drop)]
+pub struct ReceiveQueue {
+    ring: HeapCircularBuffer<Arrival>,
+    lost: u32,
+}
+
+impl Model for ReceiveQueue {
+    ghost use Rattle.fr_buffers.specs.Waiting.{Waiting};
+
+    ghost Value = { Waiting };
+
+    ghost use Rattle.fr_buffers.specs.QueueFields.{waiting_in, IsBounded};
+
+    ghost view = { waiting_in };
+
+    ghost invariant = { IsBounded };
+}
+
+impl ReceiveQueue {
+    ghost use Rattle.std.specs.Prelude.{◌≡◌, ◌≤◌};
+    ghost use Rattle.fr_buffers.specs.Waiting.{with_frame, without_oldest};
+    ghost use Rattle.fr_journal.specs.Held.{arrival_of};
+
+    /// An empty queue that holds at most so many frames, for all of which it takes memory. Refused where that is
+    /// refused.
+    pub fn new(alloc: Global, capacity: u16) -> Result<ReceiveQueue, AllocError>
+        ensures { IfOk result (λ q. q ≡ record { capacity = capacity; frames = []; lost = 0 }) }
+    {
+        let ring = HeapCircularBuffer::with_capacity(alloc, usize::from(capacity))?;
+        Ok(ReceiveQueue { ring, lost: 0 })
+    }
+
+    /// Appends a frame that the observe of this entry saw on the channel. In a full queue the oldest frame makes room, and
+    /// is lost.
+    ///
+    /// One lost frame more has to fit 32 bits.
+    pub fn arrive(&mut self, entry: u32, channel: Channel, frame: Frame)
+        requires { self.old.lost + 1 < 2 ^ 32 }
+        ensures { self.new ≡ with_frame self.old (arrival_of entry channel frame) }
+    {
+        let origin = Origin { entry, channel };
+        let overwritten = self.ring.push_back(Arrival { origin, frame });
+        if overwritten.is_some() {
+            self.lost += 1;
+        }
+    }
+
+    /// Takes the oldest frame, if there is one.
+    pub fn pop(&mut self) -> Option<Arrival>
+        ensures oldest { result ≡ slice_get self.old.frames 0 }
+        ensures left { self.new ≡ without_oldest self.old }
+    {
+        self.ring.pop_front()
+    }
+
+    /// How many frames wait, at most the capacity.
+    pub fn len(&self) -> u32
+        ensures value { result ≡ length self.now.frames }
+        ensures within { result ≤ self.now.capacity }
+    {
+        self.ring.len() as u32
+    }
+
+    /// Whether no frame waits.
+    pub fn is_empty(&self) -> bool
+        ensures { IsTrue result ↔ (self.now.frames ≡ []) }
+    {
+        self.ring.is_empty()
+    }
+
+    /// How many frames were lost.
+    pub fn lost(&self) -> u32
+        ensures { result ≡ self.now.lost }
+    {
+        self.lost
+    }
+}

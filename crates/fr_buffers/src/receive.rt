@@ -1,0 +1,51 @@
+//! Receive buffers.
+
+ghost use Rattle.std.specs.Prelude.{◌≡◌, None, Some};
+ghost use Rattle.std.specs.Option.{option_copied};
+ghost use Rattle.fr_journal.specs.Held.{arrival_of};
+
+use fr_frame::frame::Frame;
+use fr_journal::entry::{Arrival, Origin};
+use fr_slots::channel::Channel;
+use std::marker::Model;
+
+/// What a node keeps of a buffer that receives: the last frame that it took (chapter 9).
+#[derive(Debug, Drop)]
+pub struct RxBuffer {
+    held: Option<Arrival>,
+}
+
+impl Model for RxBuffer {
+    ghost use Rattle.std.specs.Prelude.{Option};
+    ghost use Rattle.fr_journal.specs.declared.entry.Arrival.{Arrival};
+
+    ghost Value = { Option Arrival };
+
+    ghost view = { λ b. b.held };
+}
+
+impl RxBuffer {
+    /// An empty buffer.
+    pub fn new() -> RxBuffer
+        ensures { result ≡ None }
+    {
+        RxBuffer { held: None }
+    }
+
+    /// Holds a frame in place of the one before. It was seen on the channel by the observe of this entry.
+    pub fn store(&mut self, entry: u32, channel: Channel, frame: &Frame)
+        ensures { self.new ≡ Some (arrival_of entry channel frame.now) }
+    {
+        self.held = Some(Arrival {
+            origin: Origin { entry, channel },
+            frame: frame.duplicate(),
+        });
+    }
+
+    /// The frame that it holds, and where that comes from.
+    pub fn held(&self) -> Option<&Arrival>
+        ensures { option_copied result ≡ self.now }
+    {
+        self.held.as_ref()
+    }
+}

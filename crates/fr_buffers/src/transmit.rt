@@ -1,0 +1,137 @@
+//! Transmit buffers.
+
+ghost use Rattle.std.specs.Prelude.{◌≡◌, ◌+◌, ◌<◌, ◌≤◌, ◌^◌, IsSome, option_map};
+ghost use Rattle.std.specs.Option.{option_copied};
+ghost use Rattle.fr_buffers.specs.Transmitting.{new_transmitter, with_commit, entry_of, payload_of, offer_of, after_send};
+
+use fr_frame::payload::Payload;
+use fr_journal::fate::Tally;
+use fr_slots::plan::Mode;
+use std::marker::Model;
+
+/// A commit that a buffer holds.
+#[derive(Debug, Drop, PartialEq, Eq)]
+pub struct HeldCommit {
+    /// The number of its entry, from 0.
+    pub entry: u32,
+    /// What was committed.
+    pub payload: Payload,
+}
+
+/// What a node keeps of a buffer that transmits: its mode, its last commit, and what became of all of them (chapter 9; the
+/// modes and the tally are own profile).
+#[derive(Debug, Drop)]
+pub struct TxBuffer {
+    mode: Mode,
+    last: Option<HeldCommit>,
+    tally: Tally,
+}
+
+impl Model for TxBuffer {
+    ghost use Rattle.fr_buffers.specs.Transmitting.{Transmitter};
+
+    ghost Value = { Transmitter };
+
+    ghost use Rattle.fr_buffers.specs.TransmitFields.{transmitter_in, IsBalanced};
+
+    ghost view = { transmitter_in };
+
+    ghost invariant = { IsBalanced };
+}
+
+impl TxBuffer {
+    /// A buffer without a commit. In mode `Receive` it never offers anything.
+    pub fn new(mode: Mode) -> TxBuffer
+        ensures { result ≡ new_transmitter mode }
+    {
+        TxBuffer {
+            mode,
+            last: None,
+            tally: Tally {
+                committed: 0,
+                sent: 0,
+                overwritten: 0,
+                pending: 0,
+            },
+        }
+    }
+
+    /// Holds the commit of this entry in place of the one before, which is overwritten if it is pending.
+    ///
+    /// One commit more has to fit 32 bits.
+    pub fn commit(&mut self, entry: u32, payload: &Payload)
+        requires { self.old.tally.committed + 1 < 2 ^ 32 }
+        ensures { self.new ≡ with_commit self.old (record { entry = entry; payload = payload.now }) }
+    {
+        self.last = Some(HeldCommit {
+            entry,
+            payload: payload.duplicate(),
+        });
+        self.tally = Tally {
+            committed: self.tally.committed + 1,
+            sent: self.tally.sent,
+            overwritten: self.tally.overwritten + self.tally.pending,
+            pending: 1,
+        };
+    }
+
+    /// The entry of the commit that it offers where it admits a slot and may begin: in event mode the last one
+    /// where it is pending, in state mode the last one.
+    pub fn offers(&self) -> Option<u32>
+        ensures { result ≡ offer_of self.now }
+    {
+        match self.mode {
+            Mode::Event => {
+                if self.tally.pending == 1 {
+                    self.entry()
+                } else {
+                    None
+                }
+            }
+            Mode::State => self.entry(),
+            Mode::Receive => None,
+        }
+    }
+
+    /// The entry of the commit that it holds, sent or not.
+    pub fn entry(&self) -> Option<u32>
+        ensures { result ≡ entry_of self.now }
+    {
+        match &self.last {
+            Some(commit) => Some(commit.entry),
+            None => None,
+        }
+    }
+
+    /// The payload of the commit that it holds, sent or not.
+    pub fn payload(&self) -> Option<&Payload>
+        ensures { option_copied result ≡ payload_of self.now }
+    {
+        match &self.last {
+            Some(commit) => Some(&commit.payload),
+            None => None,
+        }
+    }
+
+    /// The commit that it offers goes to the bus. It is sent from then on, however often it goes.
+    pub fn send(&mut self)
+        requires { IsSome (offer_of self.old) }
+        ensures { self.new ≡ after_send self.old }
+    {
+        self.tally = Tally {
+            committed: self.tally.committed,
+            sent: self.tally.sent + self.tally.pending,
+            overwritten: self.tally.overwritten,
+            pending: 0,
+        };
+    }
+
+    /// What became of its commits: each was sent or overwritten or is pending, and at most one is pending.
+    pub fn tally(&self) -> Tally
+        ensures value { result ≡ self.now.tally }
+        ensures fates { result.committed ≡ result.sent + result.overwritten + result.pending }
+        ensures one_pending { result.pending ≤ 1 }
+    {
+        self.tally
+    }
+}
