@@ -1,9 +1,12 @@
 //! Worked traces with the answers that the format gives, and readers and writers that fail.
 
+ghost use Rattle.std.specs.Prelude.{◌<◌};
+
 use fr_trace::audit::audit;
 use fr_trace::auditor::Auditor;
 use fr_trace::error::TraceError;
 use fr_trace::pieces::audit_pieces;
+use fr_trace::report::write_report;
 use fr_trace::trace::write_trace;
 use std::alloc::Global;
 use std::io::{self, Read, Write};
@@ -307,6 +310,36 @@ fn an_offer_of_a_commit_is_a_wrong_answer(rt: HostRuntime) {
         refusals(rt.alloc(), &lines),
         all(TraceError::WrongAnswer(7))
     );
+}
+
+/// The report of these lines as one text that comes in pieces of this size.
+fn reported(alloc: Global, lines: &[&[u8]], size: usize) -> Result<Vec<u8>, Fail>
+    requires { 0 < size }
+{
+    let text = joined(alloc, lines)?;
+    let mut auditor = Auditor::new(alloc);
+    for piece in text.chunks(size) {
+        auditor.feed(piece)?;
+    }
+    let mut report = Vec::with_capacity(alloc, 128)?;
+    write_report(&auditor.finish()?, &mut report)?;
+    Ok(report)
+}
+
+#[test]
+fn pieces_of_each_size_give_one_report(rt: HostRuntime) -> Result<(), Fail> {
+    for size in 1..65 {
+        let report = reported(rt.alloc(), &LINES, size)?;
+        let told = b"rx 0 2:A x0a0b\nA 2 0 0 0 0\nB 0 1 0 0 0\n";
+        assert_eq!(rt; report.as_slice(), told.as_slice());
+        let report = reported(rt.alloc(), &THREE_COMMITS, size)?;
+        let told = b"tx 0 3 1 1 1\nA 0 0 0 0 0\nB 0 0 0 0 0\n";
+        assert_eq!(rt; report.as_slice(), told.as_slice());
+        let report = reported(rt.alloc(), &QUEUE, size)?;
+        let told = b"rx 0 - -\nqueue 0 1\nA 2 0 0 0 0\nB 1 0 0 0 1\n";
+        assert_eq!(rt; report.as_slice(), told.as_slice());
+    }
+    Ok(())
 }
 
 // Several buffers and the queue.
