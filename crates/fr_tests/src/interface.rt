@@ -141,6 +141,45 @@ fn a_null_frame_changes_no_buffer(rt: HostRuntime) -> Result<(), Fail> {
 }
 
 #[test]
+fn an_origin_names_the_frame_that_was_seen(rt: HostRuntime) -> Result<(), Fail> {
+    let mut interface = interface(rt.alloc(), 1, 2)?;
+    interface.fetch(&slot_two(0, 0)?)?;
+    interface.observe(0, &came(&DATA_ON_A)?, &Seen::Silence)?;
+    let read = interface.read(task_zero()?, 0)?;
+    assert_eq!(rt; read.is_some(), true);
+    let (on_a, on_b) = (Channel::A, Channel::B);
+    assert_eq!(rt;
+        interface.frame_at(Origin {
+            entry: 1,
+            channel: on_a
+        }),
+        read
+    );
+    assert_eq!(rt;
+        interface.frame_at(Origin {
+            entry: 1,
+            channel: on_b
+        }),
+        None
+    );
+    assert_eq!(rt;
+        interface.frame_at(Origin {
+            entry: 0,
+            channel: on_a
+        }),
+        None
+    );
+    assert_eq!(rt;
+        interface.frame_at(Origin {
+            entry: 3,
+            channel: on_a
+        }),
+        None
+    );
+    Ok(())
+}
+
+#[test]
 fn each_accepted_call_is_an_entry(rt: HostRuntime) -> Result<(), Fail> {
     let mut interface = interface(rt.alloc(), 8, 8)?;
     let task = task_zero()?;

@@ -190,6 +190,17 @@ fn a_plan_of_one_receive_buffer(rt: HostRuntime) -> Result<(), Fail> {
 }
 
 #[test]
+fn plans_are_the_same_up_to_the_last_buffer(rt: HostRuntime) -> Result<(), Fail> {
+    let mut plan = NodePlan::new(1, [0, 0], 1, 2)?;
+    plan.add_own(Own::default())?;
+    let other = plan.duplicate();
+    assert_eq!(rt; plan.is_same(&other), true);
+    plan.add_buffer(Buffer::default())?;
+    assert_eq!(rt; plan.is_same(&other), false);
+    Ok(())
+}
+
+#[test]
 fn ownership_lines_that_are_refused(rt: HostRuntime) -> Result<(), Fail> {
     let mut plan = NodePlan::new(1, [0, 0], 1, 2)?;
     let beyond = Own {
