@@ -1,15 +1,15 @@
-//! The calls of a host and of a controller on a journal, and the answers that scans of the journal find.
+//! The calls of a host and of a controller on a journal. What the journal gives is kept beside it, so that no call scans it.
 #![tactic(auto)]
 
-mod counting;
 pub mod errors;
-mod fate;
 pub mod interface;
+mod observed;
 mod offers;
-mod queue;
+mod opening;
 #[cfg(test)]
 mod queue_tests;
-mod scan;
+mod receiving;
+mod sending;
 pub mod source;
 #[cfg(test)]
 mod tests;
