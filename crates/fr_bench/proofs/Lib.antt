@@ -3,3 +3,4 @@ pub mod OrderLemmas
 pub mod NumberLemmas
 pub mod InputLemmas
 pub mod PlanTextLemmas
+pub mod WholeLemmas

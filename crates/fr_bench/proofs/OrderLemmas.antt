@@ -1,11 +1,17 @@
--- What `clap` makes of the words `audit` and `midpoint` at the program's commands, and how the name of the command
--- that a parse met follows from what the parse holds.
-use Rattle.std.proofs.Common.{◌≡◌, ◌∷◌, [], List, Option, Some, None, option_map, refl, codes, true}
-use Rattle.clap.specs.Words.{Row, Text, first_of, is_simple, is_simple_and_free, subcommand_name_of, subcommand_of, subcommand_rows_of, takes}
-use Rattle.clap.specs.declared.parser.matches.ArgMatches.{ArgMatches}
-use Rattle.clap.specs.declared.parser.matches.ArgMatches.TheViews.{out-ArgMatches}
+-- The commands are of the kind of which `clap` tells all faults, what a parse holds tells the command's name and the
+-- word for its file, and so the answer is the one that is due.
+use Rattle.std.proofs.Common.{◌≡◌, ◌∷◌, [], List, Option, Some, None, Err, option_map, is_some, true≢false, ap, sym, refl, ◌∙◌, ℕ, arith, inl, inr, codes, true}
+use Rattle.std.specs.Prelude.{IfSome, IsSome}
+use Rattle.std.specs.Option.{ok_or, option_map_or}
+use Rattle.clap.specs.Values.{kind_of}
+use Rattle.clap.specs.Words.{HasKind, IsAmong, Kinds, Row, Text, fault_of, first_of, is_simple, is_simple_and_free, subcommand_of}
+use Rattle.clap.specs.declared.error.Error.{Error}
 use Rattle.clap.proofs.OnLiterals.{clap_on_literals}
-use Rattle.fr_bench.specs.Orders.{file_in, name_in, the_commands}
+use Rattle.fr_bench.specs.declared.command.Order.{Order}
+use Rattle.fr_bench.specs.declared.command.OrderError.{OrderError}
+use Rattle.fr_bench.specs.declared.command.OrderError.TheVariants as refusal
+use Rattle.fr_bench.specs.Orders.{HasFile, IsAnswer, IsNamed, IsOrder, IsWhole, file_in, name_in, order_error_of, the_commands}
+use Rattle.fr_bench.proofs.WholeLemmas.{whole}
 
 pub are_simple : is_simple the_commands ≡ true
 unfolding clap_on_literals
@@ -15,32 +21,47 @@ pub are_free : is_simple_and_free the_commands ≡ true
 unfolding clap_on_literals
 are_free = refl
 
-pub takes_audit : takes the_commands (codes "audit" ∷ []) ≡ true
-unfolding clap_on_literals
-takes_audit = refl
-
-pub takes_midpoint : takes the_commands (codes "midpoint" ∷ []) ≡ true
-unfolding clap_on_literals
-takes_midpoint = refl
-
-pub enters_audit : name_in (subcommand_of the_commands (codes "audit" ∷ [])) ≡ Some (codes "audit")
-unfolding clap_on_literals
-enters_audit = refl
-
-pub enters_midpoint : name_in (subcommand_of the_commands (codes "midpoint" ∷ [])) ≡ Some (codes "midpoint")
-unfolding clap_on_literals
-enters_midpoint = refl
-
-mapped_twice : {A B C : Type 0} → (f : A → B) → (g : B → C) → (o : Option A)
-    → option_map (λ x. g (f x)) o ≡ option_map g (option_map f o)
-mapped_twice f g None = refl
-mapped_twice f g (Some x) = refl
-
-pub name_of_rows : (m : ArgMatches) → subcommand_name_of m ≡ name_in (subcommand_rows_of m)
-name_of_rows m = mapped_twice _ (λ p. p.0) (out-ArgMatches m).subcommand
-
 -- where the rows of the entered command are known, so is its word for FILE
-pub file_of_rows : (entered : Option (Text × List Row)) (rows : List Row) (file : Text)
-    → option_map (λ p. p.1) entered ≡ Some rows → first_of (codes "FILE") rows ≡ Some file → file_in entered ≡ Some file
-file_of_rows None rows file are first = cc are
-file_of_rows (Some (name, entered)) rows file are first = let is : entered ≡ rows = cc are in rw is first
+pub file_of_rows : (entered : Option (Text × List Row)) (rows : List Row)
+    → option_map (λ p. p.1) entered ≡ Some rows → file_in entered ≡ first_of (codes "FILE") rows
+file_of_rows None rows are = cc are
+file_of_rows (Some (name, entered)) rows are = let is : entered ≡ rows = cc are in rw is refl
+
+-- a command has one name, and these differ in their first letters
+abbrev first : Text → ℕ
+first [] = 0
+first (letter ∷ letters) = letter
+
+one_name : (a b : Text) (o : Option Text) → o ≡ Some a → o ≡ Some b → first a ≡ first b
+one_name a b o is_a is_b = ap (λ x. option_map_or first x 0) (sym is_a ∙ is_b)
+
+-- a whole command of a file has its file
+pub check_has_file : (entered : Option (Text × List Row)) → IsNamed (codes "check") entered → IsWhole entered → HasFile entered
+check_has_file entered named (inl (inl e)) = let bad : 99 ≡ 97 = one_name (codes "check") (codes "audit") (name_in entered) named e in absurd (omega (arith, bad))
+check_has_file entered named (inl (inr e)) = let bad : 99 ≡ 109 = one_name (codes "check") (codes "midpoint") (name_in entered) named e in absurd (omega (arith, bad))
+check_has_file entered named (inr h) = h.1
+
+pub plan_has_file : (entered : Option (Text × List Row)) → IsNamed (codes "plan") entered → IsWhole entered → HasFile entered
+plan_has_file entered named (inl (inl e)) = let bad : 112 ≡ 97 = one_name (codes "plan") (codes "audit") (name_in entered) named e in absurd (omega (arith, bad))
+plan_has_file entered named (inl (inr e)) = let bad : 112 ≡ 109 = one_name (codes "plan") (codes "midpoint") (name_in entered) named e in absurd (omega (arith, bad))
+plan_has_file entered named (inr h) = h.1
+
+pub none_has_none : (o : Option Text) → o ≡ None → is_some o ≡ true → ⊥
+none_has_none o none some = true≢false (sym some ∙ ap is_some none)
+
+-- an error for which there is a fault, or none for which there is want of memory
+pub refused_for : (words : List Text) (e : Error) → HasKind (fault_of the_commands words) e → IsAnswer words (Err (order_error_of (kind_of e)))
+refused_for words e (inl memory) = rw memory tt
+refused_for words e (inr among) = by (order_error_of (kind_of e)) (fault_of the_commands words) refl among
+  where
+    by : (given : OrderError) (kinds : Kinds) → fault_of the_commands words ≡ kinds → IsAmong (kind_of e) kinds → IsAnswer words (Err given)
+    by refusal.Memory kinds are among = tt
+    by refusal.Usage [] are among = absurd among
+    by refusal.Usage (k ∷ ks) are among = rw are (omega arith)
+
+-- without a fault the order that was found is the answer
+pub taken_for : (words : List Text) (found : Option Order) → fault_of the_commands words ≡ []
+    → IfSome found (IsOrder (subcommand_of the_commands words)) → (IsWhole (subcommand_of the_commands words) → IsSome found)
+    → IsAnswer words (ok_or found refusal.Usage)
+taken_for words (Some order) none told has = (none, told)
+taken_for words None none told has = absurd (true≢false (sym (has (whole words none))))

@@ -1,7 +1,7 @@
 -- Which words are an order, by the rules of `clap`, how the program's errors follow from one
 -- another, and the exit status of each.
-use Rattle.std.specs.Prelude.{◌≡◌, ℕ, List, [], Option, Some, true, codes, option_map, option_and_then}
-use Rattle.clap.specs.Words.{App, Row, Rule, Shape, Text, first_of, new_app, new_rule, with_rule, with_subcommand}
+use Rattle.std.specs.Prelude.{◌≡◌, ◌⊎◌, ◌<◌, ℕ, List, [], length, Option, Some, Result, Ok, Err, true, codes, is_some, option_map, option_and_then}
+use Rattle.clap.specs.Words.{App, Row, Rule, Shape, Text, fault_of, first_of, new_app, new_rule, subcommand_of, with_rule, with_subcommand}
 use Rattle.clap.specs.declared.error.kind.ErrorKind.{ErrorKind}
 use Rattle.clap.specs.declared.error.kind.ErrorKind.TheVariants as kind
 use Rattle.fr_bench.specs.declared.command.Order.{Order}
@@ -15,12 +15,14 @@ use Rattle.fr_bench.specs.declared.failure.Failure.TheVariants as failure
 abbrev pub named : Text → Shape
 named name = (new_app name).top
 
--- the program without a command: a command is required, and the words begin with it
+-- the program without a command: a command is required, the words begin with it, and help is none
 abbrev pub bare : App
 bare = record {
   top = record (named (codes "fr_bench")) {
     no_binary_name = true;
     subcommand_required = true;
+    disable_help_flag = true;
+    disable_help_subcommand = true;
   };
   subs = [];
 }
@@ -52,12 +54,31 @@ name_in = option_map (λ entered. entered.0)
 abbrev pub file_in : Option (Text × List Row) → Option Text
 file_in = option_and_then (λ entered. first_of (codes "FILE") entered.1)
 
+-- one of the commands was entered, with its file where it has one
+abbrev pub IsNamed : Text → Option (Text × List Row) → Type 0
+IsNamed name entered = name_in entered ≡ Some name
+
+abbrev pub HasFile : Option (Text × List Row) → Type 0
+HasFile entered = is_some (file_in entered) ≡ true
+
+abbrev pub IsWhole : Option (Text × List Row) → Type 0
+IsWhole entered =
+    (IsNamed (codes "audit") entered ⊎ IsNamed (codes "midpoint") entered)
+    ⊎ ((IsNamed (codes "check") entered ⊎ IsNamed (codes "plan") entered) × HasFile entered)
+
 -- the order is that of the command which the words enter, with its file
 abbrev pub IsOrder : Option (Text × List Row) → Order → Type 0
-IsOrder entered the_order.Audit = name_in entered ≡ Some (codes "audit")
-IsOrder entered (the_order.Check file) = (name_in entered ≡ Some (codes "check")) × (file_in entered ≡ Some file.now)
-IsOrder entered (the_order.Plan file) = (name_in entered ≡ Some (codes "plan")) × (file_in entered ≡ Some file.now)
-IsOrder entered the_order.Midpoint = name_in entered ≡ Some (codes "midpoint")
+IsOrder entered the_order.Audit = IsNamed (codes "audit") entered
+IsOrder entered (the_order.Check file) = IsNamed (codes "check") entered × (file_in entered ≡ Some file.now)
+IsOrder entered (the_order.Plan file) = IsNamed (codes "plan") entered × (file_in entered ≡ Some file.now)
+IsOrder entered the_order.Midpoint = IsNamed (codes "midpoint") entered
+
+-- The order is the one that the words enter, where `clap` finds no fault with them. Where it finds one they are no command,
+-- and nowhere else; for want of memory either may stay unanswered.
+abbrev pub IsAnswer : List Text → Result Order OrderError → Type 0
+IsAnswer words (Ok order) = (fault_of the_commands words ≡ []) × IsOrder (subcommand_of the_commands words) order
+IsAnswer words (Err refusal.Usage) = 0 < length (fault_of the_commands words)
+IsAnswer words (Err refusal.Memory) = Unit {0}
 
 -- want of memory alone is no fault of the words
 abbrev pub order_error_of : ErrorKind → OrderError

@@ -4,6 +4,7 @@ ghost use Rattle.fr_bench.specs.Checks.{Checks};
 
 use crate::cluster_file::cluster_of;
 use crate::error::BenchError;
+use crate::output::write_whole;
 use fr_lines::writing::write_params;
 use std::alloc::Global;
 use std::io::{Read, Write};
@@ -21,8 +22,10 @@ pub fn check_text<R: Read, W: Write>(
     ensures { IfSome (R.remaining reader.old) (λ text. Checks text (W.contents writer.old) (W.contents writer.new) result) }
 {
     let cluster = cluster_of(alloc, reader)?;
-    match write_params(writer, cluster.params()) {
-        Ok(()) => Ok(()),
-        Err(_) => Err(BenchError::Write),
+    let mut line = Vec::new(alloc);
+    match write_params(&mut line, cluster.params()) {
+        Ok(()) => write_whole(writer, line.as_slice()),
+        // A list of bytes fails to take more for want of memory alone.
+        Err(_) => Err(BenchError::Memory),
     }
 }

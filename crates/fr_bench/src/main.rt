@@ -16,6 +16,7 @@ mod input;
 mod midpoint;
 mod numbers;
 mod order;
+mod output;
 mod plan;
 
 use command::{Order, OrderError};

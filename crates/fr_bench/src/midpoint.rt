@@ -6,6 +6,7 @@ ghost use Rattle.fr_bench.specs.Midpoints.{Midpoints, midpoint_line};
 use crate::error::BenchError;
 use crate::input::read_up_to;
 use crate::numbers::numbers_of;
+use crate::output::write_whole;
 use fr_midpoint::midpoint::midpoint;
 use fr_midpoint::ranks::Midpoint;
 use std::alloc::Global;
@@ -48,8 +49,10 @@ pub fn midpoint_text<R: Read, W: Write>(
     let text = read_up_to(alloc, reader, MOST_BYTES)?;
     let numbers = numbers_of(alloc, text.as_slice())?;
     let answer = midpoint(numbers.as_slice())?;
-    match write_midpoint(writer, answer) {
-        Ok(()) => Ok(()),
-        Err(_) => Err(BenchError::Write),
+    let mut line = Vec::new(alloc);
+    match write_midpoint(&mut line, answer) {
+        Ok(()) => write_whole(writer, line.as_slice()),
+        // A list of bytes fails to take more for want of memory alone.
+        Err(_) => Err(BenchError::Memory),
     }
 }

@@ -1,10 +1,8 @@
 //! Reads the words after the program's name.
-ghost use Rattle.std.specs.Prelude.{◌≡◌, ◌∷◌, ◌⊎◌, [], IfOk, IfSome, Some, false, Ok, Err, codes, map};
-ghost use Rattle.clap.specs.Words.{app_of, fault_of, subcommand_name_of, subcommand_of, subcommand_rows_of};
+ghost use Rattle.std.specs.Prelude.{◌≡◌, IfOk, IfSome, IsSome, false, map};
+ghost use Rattle.clap.specs.Words.{app_of, subcommand_rows_of};
 ghost use Rattle.clap.specs.declared.builder.command.Command.TheViews.{out-Command};
-ghost use Rattle.fr_bench.specs.Orders.{IsOrder, bare, with_file, the_commands};
-ghost use Rattle.fr_bench.specs.declared.command.Order.TheVariants as the_order;
-ghost use Rattle.fr_bench.specs.declared.command.OrderError.TheVariants as refusal;
+ghost use Rattle.fr_bench.specs.Orders.{IsAnswer, IsOrder, IsWhole, bare, with_file, the_commands};
 
 use crate::command::{Order, OrderError};
 use clap::{Arg, ArgMatches, Command};
@@ -26,6 +24,8 @@ fn program<'a>(alloc: Global) -> Command<'a>
     Command::new(alloc, "fr_bench")
         .no_binary_name(true)
         .subcommand_required(true)
+        .disable_help_flag(true)
+        .disable_help_subcommand(true)
 }
 
 /// The commands, as `clap` is told of them.
@@ -41,8 +41,7 @@ fn commands<'a>(alloc: Global) -> Result<Command<'a>, AllocError>
 /// The order that the command's name and arguments stand for.
 fn order_in<'a>(matches: &ArgMatches<'a>) -> Option<Order<'a>>
     ensures told { IfSome result (λ o. IsOrder (subcommand_rows_of matches.now) o) }
-    ensures audit { subcommand_name_of matches.now ≡ Some (codes "audit") → result ≡ Some the_order.Audit }
-    ensures midpoint { subcommand_name_of matches.now ≡ Some (codes "midpoint") → result ≡ Some the_order.Midpoint }
+    ensures whole { IsWhole (subcommand_rows_of matches.now) → IsSome result }
 {
     let (name, arguments) = matches.subcommand()?;
     match name {
@@ -59,12 +58,7 @@ fn order_in<'a>(matches: &ArgMatches<'a>) -> Option<Order<'a>>
 /// Refused with `Memory` where memory for the parse was refused, and else with `Usage` for all words
 /// that are no command. A call for help is no command.
 pub fn order<'a>(alloc: Global, words: &'a [&'a str]) -> Result<Order<'a>, OrderError>
-    ensures only { IfOk result (λ _. fault_of the_commands (map (λ word. word.now) words.now) ≡ []) }
-    ensures told { IfOk result (λ o. IsOrder (subcommand_of the_commands (map (λ word. word.now) words.now)) o) }
-    ensures audit { map (λ word. word.now) words.now ≡ codes "audit" ∷ []
-        → (result ≡ Ok the_order.Audit) ⊎ (result ≡ Err refusal.Memory) }
-    ensures midpoint { map (λ word. word.now) words.now ≡ codes "midpoint" ∷ []
-        → (result ≡ Ok the_order.Midpoint) ⊎ (result ≡ Err refusal.Memory) }
+    ensures { IsAnswer (map (λ word. word.now) words.now) result }
 {
     let matches = commands(alloc)?.try_get_matches_from(words)?;
     order_in(&matches).ok_or(OrderError::Usage)

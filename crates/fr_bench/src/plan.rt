@@ -9,6 +9,7 @@ ghost use Rattle.fr_bench.specs.PlanText.{guard_line, IsGuardText, AreGuardTexts
 
 use crate::cluster_file::cluster_of;
 use crate::error::BenchError;
+use crate::output::write_whole;
 use fr_guardian::guardian::Guardian;
 use fr_lines::writing::channels_word;
 use fr_schedule::cluster::Cluster;
@@ -222,8 +223,10 @@ pub fn plan_text<R: Read, W: Write>(
     let Ok(guardian) = Guardian::new(alloc, &cluster) else {
         return Err(BenchError::Memory);
     };
-    match write_plan(writer, &cluster, &guardian) {
-        Ok(()) => Ok(()),
-        Err(_) => Err(BenchError::Write),
+    let mut text = Vec::new(alloc);
+    match write_plan(&mut text, &cluster, &guardian) {
+        Ok(()) => write_whole(writer, text.as_slice()),
+        // A list of bytes fails to take more for want of memory alone.
+        Err(_) => Err(BenchError::Memory),
     }
 }
