@@ -47,7 +47,7 @@ module _ (s : State) (number : ℕ) where
     observed-place receive is receives =
         ap (option_map (λ (a : Arrival). source.Observed (origin_of a))) (received-place receive is ∙ ap (option_and_then (received_in s)) there ∙ ap (λ (t : Bool). cond t (held s.params line.filter s.entries) None) receives)
         ∙ sym (ap (option_and_then (source_by s number)) there
-          ∙ ap (λ (t : Bool). cond t (option_map (λ (a : Arrival). source.Observed (origin_of a)) (held s.params line.filter s.entries)) (option_map source.Commit (last_commit number s.entries))) receives)
+        ∙ ap (λ (t : Bool). cond t (option_map (λ (a : Arrival). source.Observed (origin_of a)) (held s.params line.filter s.entries)) (option_map source.Commit (last_commit number s.entries))) receives)
 
     -- ---- transmit buffers
 
@@ -61,7 +61,7 @@ module _ (s : State) (number : ℕ) where
         ap (λ (o : Option Transmitter). option_map source.Commit (option_and_then entry_of o)) (transmitter_there transmit is)
         ∙ ap (option_map source.Commit) (entry_of-commit s.entries (last_commit number s.entries))
         ∙ sym (ap (option_and_then (source_by s number)) there
-          ∙ ap (λ (t : Bool). cond t (option_map (λ (a : Arrival). source.Observed (origin_of a)) (held s.params line.filter s.entries)) (option_map source.Commit (last_commit number s.entries))) transmits)
+        ∙ ap (λ (t : Bool). cond t (option_map (λ (a : Arrival). source.Observed (origin_of a)) (held s.params line.filter s.entries)) (option_map source.Commit (last_commit number s.entries))) transmits)
 
     pub tally-place : (transmit : List Transmitter) → transmit ≡ transmitters s.plan s.entries → is_receive line.mode ≡ false → option_map (λ (b : Transmitter). b.tally) (slice_get transmit number) ≡ tally_by s number
     tally-place transmit is transmits =

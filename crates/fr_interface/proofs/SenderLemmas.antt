@@ -319,6 +319,7 @@ module _ (plan : Plan) (xs : List Entry) (window : Opportunity) (a b : Offered) 
         at_place : (n : ℕ) (b : Buffer) → slice_get plan.buffers n ≡ Some b → after_one (selects n from_b) (after_one (selects n from_a) (transmitter_of xs n b.mode)) ≡ transmitter_of (xs ++ entry ∷ []) n b.mode
         at_place n b there =
             both (transmitter_of xs n b.mode) (selects n from_a) (selects n from_b) (offers_there n b there from_a h.sender_a) (offers_there n b there from_b h.sender_b) ∙ one_buffer_after n b.mode
+
         by_place : (place : ℕ) (b : Buffer) → slice_get plan.buffers place ≡ Some b
             → after_one (selects (0 + place) from_b) (after_one (selects (0 + place) from_a) (transmitter_of xs (0 + place) b.mode)) ≡ transmitter_of (xs ++ entry ∷ []) (0 + place) b.mode
         by_place place b there =

@@ -141,7 +141,7 @@ module _ (xs : List Entry) (task buffer : ℕ) (payload : List ℕ) where
   transmitters-commit plan =
       change_each (λ b. with_commit b (committed_now (length xs) payload)) (transmitter_of xs) buffer plan.buffers
       ∙ each-same (changed (λ b. with_commit b (committed_now (length xs) payload)) buffer (transmitter_of xs)) (transmitter_of (xs ++ Commit task buffer payload ∷ [])) 0 plan.buffers
-        (λ number m. by_number number m (eqb number buffer) refl)
+      (λ number m. by_number number m (eqb number buffer) refl)
 
 -- ---- offers
 

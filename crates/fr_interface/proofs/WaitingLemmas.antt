@@ -152,9 +152,12 @@ module _ (params : Parameters) (plan : Plan) (q : Queue) where
   two_at_most : (number : ℕ) (a b : Seen) (window : Option Opportunity) → length (queue_arrivals_in params plan q number a b window) ≤ 2
   two_at_most number a b None = omega arith
   two_at_most number a b (Some window) =
-      omega (arith, length-append (queue_arrival_on params plan q number window A a) (queue_arrival_on params plan q number window B b),
+      omega (
+        arith,
+        length-append (queue_arrival_on params plan q number window A a) (queue_arrival_on params plan q number window B b),
         one_at_most (is_for_queue plan q window A) (option_map (arrival_of number A) (data_frame_seen params window A a)),
-        one_at_most (is_for_queue plan q window B) (option_map (arrival_of number B) (data_frame_seen params window B b)))
+        one_at_most (is_for_queue plan q window B) (option_map (arrival_of number B) (data_frame_seen params window B b)),
+      )
 
   few_at : (before : List Entry) (e : Entry) → length (arrived (moves_at params plan q before e)) ≤ 2
   few_at before (Commit task buffer payload) = omega arith

@@ -276,7 +276,14 @@ impl Interface {
         let (frame_a, frame_b) = (told_a.frame, told_b.frame);
         let lines = self.plan.buffers();
         store_all(&mut self.receive, lines, entry, &window, &frame_a, &frame_b);
-        arrive_all(&mut self.queue, &self.plan, entry, &window, frame_a, frame_b);
+        arrive_all(
+            &mut self.queue,
+            &self.plan,
+            entry,
+            &window,
+            frame_a,
+            frame_b,
+        );
         self.opening = Opening {
             window: None,
             last: self.opening.last,
@@ -453,10 +460,12 @@ fn origin_in(arrival: &Option<Arrival>) -> Option<Origin>
     ensures fits { IsOrigin result }
 {
     match arrival {
-        Some(Arrival {
-            origin: Origin { entry, channel },
-            ..
-        }) => Some(Origin {
+        Some(
+            Arrival {
+                origin: Origin { entry, channel },
+                ..
+            },
+        ) => Some(Origin {
             entry: *entry,
             channel: *channel,
         }),

@@ -5,7 +5,7 @@ ghost use Rattle.std.specs.List.{position};
 ghost use Rattle.fr_journal.specs.Entries.{IsOffered};
 ghost use Rattle.fr_slots.specs.Faults.{claims};
 ghost use Rattle.fr_interface.specs.Sending.{offered_by, data_frame_by, frame_by};
-ghost use Rattle.fr_journal.specs.Offers.{admits_window, is_admitting, transmitter, buffer_at, may_begin, ownership, line_of, sync_of, startup_of, preamble_in, null_frame, IsHandedOut};
+ghost use Rattle.fr_journal.specs.Offers.{admits_window, is_admitting, transmitter, buffer_at, may_begin, ownership, line_of, owns, sync_of, startup_of, preamble_in, null_frame, IsHandedOut};
 
 use crate::sending::{Sender, payload_at};
 use fr_buffers::transmit::TxBuffer;
@@ -96,6 +96,13 @@ fn line_of(plan: &NodePlan, window: &Window, channel: Channel, slot: SlotId) -> 
     }
 }
 
+/// Whether the window is static and the node owns the slot on the channel.
+fn owns(plan: &NodePlan, window: &Window, channel: Channel, slot: SlotId) -> bool
+    ensures { result ≡ owns plan.now window.now channel slot }
+{
+    line_of(plan, window, channel, slot).is_some()
+}
+
 /// What the node offers in the window on the channel, where this offers a commit.
 pub(crate) fn offered_by(
     plan: &NodePlan,
@@ -112,7 +119,7 @@ pub(crate) fn offered_by(
     match sender {
         Some(sender) => Offered::Data(sender.commit),
         None => {
-            if line_of(plan, window, channel, slot).is_some() {
+            if owns(plan, window, channel, slot) {
                 Offered::Null
             } else {
                 Offered::Nothing
@@ -214,7 +221,7 @@ fn frame_by(
     match sender {
         Some(sender) => Some(data_frame_by(plan, buffers, window, channel, slot, sender)),
         None => {
-            if line_of(plan, window, channel, slot).is_some() {
+            if owns(plan, window, channel, slot) {
                 Some(null_frame(params, plan, window, channel, slot))
             } else {
                 None

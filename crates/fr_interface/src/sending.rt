@@ -26,10 +26,7 @@ pub(crate) struct Sender {
 }
 
 /// A buffer without a commit for each line.
-pub(crate) fn transmit_buffers(
-    alloc: Global,
-    lines: &[Buffer],
-) -> Result<Vec<TxBuffer>, AllocError>
+pub(crate) fn transmit_buffers(alloc: Global, lines: &[Buffer]) -> Result<Vec<TxBuffer>, AllocError>
     ensures { IfOk result (λ v. v.items ≡ map (λ b. new_transmitter b.mode) lines.now) }
 {
     lines

@@ -26,7 +26,7 @@ loop-place-preserved c =
     let next : suc place ≡ place + 1 = omega arith in
     (λ i. set (c.loop-place.invariant i) place (new i))
     ∙ stored_all-more n w a b lines old place line held c.loop-place-test.true c.requires c.index-lines-place.is
-      (c.index-buffers-place.is ∙ ap (λ (l : List (Option Arrival)). get_or l place held) c.loop-place.invariant)
+    (c.index-buffers-place.is ∙ ap (λ (l : List (Option Arrival)). get_or l place held) c.loop-place.invariant)
     ∙ ap (λ (m : ℕ). stored_all n w a b (take m lines) old) next
 
 pub returns : goal.returns

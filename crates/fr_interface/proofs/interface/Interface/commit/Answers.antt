@@ -50,13 +50,13 @@ invariant_of-self c =
           room = omega (arith, c.host_room.ensures, c.self.invariant.host_limit);
         });
       };
-          opening_is = c.self.invariant.opening_is ∙ sym (opening-commit entries c.args.task c.args.buffer kept);
+      opening_is = c.self.invariant.opening_is ∙ sym (opening-commit entries c.args.task c.args.buffer kept);
       transmit_is =
-        written c.self.inside.transmit.len c.commit_to.new.buffers _ (omega (arith, c.deref_mut.ensures.len, c.commit_to.auto.buffers))
-        ∙ c.commit_to.ensures
-        ∙ ap (λ (l : List Transmitter). change_at (λ b. with_commit b (record { entry = c.len-entry.result; payload = kept })) l c.args.buffer) transmit
-        ∙ ap (λ (n : ℕ). change_at (λ b. with_commit b (record { entry = n; payload = kept })) (transmitters plan entries) c.args.buffer) c.len-entry.ensures.value
-        ∙ transmitters-commit entries c.args.task c.args.buffer kept plan;
+          written c.self.inside.transmit.len c.commit_to.new.buffers _ (omega (arith, c.deref_mut.ensures.len, c.commit_to.auto.buffers))
+          ∙ c.commit_to.ensures
+          ∙ ap (λ (l : List Transmitter). change_at (λ b. with_commit b (record { entry = c.len-entry.result; payload = kept })) l c.args.buffer) transmit
+          ∙ ap (λ (n : ℕ). change_at (λ b. with_commit b (record { entry = n; payload = kept })) (transmitters plan entries) c.args.buffer) c.len-entry.ensures.value
+          ∙ transmitters-commit entries c.args.task c.args.buffer kept plan;
       receive_is = c.self.invariant.receive_is ∙ sym (held-other params entries (Commit c.args.task c.args.buffer kept) plan.buffers (λ f. refl));
       queue_is = c.self.invariant.queue_is ∙ queue-other params plan entries (Commit c.args.task c.args.buffer kept) (λ q. refl) refl plan.queue;
       counters_are = c.self.invariant.counters_are ∙ sym (counters-other params entries (Commit c.args.task c.args.buffer kept) (λ bit channel. refl));

@@ -78,10 +78,10 @@ invariant_of-self c =
       };
       opening_is = (λ i. record { window = Some kept; last = Some (number_kept i) }) ∙ sym (opening-fetch entries kept c.offered_by-a.result c.offered_by-b.result);
       transmit_is =
-        written c.self.inside.transmit.len c.send_from-2.new.buffers _ (omega (arith, c.deref_mut.ensures.len, c.deref_mut-2.ensures.len, c.send_from.auto.buffers, c.send_from-2.auto.buffers))
-        ∙ c.send_from-2.ensures
-        ∙ ap (λ (l : List Transmitter). after_sender l c.sender_on-from_b.result) (c.deref_mut-2.ensures.value ∙ written c.self.inside.transmit.len c.send_from.new.buffers _ (omega (arith, c.deref_mut.ensures.len, c.send_from.auto.buffers)) ∙ after_a)
-        ∙ transmitters-fetch plan entries kept c.offered_by-a.result c.offered_by-b.result c.sender_on-from_a.result c.sender_on-from_b.result sent;
+          written c.self.inside.transmit.len c.send_from-2.new.buffers _ (omega (arith, c.deref_mut.ensures.len, c.deref_mut-2.ensures.len, c.send_from.auto.buffers, c.send_from-2.auto.buffers))
+          ∙ c.send_from-2.ensures
+          ∙ ap (λ (l : List Transmitter). after_sender l c.sender_on-from_b.result) (c.deref_mut-2.ensures.value ∙ written c.self.inside.transmit.len c.send_from.new.buffers _ (omega (arith, c.deref_mut.ensures.len, c.send_from.auto.buffers)) ∙ after_a)
+          ∙ transmitters-fetch plan entries kept c.offered_by-a.result c.offered_by-b.result c.sender_on-from_a.result c.sender_on-from_b.result sent;
       receive_is = c.self.invariant.receive_is ∙ sym (held-other params entries e plan.buffers (λ f. refl));
       queue_is = c.self.invariant.queue_is ∙ queue-other params plan entries e (λ q. refl) refl plan.queue;
       counters_are = c.self.invariant.counters_are ∙ sym (counters-other params entries e (λ bit channel. refl));

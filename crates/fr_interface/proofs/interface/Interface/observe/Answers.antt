@@ -62,18 +62,18 @@ invariant_of-self c =
       opening_is = (λ i. record { window = None; last = last i }) ∙ sym (opening-observe entries c.args.number c.kept.result c.kept-2.result);
       transmit_is = c.self.invariant.transmit_is ∙ sym (transmitters-other plan entries e (λ n. refl) (λ k. refl));
       receive_is =
-        written c.self.inside.receive.len c.store_all.new.buffers _ (omega (arith, c.deref_mut.ensures.len, c.store_all.auto.buffers))
-        ∙ c.store_all.ensures
-        ∙ (λ i. stored_all (number i) window (frame_a i) (frame_b i) (lines i) (held_before i))
-        ∙ held-observe params entries c.args.number c.kept.result c.kept-2.result window opened plan.buffers;
+          written c.self.inside.receive.len c.store_all.new.buffers _ (omega (arith, c.deref_mut.ensures.len, c.store_all.auto.buffers))
+          ∙ c.store_all.ensures
+          ∙ (λ i. stored_all (number i) window (frame_a i) (frame_b i) (lines i) (held_before i))
+          ∙ held-observe params entries c.args.number c.kept.result c.kept-2.result window opened plan.buffers;
       queue_is =
-        c.arrive_all.ensures
-        ∙ (λ i. with_arrivals plan (number i) window (frame_a i) (frame_b i) plan.queue (c.self.invariant.queue_is i))
-        ∙ queue-observe params plan entries c.args.number c.kept.result c.kept-2.result window legal.legal opened plan.queue refl;
+          c.arrive_all.ensures
+          ∙ (λ i. with_arrivals plan (number i) window (frame_a i) (frame_b i) plan.queue (c.self.invariant.queue_is i))
+          ∙ queue-observe params plan entries c.args.number c.kept.result c.kept-2.result window legal.legal opened plan.queue refl;
       counters_are =
-        c.count_seen-2.ensures
-        ∙ (λ i. with_seen (counted_a i) B (status_b i))
-        ∙ sym (counters-observe params entries c.args.number c.kept.result c.kept-2.result window opened);
+          c.count_seen-2.ensures
+          ∙ (λ i. with_seen (counted_a i) B (status_b i))
+          ∙ sym (counters-observe params entries c.args.number c.kept.result c.kept-2.result window opened);
     })
 
 pub count_seen-requires : goal.count_seen-requires
