@@ -14,7 +14,7 @@ use fr_guardian::guardian::Guardian;
 use fr_lines::writing::channels_word;
 use fr_schedule::cluster::Cluster;
 use fr_slots::channel::Channel;
-use fr_slots::fault::{is_owned, transmits_dynamic};
+use fr_slots::fault::is_owned;
 use fr_slots::numbers::{NodeId, SlotId};
 use fr_slots::params::Params;
 use fr_slots::plan::{Buffer, NodePlan};
@@ -108,7 +108,7 @@ fn write_buffer<W: Write>(
     ensures { OnOk result
         (Appends (W.contents writer.old) (W.contents writer.new) (buffer_text params.now number buffer.now)) }
 {
-    if transmits_dynamic(params, buffer) {
+    if buffer.transmits_dynamic(params) {
         write_dynamic(writer, number, buffer)
     } else {
         Ok(())

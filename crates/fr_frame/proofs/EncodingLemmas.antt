@@ -1,5 +1,5 @@
 -- The bytes of a frame spell it, and are decoded to it.
-use Rattle.std.proofs.Common.{◌≡◌, ℕ, zero, suc, ◌+◌, ◌*◌, ◌/◌, ◌%◌, ◌^◌, ◌<◌, Bool, false, cond, List, ◌∷◌, ◌++◌, length, Some, refl, sym, ap, ◌∙◌, arith, bit_or, lit≤, length-append}
+use Rattle.std.proofs.Common.{◌≡◌, ℕ, zero, suc, ◌+◌, ◌*◌, ◌/◌, ◌%◌, ◌^◌, ◌<◌, ◌≤◌, Bool, false, cond, List, ◌∷◌, ◌++◌, length, Some, refl, sym, ap, ◌∙◌, arith, bit_or, lit≤, length-append}
 use Rattle.std.specs.Int.{byte_at, bytes_high_first}
 use Rattle.std.proofs.Math.Nat.{mod-eq_of_lt, div-one, pow-suc}
 use Rattle.std.proofs.lemmas.List.Concat.{flat_map-cons}
@@ -82,6 +82,18 @@ encoded_is_canonical f channel is_frame = record {
   };
   reserved_is = refl;
 }
+
+-- a frame has bytes, whatever its payload is
+pub length-encoded : (f : Fields) (channel : Channel) → 8 ≤ length (encoded f channel)
+unfolding encoded
+length-encoded f channel =
+    omega (
+      arith,
+      length-append (checked_bytes f) (bytes_high_first 3 (number_of (frame_check channel (checked_bytes f)))),
+      length-append (bytes_high_first 5 (number_of (header false f))) f.payload,
+      length-bytes_high_first 5 (number_of (header false f)),
+      length-bytes_high_first 3 (number_of (frame_check channel (checked_bytes f))),
+    )
 
 -- and they are decoded to it
 pub encoded_is_decoded : (f : Fields) (channel : Channel) → IsFrame f → decoded channel (encoded f channel) ≡ Some f

@@ -38,18 +38,27 @@ remainder divisor initial message =
 
 -- ---- the header CRC: 11 bits
 
--- x^11 + x^9 + x^8 + x^7 + x^2 + 1, the leading 1 written out
+-- x^11 + x^9 + x^8 + x^7 + x^2 + 1, without its leading 1
+abbrev pub header_polynomial : ℕ
+header_polynomial = 0x385
+
+abbrev pub header_initial : ℕ
+header_initial = 0x01A
+
 abbrev pub header_divisor : List Bool
-header_divisor = true ∷ bits_of 11 0x385
+header_divisor = true ∷ bits_of 11 header_polynomial
 
 abbrev pub header_check : List Bool → List Bool
-header_check message = remainder header_divisor (bits_of 11 0x01A) message
+header_check message = remainder header_divisor (bits_of 11 header_initial) message
 
 -- ---- the frame CRC: 24 bits, from an initial value for each channel, so that no frame passes on the other one
 
--- the polynomial with the low bits 0x5D6DCB, the leading 1 written out
+-- the polynomial without its leading 1
+abbrev pub frame_polynomial : ℕ
+frame_polynomial = 0x5D6DCB
+
 abbrev pub frame_divisor : List Bool
-frame_divisor = true ∷ bits_of 24 0x5D6DCB
+frame_divisor = true ∷ bits_of 24 frame_polynomial
 
 abbrev pub initial_of : Channel → ℕ
 initial_of A = 0xFEDCBA

@@ -5,6 +5,7 @@ use Rattle.fr_frame.specs.Bits.{bits_of, bits_of_bytes}
 use Rattle.fr_frame.specs.Crc.{header_check, frame_check}
 use Rattle.fr_frame.specs.Fields.{Fields}
 use Rattle.fr_frame.specs.Payload.{IsPayload}
+use Rattle.fr_slots.specs.Numbers.{cycle_count}
 
 -- the 20 bits that the header CRC covers: sync, startup, frame ID, and the payload's length in words of two bytes
 unfoldable pub covered : Fields → List Bool
@@ -27,7 +28,7 @@ pub record Spells (f : Fields) (channel : Channel) (bytes : List ℕ) : Type 0 w
   pub header_is : bits_of_bytes first ≡ header reserved f
   pub check_is : bits_of_bytes last ≡ frame_check channel (first ++ f.payload)
   pub id_fits : f.id < 2 ^ 11
-  pub cycle_fits : f.cycle < 64
+  pub cycle_fits : f.cycle < cycle_count
   pub payload_fits : IsPayload f.payload
 
 -- They spell it as a sender does: the reserved bit is 0.

@@ -2,19 +2,33 @@
 
 ghost use Rattle.std.specs.Prelude.{◌≡◌, ◌<◌, ◌^◌};
 ghost use Rattle.fr_frame.specs.Bits.{bits_of, number_of};
-ghost use Rattle.fr_frame.specs.Crc.{header_check, frame_check};
+ghost use Rattle.fr_frame.specs.Crc.{header_polynomial, header_check, frame_polynomial, frame_check};
 ghost use Rattle.fr_frame.specs.Register.{stepped, stepped_all};
 ghost use Rattle.fr_frame.specs.Spelling.{covered};
 
 use crate::frame::Frame;
 use fr_slots::channel::Channel;
 
+/// The header CRC's polynomial, without its leading 1.
+const HEADER_POLYNOMIAL: u16 = 0x385;
+
+/// The header CRC's register before the first bit.
+const HEADER_INITIAL: u16 = 0x01A;
+
+/// The frame CRC's polynomial, without its leading 1.
+const FRAME_POLYNOMIAL: u32 = 0x5D_6DCB;
+
+/// The frame CRC's register before the first byte, on each channel.
+const FRAME_INITIAL_A: u32 = 0xFE_DCBA;
+
+const FRAME_INITIAL_B: u32 = 0xAB_CDEF;
+
 /// The header CRC of these bits, the first bit sent first: 11 bits.
 pub fn crc11(bits: &[bool]) -> u16
     ensures value { result ≡ number_of (header_check bits.now) }
     ensures fits { result < 2 ^ 11 }
 {
-    let mut register: u16 = 0x01A;
+    let mut register = HEADER_INITIAL;
     for bit in bits {
         register = step_header(register, *bit);
     }
@@ -27,9 +41,9 @@ pub fn crc24(bytes: &[u8], channel: Channel) -> u32
     ensures bits { bits_of 24 result ≡ frame_check channel bytes.now }
     ensures fits { result < 2 ^ 24 }
 {
-    let mut register: u32 = match channel {
-        Channel::A => 0xFE_DCBA,
-        Channel::B => 0xAB_CDEF,
+    let mut register = match channel {
+        Channel::A => FRAME_INITIAL_A,
+        Channel::B => FRAME_INITIAL_B,
     };
     for byte in bytes {
         register = step_byte(register, *byte);
@@ -62,7 +76,7 @@ pub(crate) fn crc_of_header(covered: u32) -> u16
     ensures bits { bits_of 11 result ≡ header_check (bits_of 20 covered) }
     ensures fits { result < 2 ^ 11 }
 {
-    let mut register: u16 = 0x01A;
+    let mut register = HEADER_INITIAL;
     for place in (0..20u32).rev() {
         register = step_header(register, covered >> place & 1 == 1);
     }
@@ -73,18 +87,22 @@ pub(crate) fn crc_of_header(covered: u32) -> u16
 fn step_header(register: u16, bit: bool) -> u16
     requires { register < 2 ^ 11 }
     ensures fits { result < 2 ^ 11 }
-    ensures bits { bits_of 11 result ≡ stepped (bits_of 11 0x385) (bits_of 11 register) bit }
+    ensures bits { bits_of 11 result ≡ stepped (bits_of 11 header_polynomial) (bits_of 11 register) bit }
 {
     let feedback = bit != (register >= 0x400);
     let shifted = (register & 0x3ff) << 1;
-    if feedback { shifted ^ 0x385 } else { shifted }
+    if feedback {
+        shifted ^ HEADER_POLYNOMIAL
+    } else {
+        shifted
+    }
 }
 
 /// The frame CRC's register after one more byte.
 fn step_byte(mut register: u32, byte: u8) -> u32
     requires { register < 2 ^ 24 }
     ensures fits { result < 2 ^ 24 }
-    ensures bits { bits_of 24 result ≡ stepped_all (bits_of 24 0x5D6DCB) (bits_of 24 register) (bits_of 8 byte) }
+    ensures bits { bits_of 24 result ≡ stepped_all (bits_of 24 frame_polynomial) (bits_of 24 register) (bits_of 8 byte) }
 {
     for place in (0..8u32).rev() {
         register = step_frame(register, byte >> place & 1 == 1);
@@ -96,12 +114,12 @@ fn step_byte(mut register: u32, byte: u8) -> u32
 fn step_frame(register: u32, bit: bool) -> u32
     requires { register < 2 ^ 24 }
     ensures fits { result < 2 ^ 24 }
-    ensures bits { bits_of 24 result ≡ stepped (bits_of 24 0x5D6DCB) (bits_of 24 register) bit }
+    ensures bits { bits_of 24 result ≡ stepped (bits_of 24 frame_polynomial) (bits_of 24 register) bit }
 {
     let feedback = bit != (register >= 0x80_0000);
     let shifted = (register & 0x7f_ffff) << 1;
     if feedback {
-        shifted ^ 0x5D_6DCB
+        shifted ^ FRAME_POLYNOMIAL
     } else {
         shifted
     }

@@ -13,17 +13,22 @@ use crate::frame::Frame;
 use crate::payload::Payload;
 use fr_slots::channel::Channel;
 use fr_slots::numbers::Cycle;
+use thiserror::Error;
 
 /// Why bytes are no frame on a channel, in the order in which it is tested.
-#[derive(Clone, Copy, Debug, PartialEq, Eq)]
+#[derive(Clone, Copy, Debug, PartialEq, Eq, Error)]
 pub enum DecodeError {
     /// Fewer than 8 bytes, which a header and a trailer have together.
+    #[error("fewer bytes than a header and a trailer have")]
     TooShort,
     /// More or fewer bytes than the payload length in the header asks for.
+    #[error("another length than the header says")]
     LengthMismatch,
     /// The header CRC isn't that of the header's covered bits.
+    #[error("a wrong header CRC")]
     HeaderCrc,
     /// The trailer isn't the frame CRC that the bytes before it have on this channel.
+    #[error("a wrong frame CRC")]
     FrameCrc,
 }
 

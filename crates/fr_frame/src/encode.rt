@@ -6,9 +6,10 @@ ghost use Rattle.fr_frame.specs.Bits.{number_of};
 ghost use Rattle.fr_frame.specs.Decoding.{decoded};
 ghost use Rattle.fr_frame.specs.Encoding.{encoded};
 ghost use Rattle.fr_frame.specs.Spelling.{header, SpellsCanonically};
+ghost use Rattle.fr_slots.specs.Numbers.{cycle_count};
 
 use crate::crc::{covered_bits, crc_of_header, crc24};
-use crate::frame::{Bytes, Frame};
+use crate::frame::{Bytes, FRAME_BYTES, Frame};
 use fr_slots::channel::Channel;
 
 /// The bytes in which a frame is sent on this channel (chapter 4): 8 and those of its payload,
@@ -30,7 +31,7 @@ pub fn encode(frame: &Frame, channel: Channel) -> Bytes
 /// The 40 bits of a frame's header as one number, the reserved bit highest and 0.
 fn header_number(frame: &Frame) -> u64
     ensures value { result ≡ number_of (header false frame.now) }
-    ensures cycle_fits { frame.now.cycle < 64 }
+    ensures cycle_fits { frame.now.cycle < cycle_count }
 {
     let indicators = u64::from(frame.preamble) << 1 | u64::from(frame.has_data);
     let covered = covered_bits(frame);
@@ -40,7 +41,7 @@ fn header_number(frame: &Frame) -> u64
 
 /// Appends bytes for which there is room.
 fn append(bytes: &mut Bytes, more: &[u8])
-    requires { array_vec_len bytes.old + length more.now ≤ 262 }
+    requires { array_vec_len bytes.old + length more.now ≤ FRAME_BYTES }
     ensures { bytes.new.items ≡ bytes.old.items ++ more.now }
 {
     let outcome = bytes.try_extend_from_slice(more);

@@ -2,13 +2,21 @@
 
 ghost use Rattle.std.specs.Prelude.{◌≡◌};
 
-use crate::payload::Payload;
+use crate::payload::{PAYLOAD_BYTES, Payload};
 use arrayvec::ArrayVec;
 use fr_slots::numbers::Cycle;
 use std::marker::Model;
 
-/// What is sent on a channel in one slot: at most the 262 bytes of the longest frame.
-pub type Bytes = ArrayVec<u8, 262>;
+/// The bytes of a header, and those of the frame CRC that ends a frame (chapter 4).
+pub(crate) const HEADER_BYTES: usize = 5;
+
+pub(crate) const TRAILER_BYTES: usize = 3;
+
+/// The most bytes of a frame (chapter 4).
+pub const FRAME_BYTES: usize = HEADER_BYTES + PAYLOAD_BYTES + TRAILER_BYTES;
+
+/// What is sent on a channel in one slot: at most the bytes of the longest frame.
+pub type Bytes = ArrayVec<u8, FRAME_BYTES>;
 
 /// What a frame says (chapter 4).
 #[derive(Debug, Drop, PartialEq, Eq)]

@@ -1,4 +1,15 @@
 //! Frames: what they say, their bytes on a channel, and their two CRCs (chapter 4).
+//!
+//! ```text
+//! let payload = Payload::from_slice(&[0x0a, 0x0b])?;
+//! let cycle = Cycle::new(0)?;
+//! let frame = Frame { preamble: false, has_data: true, sync: false, startup: false, id: 2, payload, cycle };
+//! let bytes = encode(&frame, Channel::A); // 200203c1400a0ba32217
+//! let again = decode(bytes.as_slice(), Channel::A)?; // the same frame
+//! ```
+//!
+//! A chapter in parentheses is one of the FlexRay Protocol Specification 2.1, revision A, whose rule it is.
+//! *(own profile)* marks a rule of this project's own, which says nothing of the standard.
 #![tactic(auto)]
 
 pub mod crc;
@@ -6,5 +17,3 @@ pub mod decode;
 pub mod encode;
 pub mod frame;
 pub mod payload;
-#[cfg(test)]
-mod tests;

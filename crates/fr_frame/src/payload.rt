@@ -3,23 +3,30 @@
 ghost use Rattle.std.specs.Prelude.{◌≡◌, ◌*◌, ◌≤◌, length, replicate, IfOk};
 ghost use Rattle.std.specs.Result.{result_err};
 ghost use Rattle.fr_frame.specs.Payload.{IsPayload, payload_refusal};
+ghost use Rattle.fr_slots.specs.Numbers.{most_words};
 
 use arrayvec::ArrayVec;
 use std::marker::Model;
+use thiserror::Error;
+
+/// The most bytes of a payload: 127 words of two (chapter 4).
+pub const PAYLOAD_BYTES: usize = 254;
 
 /// Why bytes are no payload.
-#[derive(Clone, Copy, Debug, PartialEq, Eq)]
+#[derive(Clone, Copy, Debug, PartialEq, Eq, Error)]
 pub enum FrameError {
     /// More than 254 bytes.
+    #[error("a payload of more than 127 words")]
     PayloadTooLong,
     /// An odd number of bytes, where a payload is counted in words of two.
+    #[error("a payload of an odd number of bytes")]
     OddPayload,
 }
 
 /// The bytes that a frame carries: 0 to 127 words of two bytes (chapter 4).
 #[derive(Debug, Drop, PartialEq, Eq)]
 pub struct Payload {
-    bytes: ArrayVec<u8, 254>,
+    bytes: ArrayVec<u8, PAYLOAD_BYTES>,
 }
 
 impl Model for Payload {
@@ -55,7 +62,7 @@ impl Payload {
         ensures refusal { result_err result ≡ payload_refusal bytes.now }
         ensures value { IfOk result (λ p. p ≡ bytes.now) }
     {
-        if bytes.len() > 254 {
+        if bytes.len() > PAYLOAD_BYTES {
             return Err(FrameError::PayloadTooLong);
         }
         if bytes.len() % 2 == 1 {
@@ -66,10 +73,10 @@ impl Payload {
 
     /// The payload of so many words of zeros, at most 127.
     pub fn zeros(words: u16) -> Payload
-        requires { words ≤ 127 }
+        requires { words ≤ most_words }
         ensures { result ≡ replicate (2 * words) 0 }
     {
-        Payload::of(&[0u8; 254][..2 * usize::from(words)])
+        Payload::of(&[0u8; PAYLOAD_BYTES][..2 * usize::from(words)])
     }
 
     /// The payload of bytes that are known to be one.

@@ -6,8 +6,8 @@ use Rattle.std.proofs.lemmas.Option.{slice_get-get_or}
 use Rattle.std.proofs.lemmas.Bool.Decides.{nat_tests}
 use Rattle.fr_slots.specs.declared.channel.Channel.{Channel}
 use Rattle.fr_slots.specs.declared.plan.Own.{Own}
-use Rattle.fr_slots.specs.Faults.{sends_at, claims, is_owned, is_static_slot, IsFaultless}
-use Rattle.fr_slots.specs.Parameters.{Parameters}
+use Rattle.fr_slots.specs.Faults.{sends_at, claims, is_owned, IsFaultless}
+use Rattle.fr_slots.specs.Parameters.{Parameters, is_static_slot}
 use Rattle.fr_slots.specs.Plans.{Plan, Each}
 use Rattle.fr_slots.specs.Windows.{Opportunity, slot_of, is_static}
 use Rattle.fr_slots.proofs.FaultlessLemmas.{faultless}
@@ -44,13 +44,13 @@ passing d w channel (Some plan) (Some slot) static guarded h =
     let watched : (is_static w && is_guarded d.guard channel) ≡ true = ap (λ (b : Bool). b && is_guarded d.guard channel) static ∙ guarded in
     record { plan = plan; slot = slot; found_is = refl; slot_is = refl; owned = sym (ap (λ (b : Bool). not b || is_owned plan.owned slot channel) watched) ∙ h }
 
--- such a node is a sender of the slot
-sender_if_passing : (d : Description) → IsCluster d → (node : ℕ) (channel : Channel) (plan : Plan) (slot : ℕ) → slice_get d.plans node ≡ Some plan → is_owned plan.owned slot channel ≡ true
-    → IsSender d 0 slot channel node
-sender_if_passing d lawful node channel plan slot is owned =
+-- such a node is a sender of the slot in each cycle
+sender_if_passing : (d : Description) → IsCluster d → (cycle node : ℕ) (channel : Channel) (plan : Plan) (slot : ℕ) → slice_get d.plans node ≡ Some plan → is_owned plan.owned slot channel ≡ true
+    → IsSender d cycle slot channel node
+sender_if_passing d lawful cycle node channel plan slot is owned =
     let of_node = each_at (IsNode d.params) d.plans node plan lawful.nodes_are is in
     let static = static_if_owned d.params plan slot channel (faultless d.params plan of_node.1) owned in
-    record { plan = plan; at = is; sends = ap (λ (b : Bool). cond b (is_owned plan.owned slot channel) (list_any (sends_at slot channel 0) plan.buffers)) static ∙ owned }
+    record { plan = plan; at = is; sends = ap (λ (b : Bool). cond b (is_owned plan.owned slot channel) (list_any (sends_at slot channel cycle) plan.buffers)) static ∙ owned }
 
 pub passes_alone : (d : Description) → IsCluster d → (node : ℕ) (w : Opportunity) (channel : Channel) → passes d node w channel ≡ true → PassesAlone d node w channel
 passes_alone d lawful node w channel h static guarded other k =
@@ -58,8 +58,16 @@ passes_alone d lawful node w channel h static guarded other k =
     let there = passing d w channel (slice_get d.plans other) (slot_of w channel) static guarded k in
     let same : there.slot ≡ here.slot = (let a = here.slot_is in let b = there.slot_is in cc) in
     lawful.one_sender 0 here.slot channel other node (omega arith)
-    (subst (λ (slot : ℕ). IsSender d 0 slot channel other) same (sender_if_passing d lawful other channel there.plan there.slot there.found_is there.owned))
-    (sender_if_passing d lawful node channel here.plan here.slot here.found_is here.owned)
+    (subst (λ (slot : ℕ). IsSender d 0 slot channel other) same (sender_if_passing d lawful 0 other channel there.plan there.slot there.found_is there.owned))
+    (sender_if_passing d lawful 0 node channel here.plan here.slot here.found_is here.owned)
+
+-- a node whose transmission passes in a guarded static slot is the slot's sender
+pub passing_sends : (d : Description) → IsCluster d → (cycle node slot : ℕ) (w : Opportunity) (channel : Channel) → is_static w ≡ true → is_guarded d.guard channel ≡ true
+    → slot_of w channel ≡ Some slot → passes d node w channel ≡ true → IsSender d cycle slot channel node
+passing_sends d lawful cycle node slot w channel static guarded opened h =
+    let here = passing d w channel (slice_get d.plans node) (slot_of w channel) static guarded h in
+    let same : here.slot ≡ slot = (let a = here.slot_is in cc) in
+    subst (λ (n : ℕ). IsSender d cycle n channel node) same (sender_if_passing d lawful cycle node channel here.plan here.slot here.found_is here.owned)
 
 or_true : (b : Bool) → (b || true) ≡ true
 or_true true = refl

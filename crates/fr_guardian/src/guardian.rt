@@ -1,8 +1,9 @@
 //! The bus guardians of a cluster.
 
-ghost use Rattle.std.specs.Prelude.{◌≡◌, option_map, slice_get, IfOk, List, true};
+ghost use Rattle.std.specs.Prelude.{◌≡◌, option_map, slice_get, length, IfOk, List, true};
 ghost use Rattle.fr_guardian.specs.GuardianFields.{IsPost, ArePosts};
 ghost use Rattle.fr_guardian.specs.Guarding.{passes, PassesAlone, IsOpenTo, IsOpenMacrotick};
+ghost use Rattle.fr_schedule.specs.Clusters.{IsCluster};
 ghost use Rattle.fr_schedule.specs.Descriptions.{is_guarded};
 ghost use Rattle.fr_guardian.specs.Intervals.{AreMaximalIntervals, Span};
 
@@ -57,6 +58,22 @@ impl Guardian {
             guard: guard_of(cluster),
             posts,
         })
+    }
+
+    /// The parameters of the cluster.
+    pub fn params(&self) -> &Params
+        ensures value { result.now ≡ self.now.params }
+        ensures lawful { IsCluster self.now }
+    {
+        &self.params
+    }
+
+    /// The number of nodes, 1 to 16.
+    pub fn nodes(&self) -> u8
+        ensures value { result ≡ length self.now.plans }
+        ensures lawful { IsCluster self.now }
+    {
+        self.posts.len() as u8
     }
 
     /// Whether a transmission of the node passes in the window on the channel. In a static slot of a guarded channel

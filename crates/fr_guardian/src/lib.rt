@@ -1,4 +1,16 @@
 //! The bus guardians of a cluster's nodes: what they let pass, and in which macroticks of a cycle they are open.
+//!
+//! ```text
+//! let cluster = Cluster::from_text(alloc, text)?;
+//! let guardian = Guardian::new(alloc, &cluster)?;
+//! let passes = guardian.passes(node, &window, Channel::A);
+//! for (start, end) in guardian.windows(node, Channel::A) {
+//!     // open from macrotick start up to the one before end
+//! }
+//! ```
+//!
+//! A chapter in parentheses is one of the FlexRay Protocol Specification 2.1, revision A, whose rule it is.
+//! *(own profile)* marks a rule of this project's own, which says nothing of the standard.
 #![tactic(auto)]
 
 pub mod guardian;

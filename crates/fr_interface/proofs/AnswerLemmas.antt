@@ -1,10 +1,9 @@
 -- What is kept beside the journal answers as the journal does.
-use Rattle.std.proofs.Common.{◌≡◌, ℕ, zero, suc, ◌+◌, Bool, true, false, cond, List, [], ◌∷◌, length, map, Option, Some, None, refl, sym, ap, subst, ◌∙◌, arith, option_map}
+use Rattle.std.proofs.Common.{◌≡◌, ℕ, zero, suc, ◌+◌, Bool, true, false, cond, List, [], ◌∷◌, length, map, Option, Some, None, refl, sym, ap, ◌∙◌, option_map}
 use Rattle.std.specs.Prelude.{IfSome, slice_get}
 use Rattle.std.specs.Option.{option_and_then}
 use Rattle.fr_buffers.specs.Transmitting.{Transmitter, entry_of}
 use Rattle.fr_buffers.specs.Waiting.{Waiting}
-use Rattle.fr_interface.specs.declared.source.Source.{Source}
 use Rattle.fr_interface.specs.declared.source.Source.TheVariants as source
 use Rattle.fr_interface.specs.Known.{transmitter_of, transmitters, held_in, waiting_of}
 use Rattle.fr_interface.specs.State.{State, received_in, received_by, source_by, source_of, tally_in, tally_by, length_of, arrived_of, popped_of, queued_of}
@@ -12,16 +11,14 @@ use Rattle.fr_interface.proofs.ChangeLemmas.{get_each}
 use Rattle.fr_interface.proofs.TransmitLemmas.{entry_of-commit}
 use Rattle.fr_journal.specs.Arrivals.{moves}
 use Rattle.fr_journal.specs.declared.entry.Arrival.{Arrival}
-use Rattle.fr_journal.specs.declared.fate.Tally.{Tally}
 use Rattle.fr_journal.specs.Fate.{last_commit, tally_of}
 use Rattle.fr_journal.specs.Held.{held, origin_of}
 use Rattle.fr_journal.specs.Legal.{IsLegalJournal}
-use Rattle.fr_journal.specs.Offers.{buffer_at}
 use Rattle.fr_journal.proofs.BalanceLemmas.{queue_balance}
 use Rattle.fr_journal.proofs.ContentLemmas.{length-content}
 use Rattle.fr_slots.specs.declared.plan.Buffer.{Buffer}
 use Rattle.fr_slots.specs.declared.plan.Queue.{Queue}
-use Rattle.fr_slots.specs.Plans.{is_receive}
+use Rattle.fr_slots.specs.Plans.{is_receive, buffer_at}
 
 get_map : {X Y : Type 0} (f : X → Y) (xs : List X) (n : ℕ) → slice_get (map f xs) n ≡ option_map f (slice_get xs n)
 get_map f [] n = refl

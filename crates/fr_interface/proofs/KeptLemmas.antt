@@ -1,30 +1,28 @@
 -- All that is kept beside the journal, with one entry more that isn't an observed window, and what calls need of it.
-use Rattle.std.proofs.Common.{◌≡◌, ℕ, zero, suc, ◌+◌, ◌≤◌, ◌<◌, ◌^◌, Bool, true, false, cond, List, [], ◌∷◌, ◌++◌, take, length, map, Option, Some, None, refl, sym, ap, subst, ◌∙◌, arith, option_map}
+use Rattle.std.proofs.Common.{◌≡◌, ℕ, zero, suc, ◌+◌, ◌≤◌, ◌<◌, ◌^◌, Bool, true, false, cond, List, [], ◌∷◌, ◌++◌, take, length, Option, Some, None, refl, sym, ap, subst, ◌∙◌, arith, option_map}
 use Rattle.std.proofs.lemmas.List.{take-append-le, take_all}
 use Rattle.std.specs.Prelude.{IfSome, IsSomeAnd, slice_get, is_some}
 use Rattle.std.specs.Option.{option_and_then, ForSome}
 use Rattle.fr_buffers.specs.Transmitting.{Transmitter}
 use Rattle.fr_buffers.specs.Waiting.{Waiting, without_oldest}
-use Rattle.fr_frame.specs.Fields.{Fields}
-use Rattle.fr_interface.specs.Known.{transmitter_of, transmitters, held_in, waiting_of, with_arrivals}
-use Rattle.fr_interface.specs.State.{State, received_in, received_by, oldest_of}
+use Rattle.fr_interface.specs.Known.{transmitter_of, transmitters, waiting_of, with_arrivals}
+use Rattle.fr_interface.specs.State.{State, received_in, received_by}
 use Rattle.fr_interface.proofs.ChangeLemmas.{length-each, get_each}
 use Rattle.fr_interface.proofs.TransmitLemmas.{committed-most}
 use Rattle.fr_interface.proofs.WaitingLemmas.{waiting-none, waiting-other, waiting-pop, waiting-observe, lost-most}
 use Rattle.fr_journal.specs.Arrivals.{moves, moves_at, oldest, is_answered_pop}
-use Rattle.fr_journal.specs.declared.entry.Arrival.{Arrival}
 use Rattle.fr_journal.specs.declared.entry.Entry.{Entry}
 use Rattle.fr_journal.specs.declared.entry.Entry.TheVariants.{Pop, Observe}
 use Rattle.fr_journal.specs.declared.entry.Origin.{Origin}
-use Rattle.fr_journal.specs.Held.{held, origin_of, data_frame_seen}
-use Rattle.fr_journal.specs.Legal.{IsLegalJournal}
-use Rattle.fr_journal.specs.Offers.{buffer_at}
+use Rattle.fr_journal.specs.Held.{held, frame_of, origin_of, data_frame_seen, IsReceivable}
+use Rattle.fr_journal.specs.Legal.{IsLegalJournal, AreEntries}
 use Rattle.fr_journal.specs.OpenWindow.{open_window}
+use Rattle.fr_journal.proofs.SeenPlaceLemmas.{oldest_is_receivable}
 use Rattle.fr_slots.specs.declared.channel.Channel.TheVariants.{A, B}
 use Rattle.fr_slots.specs.declared.plan.Buffer.{Buffer}
 use Rattle.fr_slots.specs.declared.plan.Queue.{Queue}
 use Rattle.fr_slots.specs.Parameters.{Parameters}
-use Rattle.fr_slots.specs.Plans.{Plan, is_receive}
+use Rattle.fr_slots.specs.Plans.{Plan, is_receive, buffer_at}
 use Rattle.fr_slots.specs.Windows.{Opportunity}
 use Rattle.fr_status.specs.declared.seen.Seen.{Seen}
 
@@ -74,6 +72,10 @@ module _ (params : Parameters) (plan : Plan) (xs : List Entry) where
   pub front_of : (o : Option Queue) → option_and_then (λ (w : Waiting). slice_get w.frames 0) (option_map (waiting_of params plan xs) o) ≡ option_and_then (λ (q : Queue). oldest q.capacity (moves params plan q xs)) o
   front_of None = refl
   front_of (Some q) = refl
+
+  pub front_receivable : AreEntries xs → (o : Option Queue) → IfSome (option_map frame_of (option_and_then (λ (q : Queue). oldest q.capacity (moves params plan q xs)) o)) IsReceivable
+  front_receivable are None = tt
+  front_receivable are (Some q) = oldest_is_receivable params plan q q.capacity xs are
 
   pub queue-pop : (task : ℕ) (from : Option Origin) (o : Option Queue) → from ≡ option_map origin_of (option_and_then (λ (q : Queue). oldest q.capacity (moves params plan q xs)) o)
       → option_map without_oldest (option_map (waiting_of params plan xs) o) ≡ option_map (waiting_of params plan (xs ++ Pop task from ∷ [])) o

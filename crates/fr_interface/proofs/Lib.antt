@@ -2,6 +2,7 @@ pub mod AnswerLemmas
 pub mod ChangeLemmas
 pub mod CounterLemmas
 pub mod KeptLemmas
+pub mod NamingLemmas
 pub mod OpeningLemmas
 pub mod ReceiveLemmas
 pub mod SenderLemmas

@@ -6,7 +6,6 @@ use Rattle.fr_journal.specs.declared.entry.Offered.{Offered}
 use Rattle.fr_journal.specs.declared.entry.Origin.{Origin}
 use Rattle.fr_journal.specs.OpenWindow.{last_number}
 use Rattle.fr_journal.proofs.OpenWindowLemmas.{open_window-snoc, last_number-snoc}
-use Rattle.fr_interface.specs.declared.opening.Opening.{Opening}
 use Rattle.fr_interface.specs.Known.{opening_of}
 use Rattle.fr_slots.specs.History.{last_after}
 use Rattle.fr_slots.specs.Windows.{Opportunity}

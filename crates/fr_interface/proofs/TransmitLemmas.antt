@@ -1,22 +1,20 @@
 -- The transmit buffers, with one more entry.
-use Rattle.std.proofs.Common.{◌≡◌, ℕ, zero, suc, ◌+◌, ◌≤◌, ◌<◌, Bool, true, false, cond, eqb, ◌||◌, List, [], ◌∷◌, ◌++◌, length, map, Option, Some, None, refl, sym, ap, subst, ◌∙◌, arith, option_map, length-append}
-use Rattle.std.specs.Prelude.{count_by, IfSome, IsSomeAnd, slice_get, is_some, unwrap_or}
-use Rattle.std.specs.Option.{option_and_then, option_or}
+use Rattle.std.proofs.Common.{◌≡◌, ℕ, ◌+◌, ◌≤◌, ◌<◌, Bool, true, false, cond, eqb, List, [], ◌∷◌, ◌++◌, length, map, Option, Some, None, refl, sym, ap, ◌∙◌, arith, option_map, length-append}
+use Rattle.std.specs.Prelude.{count_by, IfSome}
 use Rattle.std.proofs.Common.{eq-eqb}
 use Rattle.std.proofs.lemmas.Bool.{eqb-true}
-use Rattle.std.proofs.lemmas.List.{append_assoc}
 use Rattle.std.proofs.lemmas.List.Sums.{sum_by-append}
 use Rattle.fr_buffers.specs.declared.transmit.HeldCommit.{HeldCommit}
-use Rattle.fr_buffers.specs.Transmitting.{Transmitter, new_transmitter, with_commit, entry_of, offer_by, offer_of, after_send}
-use Rattle.fr_interface.specs.Known.{commit_of, transmitter_of, transmitters, each_buffer, change_at}
-use Rattle.fr_interface.proofs.ChangeLemmas.{changed, change_each, each-same, each-mapped, length-each, get_each}
+use Rattle.fr_buffers.specs.Transmitting.{new_transmitter, with_commit, offer_of}
+use Rattle.fr_interface.specs.Known.{commit_of, transmitter_of, transmitters, change_at}
+use Rattle.fr_interface.proofs.ChangeLemmas.{changed, change_each, each-same, each-mapped}
 use Rattle.fr_journal.specs.declared.entry.Entry.{Entry}
-use Rattle.fr_journal.specs.declared.entry.Entry.TheVariants.{Commit, Read, Pop, Fetch, Observe}
+use Rattle.fr_journal.specs.declared.entry.Entry.TheVariants.{Commit}
 use Rattle.fr_journal.specs.declared.fate.Fate.{Fate}
 use Rattle.fr_journal.specs.declared.fate.Fate.TheVariants.{Pending}
 use Rattle.fr_journal.specs.declared.fate.Tally.{Tally}
-use Rattle.fr_journal.specs.Fate.{is_commit_on, last_commit, sends, fate_of, fates_from, fates, is_sent, is_overwritten, is_pending, tally_of, pending_commit}
-use Rattle.fr_journal.specs.Offers.{payload_of, ready}
+use Rattle.fr_journal.specs.Fate.{is_commit_on, last_commit, sends, fate_of, fates_from, fates, is_sent, is_overwritten, is_pending, tally_of}
+use Rattle.fr_journal.specs.Offers.{ready}
 use Rattle.fr_journal.proofs.FateStepLemmas.{after_commit, after_fetch, fates_from-commit, fates_from-other, SendsLast}
 use Rattle.fr_journal.proofs.LastCommitLemmas.{last_commit-commit, last_commit-other, last_commit-below, payload_of-front, payload_of-next}
 use Rattle.fr_journal.proofs.TallyLemmas.{fates_fill, after_commit-counts, after_fetch-counts, pending_commit-counts}

@@ -1,12 +1,10 @@
 -- The receive queue, with one more entry.
-use Rattle.std.proofs.Common.{◌≡◌, ℕ, ◌+◌, ◌-◌, ◌*◌, ◌≤◌, ◌<◌, Bool, true, false, cond, ltb, List, [], ◌∷◌, ◌++◌, drop, length, Option, Some, None, refl, sym, ap, subst, ◌∙◌, arith, option_map, length-append, append_assoc, append-nil}
-use Rattle.std.specs.Prelude.{min, nat_lt, count_by, is_some, option_to_list, slice_get}
+use Rattle.std.proofs.Common.{◌≡◌, ℕ, ◌+◌, ◌-◌, ◌*◌, ◌≤◌, Bool, true, false, cond, ltb, List, [], ◌∷◌, ◌++◌, length, Option, Some, None, refl, sym, ap, subst, ◌∙◌, arith, option_map, length-append, append_assoc, append-nil}
+use Rattle.std.specs.Prelude.{min, count_by, is_some, option_to_list, slice_get}
 use Rattle.std.proofs.lemmas.Bool.{ltb-true, ltb-false}
 use Rattle.std.proofs.lemmas.List.Sums.{fold-append, sum_by-append}
-use Rattle.circular_buffer.specs.Buffer.{keep_last}
 use Rattle.fr_buffers.specs.Waiting.{Waiting, with_frame, without_oldest}
-use Rattle.fr_frame.specs.Fields.{Fields}
-use Rattle.fr_interface.specs.Known.{waiting_of, queued_on, with_arrival, with_arrivals}
+use Rattle.fr_interface.specs.Known.{waiting_of, queued_on, with_arrival}
 use Rattle.fr_journal.specs.Arrivals.{Move, arrives, pops, arrive_all, moves_at, moves, arrived, length_after, queue_length, queue_content, queue_lost, oldest, is_answered_pop, is_for_queue, queue_arrival_on, queue_arrivals_in}
 use Rattle.fr_journal.specs.declared.entry.Arrival.{Arrival}
 use Rattle.fr_journal.specs.declared.entry.Entry.{Entry}

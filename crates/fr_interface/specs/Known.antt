@@ -1,8 +1,8 @@
 -- What an interface keeps beside its journal, and what a journal gives of it.
-use Rattle.std.specs.Prelude.{ℕ, ◌+◌, zero, suc, List, [], ◌∷◌, ◌++◌, map, length, Option, Some, None, if◌then◌else◌, option_map, count_by}
+use Rattle.std.specs.Prelude.{ℕ, ◌+◌, zero, suc, List, [], ◌∷◌, Option, Some, None, if◌then◌else◌, option_map}
 use Rattle.std.specs.Option.{option_or}
 use Rattle.fr_buffers.specs.declared.transmit.HeldCommit.{HeldCommit}
-use Rattle.fr_buffers.specs.Transmitting.{Transmitter, with_commit}
+use Rattle.fr_buffers.specs.Transmitting.{Transmitter}
 use Rattle.fr_buffers.specs.Waiting.{Waiting, with_frame}
 use Rattle.fr_frame.specs.Fields.{Fields}
 use Rattle.fr_interface.specs.declared.opening.Opening.{Opening}
@@ -11,7 +11,7 @@ use Rattle.fr_journal.specs.declared.entry.Arrival.{Arrival}
 use Rattle.fr_journal.specs.declared.entry.Entry.{Entry}
 use Rattle.fr_journal.specs.Fate.{last_commit, tally_of}
 use Rattle.fr_journal.specs.Held.{held, arrival_of}
-use Rattle.fr_journal.specs.Offers.{admits_window, payload_of}
+use Rattle.fr_journal.specs.Offers.{payload_of}
 use Rattle.fr_journal.specs.OpenWindow.{open_window, last_number}
 use Rattle.fr_slots.specs.declared.channel.Channel.{Channel}
 use Rattle.fr_slots.specs.declared.channel.Channel.TheVariants.{A, B}
@@ -19,7 +19,7 @@ use Rattle.fr_slots.specs.declared.plan.Buffer.{Buffer}
 use Rattle.fr_slots.specs.declared.plan.Mode.{Mode}
 use Rattle.fr_slots.specs.declared.plan.Queue.{Queue}
 use Rattle.fr_slots.specs.Parameters.{Parameters}
-use Rattle.fr_slots.specs.Plans.{Plan, is_receive}
+use Rattle.fr_slots.specs.Plans.{Plan, is_receive, admits_window}
 use Rattle.fr_slots.specs.Windows.{Opportunity}
 use Rattle.fr_status.specs.Counting.{with_status}
 use Rattle.fr_status.specs.declared.counters.Counters.{Counters}

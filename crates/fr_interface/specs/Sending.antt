@@ -6,7 +6,7 @@ use Rattle.fr_frame.specs.Fields.{Fields}
 use Rattle.fr_interface.specs.declared.sending.Sender.{Sender}
 use Rattle.fr_interface.specs.Known.{change_at}
 use Rattle.fr_journal.specs.declared.entry.Offered.{Offered}
-use Rattle.fr_journal.specs.declared.entry.Offered.TheVariants.{Nothing, Null, Data}
+use Rattle.fr_journal.specs.declared.entry.Offered.TheVariants.{Nothing, Null}
 use Rattle.fr_journal.specs.Offers.{may_begin, transmitter, owns, data_or, sync_of, startup_of, line_of, preamble_in, null_frame}
 use Rattle.fr_slots.specs.declared.channel.Channel.{Channel}
 use Rattle.fr_slots.specs.Parameters.{Parameters}

@@ -14,15 +14,14 @@ use Rattle.fr_journal.specs.Arrivals.{moves, arrived, oldest, queue_length, queu
 use Rattle.fr_journal.specs.Entries.{is_host, is_slot}
 use Rattle.fr_journal.specs.Fate.{last_commit, tally_of}
 use Rattle.fr_journal.specs.Held.{held, origin_of}
-use Rattle.fr_journal.specs.Legal.{window_fits, IsLegalJournal, AreEntries}
-use Rattle.fr_journal.specs.Offers.{buffer_at}
+use Rattle.fr_journal.specs.Legal.{IsLegalJournal, AreEntries}
 use Rattle.fr_journal.specs.OpenWindow.{open_window, last_number}
 use Rattle.fr_slots.specs.declared.plan.Buffer.{Buffer}
 use Rattle.fr_slots.specs.declared.plan.Queue.{Queue}
 use Rattle.fr_slots.specs.Faults.{plan_fault, words_of}
 use Rattle.fr_slots.specs.Parameters.{Parameters, IsParameters}
-use Rattle.fr_slots.specs.Plans.{Plan, IsPlan, is_receive}
-use Rattle.fr_slots.specs.Windows.{Opportunity}
+use Rattle.fr_slots.specs.Plans.{Plan, IsPlan, is_receive, buffer_at}
+use Rattle.fr_slots.specs.Windows.{Opportunity, window_fits}
 
 pub record State : Type 0 where
   pub params : Parameters

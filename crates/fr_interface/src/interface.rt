@@ -5,12 +5,12 @@ ghost use Rattle.fr_journal.specs.Held.{frame_of, origin_of};
 ghost use Rattle.fr_journal.specs.Entries.{AreBytes, IsOrigin, IsSeen};
 ghost use Rattle.fr_frame.specs.Payload.{IsPayload};
 ghost use Rattle.fr_interface.specs.State.{is_not_above, has_words};
-ghost use Rattle.fr_journal.specs.Legal.{window_fits, static_slot_fits, dynamic_slot_fits};
 ghost use Rattle.fr_slots.specs.Windows.{IsInRange, IsSlotOrNone};
 
 use crate::errors::{HostError, InterfaceError, SlotError};
+use crate::naming::frame_named;
 use crate::observed::{Told, arrive_all, count_seen, store_all};
-use crate::offers::{buffer_at, handed_out, offered_by};
+use crate::offers::{handed_out, offered_by};
 use crate::opening::Opening;
 use crate::receiving::{arrival_at, observed_at, pop_from, receive_buffers, receive_queue};
 use crate::sending::{commit_at, commit_to, send_from, sender_on, tally_at, transmit_buffers};
@@ -24,7 +24,6 @@ use fr_journal::entry::{Arrival, Entry, Origin};
 use fr_journal::fate::Tally;
 use fr_journal::journal::Journal;
 use fr_slots::channel::Channel;
-use fr_slots::fault::{is_static_slot, words_of};
 use fr_slots::numbers::{SlotId, TaskId};
 use fr_slots::params::Params;
 use fr_slots::plan::{Buffer, NodePlan};
@@ -82,8 +81,8 @@ impl Interface {
     ghost use Rattle.std.specs.Result.{result_err};
     ghost use Rattle.fr_journal.specs.declared.entry.Entry.TheVariants as entries;
     ghost use Rattle.fr_journal.specs.Counts.{counters_of};
-    ghost use Rattle.fr_journal.specs.Held.{frame_of, origin_of};
-    ghost use Rattle.fr_journal.specs.Offers.{frame_offered, offered, IsHandedOut};
+    ghost use Rattle.fr_journal.specs.Held.{frame_named, frame_of, origin_of, IsReceivable};
+    ghost use Rattle.fr_journal.specs.Offers.{frame_offered, offered, IsHandedOut, bytes_of};
     ghost use Rattle.fr_interface.specs.State.{with_entry, received_by, source_of, tally_by, oldest_of, length_of, lost_of, arrived_of, popped_of, queued_of, commit_refusal, read_refusal, pop_refusal, fetch_refusal, observe_refusal, IsLegalInterface};
     ghost use Rattle.fr_slots.specs.Faults.{plan_fault};
 
@@ -115,7 +114,7 @@ impl Interface {
     /// before, and sends it as its mode says.
     ///
     /// Refused, in this order, with `UnknownTask`, `UnknownBuffer`, `NotTransmit` for a receive buffer,
-    /// `WrongLength` where the payload hasn't the words that the buffer sends by `fr_slots::fault::words_of`: those of
+    /// `WrongLength` where the payload hasn't the words that the buffer sends by `Buffer::words`: those of
     /// the cluster's static frames in a static slot, or its own in a dynamic one, and `HostFull` where the journal has
     /// no room for the commit.
     pub fn commit(
@@ -132,7 +131,7 @@ impl Interface {
         if task.number() >= self.plan.tasks() {
             return Err(HostError::UnknownTask);
         }
-        let Some(line) = buffer_at(&self.plan, buffer) else {
+        let Some(line) = self.plan.buffer(buffer) else {
             return Err(HostError::UnknownBuffer);
         };
         if line.mode.is_receive() {
@@ -162,13 +161,14 @@ impl Interface {
     pub fn read(&mut self, task: TaskId, buffer: u8) -> Result<Option<Frame>, HostError>
         ensures refusal { result_err result ≡ read_refusal self.old task buffer }
         ensures answer { IfOk result (λ frame. frame ≡ option_map frame_of (received_by self.old buffer)) }
+        ensures frames { IfOk result (λ frame. IfSome frame IsReceivable) }
         ensures accepted { OnOk result (self.new ≡ with_entry self.old (entries.Read task buffer (option_map origin_of (received_by self.old buffer)))) }
         ensures refused { OnErr result (self.new ≡ self.old) }
     {
         if task.number() >= self.plan.tasks() {
             return Err(HostError::UnknownTask);
         }
-        let Some(line) = buffer_at(&self.plan, buffer) else {
+        let Some(line) = self.plan.buffer(buffer) else {
             return Err(HostError::UnknownBuffer);
         };
         if !line.mode.is_receive() {
@@ -190,6 +190,7 @@ impl Interface {
     pub fn pop(&mut self, task: TaskId) -> Result<Option<Frame>, HostError>
         ensures refusal { result_err result ≡ pop_refusal self.old task }
         ensures answer { IfOk result (λ frame. frame ≡ option_map frame_of (oldest_of self.old)) }
+        ensures frames { IfOk result (λ frame. IfSome frame IsReceivable) }
         ensures accepted { OnOk result (self.new ≡ with_entry self.old (entries.Pop task (option_map origin_of (oldest_of self.old)))) }
         ensures refused { OnErr result (self.new ≡ self.old) }
     {
@@ -219,13 +220,15 @@ impl Interface {
         ensures refusal { result_err result ≡ fetch_refusal self.old window.now }
         ensures offer_a { IfOk result (λ o. IsHandedOut Channel.A (frame_offered self.old.params self.old.plan self.old.entries window.now Channel.A) o.a) }
         ensures offer_b { IfOk result (λ o. IsHandedOut Channel.B (frame_offered self.old.params self.old.plan self.old.entries window.now Channel.B) o.b) }
+        ensures bytes_a { IfOk result (λ o. o.a ≡ bytes_of Channel.A (frame_offered self.old.params self.old.plan self.old.entries window.now Channel.A)) }
+        ensures bytes_b { IfOk result (λ o. o.b ≡ bytes_of Channel.B (frame_offered self.old.params self.old.plan self.old.entries window.now Channel.B)) }
         ensures accepted { OnOk result (self.new ≡ with_entry self.old (entries.Fetch window.now (offered self.old.plan self.old.entries window.now Channel.A) (offered self.old.plan self.old.entries window.now Channel.B))) }
         ensures refused { OnErr result (self.new ≡ self.old) }
     {
         if self.opening.window.is_some() {
             return Err(SlotError::NotObserved);
         }
-        if !fits(&self.params, window) {
+        if !self.params.has_window(window) {
             return Err(SlotError::BadWindow);
         }
         if is_not_above(window.number, self.opening.last) {
@@ -301,7 +304,7 @@ impl Interface {
     pub fn held(&self, buffer: u8) -> Option<Source>
         ensures { result ≡ source_of self.now buffer }
     {
-        let line = buffer_at(&self.plan, buffer)?;
+        let line = self.plan.buffer(buffer)?;
         if line.mode.is_receive() {
             observed_at(&self.receive, buffer)
         } else {
@@ -317,7 +320,7 @@ impl Interface {
         ensures fates { IfSome result (λ t. t.committed ≡ t.sent + t.overwritten + t.pending) }
         ensures one_pending { IfSome result (λ t. t.pending ≤ 1) }
     {
-        let line = buffer_at(&self.plan, buffer)?;
+        let line = self.plan.buffer(buffer)?;
         if line.mode.is_receive() {
             return None;
         }
@@ -329,11 +332,19 @@ impl Interface {
     pub fn received(&self, buffer: u8) -> Option<Arrival>
         ensures { result ≡ received_by self.now buffer }
     {
-        let line = buffer_at(&self.plan, buffer)?;
+        let line = self.plan.buffer(buffer)?;
         if !line.mode.is_receive() {
             return None;
         }
         arrival_at(&self.receive, buffer)
+    }
+
+    /// The valid data frame that the origin names: that of the observe of its number on its channel (chapter 9). None
+    /// where that entry is no observe, or had no such frame there.
+    pub fn frame_at(&self, origin: Origin) -> Option<Frame>
+        ensures { result ≡ frame_named self.now.params self.now.entries origin }
+    {
+        frame_named(&self.params, &self.journal, origin)
     }
 
     /// How many frames the receive queue holds, at most its capacity (own profile). None where the plan has no queue.
@@ -420,7 +431,7 @@ fn kept_window(window: &Window) -> Window
 fn has_words(params: &Params, buffer: &Buffer, payload: &Payload) -> bool
     ensures { result ≡ has_words params.now buffer.now payload.now }
 {
-    payload.as_slice().len() == 2 * usize::from(words_of(params, buffer))
+    payload.as_slice().len() == 2 * usize::from(buffer.words(params))
 }
 
 /// The payload once more, in the ranges of its type.
@@ -480,37 +491,6 @@ fn frame_in(arrival: Option<Arrival>) -> Option<Frame>
     match arrival {
         Some(arrival) => Some(arrival.frame),
         None => None,
-    }
-}
-
-/// Whether the parameters have the window.
-fn fits(params: &Params, window: &Window) -> bool
-    ensures { result ≡ window_fits params.now window.now }
-{
-    if window.is_static() {
-        static_slot_fits(params, window.a) && static_slot_fits(params, window.b)
-    } else {
-        window.minislot <= params.minislots
-            && dynamic_slot_fits(params, window.a)
-            && dynamic_slot_fits(params, window.b)
-    }
-}
-
-fn static_slot_fits(params: &Params, slot: Option<SlotId>) -> bool
-    ensures { result ≡ static_slot_fits params.now slot }
-{
-    match slot {
-        Some(slot) => is_static_slot(params, slot),
-        None => true,
-    }
-}
-
-fn dynamic_slot_fits(params: &Params, slot: Option<SlotId>) -> bool
-    ensures { result ≡ dynamic_slot_fits params.now slot }
-{
-    match slot {
-        Some(slot) => !is_static_slot(params, slot),
-        None => true,
     }
 }
 

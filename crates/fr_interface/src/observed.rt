@@ -7,15 +7,12 @@ ghost use Rattle.fr_interface.specs.Known.{frame_on, taken_by, stored_all, queue
 ghost use Rattle.fr_interface.specs.Seeing.{status_seen};
 ghost use Rattle.fr_journal.specs.Arrivals.{takes_window, is_for_queue};
 ghost use Rattle.fr_journal.specs.Held.{data_frame_seen, with_data};
-ghost use Rattle.fr_slots.specs.Plans.{queue_admits};
 ghost use Rattle.fr_status.specs.Counting.{HasRoom};
 
-use crate::offers::admits;
 use fr_buffers::queue::ReceiveQueue;
 use fr_buffers::receive::RxBuffer;
 use fr_frame::frame::Frame;
 use fr_slots::channel::Channel;
-use fr_slots::numbers::SlotId;
 use fr_slots::params::Params;
 use fr_slots::plan::{Buffer, NodePlan, Queue};
 use fr_slots::window::Window;
@@ -84,7 +81,7 @@ fn store_on(
     ensures told { result ≡ is_some (frame_on number window.now channel frame.now line.now) }
 {
     match frame {
-        Some(frame) if admits(&line.filter, window, channel) => {
+        Some(frame) if line.filter.admits_window(window, channel) => {
             buffer.store(number, channel, frame);
             true
         }
@@ -130,7 +127,7 @@ pub(crate) fn store_all(
 fn takes(window: &Window, channel: Channel, buffer: &Buffer) -> bool
     ensures { result ≡ takes_window window.now channel buffer.now }
 {
-    buffer.mode.is_receive() && admits(&buffer.filter, window, channel)
+    buffer.mode.is_receive() && buffer.filter.admits_window(window, channel)
 }
 
 /// Whether one of the buffers is a receive buffer that admits the window on the channel.
@@ -140,22 +137,12 @@ fn is_taken(buffers: &[Buffer], window: &Window, channel: Channel) -> bool
     buffers.iter().any(|buffer| takes(window, channel, buffer))
 }
 
-/// Whether the slot on the channel is the queue's.
-fn admits_slot(queue: &Queue, window: &Window, channel: Channel, slot: SlotId) -> bool
-    ensures { result ≡ queue_admits queue.now window.now.cycle slot channel }
-{
-    queue.first.number() <= slot.number()
-        && slot.number() <= queue.last.number()
-        && queue.channels.includes(channel)
-        && queue.cycles.admits(window.cycle)
-}
-
 /// Whether the queue, and no receive buffer, takes what comes in the window on the channel.
 fn is_for_queue(plan: &NodePlan, queue: &Queue, window: &Window, channel: Channel) -> bool
     ensures { result ≡ is_for_queue plan.now queue.now window.now channel }
 {
     match window.slot(channel) {
-        Some(slot) => admits_slot(queue, window, channel, slot)
+        Some(slot) => queue.admits(window.cycle, slot, channel)
             && !is_taken(plan.buffers(), window, channel),
         None => false,
     }

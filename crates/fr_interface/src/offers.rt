@@ -5,7 +5,7 @@ ghost use Rattle.std.specs.List.{position};
 ghost use Rattle.fr_journal.specs.Entries.{IsOffered};
 ghost use Rattle.fr_slots.specs.Faults.{claims};
 ghost use Rattle.fr_interface.specs.Sending.{offered_by, data_frame_by, frame_by};
-ghost use Rattle.fr_journal.specs.Offers.{admits_window, is_admitting, transmitter, buffer_at, may_begin, ownership, line_of, owns, sync_of, startup_of, preamble_in, null_frame, IsHandedOut};
+ghost use Rattle.fr_journal.specs.Offers.{is_admitting, transmitter, may_begin, ownership, line_of, owns, sync_of, startup_of, preamble_in, null_frame, IsHandedOut, bytes_of};
 
 use crate::sending::{Sender, payload_at};
 use fr_buffers::transmit::TxBuffer;
@@ -14,28 +14,16 @@ use fr_frame::frame::{Bytes, Frame};
 use fr_frame::payload::Payload;
 use fr_journal::entry::Offered;
 use fr_slots::channel::Channel;
-use fr_slots::fault::claims;
-use fr_slots::filter::Filter;
 use fr_slots::numbers::SlotId;
 use fr_slots::params::Params;
 use fr_slots::plan::{Buffer, NodePlan, Own};
 use fr_slots::window::Window;
 
-/// Whether the filter admits the slot that the window has on the channel.
-pub(crate) fn admits(filter: &Filter, window: &Window, channel: Channel) -> bool
-    ensures { result ≡ admits_window filter.now window.now channel }
-{
-    match window.slot(channel) {
-        Some(slot) => filter.admits(window.cycle, slot, channel),
-        None => false,
-    }
-}
-
 /// Whether this is a transmit buffer that admits the window on the channel.
 fn is_admitting(window: &Window, channel: Channel, buffer: &Buffer) -> bool
     ensures { result ≡ is_admitting window.now channel buffer.now }
 {
-    !buffer.mode.is_receive() && admits(&buffer.filter, window, channel)
+    buffer.transmits() && buffer.filter.admits_window(window, channel)
 }
 
 /// The place of the first transmit buffer that admits the window on the channel.
@@ -56,13 +44,6 @@ pub(crate) fn transmitter(plan: &NodePlan, window: &Window, channel: Channel) ->
     Some(place as u8)
 }
 
-/// The buffer of this number.
-pub(crate) fn buffer_at(plan: &NodePlan, buffer: u8) -> Option<Buffer>
-    ensures { result ≡ buffer_at plan.now buffer }
-{
-    plan.buffers().get(buffer as usize).copied()
-}
-
 /// Whether the node may begin to transmit in the window on the channel.
 pub(crate) fn may_begin(plan: &NodePlan, window: &Window, channel: Channel) -> bool
     ensures { result ≡ may_begin plan.now window.now channel }
@@ -74,7 +55,7 @@ pub(crate) fn may_begin(plan: &NodePlan, window: &Window, channel: Channel) -> b
 fn first_owned_at(owned: &[Own], slot: SlotId, channel: Channel) -> Option<usize>
     ensures { result ≡ position (claims slot channel) owned.now }
 {
-    owned.iter().position(|own| claims(slot, channel, own))
+    owned.iter().position(|own| own.claims(slot, channel))
 }
 
 /// The ownership line for the slot on the channel.
@@ -155,7 +136,7 @@ fn preamble_in(plan: &NodePlan, window: &Window, channel: Channel) -> bool
     let Some(number) = transmitter(plan, window, channel) else {
         return false;
     };
-    match buffer_at(plan, number) {
+    match plan.buffer(number) {
         Some(buffer) => buffer.preamble,
         None => false,
     }
@@ -239,7 +220,8 @@ pub(crate) fn handed_out(
     channel: Channel,
     sender: Option<Sender>,
 ) -> Option<Bytes>
-    ensures { IsHandedOut channel (frame_by params.now plan.now buffers.now window.now channel sender) result }
+    ensures spelled { IsHandedOut channel (frame_by params.now plan.now buffers.now window.now channel sender) result }
+    ensures bytes { result ≡ bytes_of channel (frame_by params.now plan.now buffers.now window.now channel sender) }
 {
     match frame_by(params, plan, buffers, window, channel, sender) {
         Some(frame) => Some(encode(&frame, channel)),

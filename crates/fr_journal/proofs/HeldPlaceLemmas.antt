@@ -8,7 +8,7 @@ use Rattle.fr_journal.specs.declared.entry.Entry.{Entry}
 use Rattle.fr_journal.specs.declared.entry.Entry.TheVariants.{Commit, Read, Pop, Fetch, Observe}
 use Rattle.fr_journal.specs.Entries.{IsOrigin}
 use Rattle.fr_journal.specs.Held.{held, arrival_at, arrival_by, arrival_in, arrival_on, arrival_of, data_frame_seen, origin_of}
-use Rattle.fr_journal.specs.Offers.{admits_window}
+use Rattle.fr_slots.specs.Plans.{admits_window}
 use Rattle.fr_journal.specs.OpenWindow.{open_window}
 use Rattle.fr_slots.specs.declared.channel.Channel.{Channel}
 use Rattle.fr_slots.specs.declared.channel.Channel.TheVariants.{A, B}

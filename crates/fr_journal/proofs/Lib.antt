@@ -8,5 +8,6 @@ pub mod MoveLemmas
 pub mod OpenWindowLemmas
 pub mod QueuePlaceLemmas
 pub mod RoomLemmas
+pub mod SeenPlaceLemmas
 pub mod TallyLemmas
 pub mod WorkedLemmas

@@ -1,9 +1,11 @@
 -- Worked journals: what is offered, what became of the commits, and what was received.
-use Rattle.std.proofs.Common.{◌≡◌, ℕ, false, List, [], ◌∷◌, ◌++◌, Option, Some, None, refl}
+use Rattle.std.proofs.Common.{◌≡◌, ℕ, true, false, List, [], ◌∷◌, ◌++◌, Option, Some, None, refl}
 use Rattle.std.specs.Prelude.{option_map}
 use Rattle.fr_frame.specs.Bits.{bits_of, number_of}
 use Rattle.fr_frame.specs.Crc.{xor_front, divide_once, divide}
 use Rattle.fr_frame.specs.Decoding.{decoded}
+use Rattle.fr_frame.specs.Encoding.{encoded}
+use Rattle.fr_frame.specs.Spelling.{covered, header}
 use Rattle.fr_journal.specs.declared.entry.Entry.{Entry}
 use Rattle.fr_journal.specs.declared.entry.Entry.TheVariants.{Commit, Pop, Fetch, Observe}
 use Rattle.fr_journal.specs.declared.entry.Offered.{Offered}
@@ -13,7 +15,7 @@ use Rattle.fr_journal.specs.declared.fate.Tally.{Tally}
 use Rattle.fr_journal.specs.Arrivals.{moves, oldest, queue_length, queue_lost}
 use Rattle.fr_journal.specs.Fate.{fates_from, tally_of}
 use Rattle.fr_journal.specs.Held.{held, origin_of}
-use Rattle.fr_journal.specs.Offers.{offered}
+use Rattle.fr_journal.specs.Offers.{offered, frame_offered}
 use Rattle.fr_slots.specs.Admission.{CycleClass}
 use Rattle.fr_slots.specs.declared.channel.Channel.{Channel}
 use Rattle.fr_slots.specs.declared.channel.Channel.TheVariants as channel
@@ -22,7 +24,7 @@ use Rattle.fr_slots.specs.declared.channel.Channels.TheVariants as channels
 use Rattle.fr_slots.specs.declared.filter.Filter.{Filter}
 use Rattle.fr_slots.specs.declared.plan.Buffer.{Buffer}
 use Rattle.fr_slots.specs.declared.plan.Mode.{Mode}
-use Rattle.fr_slots.specs.declared.plan.Mode.TheVariants.{Event, State}
+use Rattle.fr_slots.specs.declared.plan.Mode.TheVariants.{Event, State, Receive}
 use Rattle.fr_slots.specs.declared.plan.Own.{Own}
 use Rattle.fr_slots.specs.declared.plan.Queue.{Queue}
 use Rattle.fr_slots.specs.History.{last_after, each_after}
@@ -41,9 +43,12 @@ every_cycle = record { base = 0; repetition = 1 }
 abbrev slot_on : ℕ → Channels → Filter
 slot_on slot among = record { slot = slot; channels = among; cycles = every_cycle }
 
+abbrev plan_for : ℕ → ℕ → List Own → List Buffer → Option Queue → Plan
+plan_for latest_a latest_b owned buffers queue =
+    record { tasks = 1; latest_a = latest_a; latest_b = latest_b; host_entries = 8; slot_entries = 8; owned = owned; buffers = buffers; queue = queue }
+
 abbrev plan_with : ℕ → List Own → List Buffer → Option Queue → Plan
-plan_with latest owned buffers queue =
-    record { tasks = 1; latest_a = latest; latest_b = 0; host_entries = 8; slot_entries = 8; owned = owned; buffers = buffers; queue = queue }
+plan_with latest owned buffers queue = plan_for latest 0 owned buffers queue
 
 -- static slot 1 on both channels, and a transmit buffer for it
 abbrev sender : Mode → Plan
@@ -112,6 +117,21 @@ pub a_transmission_begins_at_the_latest_minislot : (offered_at_five 5 ≡ Data 0
 unfolding last_after fates_from
 a_transmission_begins_at_the_latest_minislot = (refl, refl, refl, refl)
 
+-- the same buffer on channel B, and minislot 5, at which B opens slot 8
+abbrev sender_on_b : ℕ → ℕ → Plan
+sender_on_b latest_a latest_b =
+    plan_for latest_a latest_b [] (record { mode = Event; filter = slot_on 8 channels.B; words = Some 4; preamble = false } ∷ []) None
+
+abbrev b_at_five : Opportunity
+b_at_five = record { number = 0; cycle = 0; minislot = 5; a = Some 9; b = Some 8 }
+
+-- what counts on a channel is its own latest minislot, whatever the other's is
+pub each_channel_has_its_latest_minislot : (offered (sender_on_b 0 5) one_commit b_at_five channel.B ≡ Data 0)
+    × (offered (sender_on_b 9 4) one_commit b_at_five channel.B ≡ Nothing)
+    × (offered (sender_on_b 9 9) one_commit b_at_five channel.A ≡ Nothing)
+unfolding last_after
+each_channel_has_its_latest_minislot = (refl, refl, refl)
+
 -- ---- frames received in static slot 2, which has one word
 
 abbrev one_word : Parameters
@@ -140,6 +160,46 @@ from_entry entry channel = Some (record { entry = entry; channel = channel })
 pub channel_a_comes_first : (held_from data_on_a data_on_b ≡ from_entry 1 channel.A) × (held_from Silence data_on_b ≡ from_entry 1 channel.B) × (held_from null_on_a data_on_b ≡ from_entry 1 channel.B) × (held_from null_on_a Silence ≡ None)
 unfolding last_after frame_in decoded bits_of number_of xor_front divide_once divide
 channel_a_comes_first = (refl, refl, refl, refl)
+
+-- ---- frames that are sent
+
+-- Static slot 3 on both channels, whose frames are sync and startup frames, and transmit buffers for it and for dynamic
+-- slot 6, whose frames have the preamble indicator.
+abbrev sync_sender : Plan
+sync_sender =
+    plan_for 4 4 (record { slot = 3; channels = channels.Both; sync = true; startup = true } ∷ [])
+    (record { mode = State; filter = slot_on 3 channels.Both; words = None; preamble = true }
+    ∷ record { mode = State; filter = slot_on 6 channels.B; words = Some 2; preamble = true }
+    ∷ [])
+    None
+
+abbrev two_buffers : List Entry
+two_buffers = Commit 0 0 (0x0a ∷ 0x0b ∷ []) ∷ Commit 0 1 (0x70 ∷ 0x01 ∷ 0x70 ∷ 0x02 ∷ []) ∷ []
+
+-- minislot 3 of cycle 7, at which both channels open slot 6
+abbrev in_slot_six : Opportunity
+in_slot_six = record { number = 0; cycle = 7; minislot = 3; a = Some 6; b = Some 6 }
+
+-- what goes out in a window after these entries
+abbrev sent_in : List Entry → Opportunity → Channel → Option (List ℕ)
+sent_in entries window channel = option_map (λ frame. encoded frame channel) (frame_offered one_word sync_sender entries window channel)
+
+-- a data frame with all its indicators, on either channel
+pub a_static_frame_is_sent : (sent_in two_buffers (static_window 0 9 3) channel.A ≡ Some (0x78 ∷ 0x03 ∷ 0x02 ∷ 0x74 ∷ 0xc9 ∷ 0x0a ∷ 0x0b ∷ 0xb2 ∷ 0x00 ∷ 0x89 ∷ []))
+    × (sent_in two_buffers (static_window 0 9 3) channel.B ≡ Some (0x78 ∷ 0x03 ∷ 0x02 ∷ 0x74 ∷ 0xc9 ∷ 0x0a ∷ 0x0b ∷ 0x94 ∷ 0x80 ∷ 0x58 ∷ []))
+unfolding last_after encoded header covered bits_of number_of xor_front divide_once divide
+a_static_frame_is_sent = (refl, refl)
+
+-- without a commit it is a null frame: sync and startup are those of the line, and the preamble indicator is 0
+pub a_null_frame_is_sent : sent_in [] (static_window 0 9 3) channel.A ≡ Some (0x18 ∷ 0x03 ∷ 0x02 ∷ 0x74 ∷ 0xc9 ∷ 0x00 ∷ 0x00 ∷ 0x67 ∷ 0xff ∷ 0x4a ∷ [])
+unfolding last_after encoded header covered bits_of number_of xor_front divide_once divide
+a_null_frame_is_sent = refl
+
+-- a dynamic frame has neither sync nor startup, and the preamble indicator of its buffer; nothing goes out on channel A
+pub a_dynamic_frame_is_sent : (sent_in two_buffers in_slot_six channel.B ≡ Some (0x60 ∷ 0x06 ∷ 0x05 ∷ 0x17 ∷ 0x87 ∷ 0x70 ∷ 0x01 ∷ 0x70 ∷ 0x02 ∷ 0x70 ∷ 0x84 ∷ 0x4b ∷ []))
+    × (sent_in two_buffers in_slot_six channel.A ≡ None)
+unfolding last_after encoded header covered bits_of number_of xor_front divide_once divide
+a_dynamic_frame_is_sent = (refl, refl)
 
 -- ---- the queue
 
@@ -175,3 +235,24 @@ three_popped = two_popped ++ Pop 0 None ∷ []
 pub queue_overwrites_the_oldest : (popped_from three_arrived ≡ from_entry 3 channel.A) × (popped_from one_popped ≡ from_entry 5 channel.A) × (popped_from two_popped ≡ None) × (queue_length 2 (moves one_word receiver short_queue three_popped) ≡ 0) × (queue_lost one_word receiver short_queue three_popped ≡ 1)
 unfolding last_after each_after frame_in decoded bits_of number_of xor_front divide_once divide
 queue_overwrites_the_oldest = (refl, refl, refl, refl, refl)
+
+-- A transmit buffer and a queue for dynamic slot 4 on channel A: what comes there goes into the queue, since only a receive
+-- buffer keeps a frame from it.
+abbrev queue_of_slot_four : Queue
+queue_of_slot_four = record { capacity = 2; first = 4; last = 4; channels = channels.Both; cycles = every_cycle }
+
+abbrev beside : Mode → Plan
+beside mode = plan_for 4 0 [] (record { mode = mode; filter = slot_on 4 channels.A; words = None; preamble = false } ∷ []) (Some queue_of_slot_four)
+
+abbrev arrived_in_slot_four : List Entry
+arrived_in_slot_four =
+    Fetch (record { number = 0; cycle = 0; minislot = 1; a = Some 4; b = Some 4 }) Nothing Nothing
+    ∷ Observe 0 (seen_bytes (0x20 ∷ 0x04 ∷ 0x02 ∷ 0xce ∷ 0xc0 ∷ 0x70 ∷ 0x01 ∷ 0x2c ∷ 0xca ∷ 0x22 ∷ [])) Silence
+    ∷ []
+
+abbrev queued_beside : Mode → Option Origin
+queued_beside mode = option_map origin_of (oldest 2 (moves one_word (beside mode) queue_of_slot_four arrived_in_slot_four))
+
+pub a_transmit_buffer_takes_nothing_from_the_queue : (queued_beside Event ≡ from_entry 1 channel.A) × (queued_beside State ≡ from_entry 1 channel.A) × (queued_beside Receive ≡ None)
+unfolding last_after each_after frame_in decoded bits_of number_of xor_front divide_once divide
+a_transmit_buffer_takes_nothing_from_the_queue = (refl, refl, refl)

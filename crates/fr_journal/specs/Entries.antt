@@ -1,6 +1,6 @@
 -- Which entries are of the host, and which numbers and bytes an entry may have.
 use Rattle.std.specs.Prelude.{ℕ, ◌<◌, ◌≤◌, ◌^◌, Bool, true, false, not, List, length, slice_index, Option, Some, None}
-use Rattle.fr_frame.specs.Payload.{IsPayload}
+use Rattle.fr_frame.specs.Payload.{IsPayload, most_frame_bytes}
 use Rattle.fr_journal.specs.declared.entry.Entry.{Entry}
 use Rattle.fr_journal.specs.declared.entry.Entry.TheVariants.{Commit, Read, Pop, Fetch, Observe}
 use Rattle.fr_journal.specs.declared.entry.Offered.{Offered}
@@ -43,7 +43,7 @@ IsSeen seen.Own = Unit {0}
 IsSeen seen.Conflict = Unit {0}
 IsSeen seen.Noise = Unit {0}
 IsSeen seen.Overrun = Unit {0}
-IsSeen (seen.Bytes bytes) = (length bytes.items ≤ 262) × AreBytes bytes.items
+IsSeen (seen.Bytes bytes) = (length bytes.items ≤ most_frame_bytes) × AreBytes bytes.items
 
 pub record IsFetched (window : Opportunity) (a b : Offered) : Type 0 where
   pub window_is : IsInRange window

@@ -1,17 +1,19 @@
 -- What a receive buffer holds: the last valid data frame that it admitted (chapter 9; channel A before B is own profile).
-use Rattle.std.specs.Prelude.{ℕ, List, [], length, Option, Some, None, if◌then◌else◌, option_map}
+use Rattle.std.specs.Prelude.{◌≡◌, ℕ, true, List, [], length, Option, Some, None, if◌then◌else◌, option_map, take, slice_get}
 use Rattle.std.specs.Option.{option_and_then, option_or}
 use Rattle.fr_frame.specs.Fields.{Fields}
+use Rattle.fr_journal.specs.Counts.{seen_on}
 use Rattle.fr_journal.specs.declared.entry.Arrival.{Arrival}
 use Rattle.fr_journal.specs.declared.entry.Entry.{Entry}
 use Rattle.fr_journal.specs.declared.entry.Entry.TheVariants.{Commit, Read, Pop, Fetch, Observe}
 use Rattle.fr_journal.specs.declared.entry.Origin.{Origin}
-use Rattle.fr_journal.specs.Offers.{admits_window}
+use Rattle.fr_slots.specs.Plans.{admits_window}
 use Rattle.fr_journal.specs.OpenWindow.{open_window}
 use Rattle.fr_slots.specs.declared.channel.Channel.{Channel}
 use Rattle.fr_slots.specs.declared.channel.Channel.TheVariants.{A, B}
 use Rattle.fr_slots.specs.declared.filter.Filter.{Filter}
 use Rattle.fr_slots.specs.History.{last_after}
+use Rattle.fr_slots.specs.Numbers.{IsSlot}
 use Rattle.fr_slots.specs.Parameters.{Parameters}
 use Rattle.fr_slots.specs.Windows.{Opportunity, slot_of}
 use Rattle.fr_status.specs.declared.seen.Seen.{Seen}
@@ -58,3 +60,22 @@ origin_of arrival = arrival.origin
 
 abbrev pub frame_of : Arrival → Fields
 frame_of arrival = arrival.frame
+
+-- what a task can get: a data frame of a slot
+abbrev pub IsReceivable : Fields → Type 0
+IsReceivable f = (f.has_data ≡ true) × IsSlot f.id
+
+-- ---- by where it comes from
+
+-- what an entry tells of a frame on a channel, where this window is open before it
+abbrev pub frame_in_entry : Parameters → Channel → Option Opportunity → Entry → Option Fields
+frame_in_entry params channel window (Commit task buffer payload) = None
+frame_in_entry params channel window (Read task buffer from) = None
+frame_in_entry params channel window (Pop task from) = None
+frame_in_entry params channel window (Fetch w a b) = None
+frame_in_entry params channel window (Observe number a b) = option_and_then (λ w. data_frame_seen params w channel (seen_on channel a b)) window
+
+-- the valid data frame that the observe of this number had on this channel
+abbrev pub frame_named : Parameters → List Entry → Origin → Option Fields
+frame_named params entries origin =
+    option_and_then (frame_in_entry params origin.channel (open_window (take origin.entry entries))) (slice_get entries origin.entry)

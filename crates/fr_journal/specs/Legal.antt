@@ -1,5 +1,5 @@
 -- Which journals are legal for given parameters and a given plan.
-use Rattle.std.specs.Prelude.{◌≡◌, ℕ, ◌+◌, ◌*◌, ◌≤◌, ◌<◌, nat_le, not, Bool, true, false, ◌&&◌, List, [], length, Option, Some, None, if◌then◌else◌, count_by, IfSome, IsSomeAnd, option_map}
+use Rattle.std.specs.Prelude.{◌≡◌, ℕ, ◌+◌, ◌*◌, ◌≤◌, ◌<◌, true, false, List, [], length, Option, None, count_by, IfSome, IsSomeAnd, option_map}
 use Rattle.fr_journal.specs.Arrivals.{moves, oldest}
 use Rattle.fr_journal.specs.declared.entry.Entry.{Entry}
 use Rattle.fr_journal.specs.declared.entry.Entry.TheVariants.{Commit, Read, Pop, Fetch, Observe}
@@ -7,14 +7,14 @@ use Rattle.fr_journal.specs.declared.entry.Offered.{Offered}
 use Rattle.fr_journal.specs.declared.entry.Origin.{Origin}
 use Rattle.fr_journal.specs.Entries.{is_host, is_slot, IsEntry}
 use Rattle.fr_journal.specs.Held.{held, origin_of}
-use Rattle.fr_journal.specs.Offers.{buffer_at, offered}
+use Rattle.fr_journal.specs.Offers.{offered}
 use Rattle.fr_journal.specs.OpenWindow.{open_window, last_number}
 use Rattle.fr_slots.specs.declared.channel.Channel.TheVariants as channel
-use Rattle.fr_slots.specs.Faults.{is_static_slot, words_of}
+use Rattle.fr_slots.specs.Faults.{words_of}
 use Rattle.fr_slots.specs.History.{AllAfter}
 use Rattle.fr_slots.specs.Parameters.{Parameters}
-use Rattle.fr_slots.specs.Plans.{Plan, is_receive}
-use Rattle.fr_slots.specs.Windows.{Opportunity, is_static}
+use Rattle.fr_slots.specs.Plans.{Plan, buffer_at, is_receive}
+use Rattle.fr_slots.specs.Windows.{Opportunity, window_fits}
 
 -- ---- calls of the host
 
@@ -35,21 +35,6 @@ pub record IsLegalPop (params : Parameters) (plan : Plan) (before : List Entry) 
   pub room : count_by is_host before < plan.host_entries
 
 -- ---- calls of the controller
-
-abbrev pub static_slot_fits : Parameters → Option ℕ → Bool
-static_slot_fits params None = true
-static_slot_fits params (Some slot) = is_static_slot params slot
-
-abbrev pub dynamic_slot_fits : Parameters → Option ℕ → Bool
-dynamic_slot_fits params None = true
-dynamic_slot_fits params (Some slot) = not (is_static_slot params slot)
-
--- The window is one of the cluster's: a static slot is no higher than the last, a minislot no higher than the last, and a
--- dynamic slot is above the static ones.
-abbrev pub window_fits : Parameters → Opportunity → Bool
-window_fits params window =
-    if is_static window then static_slot_fits params window.a && static_slot_fits params window.b
-    else nat_le window.minislot params.minislots && dynamic_slot_fits params window.a && dynamic_slot_fits params window.b
 
 pub record IsLegalFetch (params : Parameters) (plan : Plan) (before : List Entry) (window : Opportunity) (a b : Offered) : Type 0 where
   pub closed : open_window before ≡ None

@@ -1,8 +1,9 @@
 -- What a node offers in a window, decided by the entries before the fetch (chapter 5; the modes are own profile).
-use Rattle.std.specs.Prelude.{ℕ, ◌*◌, nat_le, Bool, true, false, ◌&&◌, ◌||◌, List, [], replicate, slice_get, Option, Some, None, is_some, if◌then◌else◌}
+use Rattle.std.specs.Prelude.{ℕ, ◌*◌, nat_le, Bool, true, false, ◌&&◌, ◌||◌, List, [], replicate, slice_get, Option, Some, None, is_some, option_map, if◌then◌else◌}
 use Rattle.std.specs.List.{position}
 use Rattle.std.specs.Option.{option_and_then}
 use Rattle.arrayvec.specs.ArrayVec.{ArrayVec}
+use Rattle.fr_frame.specs.Encoding.{encoded}
 use Rattle.fr_frame.specs.Fields.{Fields}
 use Rattle.fr_frame.specs.Spelling.{SpellsCanonically}
 use Rattle.fr_journal.specs.declared.entry.Entry.{Entry}
@@ -11,25 +12,16 @@ use Rattle.fr_journal.specs.declared.entry.Offered.{Offered}
 use Rattle.fr_journal.specs.declared.entry.Offered.TheVariants.{Nothing, Null, Data}
 use Rattle.fr_journal.specs.Fate.{last_commit, pending_commit}
 use Rattle.fr_slots.specs.declared.channel.Channel.{Channel}
-use Rattle.fr_slots.specs.declared.filter.Filter.{Filter}
 use Rattle.fr_slots.specs.declared.plan.Buffer.{Buffer}
 use Rattle.fr_slots.specs.declared.plan.Mode.{Mode}
 use Rattle.fr_slots.specs.declared.plan.Mode.TheVariants as mode
 use Rattle.fr_slots.specs.declared.plan.Own.{Own}
 use Rattle.fr_slots.specs.Parameters.{Parameters}
 use Rattle.fr_slots.specs.Faults.{claims, latest_on, transmits}
-use Rattle.fr_slots.specs.Plans.{Plan, filter_admits}
+use Rattle.fr_slots.specs.Plans.{Plan, admits_window, buffer_at}
 use Rattle.fr_slots.specs.Windows.{Opportunity, slot_of, is_static}
 
 -- ---- which buffer, and whether it may begin
-
-abbrev pub admits_slot : Filter → ℕ → Channel → Option ℕ → Bool
-admits_slot f cycle channel None = false
-admits_slot f cycle channel (Some slot) = filter_admits f cycle slot channel
-
--- the filter admits the slot that the window has on the channel
-abbrev pub admits_window : Filter → Opportunity → Channel → Bool
-admits_window f window channel = admits_slot f window.cycle channel (slot_of window channel)
 
 abbrev pub is_admitting : Opportunity → Channel → Buffer → Bool
 is_admitting window channel b = transmits b && admits_window b.filter window channel
@@ -37,10 +29,6 @@ is_admitting window channel b = transmits b && admits_window b.filter window cha
 -- The number of the first transmit buffer that admits the window on the channel. A plan without fault has no second one.
 abbrev pub transmitter : Plan → Opportunity → Channel → Option ℕ
 transmitter plan window channel = position (is_admitting window channel) plan.buffers
-
--- the buffer of this number
-abbrev pub buffer_at : Plan → ℕ → Option Buffer
-buffer_at plan buffer = slice_get plan.buffers buffer
 
 -- a dynamic transmission begins no later than at the channel's latest minislot
 abbrev pub may_begin : Plan → Opportunity → Channel → Bool
@@ -155,3 +143,7 @@ IsHandedOut channel None None = Unit {0}
 IsHandedOut channel (Some frame) (Some bytes) = SpellsCanonically frame channel bytes.items
 IsHandedOut channel None (Some bytes) = ⊥
 IsHandedOut channel (Some frame) None = ⊥
+
+-- the bytes in which a frame, or none, goes to the bus
+abbrev pub bytes_of : Channel → Option Fields → Option (ArrayVec ℕ)
+bytes_of channel frame = option_map (λ f. record { items = encoded f channel }) frame

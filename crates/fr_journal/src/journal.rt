@@ -4,6 +4,7 @@ ghost use Rattle.std.specs.Prelude.{◌≡◌, ◌<◌, ◌≤◌, ◌∷◌, []
 ghost use Rattle.std.specs.Option.{option_copied};
 ghost use Rattle.fr_journal.specs.Entries.{is_host};
 ghost use Rattle.fr_journal.specs.Kept.{host_room, slot_room};
+ghost use Rattle.fr_slots.specs.Numbers.{most_host_entries, most_slot_entries, most_entries};
 
 use crate::entry::Entry;
 use std::alloc::{AllocError, Global};
@@ -36,8 +37,8 @@ impl Journal {
     ///
     /// `host` and `slot` are its limits, at most 16384 and 65536 entries. Refused where memory for them is refused.
     pub fn with_limits(alloc: Global, host: u32, slot: u32) -> Result<Journal, AllocError>
-        requires host_limit { host ≤ 16384 }
-        requires slot_limit { slot ≤ 65536 }
+        requires host_limit { host ≤ most_host_entries }
+        requires slot_limit { slot ≤ most_slot_entries }
         ensures { IfOk result (λ j. j ≡ record { host_limit = host; slot_limit = slot; entries = [] }) }
     {
         let entries = Vec::with_capacity(alloc, (host + slot) as usize)?;
@@ -90,7 +91,7 @@ impl Journal {
     #[tactic(auto, using(crate::proofs::KindLemmas::kinds_fill))]
     pub fn len(&self) -> u32
         ensures value { result ≡ length self.now.entries }
-        ensures few { result ≤ 81920 }
+        ensures few { result ≤ most_entries }
     {
         self.host_count + self.slot_count
     }

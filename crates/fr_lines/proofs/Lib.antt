@@ -1,10 +1,11 @@
-pub mod PartLemmas
-pub mod PlanPartLemmas
-pub mod WindowLemmas
-pub mod WordLemmas
-pub mod EntryLemmas
 pub mod BufferLemmas
+pub mod EntryLemmas
 pub mod NodeLemmas
 pub mod OwnLemmas
 pub mod ParameterLemmas
+pub mod PartLemmas
+pub mod PlanLineLemmas
+pub mod PlanPartLemmas
 pub mod QueueLemmas
+pub mod WindowLemmas
+pub mod WordLemmas

@@ -1,6 +1,6 @@
 -- The parts of a line that words spell. Each has one spelling.
 use Rattle.std.specs.Prelude.{ℕ, ◌-◌, ◌^◌, ◌==◌, Bool, true, false, List, codes, length, take, drop, Option, Some, None, is_none, if◌then◌else◌}
-use Rattle.fr_frame.specs.Payload.{payload_refusal}
+use Rattle.fr_frame.specs.Payload.{payload_refusal, most_payload_bytes, most_frame_bytes}
 use Rattle.std.specs.Result.{result_ok}
 use Rattle.std.specs.Str.{bytes_eq}
 use Rattle.fr_journal.specs.declared.entry.Offered.{Offered}
@@ -15,7 +15,7 @@ use Rattle.fr_slots.specs.declared.channel.Channels.TheVariants as channels
 use Rattle.fr_slots.specs.declared.filter.Filter.{Filter}
 use Rattle.fr_slots.specs.declared.plan.Mode.{Mode}
 use Rattle.fr_slots.specs.declared.plan.Mode.TheVariants as mode
-use Rattle.fr_slots.specs.Numbers.{number_within}
+use Rattle.fr_slots.specs.Numbers.{number_within, last_slot}
 use Rattle.fr_slots.specs.Windows.{Opportunity, static_window, dynamic_window}
 use Rattle.fr_status.specs.declared.seen.Seen.{Seen}
 use Rattle.fr_status.specs.declared.seen.Seen.TheVariants as seen
@@ -26,7 +26,7 @@ use Rattle.fr_text.specs.Reading.{◌>>=◌, number_in, bytes_in}
 unfoldable pub slot_in : List ℕ → Option ℕ
 slot_in word = do
   n ← number_in 2048 word
-  number_within 1 2047 n
+  number_within 1 last_slot n
 
 -- a slot or none
 unfoldable pub optional_slot_in : List ℕ → Option (Option ℕ)
@@ -81,7 +81,7 @@ payload_from bytes = if is_none (payload_refusal bytes) then Some bytes else Non
 
 unfoldable pub payload_in : List ℕ → Option (List ℕ)
 payload_in word = do
-  bytes ← bytes_in 254 word
+  bytes ← bytes_in most_payload_bytes word
   payload_from bytes
 
 -- ---- where a frame comes from
@@ -117,7 +117,7 @@ offered_in word =
 
 unfoldable pub seen_bytes_in : List ℕ → Option Seen
 seen_bytes_in word = do
-  bytes ← bytes_in 262 word
+  bytes ← bytes_in most_frame_bytes word
   Some (seen.Bytes (record { items = bytes }))
 
 unfoldable pub seen_in : List ℕ → Option Seen

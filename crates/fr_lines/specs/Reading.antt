@@ -1,9 +1,11 @@
 -- What the words of a line spell, for the lines that are read.
-use Rattle.std.specs.Prelude.{ℕ, ◌^◌, ℤ, pos, false, List, [], ◌∷◌, codes, Option, Some, None, if◌then◌else◌}
+use Rattle.std.specs.Prelude.{ℕ, ◌^◌, ℤ, pos, false, List, [], ◌∷◌, codes, Option, Some, None, option_map, if◌then◌else◌}
 use Rattle.std.specs.Result.{result_ok}
 use Rattle.std.specs.Str.{bytes_eq}
 use Rattle.fr_journal.specs.declared.entry.Entry.{Entry}
 use Rattle.fr_journal.specs.declared.entry.Entry.TheVariants.{Commit, Read, Pop, Fetch, Observe}
+use Rattle.fr_lines.specs.declared.plan_lines.PlanLine.{PlanLine}
+use Rattle.fr_lines.specs.declared.plan_lines.PlanLine.TheVariants as plan_line
 use Rattle.fr_lines.specs.PartReading.{slot_in, channels_in, cycles_in, filter_in, flag_in, mode_in, size_in, payload_in, from_in, offered_in, seen_in, window_in}
 use Rattle.fr_slots.specs.declared.plan.Buffer.{Buffer}
 use Rattle.fr_slots.specs.declared.plan.Mode.TheVariants.{Receive}
@@ -130,6 +132,17 @@ reception_in words = None
 unfoldable pub queue_in : List (List ℕ) → Option Queue
 queue_in [] = None
 queue_in (kind ∷ words) = if bytes_eq kind (codes "queue") then reception_in words else None
+
+-- ---- a line of the plan behind its first: an ownership line, a buffer or the queue, by its first word
+
+unfoldable pub plan_line_in : List (List ℕ) → Option PlanLine
+plan_line_in [] = None
+plan_line_in (kind ∷ words) =
+    if bytes_eq kind (codes "own") then option_map plan_line.Own (ownership_in words)
+    else if bytes_eq kind (codes "tx") then option_map plan_line.Buffer (transmit_in words)
+    else if bytes_eq kind (codes "rx") then option_map plan_line.Buffer (receive_in words)
+    else if bytes_eq kind (codes "queue") then option_map plan_line.Queue (reception_in words)
+    else None
 
 -- ---- entries
 

@@ -12,7 +12,7 @@ use fr_text::words::Words;
 
 /// The transmit buffer that the words spell.
 #[tactic(auto, unfolding(crate::specs::Reading::transmit_in))]
-fn transmit_of(words: &mut Words<'_>) -> Option<Buffer>
+pub(crate) fn transmit_of(words: &mut Words<'_>) -> Option<Buffer>
     ensures { result ≡ transmit_in words.old }
 {
     let mode = words.next_word()?;
@@ -39,7 +39,7 @@ fn transmit_of(words: &mut Words<'_>) -> Option<Buffer>
 
 /// The receive buffer that the words spell.
 #[tactic(auto, unfolding(crate::specs::Reading::receive_in))]
-fn receive_of(words: &mut Words<'_>) -> Option<Buffer>
+pub(crate) fn receive_of(words: &mut Words<'_>) -> Option<Buffer>
     ensures { result ≡ receive_in words.old }
 {
     let slot = words.next_word()?;

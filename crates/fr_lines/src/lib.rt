@@ -2,6 +2,16 @@
 //!
 //! A line is given without its line feed, and is cut at each space into words. Each thing has one spelling: a number
 //! is decimal without sign and leading zeros, and `-` stands where there is nothing.
+//!
+//! ```text
+//! let entry = entry_of(b"read 0 1 12:A")?; // none where the line is no entry
+//! write_entry(&mut out, &entry)?; // the same line, with its line feed
+//! let plan = node_of(b"node 1 0 0 256 4096")?;
+//! let buffer = buffer_of(b"rx 2 AB 0 1")?;
+//! ```
+//!
+//! A chapter in parentheses is one of the FlexRay Protocol Specification 2.1, revision A, whose rule it is.
+//! *(own profile)* marks a rule of this project's own, which says nothing of the standard.
 #![tactic(auto)]
 
 pub mod buffers;
@@ -10,7 +20,6 @@ pub mod nodes;
 pub mod owned;
 pub mod parameters;
 mod parts;
+pub mod plan_lines;
 pub mod queues;
-#[cfg(test)]
-mod tests;
 pub mod writing;

@@ -19,7 +19,7 @@ fn fitting(own: Own) -> Option<Own>
 
 /// The ownership line that the words spell.
 #[tactic(auto, unfolding(crate::specs::Reading::ownership_in))]
-fn ownership_of(words: &mut Words<'_>) -> Option<Own>
+pub(crate) fn ownership_of(words: &mut Words<'_>) -> Option<Own>
     ensures { result ≡ ownership_in words.old }
 {
     let slot = words.next_word()?;

@@ -3,7 +3,8 @@ ghost use Rattle.std.specs.Prelude.{◌≡◌, ◌<◌, ◌^◌};
 ghost use Rattle.fr_text.specs.Reading.{number_in};
 ghost use Rattle.fr_lines.specs.PartReading.{slot_in, optional_slot_in, channels_in, cycles_in, filter_in, flag_in, mode_in, size_in, payload_in, channel_in, origin_in, from_in, offered_in, seen_bytes_in, seen_in, same_slot, window_of, window_in};
 
-use fr_frame::payload::Payload;
+use fr_frame::frame::FRAME_BYTES;
+use fr_frame::payload::{PAYLOAD_BYTES, Payload};
 use fr_journal::entry::{Offered, Origin};
 use fr_slots::channel::{Channel, Channels};
 use fr_slots::filter::{CycleFilter, Filter};
@@ -134,7 +135,7 @@ pub(crate) fn size_of(word: &[u8]) -> Option<Option<u8>>
 pub(crate) fn payload_of(word: &[u8]) -> Option<Payload>
     ensures { result ≡ payload_in word.now }
 {
-    let bytes = bytes_of::<254>(word)?;
+    let bytes = bytes_of::<PAYLOAD_BYTES>(word)?;
     Payload::from_slice(bytes.as_slice()).ok()
 }
 
@@ -198,7 +199,7 @@ pub(crate) fn offered_of(word: &[u8]) -> Option<Offered>
 fn seen_bytes_of(word: &[u8]) -> Option<Seen>
     ensures { result ≡ seen_bytes_in word.now }
 {
-    let bytes = bytes_of::<262>(word)?;
+    let bytes = bytes_of::<FRAME_BYTES>(word)?;
     Some(Seen::Bytes(bytes))
 }
 

@@ -24,7 +24,7 @@ fn fitting(queue: Queue) -> Option<Queue>
 
 /// The queue that the words spell.
 #[tactic(auto, unfolding(crate::specs::Reading::reception_in))]
-fn reception_of(words: &mut Words<'_>) -> Option<Queue>
+pub(crate) fn reception_of(words: &mut Words<'_>) -> Option<Queue>
     ensures { result ≡ reception_in words.old }
 {
     let capacity = words.next_word()?;

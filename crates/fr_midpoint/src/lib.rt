@@ -1,7 +1,15 @@
 //! The fault-tolerant midpoint of measured deviations (chapter 8).
+//!
+//! ```text
+//! let answer = midpoint(&[15, 13, 11, 6, -3, -5, -18])?;
+//! if let Some(found) = answer {
+//!     // found.value is 4, half of what the values of ranks 2 and 6 add up to
+//! }
+//! ```
+//!
+//! A chapter in parentheses is one of the FlexRay Protocol Specification 2.1, revision A, whose rule it is.
+//! *(own profile)* marks a rule of this project's own, which says nothing of the standard.
 #![tactic(auto)]
 
 pub mod midpoint;
 pub mod ranks;
-#[cfg(test)]
-mod tests;

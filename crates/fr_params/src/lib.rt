@@ -1,7 +1,16 @@
 //! The parameters of a cluster, read from the table `params` of a cluster file.
+//!
+//! ```text
+//! let table = toml::table_from_str(alloc, text)?;
+//! match from_table(&table) {
+//!     Ok(params) => println!(rt; "{} static slots", params.static_slots)?,
+//!     Err(error) => eprintln!(rt; "{error}")?, // the first key at fault, or the sum
+//! }
+//! ```
+//!
+//! A chapter in parentheses is one of the FlexRay Protocol Specification 2.1, revision A, whose rule it is.
+//! *(own profile)* marks a rule of this project's own, which says nothing of the standard.
 #![tactic(auto)]
 
 pub mod error;
 pub mod table;
-#[cfg(test)]
-mod tests;

@@ -22,9 +22,9 @@ use Rattle.fr_slots.specs.declared.plan.Buffer.{Buffer}
 use Rattle.fr_slots.specs.Admission.{includes, cycle_admitted}
 use Rattle.fr_slots.specs.Faults as plan
 use Rattle.fr_slots.specs.Faults.{buffer_fault as sending_fault}
-use Rattle.fr_slots.specs.Faults.{first_of, two_pass, slots, channels, cycles, claims, sends_at, is_owned, is_static_slot, transmits, not_owned, dynamic_both, too_long, is_out_of_params, out_of_params, ownership_fault, plan_fault}
+use Rattle.fr_slots.specs.Faults.{first_of, two_pass, slots, channels, cycles, claims, sends_at, is_owned, transmits, not_owned, dynamic_both, too_long, is_out_of_params, out_of_params, ownership_fault, plan_fault}
 use Rattle.fr_slots.specs.Numbers.{IsSlot}
-use Rattle.fr_slots.specs.Parameters.{Parameters, IsParameters}
+use Rattle.fr_slots.specs.Parameters.{Parameters, IsParameters, is_static_slot}
 use Rattle.fr_slots.specs.Plans.{Plan, IsPlan, IsOwn, IsBuffer, Each, filter_admits}
 
 -- ---- each of a list
@@ -240,3 +240,7 @@ cluster_is d params some few lawful fit free =
       nodes_are = nodes_are d.params d.plans lawful fit none;
       one_sender = one_sender d lawful none;
     }
+
+-- the plan of each of its nodes is without fault
+pub node_faultless : (d : Description) → IsCluster d → (n : ℕ) (plan : Plan) → slice_get d.plans n ≡ Some plan → plan_fault d.params plan ≡ None
+node_faultless d lawful n plan at = (each_at (IsNode d.params) d.plans n plan lawful.nodes_are at).1

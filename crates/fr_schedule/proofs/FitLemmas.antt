@@ -18,8 +18,8 @@ use Rattle.fr_slots.specs.declared.plan.Buffer.{Buffer}
 use Rattle.fr_slots.specs.declared.plan.Mode.{Mode}
 use Rattle.fr_slots.specs.declared.plan.PlanError.{PlanError}
 use Rattle.fr_slots.specs.declared.filter.Filter.{Filter}
-use Rattle.fr_slots.specs.Faults.{is_static_slot, has_wrong_words, is_owned_beyond, is_out_of_params}
-use Rattle.fr_slots.specs.Parameters.{Parameters, unsigned}
+use Rattle.fr_slots.specs.Faults.{has_wrong_words, is_owned_beyond, is_out_of_params}
+use Rattle.fr_slots.specs.Parameters.{Parameters, unsigned, is_static_slot}
 use Rattle.fr_slots.specs.Plans.{Plan, limits_fit, empty_plan, own_fits, buffer_fits, is_receive, Each}
 use Rattle.toml.specs.Data.{Data, Members, get_member, as_integer, as_table}
 

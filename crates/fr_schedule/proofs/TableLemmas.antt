@@ -4,7 +4,7 @@ use Rattle.std.proofs.lemmas.List.{length-map}
 use Rattle.std.proofs.lemmas.List.Folds.{list_all-map}
 use Rattle.std.specs.List.{list_all}
 use Rattle.fr_schedule.specs.TableReading.{values_of, is_table, are_tables, few_tables}
-use Rattle.fr_slots.specs.Plans.{most_lines}
+use Rattle.fr_slots.specs.Numbers.{most_lines}
 use Rattle.toml.specs.Data.{Data}
 use Rattle.toml.specs.View.{view, items_of}
 use Rattle.toml.specs.declared.value.Value.{Value}

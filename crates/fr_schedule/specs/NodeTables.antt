@@ -6,8 +6,8 @@ use Rattle.fr_slots.specs.declared.plan.Buffer.{Buffer}
 use Rattle.fr_slots.specs.declared.plan.Mode.{Mode}
 use Rattle.fr_slots.specs.declared.plan.Own.{Own}
 use Rattle.fr_slots.specs.declared.plan.Queue.{Queue}
-use Rattle.fr_slots.specs.Faults.{is_static_slot}
-use Rattle.fr_slots.specs.Parameters.{Parameters}
+use Rattle.fr_slots.specs.Numbers.{last_slot, most_words, most_tasks, most_frames, most_host_entries, most_slot_entries}
+use Rattle.fr_slots.specs.Parameters.{Parameters, is_static_slot}
 use Rattle.fr_slots.specs.Plans.{Plan, plan_of, own_fits, with_queue, is_receive, queue_fits, buffer_fits}
 use Rattle.fr_schedule.specs.TableReading.{◌>>=◌, or_default, number_at, number_or, flag_at, mode_in, channels_in, cycles_in, tables_at, all_of}
 use Rattle.toml.specs.Data.{Data, Members, get_member, as_table}
@@ -36,9 +36,9 @@ own_of p value = do
 
 unfoldable pub queue_in : Members → Option Queue
 queue_in table = do
-  capacity ← number_at (codes "capacity") 1 256 table
-  first ← number_at (codes "first") 1 2047 table
-  last ← number_at (codes "last") 1 2047 table
+  capacity ← number_at (codes "capacity") 1 most_frames table
+  first ← number_at (codes "first") 1 last_slot table
+  last ← number_at (codes "last") 1 last_slot table
   channels ← channels_in table
   cycles ← cycles_in table
   checked queue_fits (record { capacity = capacity; first = first; last = last; channels = channels; cycles = cycles })
@@ -52,7 +52,7 @@ queue_of value = do
 
 unfoldable pub filter_in : Members → Option Filter
 filter_in table = do
-  slot ← number_at (codes "slot") 1 2047 table
+  slot ← number_at (codes "slot") 1 last_slot table
   channels ← channels_in table
   cycles ← cycles_in table
   Some (record { slot = slot; channels = channels; cycles = cycles })
@@ -61,7 +61,7 @@ filter_in table = do
 unfoldable pub words_in : Parameters → ℕ → Members → Option (Option ℕ)
 words_in p slot table =
     if is_static_slot p slot then Some None else do
-      words ← number_at (codes "words") 0 127 table
+      words ← number_at (codes "words") 0 most_words table
       Some (Some words)
 
 unfoldable pub transmit_buffer_in : Parameters → Mode → Filter → Members → Option Buffer
@@ -92,11 +92,11 @@ buffer_of p value = do
 -- a plan with no lines yet
 unfoldable pub limits_in : Parameters → Members → Option Plan
 limits_in p table = do
-  tasks ← number_or (codes "tasks") 0 8 1 table
+  tasks ← number_or (codes "tasks") 0 most_tasks 1 table
   latest_a ← number_or (codes "latest_a") 0 p.minislots 0 table
   latest_b ← number_or (codes "latest_b") 0 p.minislots 0 table
-  host_entries ← number_or (codes "host_entries") 1 16384 256 table
-  slot_entries ← number_or (codes "slot_entries") 2 65536 4096 table
+  host_entries ← number_or (codes "host_entries") 1 most_host_entries 256 table
+  slot_entries ← number_or (codes "slot_entries") 2 most_slot_entries 4096 table
   result_ok (plan_of tasks latest_a latest_b host_entries slot_entries)
 
 abbrev pub owning : Plan → List Own → Plan

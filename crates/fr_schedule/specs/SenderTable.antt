@@ -4,8 +4,8 @@ use Rattle.std.specs.Prelude.{◌≡◌, ℕ, ◌<◌, Bool, true, Some, slice_g
 use Rattle.std.specs.List.{list_any}
 use Rattle.fr_schedule.specs.Descriptions.{Description}
 use Rattle.fr_slots.specs.declared.channel.Channel.{Channel}
-use Rattle.fr_slots.specs.Faults.{is_owned, is_static_slot, sends_at}
-use Rattle.fr_slots.specs.Parameters.{Parameters}
+use Rattle.fr_slots.specs.Faults.{is_owned, sends_at}
+use Rattle.fr_slots.specs.Parameters.{Parameters, is_static_slot}
 use Rattle.fr_slots.specs.Plans.{Plan}
 
 -- in a static slot the owner of the slot on the channel sends, and in a dynamic slot the node with a transmit buffer that

@@ -11,7 +11,7 @@ use Rattle.fr_slots.specs.declared.plan.Mode.{Mode}
 use Rattle.fr_slots.specs.declared.plan.Mode.TheVariants as mode
 use Rattle.fr_slots.specs.Admission.{CycleClass, cycle_class}
 use Rattle.fr_slots.specs.Parameters.{unsigned}
-use Rattle.fr_slots.specs.Plans.{most_lines}
+use Rattle.fr_slots.specs.Numbers.{most_lines}
 use Rattle.toml.specs.Data.{Data, Items, no_items, item, Members, get_member, as_integer, as_bool, as_str, as_array, as_table}
 
 infixl 10 ◌>>=◌

@@ -1,20 +1,20 @@
 //! A cluster without fault.
 
-ghost use Rattle.std.specs.Prelude.{◌≡◌, ◌<◌, Err, length, option_map, position, slice_get, IfOk, IfSome, IfNone, ℕ};
+ghost use Rattle.std.specs.Prelude.{◌≡◌, ◌<◌, Err, None, length, option_map, position, slice_get, IfOk, IfSome, IfNone, ℕ};
 ghost use Rattle.std.specs.List.{list_any};
 ghost use Rattle.fr_schedule.specs.Clusters.{IsCluster};
 ghost use Rattle.fr_schedule.specs.Descriptions.{is_guarded};
 ghost use Rattle.fr_schedule.specs.SenderTable.{may_send, IsSender};
 ghost use Rattle.fr_schedule.specs.declared.error.ConfigError.TheVariants as error;
 ghost use Rattle.fr_schedule.specs.Files.{described, description_of, IsTableOf};
-ghost use Rattle.fr_slots.specs.Faults.{sends_at};
+ghost use Rattle.fr_slots.specs.Faults.{plan_fault, sends_at};
 ghost use Rattle.toml.specs.View.{table_view};
 
 use crate::error::ConfigError;
 use crate::faults::file_fault;
 use crate::file::{guard_in, nodes_in, params_in, plans_of};
 use fr_slots::channel::{Channel, Channels};
-use fr_slots::fault::{is_owned, is_static_slot, transmits};
+use fr_slots::fault::is_owned;
 use fr_slots::numbers::{Cycle, NodeId, SlotId};
 use fr_slots::params::Params;
 use fr_slots::plan::{Buffer, NodePlan};
@@ -78,7 +78,7 @@ fn cluster_of(alloc: Global, root: &Table) -> Result<Cluster, ConfigError>
 fn may_send(params: &Params, cycle: Cycle, slot: SlotId, channel: Channel, plan: &NodePlan) -> bool
     ensures { result ≡ may_send params.now cycle slot channel plan.now }
 {
-    if is_static_slot(params, slot) {
+    if params.is_static(slot) {
         is_owned(plan.owned(), slot, channel)
     } else {
         any_sends_at(plan.buffers(), cycle, slot, channel)
@@ -98,7 +98,7 @@ fn any_sends_at(buffers: &[Buffer], cycle: Cycle, slot: SlotId, channel: Channel
 fn sends_at(buffer: &Buffer, cycle: Cycle, slot: SlotId, channel: Channel) -> bool
     ensures { result ≡ sends_at slot channel cycle buffer.now }
 {
-    transmits(buffer) && buffer.filter.admits(cycle, slot, channel)
+    buffer.transmits() && buffer.filter.admits(cycle, slot, channel)
 }
 
 /// The number of the first plan whose node sends in the slot on the channel in the cycle.
@@ -170,6 +170,7 @@ impl Cluster {
     pub fn node(&self, node: NodeId) -> Option<&NodePlan>
         ensures value { option_map (λ plan. plan.now) result ≡ slice_get self.now.plans node }
         ensures lawful { IsCluster self.now }
+        ensures faultless { IfSome result (λ plan. plan_fault self.now.params plan.now ≡ None) }
     {
         self.plans.get(usize::from(node.number()))
     }

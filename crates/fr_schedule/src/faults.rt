@@ -10,9 +10,7 @@ ghost use Rattle.fr_slots.specs.Sharing.{own_filters, transmit_filters};
 use crate::error::ConfigError;
 use crate::file::node_of;
 use arrayvec::ArrayVec;
-use fr_slots::fault::{
-    dynamic_both_number, not_owned_number, own_filters, too_long_number, transmit_filters,
-};
+use fr_slots::fault::{own_filters, transmit_filters};
 use fr_slots::filter::Filter;
 use fr_slots::numbers::NodeId;
 use fr_slots::params::Params;
@@ -85,24 +83,24 @@ fn first_overlap(plans: &[NodePlan]) -> Option<ConfigError>
 fn not_owned_in(params: &Params, node: NodeId, plan: &NodePlan) -> Option<ConfigError>
     ensures { result ≡ not_owned_in params.now node plan.now }
 {
-    let number = not_owned_number(params, plan.owned(), plan.buffers())?;
-    Some(ConfigError::NotOwned(node, number as u8))
+    let number = plan.first_not_owned(params)?;
+    Some(ConfigError::NotOwned(node, number))
 }
 
 /// The fault of the first dynamic buffer of the node for both channels.
 fn dynamic_both_in(params: &Params, node: NodeId, plan: &NodePlan) -> Option<ConfigError>
     ensures { result ≡ dynamic_both_in params.now node plan.now }
 {
-    let number = dynamic_both_number(params, plan.buffers())?;
-    Some(ConfigError::DynamicBoth(node, number as u8))
+    let number = plan.first_dynamic_both(params)?;
+    Some(ConfigError::DynamicBoth(node, number))
 }
 
 /// The fault of the first dynamic buffer of the node whose frame would end behind the dynamic segment.
 fn too_long_in(params: &Params, node: NodeId, plan: &NodePlan) -> Option<ConfigError>
     ensures { result ≡ too_long_in params.now node plan.now }
 {
-    let number = too_long_number(params, plan, plan.buffers())?;
-    Some(ConfigError::TooLong(node, number as u8))
+    let number = plan.first_too_long(params)?;
+    Some(ConfigError::TooLong(node, number))
 }
 
 /// The fault of the node's first buffer that doesn't keep the rule.

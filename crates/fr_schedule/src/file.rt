@@ -6,6 +6,7 @@ ghost use Rattle.fr_params.specs.Table.{parameters_in};
 ghost use Rattle.fr_schedule.specs.declared.error.ConfigError.TheVariants as error;
 ghost use Rattle.fr_schedule.specs.Files.{params_table, params_in, guard_named, guard_in, nodes_in, each_of};
 ghost use Rattle.fr_schedule.specs.Files.{buffer_read, with_buffers_of, plan_of};
+ghost use Rattle.fr_slots.specs.Numbers.{most_lines};
 ghost use Rattle.fr_slots.specs.Plans.{buffer_fits, IsPlan, Each};
 ghost use Rattle.toml.specs.View.{view, table_view};
 
@@ -123,7 +124,7 @@ fn with_buffers_of(
     values: &[Value],
     plan: NodePlan,
 ) -> Result<NodePlan, ConfigError>
-    requires few { length values.now ≤ 64 }
+    requires few { length values.now ≤ most_lines }
     requires none_yet { plan.buffers ≡ [] }
     ensures { result ≡ with_buffers_of params.now node (map view values.now) plan }
 {

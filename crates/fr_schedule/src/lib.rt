@@ -1,5 +1,15 @@
 //! A cluster as its file describes it: its parameters, the plans of its nodes, the guarded channels, and the sender
 //! table that these give.
+//!
+//! ```text
+//! let cluster = Cluster::from_text(alloc, text)?;
+//! let nodes = cluster.nodes(); // 1 to 16
+//! let sender = cluster.sender(cycle, slot, Channel::A); // one node at the most
+//! let plan = cluster.node(node)?;
+//! ```
+//!
+//! A chapter in parentheses is one of the FlexRay Protocol Specification 2.1, revision A, whose rule it is.
+//! *(own profile)* marks a rule of this project's own, which says nothing of the standard.
 #![tactic(auto)]
 
 pub mod cluster;
@@ -8,5 +18,3 @@ mod faults;
 mod file;
 mod node;
 mod table;
-#[cfg(test)]
-mod tests;

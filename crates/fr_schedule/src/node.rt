@@ -5,21 +5,30 @@ ghost use Rattle.fr_schedule.specs.TableReading.{all_of};
 ghost use Rattle.fr_schedule.specs.NodeTables.{own_in, own_of, queue_in, queue_of, filter_in, words_in};
 ghost use Rattle.fr_schedule.specs.NodeTables.{transmit_buffer_in, buffer_by, buffer_in, buffer_of};
 ghost use Rattle.fr_schedule.specs.NodeTables.{limits_in, owning, with_owned_in, with_queue_in, head_in};
+ghost use Rattle.fr_slots.specs.Numbers.{most_lines};
 ghost use Rattle.fr_slots.specs.Plans.{own_fits, queue_fits, buffer_fits, with_queue};
 ghost use Rattle.toml.specs.View.{view, table_view};
 
 use crate::table::{
     channels_in, cycles_in, flag_at, mode_in, number_at, number_or, slot_at, tables_at, value_under,
 };
-use fr_slots::fault::is_static_slot;
 use fr_slots::filter::Filter;
-use fr_slots::numbers::SlotId;
-use fr_slots::params::Params;
-use fr_slots::plan::{Buffer, Mode, NodePlan, Own, Queue, buffer_fits, own_fits, queue_fits};
+use fr_slots::numbers::{LAST_SLOT, SlotId, TASKS};
+use fr_slots::params::{MOST_WORDS, Params};
+use fr_slots::plan::{
+    Buffer, FRAMES, HOST_ENTRIES, Mode, NodePlan, Own, Queue, SLOT_ENTRIES, buffer_fits, own_fits,
+    queue_fits,
+};
 use toml::{Table, Value};
 
-/// The greatest slot (chapter 5).
-const LAST_SLOT: u16 = 2047;
+// The greatest numbers that may stand in a table, as wide as those that are read.
+const MOST_TASKS: u32 = TASKS as u32;
+
+const MOST_FRAMES: u32 = FRAMES as u32;
+
+const MOST_HOST_ENTRIES: u32 = HOST_ENTRIES as u32;
+
+const LARGEST_PAYLOAD: u32 = MOST_WORDS as u32;
 
 /// The ownership line that the table gives.
 #[tactic(auto, unfolding(crate::specs::NodeTables::own_in))]
@@ -56,7 +65,7 @@ fn queue_in(table: &Table) -> Option<Queue>
     ensures value { result ≡ queue_in (table_view table.now) }
     ensures fits { IfSome result (λ queue. queue_fits queue ≡ true) }
 {
-    let capacity = number_at(table, "capacity", 1, 256)?;
+    let capacity = number_at(table, "capacity", 1, MOST_FRAMES)?;
     let first = slot_at(table, "first", LAST_SLOT)?;
     let last = slot_at(table, "last", LAST_SLOT)?;
     let channels = channels_in(table)?;
@@ -106,10 +115,10 @@ fn filter_in(table: &Table) -> Option<Filter>
 fn words_in(params: &Params, slot: SlotId, table: &Table) -> Option<Option<u8>>
     ensures { result ≡ words_in params.now slot (table_view table.now) }
 {
-    if is_static_slot(params, slot) {
+    if params.is_static(slot) {
         return Some(None);
     }
-    let words = number_at(table, "words", 0, 127)?;
+    let words = number_at(table, "words", 0, LARGEST_PAYLOAD)?;
     Some(Some(words as u8))
 }
 
@@ -181,11 +190,11 @@ fn limits_in(params: &Params, table: &Table) -> Option<NodePlan>
     ensures no_queue { IfSome result (λ plan. plan.queue ≡ None) }
 {
     let minislots = u32::from(params.minislots);
-    let tasks = number_or(table, "tasks", 0, 8, 1)?;
+    let tasks = number_or(table, "tasks", 0, MOST_TASKS, 1)?;
     let latest_a = number_or(table, "latest_a", 0, minislots, 0)?;
     let latest_b = number_or(table, "latest_b", 0, minislots, 0)?;
-    let host_entries = number_or(table, "host_entries", 1, 16384, 256)?;
-    let slot_entries = number_or(table, "slot_entries", 2, 65536, 4096)?;
+    let host_entries = number_or(table, "host_entries", 1, MOST_HOST_ENTRIES, 256)?;
+    let slot_entries = number_or(table, "slot_entries", 2, SLOT_ENTRIES, 4096)?;
     let latest = [latest_a as u16, latest_b as u16];
     match NodePlan::new(tasks as u8, latest, host_entries as u16, slot_entries) {
         Ok(plan) => Some(plan),
@@ -195,7 +204,7 @@ fn limits_in(params: &Params, table: &Table) -> Option<NodePlan>
 
 /// The plan with the ownership lines that the values give.
 fn owning(params: &Params, lines: &[Value], plan: NodePlan) -> Option<NodePlan>
-    requires few { length lines.now ≤ 64 }
+    requires few { length lines.now ≤ most_lines }
     requires none_yet { plan.owned ≡ [] }
     ensures { result ≡ option_map (owning plan) (all_of (own_of params.now) (map view lines.now)) }
 {

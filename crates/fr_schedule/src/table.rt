@@ -2,7 +2,7 @@
 
 ghost use Rattle.std.specs.Prelude.{◌≡◌, ◌≤◌, ◌<◌, length, map, option_map, option_copied, IfSome, IsTrue};
 ghost use Rattle.std.specs.Prelude.{nat_le, ◌&&◌};
-ghost use Rattle.fr_slots.specs.Plans.{most_lines};
+ghost use Rattle.fr_slots.specs.Numbers.{last_slot, most_lines};
 ghost use Rattle.std.specs.List.{list_all};
 ghost use Rattle.fr_schedule.specs.TableReading.{number_in, number_at, number_or, flag_at, word_at};
 ghost use Rattle.fr_schedule.specs.TableReading.{channels_named, mode_named, channels_in, mode_in, cycles_in};
@@ -70,7 +70,7 @@ pub(crate) fn number_or(
 
 /// The slot under a key that has to be there, up to the greatest one.
 pub(crate) fn slot_at(table: &Table, name: &str, greatest: u16) -> Option<SlotId>
-    requires { greatest ≤ 2047 }
+    requires { greatest ≤ last_slot }
     ensures { result ≡ number_at name.now 1 greatest (table_view table.now) }
 {
     let number = number_at(table, name, 1, u32::from(greatest))?;
@@ -183,7 +183,7 @@ fn are_tables(values: &[Value]) -> bool
 /// Whether these are at most 64 tables.
 fn are_few_tables(values: &[Value]) -> bool
     ensures value { result ≡ (nat_le (length values.now) most_lines && list_all (λ value. is_table (view value)) values.now) }
-    ensures few { IsTrue result → length values.now ≤ 64 }
+    ensures few { IsTrue result → length values.now ≤ most_lines }
 {
     values.len() <= LINES && are_tables(values)
 }
@@ -192,7 +192,7 @@ fn are_few_tables(values: &[Value]) -> bool
 #[tactic(auto, using(crate::proofs::TableLemmas::few_tables_seen), unfolding(crate::specs::TableReading::tables_in))]
 fn tables_in(value: &Value) -> Option<&[Value]>
     ensures value { option_map (λ values. map view values.now) result ≡ tables_in (view value.now) }
-    ensures few { IfSome result (λ values. length values.now ≤ 64) }
+    ensures few { IfSome result (λ values. length values.now ≤ most_lines) }
 {
     let values = array_in(value)?;
     if are_few_tables(values) {
@@ -206,7 +206,7 @@ fn tables_in(value: &Value) -> Option<&[Value]>
 #[tactic(auto, unfolding(crate::specs::TableReading::tables_at))]
 pub(crate) fn tables_at<'a>(table: &'a Table, name: &str) -> Option<&'a [Value]>
     ensures value { option_map (λ values. map view values.now) result ≡ tables_at name.now (table_view table.now) }
-    ensures few { IfSome result (λ values. length values.now ≤ 64) }
+    ensures few { IfSome result (λ values. length values.now ≤ most_lines) }
 {
     match value_under(table, name) {
         Some(value) => tables_in(value),

@@ -12,9 +12,9 @@ use Rattle.fr_slots.specs.declared.fault.PlanFault.{PlanFault}
 use Rattle.fr_slots.specs.declared.fault.PlanFault.TheVariants.{OutOfParams, SlotTaken, NotOwned, DynamicBoth, Overlap, TooLong}
 use Rattle.fr_slots.specs.declared.plan.Buffer.{Buffer}
 use Rattle.fr_slots.specs.Admission.{includes}
-use Rattle.fr_slots.specs.Faults.{two_pass, first_of, channels, slots, claims, is_owned, sends_at, is_static_slot, transmits_static, transmits_dynamic, words_of, latest_on, minislots_filled, has_wrong_words, is_owned_beyond, has_late_latest, is_out_of_params, out_of_params, taken_at, taken_in, first_taken, first_buffer, is_unowned_on, not_owned, dynamic_both, overlap_at, overlap_on, overlap_in, first_overlap, ends_late, ends_late_on, too_long, ownership_fault, buffer_fault, plan_fault, HasOneSender, HasOneOwner, FitsStatic, FitsDynamic, IsFaultless}
+use Rattle.fr_slots.specs.Faults.{two_pass, first_of, channels, slots, claims, is_owned, sends_at, transmits_static, transmits_dynamic, words_of, latest_on, minislots_filled, has_wrong_words, is_owned_beyond, has_late_latest, is_out_of_params, out_of_params, taken_at, taken_in, first_taken, first_buffer, is_unowned_on, not_owned, dynamic_both, overlap_at, overlap_on, overlap_in, first_overlap, ends_late, ends_late_on, too_long, ownership_fault, buffer_fault, plan_fault, HasOneSender, HasOneOwner, FitsStatic, FitsDynamic, IsFaultless}
 use Rattle.fr_slots.specs.Numbers.{IsSlot}
-use Rattle.fr_slots.specs.Parameters.{Parameters}
+use Rattle.fr_slots.specs.Parameters.{Parameters, is_static_slot}
 use Rattle.fr_slots.specs.Plans.{Plan}
 use Rattle.fr_slots.proofs.FaultLemmas.{first-none}
 

@@ -1,13 +1,16 @@
--- Cycle filters of small numbers, and frames that end too late.
-use Rattle.std.proofs.Common.{◌≡◌, ℕ, zero, suc, ◌+◌, ◌%◌, Bool, true, false, ◌&&◌, List, [], ◌∷◌, refl}
-use Rattle.std.specs.List.{list_any}
-use Rattle.std.specs.Prelude.{Err, Some, None}
+-- Cycle filters of small numbers, frames that end too late, the ranges of parameters, and windows.
+use Rattle.std.proofs.Common.{◌≡◌, ℕ, zero, suc, ◌+◌, ◌-◌, ◌%◌, Bool, true, false, ◌&&◌, List, [], ◌∷◌, map, refl}
+use Rattle.std.specs.List.{list_any, list_all}
+use Rattle.std.specs.Prelude.{Err, Option, Some, None, pos, negsuc}
 use Rattle.fr_slots.specs.declared.channel.Channel.TheVariants as channel
 use Rattle.fr_slots.specs.declared.filter.FilterError.TheVariants.{RepetitionNotPower, BaseTooLarge}
 use Rattle.fr_slots.specs.Admission.{CycleClass, cycle_class, cycle_admitted}
 use Rattle.fr_slots.specs.Faults.{first_of, numbers_from, first_common, ends_late}
-use Rattle.fr_slots.specs.Parameters.{Parameters}
+use Rattle.fr_slots.specs.declared.params.Key.{Key}
+use Rattle.fr_slots.specs.declared.params.Key.TheVariants.{StaticSlots, Minislots, StaticWords, StaticMt, MinislotMt, SymbolMt, NitMt, CycleMt, Idle, WordsPerMinislot}
+use Rattle.fr_slots.specs.Parameters.{Parameters, least_of, greatest_of, admits}
 use Rattle.fr_slots.specs.Plans.{Plan, empty_plan}
+use Rattle.fr_slots.specs.Windows.{Opportunity, static_window, window_fits}
 
 -- the numbers below this one
 abbrev below : ℕ → List ℕ
@@ -56,11 +59,57 @@ small_cycle = record {
   words_per_minislot = 4;
 }
 
-abbrev plan_with_latest : ℕ → Plan
-plan_with_latest latest = empty_plan 1 latest 0 1 2
+abbrev plan_with_latest : ℕ → ℕ → Plan
+plan_with_latest latest_a latest_b = empty_plan 1 latest_a latest_b 1 2
 
 -- a frame of four words fills two minislots: from the ninth it ends in time, from the tenth too late, and with no latest
 -- minislot it never begins
-pub four_words_end_late : (ends_late small_cycle (plan_with_latest 10) 4 channel.A ≡ true) × (ends_late small_cycle (plan_with_latest 9) 4 channel.A ≡ false)
-    × (ends_late small_cycle (plan_with_latest 10) 4 channel.B ≡ false)
+pub four_words_end_late : (ends_late small_cycle (plan_with_latest 10 0) 4 channel.A ≡ true)
+    × (ends_late small_cycle (plan_with_latest 9 0) 4 channel.A ≡ false)
+    × (ends_late small_cycle (plan_with_latest 10 0) 4 channel.B ≡ false)
 four_words_end_late = (refl, refl, refl)
+
+-- each channel has a latest minislot of its own
+pub each_channel_has_its_latest : (ends_late small_cycle (plan_with_latest 0 10) 4 channel.A ≡ false)
+    × (ends_late small_cycle (plan_with_latest 0 10) 4 channel.B ≡ true)
+    × (ends_late small_cycle (plan_with_latest 10 9) 4 channel.B ≡ false)
+each_channel_has_its_latest = (refl, refl, refl)
+
+-- ---- the ranges of the parameters, in the order of a cluster file
+
+abbrev keys : List Key
+keys = StaticSlots ∷ Minislots ∷ StaticWords ∷ StaticMt ∷ MinislotMt ∷ SymbolMt ∷ NitMt ∷ CycleMt ∷ Idle ∷ WordsPerMinislot ∷ []
+
+abbrev lowest : List ℕ
+lowest = 2 ∷ 0 ∷ 0 ∷ 1 ∷ 1 ∷ 0 ∷ 1 ∷ 4 ∷ 0 ∷ 1 ∷ []
+
+abbrev highest : List ℕ
+highest = 1023 ∷ 8000 ∷ 127 ∷ 1000 ∷ 100 ∷ 1000 ∷ 1000 ∷ 20000 ∷ 2 ∷ 127 ∷ []
+
+-- these bounds are admitted, and the numbers next to them aren't
+pub twenty_bounds : (map least_of keys ≡ lowest) × (map greatest_of keys ≡ highest)
+    × (list_all (λ key. admits key (pos (least_of key)) && admits key (pos (greatest_of key))) keys ≡ true)
+    × (list_any (λ key. admits key (pos (greatest_of key + 1))) keys ≡ false)
+    × (list_any (λ key. admits key (pos (least_of key - 1))) (StaticSlots ∷ StaticMt ∷ MinislotMt ∷ NitMt ∷ CycleMt ∷ WordsPerMinislot ∷ []) ≡ false)
+    × (list_any (λ key. admits key (negsuc 0)) keys ≡ false)
+twenty_bounds = (refl, refl, refl, refl, refl, refl)
+
+-- ---- windows of the small cycle, which has static slots 1 to 3 and ten minislots
+
+abbrev at_minislot : ℕ → ℕ → Option ℕ → Opportunity
+at_minislot minislot a b = record { number = 0; cycle = 0; minislot = minislot; a = Some a; b = b }
+
+-- the last static slot is one, the next slot is not
+pub static_windows_end_at_the_last_slot : (window_fits small_cycle (static_window 0 0 3) ≡ true) × (window_fits small_cycle (static_window 0 0 4) ≡ false)
+static_windows_end_at_the_last_slot = (refl, refl)
+
+-- minislots are numbered from 1, so there is the tenth and no eleventh
+pub dynamic_windows_end_at_the_last_minislot : (window_fits small_cycle (at_minislot 10 13 (Some 13)) ≡ true)
+    × (window_fits small_cycle (at_minislot 11 14 (Some 14)) ≡ false)
+dynamic_windows_end_at_the_last_minislot = (refl, refl)
+
+-- a dynamic window has no static slot, on neither channel
+pub no_static_slot_in_a_dynamic_window : (window_fits small_cycle (at_minislot 1 4 None) ≡ true)
+    × (window_fits small_cycle (at_minislot 1 3 (Some 4)) ≡ false)
+    × (window_fits small_cycle (at_minislot 1 4 (Some 3)) ≡ false)
+no_static_slot_in_a_dynamic_window = (refl, refl, refl)

@@ -13,6 +13,13 @@ abbrev pub letter_of : Channel → List ℕ
 letter_of channel.A = codes "A"
 letter_of channel.B = codes "B"
 
+-- these two are one channel
+abbrev pub is_channel : Channel → Channel → Bool
+is_channel channel.A channel.A = true
+is_channel channel.A channel.B = false
+is_channel channel.B channel.A = false
+is_channel channel.B channel.B = true
+
 -- the channel is among them
 abbrev pub includes : Channels → Channel → Bool
 includes channels.Both channel = true

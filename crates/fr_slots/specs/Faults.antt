@@ -11,8 +11,8 @@ use Rattle.fr_slots.specs.declared.plan.Buffer.{Buffer}
 use Rattle.fr_slots.specs.declared.fault.PlanFault.{PlanFault}
 use Rattle.fr_slots.specs.declared.fault.PlanFault.TheVariants.{OutOfParams, SlotTaken, NotOwned, DynamicBoth, Overlap, TooLong}
 use Rattle.fr_slots.specs.Admission.{CycleClass, cycle_admitted, includes}
-use Rattle.fr_slots.specs.Numbers.{IsSlot}
-use Rattle.fr_slots.specs.Parameters.{Parameters}
+use Rattle.fr_slots.specs.Numbers.{IsSlot, last_slot, cycle_count}
+use Rattle.fr_slots.specs.Parameters.{Parameters, is_static_slot}
 use Rattle.fr_slots.specs.Plans.{Plan, filter_admits, is_receive}
 
 -- ---- the first of a list, and two of a list
@@ -35,13 +35,13 @@ module _ {X : Type 0} where
 
 -- every slot, every channel and every cycle, in order
 abbrev pub slots : List ℕ
-slots = numbers_from 1 2047
+slots = numbers_from 1 last_slot
 
 abbrev pub channels : List Channel
 channels = A ∷ B ∷ []
 
 abbrev pub cycles : List ℕ
-cycles = numbers_from 0 64
+cycles = numbers_from 0 cycle_count
 
 -- ---- cycles that two filters have in common
 
@@ -69,9 +69,6 @@ transmits b = not (is_receive b.mode)
 -- the buffer is a transmit buffer and admits the slot on the channel in the cycle
 abbrev pub sends_at : ℕ → Channel → ℕ → Buffer → Bool
 sends_at slot channel cycle b = transmits b && filter_admits b.filter cycle slot channel
-
-abbrev pub is_static_slot : Parameters → ℕ → Bool
-is_static_slot p slot = nat_le slot p.static_slots
 
 -- a transmit buffer in a static slot, and one in a dynamic slot
 abbrev pub transmits_static : Parameters → Buffer → Bool
@@ -185,7 +182,7 @@ pub record IsSender (plan : Plan) (slot : ℕ) (channel : Channel) (cycle : ℕ)
 
 -- at most one transmit buffer admits a slot on a channel in a cycle
 abbrev pub HasOneSender : Plan → Type 0
-HasOneSender plan = (slot : ℕ) (channel : Channel) (cycle m n : ℕ) (b c : Buffer) → cycle < 64 → IsSlot slot
+HasOneSender plan = (slot : ℕ) (channel : Channel) (cycle m n : ℕ) (b c : Buffer) → cycle < cycle_count → IsSlot slot
     → IsSender plan slot channel cycle m b → IsSender plan slot channel cycle n c → m ≡ n
 
 -- at most one ownership line is for a slot on a channel

@@ -1,10 +1,11 @@
 -- The ten parameters of a cluster, their ranges, and how they add up.
-use Rattle.std.specs.Prelude.{◌≡◌, ℕ, ◌+◌, ◌*◌, ◌≤◌, ◌==◌, ℤ, pos, Bool, ◌&&◌, List, codes, slice_index_or, Result, Ok, Err, if◌then◌else◌}
+use Rattle.std.specs.Prelude.{◌≡◌, ℕ, ◌+◌, ◌*◌, ◌≤◌, ◌==◌, nat_le, ℤ, pos, Bool, ◌&&◌, List, codes, slice_index_or, Result, Ok, Err, if◌then◌else◌}
 use Rattle.std.specs.Int.Signed.{le_z}
 use Rattle.fr_slots.specs.declared.params.Key.{Key}
 use Rattle.fr_slots.specs.declared.params.Key.TheVariants.{StaticSlots, Minislots, StaticWords, StaticMt, MinislotMt, SymbolMt, NitMt, CycleMt, Idle, WordsPerMinislot}
 use Rattle.fr_slots.specs.declared.params.RangeError.{RangeError}
 use Rattle.fr_slots.specs.declared.params.RangeError.TheVariants.{OutOfRange, CycleSum}
+use Rattle.fr_slots.specs.Numbers.{last_static_slot, last_minislot, most_words}
 
 pub record Parameters : Type 0 where
   pub static_slots : ℕ
@@ -47,16 +48,16 @@ least_of Idle = 0
 least_of WordsPerMinislot = 1
 
 abbrev pub greatest_of : Key → ℕ
-greatest_of StaticSlots = 1023
-greatest_of Minislots = 8000
-greatest_of StaticWords = 127
+greatest_of StaticSlots = last_static_slot
+greatest_of Minislots = last_minislot
+greatest_of StaticWords = most_words
 greatest_of StaticMt = 1000
 greatest_of MinislotMt = 100
 greatest_of SymbolMt = 1000
 greatest_of NitMt = 1000
 greatest_of CycleMt = 20000
 greatest_of Idle = 2
-greatest_of WordsPerMinislot = 127
+greatest_of WordsPerMinislot = most_words
 
 -- the number is in the key's range
 abbrev pub admits : Key → ℤ → Bool
@@ -85,6 +86,12 @@ pub record IsParameters (p : Parameters) : Type 0 where
   pub idle_fit : IsWithin Idle p.idle
   pub words_per_minislot_fit : IsWithin WordsPerMinislot p.words_per_minislot
   pub fills_the_cycle : macroticks_of p ≡ p.cycle_mt
+
+-- ---- static slots
+
+-- the static slots come first (chapter 5)
+abbrev pub is_static_slot : Parameters → ℕ → Bool
+is_static_slot p slot = nat_le slot p.static_slots
 
 -- ---- ten numbers as parameters
 

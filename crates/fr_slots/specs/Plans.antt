@@ -1,5 +1,5 @@
 -- What the plan of a node may hold.
-use Rattle.std.specs.Prelude.{◌≡◌, ℕ, ◌≤◌, ◌==◌, nat_le, not, Bool, true, false, ◌&&◌, ◌||◌, List, [], ◌∷◌, ◌++◌, length, Option, Some, None, is_some, Result, Ok, Err, if◌then◌else◌}
+use Rattle.std.specs.Prelude.{◌≡◌, ℕ, ◌≤◌, ◌==◌, nat_le, not, Bool, true, false, ◌&&◌, ◌||◌, List, [], ◌∷◌, ◌++◌, length, Option, Some, None, is_some, slice_get, Result, Ok, Err, if◌then◌else◌}
 use Rattle.fr_slots.specs.declared.channel.Channel.{Channel}
 use Rattle.fr_slots.specs.declared.filter.Filter.{Filter}
 use Rattle.fr_slots.specs.declared.plan.Own.{Own}
@@ -10,7 +10,8 @@ use Rattle.fr_slots.specs.declared.plan.Queue.{Queue}
 use Rattle.fr_slots.specs.declared.plan.PlanError.{PlanError}
 use Rattle.fr_slots.specs.declared.plan.PlanError.TheVariants.{OutOfRange, TooMany}
 use Rattle.fr_slots.specs.Admission.{includes, cycle_admitted, IsCycleClass}
-use Rattle.fr_slots.specs.Numbers.{IsSlot}
+use Rattle.fr_slots.specs.Numbers.{IsSlot, last_static_slot, last_minislot, most_words, most_tasks, most_lines, most_frames, most_host_entries, most_slot_entries}
+use Rattle.fr_slots.specs.Windows.{Opportunity, slot_of}
 
 -- slot, channel and cycle are all the filter's
 abbrev pub filter_admits : Filter → ℕ → ℕ → Channel → Bool
@@ -19,6 +20,14 @@ filter_admits f cycle slot channel = f.slot == slot && includes f.channels chann
 -- the slot is in the queue's range, and channel and cycle are the queue's
 abbrev pub queue_admits : Queue → ℕ → ℕ → Channel → Bool
 queue_admits q cycle slot channel = nat_le q.first slot && nat_le slot q.last && includes q.channels channel && cycle_admitted q.cycles cycle
+
+abbrev pub admits_slot : Filter → ℕ → Channel → Option ℕ → Bool
+admits_slot f cycle channel None = false
+admits_slot f cycle channel (Some slot) = filter_admits f cycle slot channel
+
+-- the filter admits the slot that the window has on the channel
+abbrev pub admits_window : Filter → Opportunity → Channel → Bool
+admits_window f window channel = admits_slot f window.cycle channel (slot_of window channel)
 
 -- what a node is configured to do
 pub record Plan : Type 0 where
@@ -31,18 +40,19 @@ pub record Plan : Type 0 where
   pub buffers : List Buffer
   pub queue : Option Queue
 
+-- the buffer of this number
+abbrev pub buffer_at : Plan → ℕ → Option Buffer
+buffer_at plan buffer = slice_get plan.buffers buffer
+
 -- ---- limits
 
-abbrev pub most_lines : ℕ
-most_lines = 64
-
--- no more static slots than any cluster has
+-- the slot may be a static one, and only a sync frame is a startup frame
 abbrev pub own_fits : Own → Bool
-own_fits o = nat_le o.slot 1023 && (not o.startup || o.sync)
+own_fits o = nat_le o.slot last_static_slot && (not o.startup || o.sync)
 
 abbrev pub words_fit : Option ℕ → Bool
 words_fit None = true
-words_fit (Some words) = nat_le words 127
+words_fit (Some words) = nat_le words most_words
 
 abbrev pub is_receive : Mode → Bool
 is_receive Event = false
@@ -54,7 +64,7 @@ abbrev pub buffer_fits : Buffer → Bool
 buffer_fits b = words_fit b.words && (not (is_receive b.mode) || not (is_some b.words || b.preamble))
 
 abbrev pub queue_fits : Queue → Bool
-queue_fits q = nat_le 1 q.capacity && nat_le q.capacity 256 && nat_le q.first q.last
+queue_fits q = nat_le 1 q.capacity && nat_le q.capacity most_frames && nat_le q.first q.last
 
 -- ---- ranges
 
@@ -92,13 +102,13 @@ QueueFits (Some q) = queue_fits q ≡ true
 
 -- a plan that a node may have
 pub record IsPlan (p : Plan) : Type 0 where
-  pub few_tasks : p.tasks ≤ 8
-  pub latest_a_fits : p.latest_a ≤ 8000
-  pub latest_b_fits : p.latest_b ≤ 8000
+  pub few_tasks : p.tasks ≤ most_tasks
+  pub latest_a_fits : p.latest_a ≤ last_minislot
+  pub latest_b_fits : p.latest_b ≤ last_minislot
   pub some_host_entries : 1 ≤ p.host_entries
-  pub few_host_entries : p.host_entries ≤ 16384
+  pub few_host_entries : p.host_entries ≤ most_host_entries
   pub some_slot_entries : 2 ≤ p.slot_entries
-  pub few_slot_entries : p.slot_entries ≤ 65536
+  pub few_slot_entries : p.slot_entries ≤ most_slot_entries
   pub few_owned : length p.owned ≤ most_lines
   pub owned_fit : AllFit own_fits p.owned
   pub owned_are : Each IsOwn p.owned
@@ -112,7 +122,7 @@ pub record IsPlan (p : Plan) : Type 0 where
 
 abbrev pub limits_fit : ℕ → ℕ → ℕ → ℕ → ℕ → Bool
 limits_fit tasks latest_a latest_b host slot =
-    nat_le tasks 8 && nat_le latest_a 8000 && nat_le latest_b 8000 && nat_le 1 host && nat_le host 16384 && nat_le 2 slot && nat_le slot 65536
+    nat_le tasks most_tasks && nat_le latest_a last_minislot && nat_le latest_b last_minislot && nat_le 1 host && nat_le host most_host_entries && nat_le 2 slot && nat_le slot most_slot_entries
 
 -- a plan with no lines yet
 abbrev pub empty_plan : ℕ → ℕ → ℕ → ℕ → ℕ → Plan

@@ -10,15 +10,15 @@ use Rattle.fr_slots.specs.declared.plan.Buffer.{Buffer}
 use Rattle.fr_slots.specs.declared.sharing.Occasion.{Occasion}
 use Rattle.fr_slots.specs.Admission.{includes}
 use Rattle.fr_slots.specs.Faults.{two_pass, channels, transmits}
-use Rattle.fr_slots.specs.Numbers.{IsSlot}
+use Rattle.fr_slots.specs.Numbers.{IsSlot, cycle_count}
 use Rattle.fr_slots.specs.Plans.{filter_admits}
 
 -- ---- the order of slots, then of channels, then of cycles
 
--- the place of a slot on a channel in a cycle: a slot has two channels, and a channel 64 cycles
+-- the place of a slot on a channel in a cycle: a slot has two channels, and a channel so many cycles
 abbrev pub place_of : ℕ → Channel → ℕ → ℕ
-place_of slot A cycle = slot * 128 + cycle
-place_of slot B cycle = slot * 128 + 64 + cycle
+place_of slot A cycle = slot * (2 * cycle_count) + cycle
+place_of slot B cycle = slot * (2 * cycle_count) + cycle_count + cycle
 
 abbrev pub is_before : Occasion → Occasion → Bool
 is_before p q = nat_lt (place_of p.slot p.channel p.cycle) (place_of q.slot q.channel q.cycle)
@@ -32,14 +32,14 @@ earlier (Some p) (Some q) = if is_before q p then Some q else Some p
 -- the test passes there, and at none before it
 pub record IsFirstAt (test : ℕ → Channel → ℕ → Bool) (o : Occasion) : Type 0 where
   pub in_slots : IsSlot o.slot
-  pub in_cycles : o.cycle < 64
+  pub in_cycles : o.cycle < cycle_count
   pub passes : test o.slot o.channel o.cycle ≡ true
-  pub first : (slot : ℕ) (channel : Channel) (cycle : ℕ) → cycle < 64 → test slot channel cycle ≡ true
+  pub first : (slot : ℕ) (channel : Channel) (cycle : ℕ) → cycle < cycle_count → test slot channel cycle ≡ true
       → place_of o.slot o.channel o.cycle ≤ place_of slot channel cycle
 
 -- the first slot on a channel in a cycle at which the test passes, or none where it passes at none
 abbrev pub IsFirst : (ℕ → Channel → ℕ → Bool) → Option Occasion → Type 0
-IsFirst test None = (slot : ℕ) (channel : Channel) (cycle : ℕ) → cycle < 64 → test slot channel cycle ≡ false
+IsFirst test None = (slot : ℕ) (channel : Channel) (cycle : ℕ) → cycle < cycle_count → test slot channel cycle ≡ false
 IsFirst test (Some o) = IsFirstAt test o
 
 -- ---- filters

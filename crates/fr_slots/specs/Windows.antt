@@ -1,8 +1,9 @@
 -- Windows: one opportunity to send, on both channels (own profile).
-use Rattle.std.specs.Prelude.{◌≡◌, ℕ, ◌≤◌, ◌<◌, ◌^◌, ◌==◌, nat_le, Bool, true, ◌&&◌, ◌||◌, Option, Some, None, is_some, if◌then◌else◌}
+use Rattle.std.specs.Prelude.{◌≡◌, ℕ, ◌≤◌, ◌<◌, ◌^◌, ◌==◌, nat_le, not, Bool, true, ◌&&◌, ◌||◌, Option, Some, None, is_some, if◌then◌else◌}
 use Rattle.fr_slots.specs.declared.channel.Channel.{Channel}
 use Rattle.fr_slots.specs.declared.channel.Channel.TheVariants.{A, B}
-use Rattle.fr_slots.specs.Numbers.{IsSlot}
+use Rattle.fr_slots.specs.Numbers.{IsSlot, last_minislot, cycle_count}
+use Rattle.fr_slots.specs.Parameters.{Parameters, is_static_slot}
 
 -- A window of a run: its number, its cycle, the minislot at which it opens, counted from 1, and the slot that each channel
 -- opens. A static window has minislot 0.
@@ -19,14 +20,14 @@ IsSlotOrNone (Some slot) = IsSlot slot
 
 -- a static window has one slot on both channels, and each window has a slot
 pub record IsOpportunity (w : Opportunity) : Type 0 where
-  pub minislot_fits : w.minislot ≤ 8000
+  pub minislot_fits : w.minislot ≤ last_minislot
   pub static_same : w.minislot ≡ 0 → w.a ≡ w.b
   pub some_slot : (is_some w.a || is_some w.b) ≡ true
 
 -- the numbers of a window are in the ranges of their types
 pub record IsInRange (w : Opportunity) : Type 0 where
   pub number_fits : w.number < 2 ^ 32
-  pub cycle_fits : w.cycle < 64
+  pub cycle_fits : w.cycle < cycle_count
   pub slot_a : IsSlotOrNone w.a
   pub slot_b : IsSlotOrNone w.b
   pub window_is : IsOpportunity w
@@ -43,6 +44,23 @@ static_window number cycle slot = record { number = number; cycle = cycle; minis
 
 abbrev pub dynamic_window : ℕ → ℕ → ℕ → Option ℕ → Option ℕ → Option Opportunity
 dynamic_window number cycle minislot a b =
-    if nat_le 1 minislot && nat_le minislot 8000 && (is_some a || is_some b)
+    if nat_le 1 minislot && nat_le minislot last_minislot && (is_some a || is_some b)
     then Some (record { number = number; cycle = cycle; minislot = minislot; a = a; b = b })
     else None
+
+-- ---- the windows of a cluster
+
+abbrev pub static_slot_fits : Parameters → Option ℕ → Bool
+static_slot_fits params None = true
+static_slot_fits params (Some slot) = is_static_slot params slot
+
+abbrev pub dynamic_slot_fits : Parameters → Option ℕ → Bool
+dynamic_slot_fits params None = true
+dynamic_slot_fits params (Some slot) = not (is_static_slot params slot)
+
+-- The window is one of the cluster's: a static slot is no higher than the last, a minislot no higher than the last, and a
+-- dynamic slot is above the static ones.
+abbrev pub window_fits : Parameters → Opportunity → Bool
+window_fits params window =
+    if is_static window then static_slot_fits params window.a && static_slot_fits params window.b
+    else nat_le window.minislot params.minislots && dynamic_slot_fits params window.a && dynamic_slot_fits params window.b

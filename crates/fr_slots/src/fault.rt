@@ -1,10 +1,12 @@
 //! What is at fault in the plan of a node, by the parameters of its cluster.
 
-ghost use Rattle.std.specs.Prelude.{◌≡◌, ◌<◌, ◌≤◌, length, IfSome, IfNone, position};
+ghost use Rattle.std.specs.Prelude.{◌≡◌, ◌<◌, ◌≤◌, length, position, IfSome};
 ghost use Rattle.std.specs.List.{list_any};
-ghost use Rattle.fr_slots.specs.Faults.{IsFaultless, plan_fault, ownership_fault, buffer_fault, first_taken, first_overlap, first_buffer};
-ghost use Rattle.fr_slots.specs.Faults.{out_of_params, is_owned_beyond, has_late_latest, has_wrong_words, is_unowned_on, not_owned, dynamic_both};
-ghost use Rattle.fr_slots.specs.Faults.{words_of, too_long, ends_late_on, ends_late, minislots_filled, claims, is_owned, transmits, is_static_slot, transmits_static, transmits_dynamic};
+ghost use Rattle.fr_slots.specs.Faults.{ownership_fault, buffer_fault, first_taken, first_overlap, first_buffer};
+ghost use Rattle.fr_slots.specs.Faults.{out_of_params, is_owned_beyond, has_late_latest, has_wrong_words};
+ghost use Rattle.fr_slots.specs.Faults.{is_unowned_on, is_owned, claims, not_owned, dynamic_both};
+ghost use Rattle.fr_slots.specs.Faults.{too_long, ends_late_on, ends_late, minislots_filled};
+ghost use Rattle.fr_slots.specs.Numbers.{most_lines};
 ghost use Rattle.fr_slots.specs.Sharing.{own_filter, own_filters, transmit_filters};
 
 use crate::channel::Channel;
@@ -21,7 +23,7 @@ use thiserror::Error;
 pub enum PlanFault {
     /// Two ownership lines are for the slot on the channel: a static slot on a channel has one owner at the
     /// most (own profile).
-    #[error("SlotTaken {} {}", .0.number(), .1)]
+    #[error("SlotTaken {0} {1}")]
     SlotTaken(SlotId, Channel),
     /// The transmit buffer is for a static slot that the node doesn't own on all the buffer's channels
     /// (chapter 5).
@@ -31,7 +33,7 @@ pub enum PlanFault {
     #[error("DynamicBoth {0}")]
     DynamicBoth(u8),
     /// Two transmit buffers admit the slot on the channel in the cycle (chapter 5).
-    #[error("Overlap {} {} {}", .0.number(), .1, .2.number())]
+    #[error("Overlap {0} {1} {2}")]
     Overlap(SlotId, Channel, Cycle),
     /// A frame of the dynamic transmit buffer that begins at its channel's latest minislot would end behind
     /// the dynamic segment, where the minislots that stay idle behind it don't count (own profile).
@@ -43,47 +45,24 @@ pub enum PlanFault {
     OutOfParams,
 }
 
-impl NodePlan {
-    /// The first fault of the plan by these parameters, if it has one.
-    ///
-    /// `OutOfParams` comes first, then the faults in the order in which `PlanFault` has them: each kind is looked
-    /// for in the whole plan before the next, and of a kind the first in order of its numbers is named, channel A
-    /// before B.
-    #[tactic(auto, using(crate::proofs::FaultlessLemmas::faultless_if))]
-    pub fn fault(&self, params: &Params) -> Option<PlanFault>
-        ensures value { result ≡ plan_fault params.now self.now }
-        ensures faultless { IfNone result (IsFaultless params.now self.now) }
-    {
-        first_fault(params, self)
-    }
-}
-
-/// The first fault of the plan.
-#[tactic(auto, unfolding(crate::specs::Faults::plan_fault))]
-fn first_fault(params: &Params, plan: &NodePlan) -> Option<PlanFault>
-    ensures { result ≡ plan_fault params.now plan.now }
-{
-    ownership_fault(params, plan).or_else(|| buffer_fault(params, plan))
-}
-
 /// The first fault of the parameters and of the ownership lines.
 #[tactic(auto, unfolding(crate::specs::Faults::ownership_fault))]
-fn ownership_fault(params: &Params, plan: &NodePlan) -> Option<PlanFault>
+pub(crate) fn ownership_fault(params: &Params, plan: &NodePlan) -> Option<PlanFault>
     ensures { result ≡ ownership_fault params.now plan.now }
 {
     out_of_params(params, plan)
         .or_else(|| first_taken(plan.owned()))
-        .or_else(|| first_not_owned(params, plan))
+        .or_else(|| plan.first_not_owned(params).map(PlanFault::NotOwned))
 }
 
 /// The first fault of the buffers among themselves.
 #[tactic(auto, unfolding(crate::specs::Faults::buffer_fault))]
-fn buffer_fault(params: &Params, plan: &NodePlan) -> Option<PlanFault>
+pub(crate) fn buffer_fault(params: &Params, plan: &NodePlan) -> Option<PlanFault>
     ensures { result ≡ buffer_fault params.now plan.now }
 {
-    first_dynamic_both(params, plan)
-        .or_else(|| first_overlap(plan.buffers()))
-        .or_else(|| first_too_long(params, plan))
+    let both = plan.first_dynamic_both(params).map(PlanFault::DynamicBoth);
+    both.or_else(|| first_overlap(plan.buffers()))
+        .or_else(|| plan.first_too_long(params).map(PlanFault::TooLong))
 }
 
 /// The fault of a plan that isn't one for these parameters.
@@ -111,7 +90,7 @@ fn any_owned_beyond(params: &Params, owned: &[Own]) -> bool
 fn is_owned_beyond(params: &Params, own: &Own) -> bool
     ensures { result ≡ is_owned_beyond params.now own.now }
 {
-    !is_static_slot(params, own.slot)
+    !params.is_static(own.slot)
 }
 
 /// Whether a channel's latest minislot is behind the last one.
@@ -132,13 +111,13 @@ fn any_wrong_words(params: &Params, buffers: &[Buffer]) -> bool
 fn has_wrong_words(params: &Params, buffer: &Buffer) -> bool
     ensures { result ≡ has_wrong_words params.now buffer.now }
 {
-    transmits_static(params, buffer) && buffer.words.is_some()
-        || transmits_dynamic(params, buffer) && buffer.words.is_none()
+    buffer.transmits_static(params) && buffer.words.is_some()
+        || buffer.transmits_dynamic(params) && buffer.words.is_none()
 }
 
 /// The fault of the first slot and channel that two ownership lines claim.
 fn first_taken(owned: &[Own]) -> Option<PlanFault>
-    requires { length owned.now ≤ 64 }
+    requires { length owned.now ≤ most_lines }
     ensures { result ≡ first_taken owned.now }
 {
     let shared = first_shared(own_filters(owned).as_slice())?;
@@ -147,7 +126,7 @@ fn first_taken(owned: &[Own]) -> Option<PlanFault>
 
 /// The ownership lines, which are at most 64, as filters.
 pub fn own_filters(owned: &[Own]) -> ArrayVec<Filter, LINES>
-    requires { length owned.now ≤ 64 }
+    requires { length owned.now ≤ most_lines }
     ensures { result.items ≡ own_filters owned.now }
 {
     let mut filters = ArrayVec::new();
@@ -168,18 +147,10 @@ fn own_filter(own: &Own) -> Filter
     }
 }
 
-/// The fault of the first transmit buffer for a static slot that the node lacks on one of its channels.
-fn first_not_owned(params: &Params, plan: &NodePlan) -> Option<PlanFault>
-    ensures { result ≡ first_buffer PlanFault.NotOwned (not_owned params.now plan.now.owned) plan.now.buffers }
-{
-    let number = not_owned_number(params, plan.owned(), plan.buffers())?;
-    Some(PlanFault::NotOwned(number as u8))
-}
-
-/// The number of the first transmit buffer for a static slot that the node lacks on one of its channels.
-pub fn not_owned_number(params: &Params, owned: &[Own], buffers: &[Buffer]) -> Option<usize>
+/// The place of the first transmit buffer for a static slot that isn't owned on one of the buffer's channels.
+pub(crate) fn not_owned_place(params: &Params, owned: &[Own], buffers: &[Buffer]) -> Option<usize>
     ensures value { result ≡ position (not_owned params.now owned.now) buffers.now }
-    ensures within { IfSome result (λ number. number < length buffers.now) }
+    ensures within { IfSome result (λ place. place < length buffers.now) }
 {
     buffers
         .iter()
@@ -190,7 +161,7 @@ pub fn not_owned_number(params: &Params, owned: &[Own], buffers: &[Buffer]) -> O
 fn not_owned(params: &Params, owned: &[Own], buffer: &Buffer) -> bool
     ensures { result ≡ not_owned params.now owned.now buffer.now }
 {
-    transmits_static(params, buffer)
+    buffer.transmits_static(params)
         && (is_unowned_on(owned, &buffer.filter, Channel::A)
             || is_unowned_on(owned, &buffer.filter, Channel::B))
 }
@@ -206,28 +177,13 @@ fn is_unowned_on(owned: &[Own], filter: &Filter, channel: Channel) -> bool
 pub fn is_owned(owned: &[Own], slot: SlotId, channel: Channel) -> bool
     ensures { result ≡ is_owned owned.now slot channel }
 {
-    owned.iter().any(|own| claims(slot, channel, own))
+    owned.iter().any(|own| own.claims(slot, channel))
 }
 
-/// Whether the ownership line is for the slot on the channel.
-pub fn claims(slot: SlotId, channel: Channel, own: &Own) -> bool
-    ensures { result ≡ claims slot channel own.now }
-{
-    own.slot == slot && own.channels.includes(channel)
-}
-
-/// The fault of the first dynamic transmit buffer for both channels.
-fn first_dynamic_both(params: &Params, plan: &NodePlan) -> Option<PlanFault>
-    ensures { result ≡ first_buffer PlanFault.DynamicBoth (dynamic_both params.now) plan.now.buffers }
-{
-    let number = dynamic_both_number(params, plan.buffers())?;
-    Some(PlanFault::DynamicBoth(number as u8))
-}
-
-/// The number of the first dynamic transmit buffer for both channels.
-pub fn dynamic_both_number(params: &Params, buffers: &[Buffer]) -> Option<usize>
+/// The place of the first dynamic transmit buffer for both channels.
+pub(crate) fn dynamic_both_place(params: &Params, buffers: &[Buffer]) -> Option<usize>
     ensures value { result ≡ position (dynamic_both params.now) buffers.now }
-    ensures within { IfSome result (λ number. number < length buffers.now) }
+    ensures within { IfSome result (λ place. place < length buffers.now) }
 {
     buffers
         .iter()
@@ -239,14 +195,14 @@ fn dynamic_both(params: &Params, buffer: &Buffer) -> bool
     ensures { result ≡ dynamic_both params.now buffer.now }
 {
     let channels = buffer.filter.channels;
-    transmits_dynamic(params, buffer)
+    buffer.transmits_dynamic(params)
         && channels.includes(Channel::A)
         && channels.includes(Channel::B)
 }
 
 /// The fault of the first slot, channel and cycle that two transmit buffers admit.
 fn first_overlap(buffers: &[Buffer]) -> Option<PlanFault>
-    requires { length buffers.now ≤ 64 }
+    requires { length buffers.now ≤ most_lines }
     ensures { result ≡ first_overlap buffers.now }
 {
     let shared = first_shared(transmit_filters(buffers).as_slice())?;
@@ -255,30 +211,22 @@ fn first_overlap(buffers: &[Buffer]) -> Option<PlanFault>
 
 /// The filters of the transmit buffers among these, which are at most 64.
 pub fn transmit_filters(buffers: &[Buffer]) -> ArrayVec<Filter, LINES>
-    requires { length buffers.now ≤ 64 }
+    requires { length buffers.now ≤ most_lines }
     ensures { result.items ≡ transmit_filters buffers.now }
 {
     let mut filters = ArrayVec::new();
     for buffer in buffers {
-        if transmits(buffer) {
+        if buffer.transmits() {
             filters.push(buffer.filter);
         }
     }
     filters
 }
 
-/// The fault of the first dynamic transmit buffer whose frame would end behind the dynamic segment.
-fn first_too_long(params: &Params, plan: &NodePlan) -> Option<PlanFault>
-    ensures { result ≡ first_buffer PlanFault.TooLong (too_long params.now plan.now) plan.now.buffers }
-{
-    let number = too_long_number(params, plan, plan.buffers())?;
-    Some(PlanFault::TooLong(number as u8))
-}
-
-/// The number of the first dynamic transmit buffer whose frame would end behind the dynamic segment.
-pub fn too_long_number(params: &Params, plan: &NodePlan, buffers: &[Buffer]) -> Option<usize>
+/// The place of the first dynamic transmit buffer whose frame would end after the dynamic segment.
+pub(crate) fn too_long_place(params: &Params, plan: &NodePlan, buffers: &[Buffer]) -> Option<usize>
     ensures value { result ≡ position (too_long params.now plan.now) buffers.now }
-    ensures within { IfSome result (λ number. number < length buffers.now) }
+    ensures within { IfSome result (λ place. place < length buffers.now) }
 {
     buffers
         .iter()
@@ -289,7 +237,7 @@ pub fn too_long_number(params: &Params, plan: &NodePlan, buffers: &[Buffer]) -> 
 fn too_long(params: &Params, plan: &NodePlan, buffer: &Buffer) -> bool
     ensures { result ≡ too_long params.now plan.now buffer.now }
 {
-    transmits_dynamic(params, buffer)
+    buffer.transmits_dynamic(params)
         && (ends_late_on(params, plan, buffer, Channel::A)
             || ends_late_on(params, plan, buffer, Channel::B))
 }
@@ -300,7 +248,7 @@ fn ends_late_on(params: &Params, plan: &NodePlan, buffer: &Buffer, channel: Chan
     ensures { result ≡ ends_late_on params.now plan.now buffer.now channel }
 {
     buffer.filter.channels.includes(channel)
-        && ends_late(params, plan, words_of(params, buffer), channel)
+        && ends_late(params, plan, buffer.words(params), channel)
 }
 
 /// Whether a frame of so many words that begins at the channel's latest minislot would end behind the dynamic
@@ -320,45 +268,4 @@ fn minislots_filled(params: &Params, words: u16) -> u16
     ensures fits { result ≤ 260 }
 {
     (words + 4).div_ceil(params.words_per_minislot)
-}
-
-/// The words of two bytes that a transmit buffer sends: in a static slot those of the cluster's static frames, and in a
-/// dynamic slot its own, or 0 where it has none (chapter 5). At most 127 for a buffer of a plan.
-pub fn words_of(params: &Params, buffer: &Buffer) -> u16
-    ensures value { result ≡ words_of params.now buffer.now }
-    ensures fits { result < 256 }
-{
-    if is_static_slot(params, buffer.filter.slot) {
-        params.static_words
-    } else {
-        u16::from(buffer.words.unwrap_or(0))
-    }
-}
-
-/// Whether the buffer is a transmit buffer in a static slot.
-fn transmits_static(params: &Params, buffer: &Buffer) -> bool
-    ensures { result ≡ transmits_static params.now buffer.now }
-{
-    transmits(buffer) && is_static_slot(params, buffer.filter.slot)
-}
-
-/// Whether the buffer is a transmit buffer in a dynamic slot.
-pub fn transmits_dynamic(params: &Params, buffer: &Buffer) -> bool
-    ensures { result ≡ transmits_dynamic params.now buffer.now }
-{
-    transmits(buffer) && !is_static_slot(params, buffer.filter.slot)
-}
-
-/// Whether the buffer is a transmit buffer.
-pub fn transmits(buffer: &Buffer) -> bool
-    ensures { result ≡ transmits buffer.now }
-{
-    !buffer.mode.is_receive()
-}
-
-/// Whether the slot is a static one (chapter 5).
-pub fn is_static_slot(params: &Params, slot: SlotId) -> bool
-    ensures { result ≡ is_static_slot params.now slot }
-{
-    slot.number() <= params.static_slots
 }

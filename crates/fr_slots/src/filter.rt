@@ -4,20 +4,21 @@ ghost use Rattle.std.specs.Prelude.{◌≡◌, ◌&&◌};
 ghost use Rattle.fr_slots.specs.Admission.{cycle_class, cycle_admitted, includes};
 
 use crate::channel::{Channel, Channels};
-use crate::numbers::{Cycle, SlotId};
+use crate::numbers::{CYCLES, Cycle, SlotId};
+use crate::window::Window;
 use std::marker::Model;
+use thiserror::Error;
 
 /// Why a base and a repetition are no cycle filter.
-#[derive(Clone, Copy, Debug, PartialEq, Eq)]
+#[derive(Clone, Copy, Debug, PartialEq, Eq, Error)]
 pub enum FilterError {
     /// The repetition isn't 1, 2, 4, 8, 16, 32 or 64.
+    #[error("the repetition isn't 1, 2, 4, 8, 16, 32 or 64")]
     RepetitionNotPower,
     /// The base isn't below the repetition.
+    #[error("the base isn't below the repetition")]
     BaseTooLarge,
 }
-
-/// The number of cycles, after which they are counted from 0 again (chapter 5).
-const CYCLES: u8 = 64;
 
 /// The cycles that leave the base when their number is divided by the repetition (chapter 9).
 #[derive(Clone, Copy, Debug, PartialEq, Eq)]
@@ -123,12 +124,20 @@ pub struct Filter {
 }
 
 impl Filter {
-    ghost use Rattle.fr_slots.specs.Plans.{filter_admits};
+    ghost use Rattle.fr_slots.specs.Plans.{filter_admits, admits_window};
 
     /// Whether slot, channel and cycle are all the filter's.
     pub fn admits(self, cycle: Cycle, slot: SlotId, channel: Channel) -> bool
         ensures { result ≡ filter_admits self cycle slot channel }
     {
         self.slot == slot && self.channels.includes(channel) && self.cycles.admits(cycle)
+    }
+
+    /// Whether the filter admits the slot that the window has on the channel, and so whether it has one there.
+    pub fn admits_window(self, window: &Window, channel: Channel) -> bool
+        ensures { result ≡ admits_window self window.now channel }
+    {
+        let slot = window.slot(channel);
+        slot.is_some_and(|slot| self.admits(window.cycle, slot, channel))
     }
 }

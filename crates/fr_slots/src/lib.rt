@@ -1,16 +1,23 @@
-//! Slots, cycles, channels, filters, windows, parameters and the plan of a node: the words of a
-//! schedule, which every other crate speaks in.
+//! Slots, cycles, channels, filters, windows, parameters and the plan of a node: the words of a schedule, which every
+//! other crate speaks in.
+//!
+//! ```text
+//! let params = Params::new([3, 10, 1, 20, 5, 4, 6, 120, 1, 4])?;
+//! let mut plan = NodePlan::new(1, [0, 0], 256, 4096)?;
+//! plan.add_own(Own { slot, channels: Channels::Both, sync: true, startup: false })?;
+//! plan.add_buffer(Buffer { mode: Mode::Event, filter, words: None, preamble: false })?;
+//! let fault = plan.fault(&params); // the first of the plan, or none
+//! ```
+//!
+//! A chapter in parentheses is one of the FlexRay Protocol Specification 2.1, revision A, whose rule it is.
+//! *(own profile)* marks a rule of this project's own, which says nothing of the standard.
 #![tactic(auto)]
 
 pub mod channel;
 pub mod fault;
-#[cfg(test)]
-mod fault_tests;
 pub mod filter;
 pub mod numbers;
 pub mod params;
 pub mod plan;
 pub mod sharing;
-#[cfg(test)]
-mod tests;
 pub mod window;

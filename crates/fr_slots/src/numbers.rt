@@ -1,12 +1,25 @@
 //! The numbers of slots, cycles, nodes and host tasks.
 
 ghost use Rattle.std.specs.Prelude.{◌≡◌, ◌+◌, ◌%◌, ◌<◌, ◌≤◌};
-ghost use Rattle.fr_slots.specs.Numbers.{number_within};
+ghost use Rattle.fr_slots.specs.Numbers.{number_within, last_slot, last_cycle, cycle_count, last_node, last_task};
 
+use std::fmt;
 use std::marker::Model;
 
+/// The number of the last slot (chapter 5).
+pub const LAST_SLOT: u16 = 2047;
+
+/// How many cycles there are, after which they are counted from 0 again (chapter 5).
+pub const CYCLES: u8 = 64;
+
+/// The most nodes of a cluster (own profile).
+pub const NODES: u8 = 16;
+
+/// The most host tasks of a node (own profile).
+pub const TASKS: u8 = 8;
+
 /// The number of a slot: 1 to 2047 (chapter 5).
-#[derive(Clone, Copy, Debug, PartialEq, Eq)]
+#[derive(Clone, Copy, Debug, PartialEq, Eq, PartialOrd, Ord, Hash)]
 pub struct SlotId(u16);
 
 impl Model for SlotId {
@@ -31,14 +44,26 @@ impl Default for SlotId {
     }
 }
 
+impl fmt::Display for SlotId {
+    ghost use Rattle.std.specs.Prelude.{Some};
+    ghost use Rattle.std.specs.Fmt.{decimal};
+
+    ghost output = { λ slot. Some (decimal slot) };
+
+    /// Writes the number.
+    fn fmt<W: fmt::Write>(&self, f: &mut fmt::Formatter<W>) -> fmt::Result {
+        write!(f, "{}", self.number())
+    }
+}
+
 impl SlotId {
     ghost use Rattle.fr_slots.specs.Numbers.{IsSlot};
 
     /// None for 0 and for a number above 2047.
     pub fn new(number: u16) -> Option<SlotId>
-        ensures { result ≡ number_within 1 2047 number }
+        ensures { result ≡ number_within 1 last_slot number }
     {
-        if 1 <= number && number <= 2047 {
+        if 1 <= number && number <= LAST_SLOT {
             Some(SlotId(number))
         } else {
             None
@@ -55,27 +80,40 @@ impl SlotId {
 }
 
 /// The number of a cycle: 0 to 63, after which comes 0 again (chapter 5).
-#[derive(Clone, Copy, Debug, PartialEq, Eq)]
+#[derive(Clone, Copy, Debug, PartialEq, Eq, PartialOrd, Ord, Hash)]
 pub struct Cycle(u8);
 
 impl Model for Cycle {
     ghost use Rattle.std.specs.Prelude.{ℕ, ◌<◌};
+    ghost use Rattle.fr_slots.specs.Numbers.{cycle_count};
 
     ghost Value = { ℕ };
 
     ghost view = { λ c. c.0 };
 
-    ghost invariant = { λ c. c.0 < 64 };
+    ghost invariant = { λ c. c.0 < cycle_count };
 
     ghost inverse = { λ n. record { 0 = n } };
+}
+
+impl fmt::Display for Cycle {
+    ghost use Rattle.std.specs.Prelude.{Some};
+    ghost use Rattle.std.specs.Fmt.{decimal};
+
+    ghost output = { λ cycle. Some (decimal cycle) };
+
+    /// Writes the number.
+    fn fmt<W: fmt::Write>(&self, f: &mut fmt::Formatter<W>) -> fmt::Result {
+        write!(f, "{}", self.number())
+    }
 }
 
 impl Cycle {
     /// None for a number above 63.
     pub fn new(number: u8) -> Option<Cycle>
-        ensures { result ≡ number_within 0 63 number }
+        ensures { result ≡ number_within 0 last_cycle number }
     {
-        if number <= 63 {
+        if number < CYCLES {
             Some(Cycle(number))
         } else {
             None
@@ -84,7 +122,7 @@ impl Cycle {
 
     /// The cycle of six bits, which always name one.
     pub fn from_bits(bits: u8) -> Cycle
-        requires { bits < 64 }
+        requires { bits < cycle_count }
         ensures { result ≡ bits }
     {
         Cycle(bits)
@@ -93,21 +131,21 @@ impl Cycle {
     /// The cycle as a number, 0 to 63.
     pub fn number(self) -> u8
         ensures value { result ≡ self }
-        ensures fits { self < 64 }
+        ensures fits { self < cycle_count }
     {
         self.0
     }
 
     /// The cycle after this one: after 63 comes 0.
     pub fn next(self) -> Cycle
-        ensures { result ≡ (self + 1) % 64 }
+        ensures { result ≡ (self + 1) % cycle_count }
     {
-        Cycle((self.0 + 1) % 64)
+        Cycle((self.0 + 1) % CYCLES)
     }
 }
 
 /// The number of a node: 0 to 15 (own profile).
-#[derive(Clone, Copy, Debug, PartialEq, Eq)]
+#[derive(Clone, Copy, Debug, PartialEq, Eq, PartialOrd, Ord, Hash)]
 pub struct NodeId(u8);
 
 impl Model for NodeId {
@@ -122,12 +160,24 @@ impl Model for NodeId {
     ghost inverse = { λ n. record { 0 = n } };
 }
 
+impl fmt::Display for NodeId {
+    ghost use Rattle.std.specs.Prelude.{Some};
+    ghost use Rattle.std.specs.Fmt.{decimal};
+
+    ghost output = { λ node. Some (decimal node) };
+
+    /// Writes the number.
+    fn fmt<W: fmt::Write>(&self, f: &mut fmt::Formatter<W>) -> fmt::Result {
+        write!(f, "{}", self.number())
+    }
+}
+
 impl NodeId {
     /// None for a number above 15.
     pub fn new(number: u8) -> Option<NodeId>
-        ensures { result ≡ number_within 0 15 number }
+        ensures { result ≡ number_within 0 last_node number }
     {
-        if number <= 15 {
+        if number < NODES {
             Some(NodeId(number))
         } else {
             None
@@ -144,7 +194,7 @@ impl NodeId {
 }
 
 /// The number of a host task of a node: 0 to 7 (own profile).
-#[derive(Clone, Copy, Debug, PartialEq, Eq)]
+#[derive(Clone, Copy, Debug, PartialEq, Eq, PartialOrd, Ord, Hash)]
 pub struct TaskId(u8);
 
 impl Model for TaskId {
@@ -159,12 +209,24 @@ impl Model for TaskId {
     ghost inverse = { λ n. record { 0 = n } };
 }
 
+impl fmt::Display for TaskId {
+    ghost use Rattle.std.specs.Prelude.{Some};
+    ghost use Rattle.std.specs.Fmt.{decimal};
+
+    ghost output = { λ task. Some (decimal task) };
+
+    /// Writes the number.
+    fn fmt<W: fmt::Write>(&self, f: &mut fmt::Formatter<W>) -> fmt::Result {
+        write!(f, "{}", self.number())
+    }
+}
+
 impl TaskId {
     /// None for a number above 7.
     pub fn new(number: u8) -> Option<TaskId>
-        ensures { result ≡ number_within 0 7 number }
+        ensures { result ≡ number_within 0 last_task number }
     {
-        if number <= 7 {
+        if number < TASKS {
             Some(TaskId(number))
         } else {
             None

@@ -3,8 +3,20 @@
 ghost use Rattle.std.specs.Prelude.{◌≡◌, ◌≤◌, IfOk};
 ghost use Rattle.fr_slots.specs.Parameters.{name_of, admits, least_of, greatest_of, number_at, first_five, last_five, IsWithin, AreFirst, AreLast};
 
+use crate::numbers::SlotId;
+use crate::window::Window;
 use std::fmt;
 use std::marker::Model;
+use thiserror::Error;
+
+/// The last static slot that a cluster can have (chapter 5).
+pub const LAST_STATIC_SLOT: u16 = 1023;
+
+/// The last minislot that a cluster can have, where they are counted from 1 (own profile).
+pub const LAST_MINISLOT: u16 = 8000;
+
+/// The most words of two bytes of a payload (chapter 4).
+pub const MOST_WORDS: u16 = 127;
 
 /// A parameter, as cluster files name it. The order is that of a cluster file's refusals and of a
 /// trace's line `params`.
@@ -58,9 +70,9 @@ impl Key {
         ensures { result ≡ greatest_of self }
     {
         match self {
-            Key::StaticSlots => 1023,
-            Key::Minislots => 8000,
-            Key::StaticWords | Key::WordsPerMinislot => 127,
+            Key::StaticSlots => LAST_STATIC_SLOT,
+            Key::Minislots => LAST_MINISLOT,
+            Key::StaticWords | Key::WordsPerMinislot => MOST_WORDS,
             Key::StaticMt | Key::SymbolMt | Key::NitMt => 1000,
             Key::MinislotMt => 100,
             Key::CycleMt => 20000,
@@ -87,11 +99,13 @@ impl fmt::Display for Key {
 }
 
 /// Why numbers are no parameters.
-#[derive(Clone, Copy, Debug, PartialEq, Eq)]
+#[derive(Clone, Copy, Debug, PartialEq, Eq, Error)]
 pub enum RangeError {
     /// The first key, in order, whose number is out of its range.
+    #[error("{0} is out of its range")]
     OutOfRange(Key),
     /// Static slots, minislots, symbol window and network idle time don't fill the cycle.
+    #[error("the parts don't fill the cycle")]
     CycleSum,
 }
 
@@ -183,7 +197,8 @@ fn last_five(numbers: &[i64; 10]) -> Result<(u16, u16, u16, u16, u16), RangeErro
 }
 
 impl Params {
-    ghost use Rattle.fr_slots.specs.Parameters.{Parameters, parameters_of, IsParameters};
+    ghost use Rattle.fr_slots.specs.Parameters.{Parameters, parameters_of, IsParameters, is_static_slot};
+    ghost use Rattle.fr_slots.specs.Windows.{window_fits, static_slot_fits, dynamic_slot_fits};
 
     /// The parameters that these numbers are, in the order of `Key`.
     ///
@@ -224,5 +239,40 @@ impl Params {
     {
         let _ = &self.static_slots;
         *self
+    }
+
+    /// Whether the slot is a static one (chapter 5).
+    pub fn is_static(&self, slot: SlotId) -> bool
+        ensures { result ≡ is_static_slot self.now slot }
+    {
+        slot.number() <= self.static_slots
+    }
+
+    /// Whether the window is one of the cluster's (own profile): in a static window a static slot, and in a dynamic one
+    /// a minislot that there is, and slots behind the static ones.
+    pub fn has_window(&self, window: &Window) -> bool
+        ensures { result ≡ window_fits self.now window.now }
+    {
+        if window.is_static() {
+            self.is_static_or_none(window.a) && self.is_static_or_none(window.b)
+        } else {
+            window.minislot <= self.minislots
+                && self.is_dynamic_or_none(window.a)
+                && self.is_dynamic_or_none(window.b)
+        }
+    }
+
+    /// Whether the slot, if there is one, is a static one.
+    fn is_static_or_none(&self, slot: Option<SlotId>) -> bool
+        ensures { result ≡ static_slot_fits self.now slot }
+    {
+        slot.is_none_or(|slot| self.is_static(slot))
+    }
+
+    /// Whether the slot, if there is one, is a dynamic one.
+    fn is_dynamic_or_none(&self, slot: Option<SlotId>) -> bool
+        ensures { result ≡ dynamic_slot_fits self.now slot }
+    {
+        slot.is_none_or(|slot| !self.is_static(slot))
     }
 }

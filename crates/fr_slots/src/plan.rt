@@ -1,17 +1,31 @@
 //! The plan of a node: what it owns, its buffers and its queue.
 
-ghost use Rattle.std.specs.Prelude.{◌≡◌, ◌≤◌, length};
+ghost use Rattle.std.specs.Prelude.{◌≡◌, ◌≤◌, ◌↔◌, IsTrue, length};
 ghost use Rattle.std.specs.Result.{result_err};
 ghost use Rattle.fr_slots.specs.Plans.{own_fits, buffer_fits, queue_fits, IsOwn, IsBuffer, IsQueue};
 
 use crate::channel::{Channel, Channels};
+use crate::fault::{
+    PlanFault, buffer_fault, dynamic_both_place, not_owned_place, ownership_fault, too_long_place,
+};
 use crate::filter::{CycleFilter, Filter};
-use crate::numbers::SlotId;
+use crate::numbers::{Cycle, SlotId, TASKS};
+use crate::params::{LAST_MINISLOT, LAST_STATIC_SLOT, MOST_WORDS, Params};
 use arrayvec::ArrayVec;
 use std::marker::Model;
+use thiserror::Error;
 
 /// The most ownership lines, and the most buffers, of a node (own profile).
 pub const LINES: usize = 64;
+
+/// The most frames in the receive queue of a node (own profile).
+pub const FRAMES: u16 = 256;
+
+/// The most host entries in the journal of a node (own profile).
+pub const HOST_ENTRIES: u16 = 16384;
+
+/// The most slot entries in the journal of a node (own profile).
+pub const SLOT_ENTRIES: u32 = 65536;
 
 /// A static slot that a node owns, in every cycle (chapter 5).
 #[derive(Clone, Copy, Debug, Default, PartialEq, Eq)]
@@ -23,6 +37,18 @@ pub struct Own {
     pub sync: bool,
     /// They carry the startup frame indicator too, which only sync frames do.
     pub startup: bool,
+}
+
+impl Own {
+    ghost use Rattle.std.specs.Prelude.{◌≡◌};
+    ghost use Rattle.fr_slots.specs.Faults.{claims};
+
+    /// Whether the line is for the slot on the channel (chapter 5).
+    pub fn claims(&self, slot: SlotId, channel: Channel) -> bool
+        ensures { result ≡ claims slot channel self.now }
+    {
+        self.slot == slot && self.channels.includes(channel)
+    }
 }
 
 /// What a buffer does (chapter 9; the names are own profile).
@@ -64,6 +90,45 @@ pub struct Buffer {
     pub preamble: bool,
 }
 
+impl Buffer {
+    ghost use Rattle.std.specs.Prelude.{◌≡◌, ◌<◌};
+    ghost use Rattle.fr_slots.specs.Faults.{transmits, transmits_static, transmits_dynamic, words_of};
+
+    /// Whether this is a transmit buffer (chapter 9).
+    pub fn transmits(&self) -> bool
+        ensures { result ≡ transmits self.now }
+    {
+        !self.mode.is_receive()
+    }
+
+    /// Whether this is a transmit buffer in a static slot.
+    pub(crate) fn transmits_static(&self, params: &Params) -> bool
+        ensures { result ≡ transmits_static params.now self.now }
+    {
+        self.transmits() && params.is_static(self.filter.slot)
+    }
+
+    /// Whether this is a transmit buffer in a dynamic slot.
+    pub fn transmits_dynamic(&self, params: &Params) -> bool
+        ensures { result ≡ transmits_dynamic params.now self.now }
+    {
+        self.transmits() && !params.is_static(self.filter.slot)
+    }
+
+    /// The words of two bytes that a transmit buffer sends: in a static slot those of the cluster's static frames, and
+    /// in a dynamic slot its own, or 0 where it has none (chapter 5). At most 127 for a buffer of a plan.
+    pub fn words(&self, params: &Params) -> u16
+        ensures value { result ≡ words_of params.now self.now }
+        ensures fits { result < 256 }
+    {
+        if params.is_static(self.filter.slot) {
+            params.static_words
+        } else {
+            u16::from(self.words.unwrap_or(0))
+        }
+    }
+}
+
 /// The receive queue of a node (own profile).
 #[derive(Clone, Copy, Debug, PartialEq, Eq)]
 pub struct Queue {
@@ -77,12 +142,29 @@ pub struct Queue {
     pub cycles: CycleFilter,
 }
 
+impl Queue {
+    ghost use Rattle.std.specs.Prelude.{◌≡◌};
+    ghost use Rattle.fr_slots.specs.Plans.{queue_admits};
+
+    /// Whether the slot is in the queue's range, and channel and cycle are the queue's.
+    pub fn admits(&self, cycle: Cycle, slot: SlotId, channel: Channel) -> bool
+        ensures { result ≡ queue_admits self.now cycle slot channel }
+    {
+        self.first.number() <= slot.number()
+            && slot.number() <= self.last.number()
+            && self.channels.includes(channel)
+            && self.cycles.admits(cycle)
+    }
+}
+
 /// Why a plan or a line of it is refused.
-#[derive(Clone, Copy, Debug, PartialEq, Eq)]
+#[derive(Clone, Copy, Debug, PartialEq, Eq, Error)]
 pub enum PlanError {
     /// A number is out of its range.
+    #[error("a number is out of its range")]
     OutOfRange,
     /// There is no room for a further line.
+    #[error("there is no room for a further line")]
     TooMany,
 }
 
@@ -111,9 +193,10 @@ impl Model for NodePlan {
 }
 
 impl NodePlan {
-    ghost use Rattle.std.specs.Prelude.{◌≡◌, IfOk, OnOk, OnErr, ◌==◌, slice_index};
-    ghost use Rattle.fr_slots.specs.Plans.{IsPlan, plan_of, own_refusal, with_own, buffer_refusal, with_buffer, queue_refusal, with_queue};
-    ghost use Rattle.fr_slots.specs.Faults.{latest_on};
+    ghost use Rattle.std.specs.Prelude.{◌≡◌, ◌<◌, ◌↔◌, IfOk, OnOk, OnErr, IfSome, IfNone, IsTrue, ◌==◌, length, position, slice_index};
+    ghost use Rattle.fr_slots.specs.Plans.{IsPlan, plan_of, buffer_at};
+    ghost use Rattle.fr_slots.specs.Plans.{own_refusal, with_own, buffer_refusal, with_buffer, queue_refusal, with_queue};
+    ghost use Rattle.fr_slots.specs.Faults.{latest_on, plan_fault, IsFaultless, not_owned, dynamic_both, too_long};
 
     /// A plan with no lines yet.
     ///
@@ -131,10 +214,13 @@ impl NodePlan {
         ensures { result ≡ plan_of tasks (slice_index latest 0) (slice_index latest 1) host_entries slot_entries }
     {
         let [latest_a, latest_b] = latest;
-        if tasks > 8 || latest_a > 8000 || latest_b > 8000 {
+        if tasks > TASKS || latest_a > LAST_MINISLOT || latest_b > LAST_MINISLOT {
             return Err(PlanError::OutOfRange);
         }
-        if host_entries < 1 || host_entries > 16384 || slot_entries < 2 || slot_entries > 65536 {
+        if host_entries < 1 || host_entries > HOST_ENTRIES {
+            return Err(PlanError::OutOfRange);
+        }
+        if slot_entries < 2 || slot_entries > SLOT_ENTRIES {
             return Err(PlanError::OutOfRange);
         }
         Ok(NodePlan {
@@ -220,6 +306,27 @@ impl NodePlan {
         }
     }
 
+    /// Whether the other plan has the same content: the same numbers, lines, buffers and queue, in the same order.
+    pub fn is_same(&self, other: &NodePlan) -> bool
+        ensures { IsTrue result ↔ (self.now ≡ other.now) }
+    {
+        let [latest_a, latest_b] = self.latest;
+        let [other_a, other_b] = other.latest;
+        if self.tasks != other.tasks || latest_a != other_a || latest_b != other_b {
+            return false;
+        }
+        if self.host_entries != other.host_entries || self.slot_entries != other.slot_entries {
+            return false;
+        }
+        if !is_same_owned(self.owned(), other.owned()) {
+            return false;
+        }
+        if !are_same_buffers(self.buffers(), other.buffers()) {
+            return false;
+        }
+        is_same_queue(&self.queue, &other.queue)
+    }
+
     /// The number of host tasks, 0 to 8.
     pub fn tasks(&self) -> u8
         ensures value { result ≡ self.now.tasks }
@@ -265,6 +372,13 @@ impl NodePlan {
         self.buffers.as_slice()
     }
 
+    /// The buffer of this number, where the plan has it.
+    pub fn buffer(&self, number: u8) -> Option<Buffer>
+        ensures { result ≡ buffer_at self.now number }
+    {
+        self.buffers().get(usize::from(number)).copied()
+    }
+
     /// The ownership lines, in the order in which they were added.
     pub fn owned(&self) -> &[Own]
         ensures value { result.now ≡ self.now.owned }
@@ -280,6 +394,47 @@ impl NodePlan {
     {
         self.queue
     }
+
+    /// The first fault of the plan by these parameters, if it has one.
+    ///
+    /// `OutOfParams` comes first, then the faults in the order in which `PlanFault` has them: each kind is looked
+    /// for in the whole plan before the next, and of a kind the first in order of its numbers is named, channel A
+    /// before B.
+    #[tactic(auto, using(crate::proofs::FaultlessLemmas::faultless_if), unfolding(crate::specs::Faults::plan_fault))]
+    pub fn fault(&self, params: &Params) -> Option<PlanFault>
+        ensures value { result ≡ plan_fault params.now self.now }
+        ensures faultless { IfNone result (IsFaultless params.now self.now) }
+    {
+        ownership_fault(params, self).or_else(|| buffer_fault(params, self))
+    }
+
+    /// The number of the first transmit buffer for a static slot that the node lacks on one of the buffer's channels.
+    pub fn first_not_owned(&self, params: &Params) -> Option<u8>
+        ensures value { result ≡ position (not_owned params.now self.now.owned) self.now.buffers }
+        ensures within { IfSome result (λ number. number < length self.now.buffers) }
+    {
+        let place = not_owned_place(params, self.owned(), self.buffers())?;
+        Some(place as u8)
+    }
+
+    /// The number of the first dynamic transmit buffer for both channels.
+    pub fn first_dynamic_both(&self, params: &Params) -> Option<u8>
+        ensures value { result ≡ position (dynamic_both params.now) self.now.buffers }
+        ensures within { IfSome result (λ number. number < length self.now.buffers) }
+    {
+        let place = dynamic_both_place(params, self.buffers())?;
+        Some(place as u8)
+    }
+
+    /// The number of the first dynamic transmit buffer with a frame that, begun at its channel's latest minislot, would
+    /// end after the dynamic segment.
+    pub fn first_too_long(&self, params: &Params) -> Option<u8>
+        ensures value { result ≡ position (too_long params.now self.now) self.now.buffers }
+        ensures within { IfSome result (λ number. number < length self.now.buffers) }
+    {
+        let place = too_long_place(params, self, self.buffers())?;
+        Some(place as u8)
+    }
 }
 
 /// These lines, in an array.
@@ -294,12 +449,33 @@ fn collected<T: Copy + Default + Drop, const N: usize>(lines: &[T]) -> ArrayVec<
     kept
 }
 
+/// Whether these are the same ownership lines.
+fn is_same_owned(owned: &[Own], other: &[Own]) -> bool
+    ensures { IsTrue result ↔ (owned.now ≡ other.now) }
+{
+    owned == other
+}
+
+/// Whether these are the same buffers.
+fn are_same_buffers(buffers: &[Buffer], other: &[Buffer]) -> bool
+    ensures { IsTrue result ↔ (buffers.now ≡ other.now) }
+{
+    buffers == other
+}
+
+/// Whether this is the same queue.
+fn is_same_queue(queue: &Option<Queue>, other: &Option<Queue>) -> bool
+    ensures { IsTrue result ↔ (queue.now ≡ other.now) }
+{
+    queue == other
+}
+
 /// Whether an ownership line is in range by itself.
 pub fn own_fits(own: &Own) -> bool
     ensures value { result ≡ own_fits own.now }
     ensures ranges { IsOwn own.now }
 {
-    own.slot.number() <= 1023 && (!own.startup || own.sync)
+    own.slot.number() <= LAST_STATIC_SLOT && (!own.startup || own.sync)
 }
 
 /// Whether a buffer is in range by itself.
@@ -310,7 +486,7 @@ pub fn buffer_fits(buffer: &Buffer) -> bool
     let _slot = buffer.filter.slot.number();
     let _base = buffer.filter.cycles.base();
     let few_words = match buffer.words {
-        Some(words) => words <= 127,
+        Some(words) => u16::from(words) <= MOST_WORDS,
         None => true,
     };
     few_words && (!buffer.mode.is_receive() || !(buffer.words.is_some() || buffer.preamble))
@@ -323,5 +499,5 @@ pub fn queue_fits(queue: &Queue) -> bool
 {
     let _base = queue.cycles.base();
     let (first, last) = (queue.first.number(), queue.last.number());
-    1 <= queue.capacity && queue.capacity <= 256 && first <= last
+    1 <= queue.capacity && queue.capacity <= FRAMES && first <= last
 }

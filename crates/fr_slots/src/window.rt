@@ -4,6 +4,7 @@ ghost use Rattle.std.specs.Prelude.{◌≡◌};
 
 use crate::channel::Channel;
 use crate::numbers::{Cycle, SlotId};
+use crate::params::LAST_MINISLOT;
 use std::marker::Model;
 
 /// One opportunity to send: a static slot, or a minislot at which a channel opens a slot (own
@@ -63,7 +64,7 @@ impl Window {
     ) -> Option<Window>
         ensures { result ≡ dynamic_window number cycle minislot a b }
     {
-        if 1 <= minislot && minislot <= 8000 && (a.is_some() || b.is_some()) {
+        if 1 <= minislot && minislot <= LAST_MINISLOT && (a.is_some() || b.is_some()) {
             Some(Window {
                 number,
                 cycle,

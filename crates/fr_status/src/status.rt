@@ -8,7 +8,6 @@ use crate::seen::Seen;
 use fr_frame::decode::decode;
 use fr_frame::frame::Frame;
 use fr_slots::channel::Channel;
-use fr_slots::fault::is_static_slot;
 use fr_slots::numbers::{Cycle, SlotId};
 use fr_slots::params::Params;
 
@@ -103,7 +102,7 @@ pub fn status_of(
 fn passes(params: &Params, cycle: Cycle, slot: SlotId, frame: &Frame) -> bool
     ensures { result ≡ passes params.now cycle slot frame.now }
 {
-    if is_static_slot(params, slot) {
+    if params.is_static(slot) {
         fits_static_slot(params, cycle, slot, frame)
     } else {
         fits_dynamic_slot(cycle, slot, frame)

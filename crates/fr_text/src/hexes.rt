@@ -9,12 +9,15 @@ use arrayvec::ArrayVec;
 use std::io;
 use std::io::Write;
 
-/// The digits of the longest frame, which has 262 bytes.
-const MOST_DIGITS: usize = 524;
+/// The most bytes that a word spells.
+pub const MOST_BYTES: usize = 262;
+
+/// The digits of that word.
+const MOST_DIGITS: usize = 2 * MOST_BYTES;
 
 /// The bytes that the digits spell, in lower case.
 fn digits_of<const N: usize>(digits: &[u8]) -> Option<ArrayVec<u8, N>>
-    requires { N ≤ 262 }
+    requires { N ≤ MOST_BYTES }
     ensures { option_map (λ p. p.items) result ≡ bytes_as N digits.now (decode_of digits.now) }
 {
     if digits.len() > 2 * N {
@@ -38,10 +41,10 @@ fn digits_of<const N: usize>(digits: &[u8]) -> Option<ArrayVec<u8, N>>
 }
 
 /// The bytes that the word spells: the letter `x`, and two lower-case digits for each byte. `None` where the word, which
-/// may be empty, is no such spelling, or where it has more than `N` bytes. `N` is at most 262, a frame's length.
+/// may be empty, is no such spelling, or where it has more than `N` bytes. `N` is at most `MOST_BYTES`.
 #[tactic(auto, unfolding(crate::specs::Reading::bytes_in))]
 pub fn bytes_of<const N: usize>(word: &[u8]) -> Option<ArrayVec<u8, N>>
-    requires { N ≤ 262 }
+    requires { N ≤ MOST_BYTES }
     ensures { option_map (λ p. p.items) result ≡ bytes_in N word.now }
 {
     let (mark, digits) = word.split_first()?;
@@ -52,9 +55,9 @@ pub fn bytes_of<const N: usize>(word: &[u8]) -> Option<ArrayVec<u8, N>>
     }
 }
 
-/// Writes the word of at most 262 bytes: the letter `x`, and two lower-case digits for each byte.
+/// Writes the word of at most `MOST_BYTES` bytes: the letter `x`, and two lower-case digits for each byte.
 pub fn write_hex<W: Write>(writer: &mut W, bytes: &[u8]) -> io::Result<()>
-    requires { length bytes.now ≤ 262 }
+    requires { length bytes.now ≤ MOST_BYTES }
     ensures { OnOk result (Appends (W.contents writer.old) (W.contents writer.new) (hex_text bytes.now)) }
 {
     let mut room = [0u8; MOST_DIGITS + 1];

@@ -11,11 +11,12 @@ use Rattle.fr_journal.specs.Legal.{IsLegal}
 use Rattle.fr_interface.specs.State.{State, IsLegalInterface, with_entry}
 use Rattle.fr_lines.specs.Spelled.{IsSpelledEntry, IsSpelledOwn, IsSpelledBuffer, IsSpelledQueue, bare_plan}
 use Rattle.fr_lines.specs.Spelling.{first_line, begin_line, end_line, params_words, node_words, own_words, buffer_words, queue_words, entry_words}
-use Rattle.fr_lines.proofs.BufferLemmas.{buffer_line_again, buffer_no_feed, buffer_short, buffer_not_begin, buffer_not_own}
+use Rattle.fr_lines.proofs.BufferLemmas.{buffer_line_again, buffer_no_feed, buffer_short, buffer_not_begin}
 use Rattle.fr_lines.proofs.EntryLemmas.{entry_line_again, entry_no_feed, entry_short, entry_not_end}
 use Rattle.fr_lines.proofs.NodeLemmas.{node_line_again, node_no_feed, node_short}
 use Rattle.fr_lines.proofs.OwnLemmas.{own_line_again, own_no_feed, own_short, own_not_begin}
-use Rattle.fr_lines.proofs.QueueLemmas.{queue_line_again, queue_no_feed, queue_short, queue_not_begin, queue_not_own, queue_not_buffer}
+use Rattle.fr_lines.proofs.PlanLineLemmas.{own_told, buffer_told, queue_told}
+use Rattle.fr_lines.proofs.QueueLemmas.{queue_line_again, queue_no_feed, queue_short, queue_not_begin}
 use Rattle.fr_lines.proofs.ParameterLemmas.{params_line_again, parameters_again, params_no_feed, params_short}
 use Rattle.fr_slots.specs.declared.plan.Buffer.{Buffer}
 use Rattle.fr_slots.specs.declared.plan.Own.{Own}
@@ -24,7 +25,7 @@ use Rattle.fr_slots.specs.Faults.{plan_fault}
 use Rattle.fr_slots.specs.History.{AllAfter}
 use Rattle.fr_slots.specs.Parameters.{Parameters, IsParameters}
 use Rattle.fr_slots.specs.Plans.{Plan, IsPlan, IsBuffer, IsOwn, IsQueueOrNone, QueueFits, Each, AllFit, buffer_fits, own_fits, with_buffer, with_own, with_queue}
-use Rattle.fr_text.specs.Spaces.{line_of}
+use Rattle.fr_text.specs.Spaces.{words_of, line_of}
 use Rattle.fr_trace.specs.Answers.{made_by}
 use Rattle.fr_trace.specs.Stream.{magic, params, node, lines, body, finished, reading, after_parameters, after_numbers, after_node, line_number, take_line, take_byte, take_bytes, fresh}
 use Rattle.fr_lines.specs.Spelling.{line_feed, line_text}
@@ -59,7 +60,7 @@ abbrev with_lines : Plan → List Own → List Buffer → Plan
 with_lines plan owned buffers = record (bare_plan plan) { owned = owned; buffers = buffers }
 
 own_line_read : (p : Parameters) (plan : Plan) (o : Own) → plan.buffers ≡ [] → plan.queue ≡ None → length plan.owned < 64 → IsSpelledOwn o → take_line (lines p plan) (line_of (own_words o)) ≡ Ok (lines p (with_own plan o))
-own_line_read p plan o no_buffer no_queue room spelled = rw (own_not_begin o, own_line_again o spelled, no_buffer, no_queue, own_taken plan o spelled.fits room) refl
+own_line_read p plan o no_buffer no_queue room spelled = rw (own_not_begin o, own_told (words_of (line_of (own_words o))) o (own_line_again o spelled), no_buffer, no_queue, own_taken plan o spelled.fits room) refl
 
 -- further ownership lines
 owned_read : (p : Parameters) (plan : Plan) (more before : List Own) → length before + length more ≤ 64 → AllFit own_fits more → Each IsOwn more
@@ -79,7 +80,7 @@ owned_read p plan (o ∷ more) before few fit ranges came =
 
 buffer_line_read : (p : Parameters) (plan : Plan) (b : Buffer) → plan.queue ≡ None → length plan.buffers < 64 → IsSpelledBuffer b → take_line (lines p plan) (line_of (buffer_words b)) ≡ Ok (lines p (with_buffer plan b))
 buffer_line_read p plan b none room spelled =
-    rw (buffer_not_begin b, buffer_not_own b spelled, buffer_line_again b spelled, none, buffer_taken plan b spelled.fits room) refl
+    rw (buffer_not_begin b, buffer_told (words_of (line_of (buffer_words b))) b (buffer_line_again b spelled), none, buffer_taken plan b spelled.fits room) refl
 
 -- further buffers
 buffers_read : (p : Parameters) (plan : Plan) (owned : List Own) (more before : List Buffer) → length before + length more ≤ 64 → AllFit buffer_fits more → Each IsBuffer more
@@ -100,7 +101,7 @@ buffers_read p plan owned (b ∷ more) before few fit ranges came =
 -- the queue
 queue_line_read : (p : Parameters) (plan : Plan) (q : Queue) → plan.queue ≡ None → IsSpelledQueue q → take_line (lines p plan) (line_of (queue_words q)) ≡ Ok (lines p (with_queue plan q))
 queue_line_read p plan q none spelled =
-    rw (queue_not_begin q, queue_not_own q spelled, queue_not_buffer q spelled, queue_line_again q spelled, queue_taken plan q spelled.fits none) refl
+    rw (queue_not_begin q, queue_told (words_of (line_of (queue_words q))) q (queue_line_again q spelled), queue_taken plan q spelled.fits none) refl
 
 abbrev with_queue_or_none : Plan → Option Queue → Plan
 with_queue_or_none plan o = record plan { queue = o }

@@ -12,7 +12,7 @@ use Rattle.fr_journal.specs.Arrivals.{oldest, moves}
 use Rattle.fr_journal.specs.Held.{held, origin_of}
 use Rattle.fr_journal.specs.Entries.{is_host, is_slot}
 use Rattle.fr_journal.specs.Legal.{IsLegal, IsLegalCommit, IsLegalRead, IsLegalPop, IsLegalFetch}
-use Rattle.fr_journal.specs.Offers.{buffer_at, offered}
+use Rattle.fr_journal.specs.Offers.{offered}
 use Rattle.fr_journal.specs.OpenWindow.{open_window, last_number}
 use Rattle.fr_interface.specs.State.{State, received_by, commit_refusal, unless_transmit, received_in, read_refusal, unless_receive, pop_refusal, unless_queued, oldest_of, fetch_refusal, observe_refusal, unless_open, is_not_above, is_host_full}
 use Rattle.fr_slots.specs.declared.channel.Channel.{Channel}
@@ -20,7 +20,7 @@ use Rattle.fr_slots.specs.declared.channel.Channel.TheVariants.{A, B}
 use Rattle.fr_slots.specs.declared.plan.Buffer.{Buffer}
 use Rattle.fr_slots.specs.declared.plan.Queue.{Queue}
 use Rattle.fr_slots.specs.Faults.{words_of}
-use Rattle.fr_slots.specs.Plans.{is_receive}
+use Rattle.fr_slots.specs.Plans.{is_receive, buffer_at}
 use Rattle.fr_slots.specs.Windows.{Opportunity}
 use Rattle.fr_trace.specs.Answers.{same_channel, same_origin, same_offered, is_refused, made_by, is_answered, fault_of}
 

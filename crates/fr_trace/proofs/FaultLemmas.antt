@@ -5,7 +5,9 @@ use Rattle.std.specs.Str.{bytes_eq}
 use Rattle.std.proofs.lemmas.Bool.{cases_Bool}
 use Rattle.fr_journal.specs.declared.entry.Entry.{Entry}
 use Rattle.fr_interface.specs.State.{State}
-use Rattle.fr_lines.specs.Reading.{params_in, node_in, own_in, buffer_in, queue_in, entry_in}
+use Rattle.fr_lines.specs.Reading.{params_in, node_in, plan_line_in, entry_in}
+use Rattle.fr_lines.specs.declared.plan_lines.PlanLine.{PlanLine}
+use Rattle.fr_lines.specs.declared.plan_lines.PlanLine.TheVariants as plan_line
 use Rattle.fr_lines.specs.Spelling.{first_line, begin_line, end_line}
 use Rattle.fr_slots.specs.declared.params.RangeError.{RangeError}
 use Rattle.fr_slots.specs.declared.plan.Buffer.{Buffer}
@@ -18,7 +20,7 @@ use Rattle.fr_text.specs.Spaces.{words_of}
 use Rattle.fr_trace.specs.Answers.{is_refused, is_answered}
 use Rattle.fr_trace.specs.Audit.{IsOfText}
 use Rattle.fr_trace.specs.declared.error.TraceError.{TraceError}
-use Rattle.fr_trace.specs.Stream.{Phase, magic, params, node, lines, body, finished, Progress, reading, failed, after_parameters, after_numbers, after_node, after_queue, after_buffer, has_owned_alone, after_own, after_buffered, after_owned, after_begin, after_call, after_entry, take_line, too_long, after_line, take_open, take_byte, take_bytes, longest_line, outcome_of}
+use Rattle.fr_trace.specs.Stream.{Phase, magic, params, node, lines, body, finished, Progress, reading, failed, after_parameters, after_numbers, after_node, after_queue, after_buffer, has_owned_alone, after_own, after_plan_line, after_begin, after_call, after_entry, take_line, too_long, after_line, take_open, take_byte, take_bytes, longest_line, outcome_of}
 
 abbrev pub FaultOfText : {A : Type 0} → Result A TraceError → Type 0
 FaultOfText (Ok x) = Unit {0}
@@ -42,9 +44,8 @@ node_fault : (p : Parameters) (o : Option Plan) → FaultOfText (after_node p o)
 node_fault p None = tt
 node_fault p (Some plan) = tt
 
-queue_fault : (p : Parameters) (plan : Plan) (o : Option Queue) → FaultOfText (after_queue p plan o)
-queue_fault p plan None = tt
-queue_fault p plan (Some q) = elim (cases_Bool (is_none (queue_refusal plan q))) [
+queue_fault : (p : Parameters) (plan : Plan) (q : Queue) → FaultOfText (after_queue p plan q)
+queue_fault p plan q = elim (cases_Bool (is_none (queue_refusal plan q))) [
   | inl taken ↦ rw taken tt
   | inr refused ↦ rw refused tt
 ]
@@ -55,19 +56,17 @@ buffer_fault p plan b = elim (cases_Bool (is_none plan.queue && is_none (buffer_
   | inr refused ↦ rw refused tt
 ]
 
-buffered_fault : (p : Parameters) (plan : Plan) (o : Option Buffer) (words : List (List ℕ)) → FaultOfText (after_buffered p plan o words)
-buffered_fault p plan None words = queue_fault p plan (queue_in words)
-buffered_fault p plan (Some b) words = buffer_fault p plan b
-
 own_fault : (p : Parameters) (plan : Plan) (o : Own) → FaultOfText (after_own p plan o)
 own_fault p plan o = elim (cases_Bool (has_owned_alone plan && is_none (own_refusal plan o))) [
   | inl taken ↦ rw taken tt
   | inr refused ↦ rw refused tt
 ]
 
-owned_fault : (p : Parameters) (plan : Plan) (o : Option Own) (words : List (List ℕ)) → FaultOfText (after_owned p plan o words)
-owned_fault p plan None words = buffered_fault p plan (buffer_in words) words
-owned_fault p plan (Some o) words = own_fault p plan o
+plan_line_fault : (p : Parameters) (plan : Plan) (o : Option PlanLine) → FaultOfText (after_plan_line p plan o)
+plan_line_fault p plan None = tt
+plan_line_fault p plan (Some (plan_line.Own o)) = own_fault p plan o
+plan_line_fault p plan (Some (plan_line.Buffer b)) = buffer_fault p plan b
+plan_line_fault p plan (Some (plan_line.Queue q)) = queue_fault p plan q
 
 begin_fault : (p : Parameters) (plan : Plan) → FaultOfText (after_begin p plan)
 begin_fault p plan = elim (cases_Bool (is_none (plan_fault p plan))) [
@@ -99,7 +98,7 @@ line_fault params line = numbers_fault (params_in (words_of line))
 line_fault (node p) line = node_fault p (node_in (words_of line))
 line_fault (lines p plan) line = elim (cases_Bool (bytes_eq line begin_line)) [
   | inl pass ↦ rw pass (begin_fault p plan)
-  | inr fail ↦ rw fail (owned_fault p plan (own_in (words_of line)) (words_of line))
+  | inr fail ↦ rw fail (plan_line_fault p plan (plan_line_in (words_of line)))
 ]
 line_fault (body s) line = elim (cases_Bool (bytes_eq line end_line)) [
   | inl pass ↦ rw pass tt

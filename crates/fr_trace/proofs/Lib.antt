@@ -9,3 +9,4 @@ pub mod PlanLemmas
 pub mod ReportLemmas
 pub mod TextLemmas
 pub mod WritingLemmas
+pub mod RefusalLemmas

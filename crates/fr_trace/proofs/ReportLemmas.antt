@@ -3,10 +3,9 @@ use Rattle.std.proofs.Common.{◌≡◌, ℕ, zero, suc, ◌+◌, ◌<◌, true,
 use Rattle.std.specs.Prelude.{slice_get}
 use Rattle.fr_journal.specs.Fate.{tally_of}
 use Rattle.fr_journal.specs.Held.{held}
-use Rattle.fr_journal.specs.Offers.{buffer_at}
 use Rattle.fr_interface.specs.State.{State, received_by, tally_by}
 use Rattle.fr_slots.specs.declared.plan.Buffer.{Buffer}
-use Rattle.fr_slots.specs.Plans.{is_receive}
+use Rattle.fr_slots.specs.Plans.{is_receive, buffer_at}
 use Rattle.fr_trace.specs.ReportText.{answer_words, reports_from, buffer_report, report_words, held_words, tally_words}
 use Rattle.fr_lines.specs.Spelling.{line_text}
 use Rattle.fr_text.specs.Spaces.{line_of}

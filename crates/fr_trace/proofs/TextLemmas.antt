@@ -8,14 +8,17 @@ use Rattle.std.specs.List.{flat_map}
 use Rattle.std.specs.Str.{bytes_eq}
 use Rattle.fr_journal.specs.declared.entry.Entry.{Entry}
 use Rattle.fr_interface.specs.State.{State, with_entry}
-use Rattle.fr_lines.specs.Reading.{params_in, node_in, own_in, buffer_in, queue_in, entry_in}
+use Rattle.fr_lines.specs.Reading.{params_in, node_in, own_in, buffer_in, queue_in, plan_line_in, entry_in}
 use Rattle.fr_lines.specs.Spelling.{first_line, begin_line, end_line, node_words, queue_words, entry_words}
 use Rattle.fr_lines.proofs.BufferLemmas.{buffer_line_takes}
 use Rattle.fr_lines.proofs.EntryLemmas.{entry_line_takes}
 use Rattle.fr_lines.proofs.NodeLemmas.{node_line_takes, node_no_lines}
 use Rattle.fr_lines.proofs.OwnLemmas.{own_line_takes}
 use Rattle.fr_lines.proofs.ParameterLemmas.{params_line_takes}
+use Rattle.fr_lines.proofs.PlanLineLemmas.{told_read}
 use Rattle.fr_lines.proofs.QueueLemmas.{queue_line_takes}
+use Rattle.fr_lines.specs.declared.plan_lines.PlanLine.{PlanLine}
+use Rattle.fr_lines.specs.declared.plan_lines.PlanLine.TheVariants as plan_line
 use Rattle.fr_slots.specs.declared.params.RangeError.{RangeError}
 use Rattle.fr_slots.specs.declared.plan.Buffer.{Buffer}
 use Rattle.fr_slots.specs.declared.plan.Own.{Own}
@@ -28,7 +31,7 @@ use Rattle.fr_trace.specs.declared.error.TraceError.{TraceError}
 use Rattle.fr_slots.specs.Faults.{plan_fault}
 use Rattle.fr_lines.specs.Spelling.{line_feed, line_text}
 use Rattle.fr_trace.specs.TraceText.{own_line, buffer_line, queue_lines, entry_line, head_text, params_text, plan_text, begin_text, body_text, trace_text}
-use Rattle.fr_trace.specs.Stream.{Phase, magic, params, node, lines, body, finished, Progress, reading, failed, after_parameters, after_numbers, after_node, after_queue, after_buffer, has_owned_alone, after_own, after_buffered, after_owned, after_begin, line_number, after_fault, after_entry, take_line, after_line, take_open, take_in, take_byte, take_bytes, fresh, longest_line}
+use Rattle.fr_trace.specs.Stream.{Phase, magic, params, node, lines, body, finished, Progress, reading, failed, after_parameters, after_numbers, after_node, after_queue, after_buffer, has_owned_alone, after_own, after_plan_line, after_begin, line_number, after_fault, after_entry, take_line, after_line, take_open, take_in, take_byte, take_bytes, fresh, longest_line}
 use Rattle.fr_trace.proofs.AnswerLemmas.{made-answered}
 use Rattle.fr_trace.proofs.PlanLemmas.{nil_is, none_is, no_queue_yet}
 
@@ -152,10 +155,9 @@ queue_text p plan q no_queue =
     ap (λ t. t ++ line_text (queue_words q)) (sym (append-nil before))
     ∙ ap (λ (o : Option Queue). (before ++ queue_lines o) ++ line_text (queue_words q)) (sym no_queue)
 
-after_queue_leads : (line : List ℕ) (p : Parameters) (plan : Plan) (o : Option Queue) (x : Phase) → queue_in (words_of line) ≡ o → after_queue p plan o ≡ Ok x
+after_queue_leads : (line : List ℕ) (p : Parameters) (plan : Plan) (q : Queue) (x : Phase) → queue_in (words_of line) ≡ Some q → after_queue p plan q ≡ Ok x
     → Leads (lines p plan) line x
-after_queue_leads line p plan None x read h = cc h
-after_queue_leads line p plan (Some q) x read h =
+after_queue_leads line p plan q x read h =
     elim (cases_Bool (is_none (queue_refusal plan q))) [
       | inl taken ↦
           let end : lines p (with_queue plan q) ≡ x = cc (rw taken at h) in
@@ -164,15 +166,12 @@ after_queue_leads line p plan (Some q) x read h =
       | inr refused ↦ cc (rw refused at h)
     ]
 
-after_buffered_leads : (line : List ℕ) (p : Parameters) (plan : Plan) (o : Option Buffer) (q : Phase) → buffer_in (words_of line) ≡ o → after_buffered p plan o (words_of line) ≡ Ok q
+after_plan_line_leads : (line : List ℕ) (p : Parameters) (plan : Plan) (o : Option PlanLine) (q : Phase) → plan_line_in (words_of line) ≡ o → after_plan_line p plan o ≡ Ok q
     → Leads (lines p plan) line q
-after_buffered_leads line p plan None q read h = after_queue_leads line p plan (queue_in (words_of line)) q refl h
-after_buffered_leads line p plan (Some b) q read h = after_buffer_leads line p plan b q read h
-
-after_owned_leads : (line : List ℕ) (p : Parameters) (plan : Plan) (o : Option Own) (q : Phase) → own_in (words_of line) ≡ o → after_owned p plan o (words_of line) ≡ Ok q
-    → Leads (lines p plan) line q
-after_owned_leads line p plan None q read h = after_buffered_leads line p plan (buffer_in (words_of line)) q refl h
-after_owned_leads line p plan (Some o) q read h = after_own_leads line p plan o q read h
+after_plan_line_leads line p plan None q read h = cc h
+after_plan_line_leads line p plan (Some (plan_line.Own o)) q read h = after_own_leads line p plan o q (told_read (words_of line) (plan_line.Own o) read) h
+after_plan_line_leads line p plan (Some (plan_line.Buffer b)) q read h = after_buffer_leads line p plan b q (told_read (words_of line) (plan_line.Buffer b) read) h
+after_plan_line_leads line p plan (Some (plan_line.Queue t)) q read h = after_queue_leads line p plan t q (told_read (words_of line) (plan_line.Queue t) read) h
 
 after_begin_leads : (line : List ℕ) (p : Parameters) (plan : Plan) (q : Phase) → line ≡ begin_line → after_begin p plan ≡ Ok q → Leads (lines p plan) line q
 after_begin_leads line p plan q is h =
@@ -226,7 +225,7 @@ line_leads (node p) line q h = after_node_leads line p (node_in (words_of line))
 line_leads (lines p plan) line q h =
     elim (cases_Bool (bytes_eq line begin_line)) [
       | inl pass ↦ after_begin_leads line p plan q ((bytes_eq-Decides line begin_line).0 pass) (rw pass at h)
-      | inr fail ↦ after_owned_leads line p plan (own_in (words_of line)) q refl (rw fail at h)
+      | inr fail ↦ after_plan_line_leads line p plan (plan_line_in (words_of line)) q refl (rw fail at h)
     ]
 line_leads (body s) line q h =
     elim (cases_Bool (bytes_eq line end_line)) [

@@ -6,3 +6,4 @@ pub mod ReportText
 pub mod Stream
 pub mod TraceText
 pub mod Views
+pub mod Refusals

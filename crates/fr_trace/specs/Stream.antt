@@ -4,7 +4,9 @@ use Rattle.std.specs.List.{fold}
 use Rattle.std.specs.Str.{bytes_eq}
 use Rattle.fr_journal.specs.declared.entry.Entry.{Entry}
 use Rattle.fr_interface.specs.State.{State, with_entry}
-use Rattle.fr_lines.specs.Reading.{params_in, node_in, own_in, buffer_in, queue_in, entry_in}
+use Rattle.fr_lines.specs.Reading.{params_in, node_in, plan_line_in, entry_in}
+use Rattle.fr_lines.specs.declared.plan_lines.PlanLine.{PlanLine}
+use Rattle.fr_lines.specs.declared.plan_lines.PlanLine.TheVariants as plan_line
 use Rattle.fr_lines.specs.Spelling.{first_line, begin_line, end_line}
 use Rattle.fr_slots.specs.declared.params.RangeError.{RangeError}
 use Rattle.fr_slots.specs.declared.plan.Buffer.{Buffer}
@@ -68,10 +70,9 @@ after_node p (Some plan) = Ok (lines p plan)
 abbrev pub bad_line : Plan → Result Phase TraceError
 bad_line plan = Err (BadLine (line_count plan + 4))
 
--- the queue stands behind all other lines of the plan, and there is one at the most
-abbrev pub after_queue : Parameters → Plan → Option Queue → Result Phase TraceError
-after_queue p plan None = bad_line plan
-after_queue p plan (Some q) = if is_none (queue_refusal plan q) then Ok (lines p (with_queue plan q)) else bad_line plan
+-- the queue stands after all other lines of the plan, and there is one at the most
+abbrev pub after_queue : Parameters → Plan → Queue → Result Phase TraceError
+after_queue p plan q = if is_none (queue_refusal plan q) then Ok (lines p (with_queue plan q)) else bad_line plan
 
 -- buffers stand before the queue, and there is room for 64
 abbrev pub after_buffer : Parameters → Plan → Buffer → Result Phase TraceError
@@ -84,17 +85,12 @@ has_owned_alone plan = length plan.buffers == 0 && is_none plan.queue
 abbrev pub after_own : Parameters → Plan → Own → Result Phase TraceError
 after_own p plan o = if has_owned_alone plan && is_none (own_refusal plan o) then Ok (lines p (with_own plan o)) else bad_line plan
 
--- an ownership line, or else a buffer, or else a queue
-abbrev pub after_buffered : Parameters → Plan → Option Buffer → List (List ℕ) → Result Phase TraceError
-after_buffered p plan None words = after_queue p plan (queue_in words)
-after_buffered p plan (Some b) words = after_buffer p plan b
-
-abbrev pub after_owned : Parameters → Plan → Option Own → List (List ℕ) → Result Phase TraceError
-after_owned p plan None words = after_buffered p plan (buffer_in words) words
-after_owned p plan (Some o) words = after_own p plan o
-
-abbrev pub after_plan_line : Parameters → Plan → List (List ℕ) → Result Phase TraceError
-after_plan_line p plan words = after_owned p plan (own_in words) words
+-- an ownership line, a buffer, the queue, or none of these
+abbrev pub after_plan_line : Parameters → Plan → Option PlanLine → Result Phase TraceError
+after_plan_line p plan None = bad_line plan
+after_plan_line p plan (Some (plan_line.Own o)) = after_own p plan o
+after_plan_line p plan (Some (plan_line.Buffer b)) = after_buffer p plan b
+after_plan_line p plan (Some (plan_line.Queue q)) = after_queue p plan q
 
 -- an interface is made where the plan has no fault
 abbrev pub after_begin : Parameters → Plan → Result Phase TraceError
@@ -118,7 +114,7 @@ abbrev pub take_line : Phase → List ℕ → Result Phase TraceError
 take_line magic line = if bytes_eq line first_line then Ok params else Err BadMagic
 take_line params line = after_numbers (params_in (words_of line))
 take_line (node p) line = after_node p (node_in (words_of line))
-take_line (lines p plan) line = if bytes_eq line begin_line then after_begin p plan else after_plan_line p plan (words_of line)
+take_line (lines p plan) line = if bytes_eq line begin_line then after_begin p plan else after_plan_line p plan (plan_line_in (words_of line))
 take_line (body s) line = if bytes_eq line end_line then Ok (finished s) else after_entry s (entry_in (words_of line))
 take_line (finished s) line = Err (BadLine (line_number (finished s)))
 

@@ -1,12 +1,14 @@
 //! The audit of a reader's bytes.
 
-ghost use Rattle.std.specs.Prelude.{◌≡◌, Some};
+ghost use Rattle.std.specs.Prelude.{◌≡◌, Some, IfOk, IfSome};
 ghost use Rattle.fr_interface.specs.State.{State, IsLegalInterface};
 ghost use Rattle.fr_trace.specs.Audit.{Audits, Stops, Leaves, ReadsThrough, IsNotRefused};
+ghost use Rattle.fr_trace.specs.Refusals.{HasFewLines, LineIsNamed, ShortIfTaken};
 ghost use Rattle.fr_trace.specs.TraceText.{trace_text};
 
 use crate::auditor::Auditor;
 use crate::error::TraceError;
+use crate::pieces::lawful;
 use crate::report::write_report;
 use fr_interface::interface::Interface;
 use std::alloc::Global;
@@ -17,7 +19,8 @@ const ROOM: usize = 4096;
 
 /// What the reader's bytes leave. It reads no further once an error stands.
 fn read_through<R: Read>(alloc: Global, reader: &mut R) -> Result<Interface, TraceError>
-    ensures { ReadsThrough (R.remaining reader.old) (R.remaining reader.new) result }
+    ensures through { ReadsThrough (R.remaining reader.old) (R.remaining reader.new) result }
+    ensures few { IfOk result HasFewLines }
 {
     let mut auditor = Auditor::new(alloc);
     let mut room = [0u8; ROOM];
@@ -26,7 +29,7 @@ fn read_through<R: Read>(alloc: Global, reader: &mut R) -> Result<Interface, Tra
             return Err(TraceError::Read);
         };
         if count == 0 {
-            return auditor.finish();
+            return lawful(auditor.finish());
         }
         let fed = auditor.feed(&room[..count]);
         if let Err(fault) = fed {
@@ -42,7 +45,9 @@ fn audit_through<R: Read, W: Write>(
     reader: &mut R,
     writer: &mut W,
 ) -> Result<(), TraceError>
-    ensures { Leaves (R.remaining reader.old) (R.remaining reader.new) (W.contents writer.old) (W.contents writer.new) result }
+    ensures left { Leaves (R.remaining reader.old) (R.remaining reader.new)
+        (W.contents writer.old) (W.contents writer.new) result }
+    ensures short { ShortIfTaken result (R.remaining reader.old) }
 {
     let interface = match read_through(alloc, reader) {
         Ok(interface) => interface,
@@ -66,6 +71,10 @@ pub fn audit<R: Read, W: Write>(
     ensures found { Audits (R.remaining reader.old) (W.contents writer.old) (W.contents writer.new) result }
     // It reads in pieces of at most 4096 bytes, and none behind the one that has the fault.
     ensures read { Stops (R.remaining reader.old) (R.remaining reader.new) result }
+    // What is accepted is no longer than so many lines of the greatest length.
+    ensures short { ShortIfTaken result (R.remaining reader.old) }
+    // The line that an error names is that of the byte with which the first fault shows.
+    ensures line { IfSome (R.remaining reader.old) (λ text. LineIsNamed result text) }
     // The text of a legal interface is not refused.
     ensures only { (s : State) → IsLegalInterface s → R.remaining reader.old ≡ Some (trace_text s) → IsNotRefused result }
 {

@@ -2,27 +2,25 @@
 //! what the lines before have told is a plan or an interface by then.
 
 ghost use Rattle.std.specs.Prelude.{◌≡◌, ◌+◌, ◌≤◌, length, None};
-ghost use Rattle.fr_lines.specs.Reading.{queue_in};
+ghost use Rattle.fr_lines.specs.Reading.{plan_line_in};
 ghost use Rattle.fr_slots.specs.Faults.{plan_fault};
 ghost use Rattle.fr_text.specs.Spaces.{words_of};
 ghost use Rattle.fr_trace.specs.Auditor.{phase_of};
 ghost use Rattle.fr_trace.specs.Feeds.{GivesPhase, GivesUnless, IsBegin};
 ghost use Rattle.fr_trace.specs.Stream.{params, node, lines, body, take_line, too_long, line_number};
-ghost use Rattle.fr_trace.specs.Stream.{line_count, has_owned_alone, after_begin, after_queue, after_buffer};
-ghost use Rattle.fr_trace.specs.Stream.{after_own};
+ghost use Rattle.fr_trace.specs.Stream.{line_count, has_owned_alone, after_begin, after_own, after_buffer};
+ghost use Rattle.fr_trace.specs.Stream.{after_queue, after_plan_line};
 
 use crate::error::TraceError;
 use crate::replay::replay;
 use arrayvec::ArrayVec;
 use fr_interface::interface::Interface;
-use fr_lines::buffers::buffer_of;
 use fr_lines::entries::entry_of;
 use fr_lines::nodes::node_of;
-use fr_lines::owned::own_of;
 use fr_lines::parameters::params_of;
-use fr_lines::queues::queue_of;
+use fr_lines::plan_lines::{PlanLine, plan_line_of};
 use fr_slots::params::Params;
-use fr_slots::plan::{Buffer, NodePlan, Own};
+use fr_slots::plan::{Buffer, NodePlan, Own, Queue};
 use std::alloc::Global;
 use std::marker::Model;
 use std::mem;
@@ -41,20 +39,17 @@ enum Phase {
     Finished(Interface),
 }
 
-/// How many lines a plan has behind its first.
+/// How many lines a plan has after its first.
 fn line_count(plan: &NodePlan) -> u32
     ensures value { result ≡ line_count plan.now }
     ensures few { result ≤ 129 }
 {
-    let queue = match plan.queue() {
-        Some(_) => 1,
-        None => 0,
-    };
+    let queue = u32::from(plan.queue().is_some());
     plan.owned().len() as u32 + plan.buffers().len() as u32 + queue
 }
 
 /// How many lines an interface's plan and journal have.
-fn lines_of(interface: &Interface) -> u32
+pub(crate) fn lines_of(interface: &Interface) -> u32
     ensures value { result ≡ line_count interface.now.plan + length interface.now.entries }
     ensures few { result ≤ 82049 }
 {
@@ -98,44 +93,17 @@ fn node_line(params: Params, line: &[u8]) -> Result<Phase, TraceError>
     }
 }
 
-/// The line `begin`, at which alone memory is taken.
-fn begin(alloc: Global, params: Params, plan: NodePlan) -> Result<Phase, TraceError>
+/// The line `begin`, of this number, at which alone memory is taken.
+fn begin(alloc: Global, params: Params, plan: NodePlan, number: u32) -> Result<Phase, TraceError>
+    requires { number ≡ line_number (lines params plan) }
     ensures { GivesUnless (plan_fault params plan ≡ None) phase_of result (after_begin params plan) }
 {
     if plan.fault(&params).is_some() {
-        return Err(TraceError::Refused(line_count(&plan) + 4));
+        return Err(TraceError::Refused(number));
     }
     match Interface::new(alloc, &params, &plan) {
         Ok(interface) => Ok(Phase::Body(interface)),
         Err(_) => Err(TraceError::Memory),
-    }
-}
-
-/// The queue of the plan, which stands behind all its other lines.
-fn queue_line(params: Params, mut plan: NodePlan, line: &[u8]) -> Result<Phase, TraceError>
-    ensures { GivesPhase phase_of result (after_queue params plan (queue_in (words_of line.now))) }
-{
-    let number = line_count(&plan) + 4;
-    let Some(queue) = queue_of(line) else {
-        return Err(TraceError::BadLine(number));
-    };
-    match plan.set_queue(queue) {
-        Ok(()) => Ok(Phase::Lines(params, plan)),
-        Err(_) => Err(TraceError::BadLine(number)),
-    }
-}
-
-/// A buffer of the plan, which stands before its queue.
-fn buffer_line(params: Params, mut plan: NodePlan, buffer: Buffer) -> Result<Phase, TraceError>
-    ensures { GivesPhase phase_of result (after_buffer params plan buffer) }
-{
-    let number = line_count(&plan) + 4;
-    if plan.queue().is_some() {
-        return Err(TraceError::BadLine(number));
-    }
-    match plan.add_buffer(buffer) {
-        Ok(()) => Ok(Phase::Lines(params, plan)),
-        Err(_) => Err(TraceError::BadLine(number)),
     }
 }
 
@@ -147,10 +115,10 @@ fn has_owned_alone(plan: &NodePlan) -> bool
 }
 
 /// An ownership line of the plan, which stands before its buffers and its queue.
-fn own_line(params: Params, mut plan: NodePlan, own: Own) -> Result<Phase, TraceError>
+fn own_line(params: Params, mut plan: NodePlan, own: Own, number: u32) -> Result<Phase, TraceError>
+    requires { number ≡ line_number (lines params plan) }
     ensures { GivesPhase phase_of result (after_own params plan own) }
 {
-    let number = line_count(&plan) + 4;
     if !has_owned_alone(&plan) {
         return Err(TraceError::BadLine(number));
     }
@@ -160,35 +128,71 @@ fn own_line(params: Params, mut plan: NodePlan, own: Own) -> Result<Phase, Trace
     }
 }
 
-/// A line of the plan, or `begin`.
+/// A buffer of the plan, which stands before its queue.
+fn buffer_line(
+    params: Params,
+    mut plan: NodePlan,
+    buffer: Buffer,
+    number: u32,
+) -> Result<Phase, TraceError>
+    requires { number ≡ line_number (lines params plan) }
+    ensures { GivesPhase phase_of result (after_buffer params plan buffer) }
+{
+    if plan.queue().is_some() {
+        return Err(TraceError::BadLine(number));
+    }
+    match plan.add_buffer(buffer) {
+        Ok(()) => Ok(Phase::Lines(params, plan)),
+        Err(_) => Err(TraceError::BadLine(number)),
+    }
+}
+
+/// The queue of the plan, which stands after all its other lines.
+fn queue_line(
+    params: Params,
+    mut plan: NodePlan,
+    queue: Queue,
+    number: u32,
+) -> Result<Phase, TraceError>
+    requires { number ≡ line_number (lines params plan) }
+    ensures { GivesPhase phase_of result (after_queue params plan queue) }
+{
+    match plan.set_queue(queue) {
+        Ok(()) => Ok(Phase::Lines(params, plan)),
+        Err(_) => Err(TraceError::BadLine(number)),
+    }
+}
+
+/// A line of the plan, of this number, or `begin`.
 fn plan_line(
     alloc: Global,
     params: Params,
     plan: NodePlan,
+    number: u32,
     line: &[u8],
 ) -> Result<Phase, TraceError>
+    requires { number ≡ line_number (lines params plan) }
     ensures { GivesUnless (IsBegin (lines params plan) line.now) phase_of result (take_line (lines params plan) line.now) }
 {
     if line == b"begin".as_slice() {
-        return begin(alloc, params, plan);
+        return begin(alloc, params, plan, number);
     }
-    if let Some(own) = own_of(line) {
-        return own_line(params, plan, own);
-    }
-    match buffer_of(line) {
-        Some(buffer) => buffer_line(params, plan, buffer),
-        None => queue_line(params, plan, line),
+    match plan_line_of(line) {
+        Some(PlanLine::Own(own)) => own_line(params, plan, own, number),
+        Some(PlanLine::Buffer(buffer)) => buffer_line(params, plan, buffer, number),
+        Some(PlanLine::Queue(queue)) => queue_line(params, plan, queue, number),
+        None => Err(TraceError::BadLine(number)),
     }
 }
 
-/// A line of the journal, or `end`.
-fn body_line(mut interface: Interface, line: &[u8]) -> Result<Phase, TraceError>
+/// A line of the journal, of this number, or `end`.
+fn body_line(mut interface: Interface, number: u32, line: &[u8]) -> Result<Phase, TraceError>
+    requires { number ≡ line_number (body interface) }
     ensures { GivesPhase phase_of result (take_line (body interface) line.now) }
 {
     if line == b"end".as_slice() {
         return Ok(Phase::Finished(interface));
     }
-    let number = lines_of(&interface) + 5;
     let Some(entry) = entry_of(line) else {
         return Err(TraceError::BadLine(number));
     };
@@ -196,8 +200,9 @@ fn body_line(mut interface: Interface, line: &[u8]) -> Result<Phase, TraceError>
     Ok(Phase::Body(interface))
 }
 
-/// What follows a whole line.
-fn after(alloc: Global, phase: Phase, line: &[u8]) -> Result<Phase, TraceError>
+/// What follows a whole line, of this number.
+fn after(alloc: Global, phase: Phase, number: u32, line: &[u8]) -> Result<Phase, TraceError>
+    requires { number ≡ line_number (phase_of phase) }
     ensures { GivesUnless (IsBegin (phase_of phase) line.now) phase_of result (take_line (phase_of phase) line.now) }
 {
     match phase {
@@ -210,9 +215,9 @@ fn after(alloc: Global, phase: Phase, line: &[u8]) -> Result<Phase, TraceError>
         }
         Phase::Parameters => parameters_line(line),
         Phase::Node(params) => node_line(params, line),
-        Phase::Lines(params, plan) => plan_line(alloc, params, plan, line),
-        Phase::Body(interface) => body_line(interface, line),
-        Phase::Finished(interface) => Err(TraceError::BadLine(lines_of(&interface) + 6)),
+        Phase::Lines(params, plan) => plan_line(alloc, params, plan, number, line),
+        Phase::Body(interface) => body_line(interface, number, line),
+        Phase::Finished(_) => Err(TraceError::BadLine(number)),
     }
 }
 
@@ -247,8 +252,10 @@ impl Model for Auditor {
 
 impl Auditor {
     ghost use Rattle.std.specs.Prelude.{◌≡◌, ◌∷◌, [], Ok, Err};
-    ghost use Rattle.fr_trace.specs.Stream.{fresh, failed, answer_of, outcome_of};
+    ghost use Rattle.std.specs.Prelude.{ℕ, List, ◌++◌};
+    ghost use Rattle.fr_trace.specs.Stream.{fresh, take_bytes, answer_of, outcome_of};
     ghost use Rattle.fr_trace.specs.Feeds.{Reads, EndsLine};
+    ghost use Rattle.fr_trace.specs.Refusals.{LineIsNamed, HopelessIfRefused};
 
     /// An auditor to which nothing has come. It takes memory from `alloc` at the line `begin` alone.
     pub fn new(alloc: Global) -> Auditor
@@ -262,12 +269,6 @@ impl Auditor {
         }
     }
 
-    fn fail(&mut self, fault: TraceError)
-        ensures { self.new ≡ failed fault }
-    {
-        self.fault = Some(fault);
-    }
-
     /// Looks at the line, which is whole.
     fn end_line(&mut self)
         ensures { EndsLine self.old self.new }
@@ -275,8 +276,9 @@ impl Auditor {
         if self.fault.is_some() {
             return;
         }
+        let number = line_number(&self.phase);
         let phase = mem::replace(&mut self.phase, Phase::Magic);
-        match after(self.alloc, phase, self.line.as_slice()) {
+        match after(self.alloc, phase, number, self.line.as_slice()) {
             Ok(phase) => {
                 self.phase = phase;
                 self.line.clear();
@@ -285,6 +287,7 @@ impl Auditor {
         }
     }
 
+    /// Takes the next byte.
     fn take_byte(&mut self, byte: u8)
         ensures { Reads self.old (byte ∷ []) self.new }
     {
@@ -302,6 +305,16 @@ impl Auditor {
         }
     }
 
+    /// Takes the bytes of a piece.
+    fn take_bytes(&mut self, piece: &[u8])
+        ensures { Reads self.old piece.now self.new }
+    {
+        for byte in piece {
+            self.take_byte(*byte);
+        }
+    }
+
+    /// The fault that has shown, if one has.
     fn answer(&self) -> Result<(), TraceError>
         ensures { result ≡ answer_of self.now }
     {
@@ -314,15 +327,18 @@ impl Auditor {
     /// Takes the next piece of a trace.
     ///
     /// The first line at fault is answered as soon as it is known: a line that is too long at its byte
-    /// 1201, a byte behind `end` at once, any other as its line feed comes. From then on each call
+    /// 1201, a byte after `end` at once, any other as its line feed comes. From then on each call
     /// answers that error, and nothing more is read.
     pub fn feed(&mut self, piece: &[u8]) -> Result<(), TraceError>
         ensures state { Reads self.old piece.now self.new }
         ensures answer { result ≡ answer_of self.new }
+        // The line that an error names is that of the byte with which the first fault shows.
+        ensures line { (front : List ℕ) → self.old ≡ take_bytes fresh front → LineIsNamed result (front ++ piece.now) }
+        // After a fault no bytes that come could make the text legal.
+        ensures hopeless { (front : List ℕ) → self.old ≡ take_bytes fresh front
+            → HopelessIfRefused result (front ++ piece.now) }
     {
-        for byte in piece {
-            self.take_byte(*byte);
-        }
+        self.take_bytes(piece);
         self.answer()
     }
 

@@ -1,4 +1,15 @@
 //! Traces of an interface: audited as they come, and reported.
+//!
+//! ```text
+//! let mut auditor = Auditor::new(alloc);
+//! auditor.feed(piece)?; // as often as pieces come
+//! let interface = auditor.finish()?; // of a legal journal, which the trace told
+//! write_report(&interface, &mut out)?;
+//! write_trace(&interface, &mut out)?; // the trace again, byte by byte
+//! ```
+//!
+//! A chapter in parentheses is one of the FlexRay Protocol Specification 2.1, revision A, whose rule it is.
+//! *(own profile)* marks a rule of this project's own, which says nothing of the standard.
 #![tactic(auto)]
 
 pub mod audit;
@@ -7,6 +18,4 @@ pub mod error;
 pub mod pieces;
 mod replay;
 pub mod report;
-#[cfg(test)]
-mod tests;
 pub mod trace;

@@ -1,13 +1,14 @@
 //! A trace that comes in pieces, however it is cut.
 
-ghost use Rattle.std.specs.Prelude.{◌≡◌, ◌⊎◌, IfOk, Ok, Err};
+ghost use Rattle.std.specs.Prelude.{◌≡◌, ◌≤◌, ◌⊎◌, length, IfOk, OnOk, Ok, Err};
 ghost use Rattle.std.specs.List.{flat_map};
 ghost use Rattle.fr_interface.specs.State.{State, IsLegalInterface};
 ghost use Rattle.fr_trace.specs.Feeds.{Begins, Reads};
+ghost use Rattle.fr_trace.specs.Refusals.{HasFewLines, LineIsNamed, longest_text};
 ghost use Rattle.fr_trace.specs.Stream.{fresh, take_bytes, outcome_of};
 ghost use Rattle.fr_trace.specs.TraceText.{trace_text};
 
-use crate::auditor::Auditor;
+use crate::auditor::{Auditor, lines_of};
 use crate::error::TraceError;
 use fr_interface::interface::Interface;
 use std::alloc::Global;
@@ -31,6 +32,10 @@ pub fn audit_pieces(alloc: Global, pieces: &[&[u8]]) -> Result<Interface, TraceE
     ensures found { IfOk result (λ s. (flat_map (λ p. p.now) pieces.now ≡ trace_text s) × IsLegalInterface s) }
     // The text of a legal interface is accepted as that interface, unless memory runs out.
     ensures only { (s : State) → IsLegalInterface s → flat_map (λ p. p.now) pieces.now ≡ trace_text s → (result ≡ Ok s) ⊎ (result ≡ Err TraceError.Memory) }
+    // It is no longer than so many lines of the greatest length.
+    ensures short { OnOk result (length (flat_map (λ p. p.now) pieces.now) ≤ longest_text) }
+    // The line that an error names is that of the byte with which the first fault shows.
+    ensures line { LineIsNamed result (flat_map (λ p. p.now) pieces.now) }
     // Which refusal comes. Memory can run out at the line `begin` alone.
     ensures exact { (result ≡ outcome_of (take_bytes fresh (flat_map (λ p. p.now) pieces.now))) ⊎ ((result ≡ Err TraceError.Memory) × Begins fresh (flat_map (λ p. p.now) pieces.now)) }
 {
@@ -38,14 +43,17 @@ pub fn audit_pieces(alloc: Global, pieces: &[&[u8]]) -> Result<Interface, TraceE
     lawful(auditor.finish())
 }
 
-/// What an auditor answered; an interface is legal.
-fn lawful(outcome: Result<Interface, TraceError>) -> Result<Interface, TraceError>
+/// What an auditor answered; an interface is legal, and has few lines.
+pub(crate) fn lawful(outcome: Result<Interface, TraceError>) -> Result<Interface, TraceError>
     ensures same { result ≡ outcome }
     ensures legal { IfOk result IsLegalInterface }
+    ensures few { IfOk result HasFewLines }
 {
     match outcome {
         Ok(interface) => {
+            // Each of the two tells a clause of what every interface keeps.
             let _ = interface.params();
+            let _ = lines_of(&interface);
             Ok(interface)
         }
         Err(fault) => Err(fault),

@@ -1,4 +1,4 @@
-use Rattle.std.proofs.Common.{◌≡◌, ℕ, List, set, ap, sym, ◌∙◌, arith}
+use Rattle.std.proofs.Common.{◌≡◌, ℕ, set, ap, sym, ◌∙◌, arith}
 use Rattle.fr_buffers.specs.Transmitting.{Transmitter, with_commit}
 use Rattle.fr_interface.specs.Known.{change_at}
 use Rattle.fr_interface.proofs.ChangeLemmas.{change_at-set}

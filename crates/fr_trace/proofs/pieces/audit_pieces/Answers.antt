@@ -1,5 +1,5 @@
-use Rattle.std.proofs.Common.{◌≡◌, ℕ, List, Result, Ok, Err, ◌⊎◌, inl, inr, ap, ◌∙◌}
-use Rattle.std.specs.Prelude.{IfOk}
+use Rattle.std.proofs.Common.{◌≡◌, ◌≤◌, ℕ, List, length, Result, Ok, Err, ◌⊎◌, inl, inr, ap, sym, subst, ◌∙◌}
+use Rattle.std.specs.Prelude.{IfOk, OnOk}
 use Rattle.std.specs.List.{flat_map}
 use Rattle.fr_interface.specs.State.{State, IsLegalInterface}
 use Rattle.fr_trace.specs.Feeds.{Begins, Reads}
@@ -7,7 +7,9 @@ use Rattle.fr_trace.specs.Stream.{Progress, fresh, take_bytes, outcome_of}
 use Rattle.fr_trace.specs.TraceText.{trace_text}
 use Rattle.fr_trace.specs.declared.error.TraceError.{TraceError}
 use Rattle.fr_trace.specs.declared.error.TraceError.TheVariants.{Memory}
+use Rattle.fr_trace.specs.Refusals.{HasFewLines, LineIsNamed, longest_text}
 use Rattle.fr_trace.proofs.OutcomeLemmas.{accepted_text, legal_outcome}
+use Rattle.fr_trace.proofs.RefusalLemmas.{outcome_named, short_text}
 use Rattle.fr_trace.proofs.pieces.audit_pieces.Goals as goal
 
 -- the answer is the text's, unless memory ran out as an interface was made
@@ -27,6 +29,15 @@ only : (text : List ℕ) (r : Result State TraceError) (s : State) → IsLegalIn
 only text r s is same (inl e) = inl (e ∙ legal_outcome text s is same)
 only text r s is same (inr e) = inr e.0
 
+short : (text : List ℕ) (r : Result State TraceError) → IfOk r HasFewLines → Answers text r → OnOk r (length text ≤ longest_text)
+short text (Ok s) few (inl e) = short_text text s (sym e) few
+short text (Ok s) few (inr e) = cc e.0
+short text (Err f) few e = tt
+
+named : (text : List ℕ) (r : Result State TraceError) → Answers text r → LineIsNamed r text
+named text r (inl e) = subst (λ (o : Result State TraceError). LineIsNamed o text) (sym e) (outcome_named text)
+named text r (inr e) = subst (λ (o : Result State TraceError). LineIsNamed o text) (sym e.0) tt
+
 pub returns : goal.returns
 returns c =
     let text = flat_map (λ p. p.now) c.args.pieces.now in
@@ -35,5 +46,7 @@ returns c =
     record {
       found = found text result c.lawful.ensures.legal which;
       only = λ s is same. only text result s is same which;
+      short = short text result c.lawful.ensures.few which;
+      line = named text result which;
       exact = which;
     }

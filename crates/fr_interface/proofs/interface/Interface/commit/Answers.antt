@@ -3,7 +3,6 @@ use Rattle.std.specs.Prelude.{IfSome, IsSomeAnd, slice_get}
 use Rattle.fr_buffers.specs.Transmitting.{Transmitter, with_commit}
 use Rattle.fr_frame.specs.Payload.{IsPayload}
 use Rattle.fr_journal.specs.Entries.{AreBytes}
-use Rattle.fr_journal.specs.Offers.{buffer_at}
 use Rattle.fr_journal.specs.declared.entry.Entry.TheVariants.{Commit}
 use Rattle.fr_interface.specs.Known.{change_at, transmitters}
 use Rattle.fr_interface.proofs.CounterLemmas.{counters-other}
@@ -14,7 +13,7 @@ use Rattle.fr_interface.proofs.TestLemmas.{words_from_test}
 use Rattle.fr_interface.proofs.TransmitLemmas.{transmitters-commit}
 use Rattle.fr_slots.specs.declared.plan.Buffer.{Buffer}
 use Rattle.fr_slots.specs.Faults.{words_of}
-use Rattle.fr_slots.specs.Plans.{is_receive}
+use Rattle.fr_slots.specs.Plans.{is_receive, buffer_at}
 use Rattle.fr_slots.proofs.HistoryLemmas.{AllAfter-snoc}
 use Rattle.fr_interface.proofs.interface.Interface.commit.Goals as goal
 
@@ -28,7 +27,7 @@ invariant_of-self c =
     let transmit : c.deref_mut.result.now ≡ transmitters plan entries = c.deref_mut.ensures.value ∙ c.self.invariant.transmit_is in
     let kept = c.kept_payload-payload.result in
     let is : kept ≡ c.args.payload.now = c.kept_payload-payload.ensures.value in
-    let there : buffer_at plan c.args.buffer ≡ Some line = sym c.buffer_at.ensures ∙ c.in-Some.is in
+    let there : buffer_at plan c.args.buffer ≡ Some line = sym c.buffer.ensures ∙ c.in-Some.is in
     let transmits : is_receive line.mode ≡ false = sym c.is_receive.ensures ∙ c.if-is_receive.false in
     let words : length kept ≡ 2 * words_of params line = ap length is ∙ words_from_test params line c.args.payload.now (sym c.has_words.ensures ∙ c.if-not-has_words.false) in
     rw c.push_host.ensures (record {
@@ -67,7 +66,7 @@ commit_to-requires-clause-there c =
     let plan = c.self.inside.plan in
     let entries = c.self.inside.journal.entries in
     let transmit : c.deref_mut.result.now ≡ transmitters plan entries = c.deref_mut.ensures.value ∙ c.self.invariant.transmit_is in
-    subst (λ (l : List Transmitter). c.args.buffer < length l) (sym transmit) (number_there plan entries c.args.buffer c.in-Some.line (sym c.buffer_at.ensures ∙ c.in-Some.is))
+    subst (λ (l : List Transmitter). c.args.buffer < length l) (sym transmit) (number_there plan entries c.args.buffer c.in-Some.line (sym c.buffer.ensures ∙ c.in-Some.is))
 
 pub commit_to-requires-clause-few : goal.commit_to-requires-clause-few
 commit_to-requires-clause-few c =
@@ -75,4 +74,4 @@ commit_to-requires-clause-few c =
     let entries = c.self.inside.journal.entries in
     let transmit : c.deref_mut.result.now ≡ transmitters plan entries = c.deref_mut.ensures.value ∙ c.self.invariant.transmit_is in
     subst (λ (l : List Transmitter). IfSome (slice_get l c.args.buffer) (λ b. b.tally.committed + 1 < 2 ^ 32)) (sym transmit)
-    (commits_fit plan entries c.args.buffer c.in-Some.line (sym c.buffer_at.ensures ∙ c.in-Some.is) (omega (arith, c.len-entry.ensures.value, c.len-entry.ensures.few)))
+    (commits_fit plan entries c.args.buffer c.in-Some.line (sym c.buffer.ensures ∙ c.in-Some.is) (omega (arith, c.len-entry.ensures.value, c.len-entry.ensures.few)))

@@ -6,8 +6,7 @@ use Rattle.fr_journal.specs.declared.entry.Entry.{Entry}
 use Rattle.fr_journal.specs.declared.entry.Entry.TheVariants.{Fetch}
 use Rattle.fr_journal.specs.Fate.{is_data_of}
 use Rattle.fr_journal.specs.Kept.{Kept}
-use Rattle.fr_journal.specs.Legal.{window_fits}
-use Rattle.fr_journal.specs.Offers.{offered, frame_offered, IsHandedOut}
+use Rattle.fr_journal.specs.Offers.{offered, frame_offered, IsHandedOut, bytes_of}
 use Rattle.fr_journal.specs.OpenWindow.{open_window, last_number}
 use Rattle.fr_interface.specs.declared.opening.Opening.{Opening}
 use Rattle.fr_interface.specs.declared.sending.Sender.{Sender}
@@ -21,7 +20,7 @@ use Rattle.fr_interface.proofs.ReceiveLemmas.{held-other}
 use Rattle.fr_interface.proofs.SenderLemmas.{IsSender, IsFetched, sends_by, offered-place, frame-place, sender-is, sent-by, transmitters-fetch}
 use Rattle.fr_interface.proofs.TestLemmas.{none_from_test, later_from_test}
 use Rattle.fr_slots.specs.declared.channel.Channel.TheVariants.{A, B}
-use Rattle.fr_slots.specs.Windows.{Opportunity, IsInRange}
+use Rattle.fr_slots.specs.Windows.{Opportunity, IsInRange, window_fits}
 use Rattle.fr_slots.proofs.HistoryLemmas.{AllAfter-snoc}
 use Rattle.fr_interface.proofs.interface.Interface.fetch.Goals as goal
 
@@ -69,7 +68,7 @@ invariant_of-self c =
         });
         legal = AllAfter-snoc _ _ _ legal.legal (record {
           closed = sym is ∙ none_from_test _ _ c.is_some.ensures c.if-is_some.false;
-          fits = ap (window_fits params) window_is ∙ sym c.fits.ensures ∙ c.if-not-fits.false;
+          fits = ap (window_fits params) window_is ∙ sym c.has_window.ensures ∙ c.if-not-has_window.false;
           later = subst (λ (n : ℕ). IfSome (last_number entries) (λ m. m < n)) number_is (later_from_test c.window.inside.number (last_number entries) (ap (is_not_above c.window.inside.number) (sym last) ∙ sym c.is_not_above.ensures ∙ c.if-is_not_above.false));
           room = omega (arith, c.slot_room.ensures, c.self.invariant.slot_limit);
           offer_a = offer_a ∙ offered-place plan entries window A ∙ ap (λ (w : Opportunity). offered plan entries w A) (sym window_is);
@@ -98,7 +97,7 @@ returns-clause-offer_a c =
     let from : c.sender_on-from_a.result ≡ sender_on plan placed window A = c.sender_on-from_a.ensures ∙ ap (λ (l : List Transmitter). sender_on plan l window A) buffers in
     let frame : frame_by params plan c.as_slice-buffers.result.now window A c.sender_on-from_a.result ≡ frame_offered params plan entries window A =
     (λ i. frame_by params plan (buffers i) window A (from i)) ∙ frame-place plan entries params window A in
-    rw (sym c.self.view_is) (subst (λ (f : Option Fields). IsHandedOut A f c.handed_out.result) frame c.handed_out.ensures)
+    rw (sym c.self.view_is) (subst (λ (f : Option Fields). IsHandedOut A f c.handed_out.result) frame c.handed_out.ensures.spelled)
 
 pub returns-clause-offer_b : goal.returns-clause-offer_b
 returns-clause-offer_b c =
@@ -111,7 +110,7 @@ returns-clause-offer_b c =
     let from : c.sender_on-from_b.result ≡ sender_on plan placed window B = c.sender_on-from_b.ensures ∙ ap (λ (l : List Transmitter). sender_on plan l window B) buffers in
     let frame : frame_by params plan c.as_slice-buffers.result.now window B c.sender_on-from_b.result ≡ frame_offered params plan entries window B =
     (λ i. frame_by params plan (buffers i) window B (from i)) ∙ frame-place plan entries params window B in
-    rw (sym c.self.view_is) (subst (λ (f : Option Fields). IsHandedOut B f c.handed_out-2.result) frame c.handed_out-2.ensures)
+    rw (sym c.self.view_is) (subst (λ (f : Option Fields). IsHandedOut B f c.handed_out-2.result) frame c.handed_out-2.ensures.spelled)
 
 pub returns-clause-accepted : goal.returns-clause-accepted
 returns-clause-accepted c =
@@ -131,3 +130,29 @@ returns-clause-accepted c =
     ap (λ (k : Kept). pushed k.entries) c.push_slot.ensures
     ∙ (λ i. with_entry before (Fetch (window_is i) (offer_a i) (offer_b i)))
     ∙ ap (λ (s : State). with_entry s (Fetch window (offered s.plan s.entries window A) (offered s.plan s.entries window B))) c.self.view_is
+
+pub returns-clause-bytes_a : goal.returns-clause-bytes_a
+returns-clause-bytes_a c =
+    let params = c.self.inside.params in
+    let plan = c.self.inside.plan in
+    let entries = c.self.inside.journal.entries in
+    let window = c.args.window.now in
+    let placed = transmitters plan entries in
+    let buffers : c.as_slice-buffers.result.now ≡ placed = c.as_slice-buffers.ensures.value ∙ c.self.invariant.transmit_is in
+    let from : c.sender_on-from_a.result ≡ sender_on plan placed window A = c.sender_on-from_a.ensures ∙ ap (λ (l : List Transmitter). sender_on plan l window A) buffers in
+    let frame : frame_by params plan c.as_slice-buffers.result.now window A c.sender_on-from_a.result ≡ frame_offered params plan entries window A =
+    (λ i. frame_by params plan (buffers i) window A (from i)) ∙ frame-place plan entries params window A in
+    rw (sym c.self.view_is) (c.handed_out.ensures.bytes ∙ ap (bytes_of A) frame)
+
+pub returns-clause-bytes_b : goal.returns-clause-bytes_b
+returns-clause-bytes_b c =
+    let params = c.self.inside.params in
+    let plan = c.self.inside.plan in
+    let entries = c.self.inside.journal.entries in
+    let window = c.args.window.now in
+    let placed = transmitters plan entries in
+    let buffers : c.as_slice-buffers.result.now ≡ placed = c.as_slice-buffers.ensures.value ∙ c.self.invariant.transmit_is in
+    let from : c.sender_on-from_b.result ≡ sender_on plan placed window B = c.sender_on-from_b.ensures ∙ ap (λ (l : List Transmitter). sender_on plan l window B) buffers in
+    let frame : frame_by params plan c.as_slice-buffers.result.now window B c.sender_on-from_b.result ≡ frame_offered params plan entries window B =
+    (λ i. frame_by params plan (buffers i) window B (from i)) ∙ frame-place plan entries params window B in
+    rw (sym c.self.view_is) (c.handed_out-2.ensures.bytes ∙ ap (bytes_of B) frame)

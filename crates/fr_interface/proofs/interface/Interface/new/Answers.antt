@@ -1,4 +1,4 @@
-use Rattle.std.proofs.Common.{◌≡◌, List, [], map, Option, None, ap, sym, ◌∙◌, option_map, rules}
+use Rattle.std.proofs.Common.{◌≡◌, [], map, Option, None, ap, sym, ◌∙◌, option_map, rules}
 use Rattle.fr_buffers.specs.Transmitting.{new_transmitter}
 use Rattle.fr_interface.specs.Known.{opening_of, transmitters, held_in, waiting_of, empty_queue}
 use Rattle.fr_interface.proofs.CounterLemmas.{counters-none}
@@ -8,13 +8,9 @@ use Rattle.fr_interface.proofs.ReceiveLemmas.{held-none}
 use Rattle.fr_interface.proofs.TransmitLemmas.{transmitters-none}
 use Rattle.fr_journal.specs.Counts.{counters_of}
 use Rattle.fr_journal.specs.declared.entry.Arrival.{Arrival}
-use Rattle.fr_journal.specs.declared.entry.Entry.{Entry}
 use Rattle.fr_journal.specs.Kept.{Kept}
 use Rattle.fr_slots.specs.declared.plan.Buffer.{Buffer}
-use Rattle.fr_slots.specs.declared.plan.Queue.{Queue}
 use Rattle.fr_slots.specs.History.{AllAfter}
-use Rattle.fr_slots.specs.Parameters.{Parameters}
-use Rattle.fr_slots.specs.Plans.{Plan}
 use Rattle.fr_interface.proofs.interface.Interface.new.Goals as goal
 
 pub invariant_of-result : goal.invariant_of-result

@@ -1,6 +1,7 @@
 use Rattle.std.proofs.Common.{◌≡◌, List, Option, Some, true, ap, arith, refl, rules, sym, subst, ◌∙◌, option_map}
 use Rattle.std.specs.Option.{option_and_then}
-use Rattle.std.specs.Prelude.{IsSomeAnd, slice_get}
+use Rattle.std.specs.Prelude.{IfSome, IsSomeAnd, slice_get}
+use Rattle.fr_frame.specs.Fields.{Fields}
 use Rattle.fr_interface.specs.InterfaceFields.{state_in}
 use Rattle.fr_interface.specs.State.{State, with_entry, received_by}
 use Rattle.fr_interface.proofs.AnswerLemmas.{received-place}
@@ -13,10 +14,10 @@ use Rattle.fr_journal.specs.declared.entry.Arrival.{Arrival}
 use Rattle.fr_journal.specs.declared.entry.Entry.{Entry}
 use Rattle.fr_journal.specs.declared.entry.Entry.TheVariants.{Read}
 use Rattle.fr_journal.specs.Kept.{Kept}
-use Rattle.fr_journal.specs.Held.{held, origin_of}
-use Rattle.fr_journal.specs.Offers.{buffer_at}
+use Rattle.fr_journal.specs.Held.{held, frame_of, origin_of, IsReceivable}
+use Rattle.fr_journal.proofs.SeenPlaceLemmas.{held_is_receivable}
 use Rattle.fr_slots.specs.declared.plan.Buffer.{Buffer}
-use Rattle.fr_slots.specs.Plans.{is_receive}
+use Rattle.fr_slots.specs.Plans.{is_receive, buffer_at}
 use Rattle.fr_slots.proofs.HistoryLemmas.{AllAfter-snoc}
 use Rattle.fr_interface.proofs.interface.Interface.read.Goals as goal
 
@@ -30,7 +31,7 @@ invariant_of-self c =
     let line = c.in-Some.line in
     let filter = line.filter in
     let e = Read c.args.task c.args.buffer c.origin_in-from.result in
-    let there : buffer_at plan c.args.buffer ≡ Some line = sym c.buffer_at.ensures ∙ c.in-Some.is in
+    let there : buffer_at plan c.args.buffer ≡ Some line = sym c.buffer.ensures ∙ c.in-Some.is in
     let held_is : c.arrival_at-held.result ≡ held params filter entries =
     c.arrival_at-held.ensures
     ∙ ap (λ (l : List (Option Arrival)). option_and_then (λ (h : Option Arrival). h) (slice_get l c.args.buffer)) c.deref.ensures.value
@@ -70,3 +71,16 @@ returns-clause-accepted c =
     ap (λ (k : Kept). pushed k.entries) c.push_host.ensures
     ∙ (λ i. with_entry s (Read c.args.task c.args.buffer (from_is i)))
     ∙ ap (λ (t : State). with_entry t (Read c.args.task c.args.buffer (option_map origin_of (received_by t c.args.buffer)))) c.self.view_is
+
+pub returns-clause-frames : goal.returns-clause-frames
+returns-clause-frames c =
+    let s = state_in c.self.inside in
+    let line = c.in-Some.line in
+    let frame_is : c.frame_in.result ≡ option_map frame_of (held s.params line.filter s.entries) =
+    c.frame_in.ensures
+    ∙ ap (option_map frame_of)
+    (c.arrival_at-held.ensures
+    ∙ ap (λ (l : List (Option Arrival)). option_and_then (λ (h : Option Arrival). h) (slice_get l c.args.buffer)) c.deref.ensures.value
+    ∙ received-place s c.args.buffer c.self.inside.receive.items c.self.invariant.receive_is
+    ∙ received_line s c.args.buffer line (sym c.buffer.ensures ∙ c.in-Some.is) (search rules)) in
+    subst (λ (o : Option Fields). IfSome o IsReceivable) (sym frame_is) (held_is_receivable s.params line.filter s.entries c.self.invariant.legal.entries_are)

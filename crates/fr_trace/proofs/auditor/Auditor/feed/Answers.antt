@@ -1,13 +1,15 @@
-use Rattle.std.proofs.Common.{◌≡◌, ℕ, ◌+◌, List, [], ◌∷◌, ◌++◌, take, get_or, sym, subst}
-use Rattle.std.proofs.lemmas.List.{take_more}
-use Rattle.fr_trace.specs.Feeds.{Reads}
-use Rattle.fr_trace.proofs.FeedLemmas.{reads_more}
+use Rattle.std.proofs.Common.{ℕ, List, ◌++◌, Result, sym, subst}
+use Rattle.fr_trace.specs.declared.error.TraceError.{TraceError}
+use Rattle.fr_trace.specs.Refusals.{LineIsNamed, HopelessIfRefused}
+use Rattle.fr_trace.proofs.RefusalLemmas.{piece_named, piece_hopeless}
 use Rattle.fr_trace.proofs.auditor.Auditor.feed.Goals as goal
 
-pub loop-byte-preserved : goal.loop-byte-preserved
-loop-byte-preserved c =
-    let piece = c.args.piece.now in
-    let i = c.loop-byte.byte-index in
-    let joined : take (i + 1) piece ≡ take i piece ++ get_or piece i 0 ∷ [] = take_more piece i 0 c.loop-byte-test.true in
-    subst (λ (t : List ℕ). Reads c.args.self.now t c.take_byte.new.self) (sym joined)
-    (reads_more c.args.self.now (take i piece) (get_or piece i 0 ∷ []) c.loop-byte.self c.take_byte.new.self c.loop-byte.invariant c.take_byte.ensures)
+pub returns-clause-line : goal.returns-clause-line
+returns-clause-line c front so_far =
+    subst (λ (r : Result (Unit {0}) TraceError). LineIsNamed r (front ++ c.args.piece.now)) (sym c.answer.ensures)
+    (piece_named front c.args.piece.now c.args.self.now c.take_bytes.new.self c.take_bytes.ensures so_far)
+
+pub returns-clause-hopeless : goal.returns-clause-hopeless
+returns-clause-hopeless c front so_far =
+    subst (λ (r : Result (Unit {0}) TraceError). HopelessIfRefused r (front ++ c.args.piece.now)) (sym c.answer.ensures)
+    (piece_hopeless front c.args.piece.now c.args.self.now c.take_bytes.new.self c.take_bytes.ensures so_far)

@@ -1,0 +1,22 @@
+-- The fields of `Bus` as its state.
+use Rattle.std.specs.Prelude.{◌≡◌, slice_index_or, None}
+use Rattle.fr_bus.specs.declared.bus.Bus.TheInside.{Inside}
+use Rattle.fr_bus.specs.Courses.{course_of}
+use Rattle.fr_bus.specs.States.{BusState, IsRun}
+
+abbrev pub state_in : Inside → BusState
+state_in b = record {
+  cluster = b.guardian;
+  cycles = b.cycles;
+  phase = b.phase;
+  opened = b.opened;
+  stations = b.stations.items;
+  corrupt_a = slice_index_or b.corrupt 0 None;
+  corrupt_b = slice_index_or b.corrupt 1 None;
+  sealed = b.record.items;
+}
+
+-- the course is that of the record
+pub record IsLawful (b : Inside) : Type 0 where
+  pub run : IsRun (state_in b)
+  pub course_is : b.course ≡ course_of b.guardian.params b.cycles b.record.items

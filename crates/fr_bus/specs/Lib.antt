@@ -1,0 +1,9 @@
+pub mod Corruption
+pub mod Outcome
+pub mod Record
+pub mod SealedFields
+pub mod Windows
+pub mod States
+pub mod BusFields
+pub mod Courses
+pub mod CourseFields

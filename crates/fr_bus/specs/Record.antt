@@ -1,0 +1,59 @@
+-- What a bus records of a window.
+use Rattle.std.specs.Prelude.{◌≡◌, ℕ, ◌==◌, Bool, not, ◌&&◌, List, [], ◌∷◌, length, Option, Some, None, if◌then◌else◌}
+use Rattle.arrayvec.specs.ArrayVec.{ArrayVec}
+use Rattle.fr_bus.specs.declared.outcome.Sent.{Sent}
+use Rattle.fr_bus.specs.declared.station.Side.{Side}
+use Rattle.fr_bus.specs.declared.station.Station.{Station}
+use Rattle.fr_bus.specs.Outcome.{sent_from, seen_of, all_passed, is_of}
+use Rattle.fr_slots.specs.Admission.{is_channel}
+use Rattle.fr_schedule.specs.Descriptions.{Description}
+use Rattle.fr_slots.specs.declared.channel.Channel.{Channel}
+use Rattle.fr_slots.specs.declared.channel.Channel.TheVariants.{A, B}
+use Rattle.fr_slots.specs.Parameters.{Parameters}
+use Rattle.fr_slots.specs.Windows.{Opportunity}
+use Rattle.fr_status.specs.declared.seen.Seen.{Seen}
+
+-- the window, what was sent in it, and the bits that were to be turned
+pub record Recorded : Type 0 where
+  pub window : Opportunity
+  pub sent : List Sent
+  pub corrupt_a : Option ℕ
+  pub corrupt_b : Option ℕ
+
+abbrev pub corrupt_on : Recorded → Channel → Option ℕ
+corrupt_on r A = r.corrupt_a
+corrupt_on r B = r.corrupt_b
+
+-- what a node sees of a recorded window on a channel
+abbrev pub seen_by : Parameters → Recorded → Channel → ℕ → Seen
+seen_by p r channel node = seen_of p r.window (corrupt_on r channel) node (all_passed channel r.sent)
+
+-- some offers and faults of the cluster's nodes give what is recorded
+pub record IsOutcome (d : Description) (r : Recorded) : Type 0 where
+  pub stations : List Station
+  pub one_each : length stations ≡ length d.plans
+  pub sent_is : r.sent ≡ sent_from d r.window 0 stations
+
+-- ---- what a node offered
+
+abbrev pub side_on : Channel → Station → Side
+side_on A s = s.a
+side_on B s = s.b
+
+abbrev pub is_offer_of : Channel → ℕ → Sent → Bool
+is_offer_of channel node t = is_of node t && is_channel t.channel channel && not t.babble
+
+-- the bytes of the node's offer among these
+abbrev pub offer_in : Channel → ℕ → List Sent → Option (ArrayVec ℕ)
+offer_in channel node [] = None
+offer_in channel node (t ∷ ts) = if is_offer_of channel node t then Some t.bytes else offer_in channel node ts
+
+-- an offer without bytes is none
+abbrev pub if_bytes : Option (ArrayVec ℕ) → Option (ArrayVec ℕ)
+if_bytes None = None
+if_bytes (Some bytes) = if length bytes.items == 0 then None else Some bytes
+
+-- on a channel without a slot nothing is offered
+abbrev pub recordable : Option ℕ → Option (ArrayVec ℕ) → Option (ArrayVec ℕ)
+recordable None offer = None
+recordable (Some slot) offer = if_bytes offer

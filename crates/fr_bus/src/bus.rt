@@ -1,0 +1,443 @@
+//! The bus of a cluster.
+
+ghost use Rattle.std.specs.Prelude.{◌≡◌, ◌≤◌, [], ◌∷◌, ◌++◌, length, IfOk, OnOk, OnErr, slice_index_or, None, option_map};
+ghost use Rattle.std.specs.Result.{result_err};
+ghost use Rattle.fr_bus.specs.Outcome.{sent_from};
+ghost use Rattle.fr_bus.specs.Record.{Recorded};
+ghost use Rattle.fr_bus.specs.States.{has_number, phase_at};
+
+use crate::course::Course;
+use crate::error::{BusError, Phase};
+use crate::fault::Fault;
+use crate::outcome::{Sealed, all_sent};
+use crate::station::{Station, all_put, all_taken, clear, idle_stations};
+use fr_frame::frame::Bytes;
+use fr_guardian::guardian::Guardian;
+use fr_interface::interface::Offer;
+use fr_schedule::cluster::Cluster;
+use fr_slots::channel::Channel;
+use fr_slots::numbers::NodeId;
+use fr_slots::window::Window;
+use fr_status::seen::Seen;
+use std::alloc::{AllocError, Global};
+use std::marker::Model;
+
+/// The bus of a cluster in a run of so many cycles: the open window, what the nodes put and take in it, the faults
+/// injected, and the record of all windows before it (own profile, but for the order of slots, which is chapter 5's).
+///
+/// A window goes through three steps. While it collects, each node puts its offer once, and faults may be injected. Once all
+/// have put, `seal` settles what became of each transmission and appends that to the record. Then each node takes what it
+/// sees, once, and when all have taken `advance` opens the next window.
+#[derive(Drop)]
+pub struct Bus {
+    alloc: Global,
+    guardian: Guardian,
+    cycles: u16,
+    phase: Phase,
+    /// The open window, up to the run's end.
+    opened: Option<Window>,
+    /// How far the run has come, with the windows of the record.
+    course: Course,
+    /// One for each node.
+    stations: Vec<Station>,
+    /// The bits to be turned in the open window, on A and on B.
+    corrupt: [Option<u16>; 2],
+    record: Vec<Sealed>,
+}
+
+impl Model for Bus {
+    ghost use Rattle.fr_bus.specs.States.{BusState};
+
+    ghost Value = { BusState };
+
+    ghost use Rattle.fr_bus.specs.BusFields.{state_in, IsLawful};
+
+    ghost view = { state_in };
+
+    ghost invariant = { IsLawful };
+}
+
+/// The outcome of a window.
+fn sealed_window(
+    alloc: Global,
+    guardian: &Guardian,
+    window: Window,
+    stations: &[Station],
+    corrupt: [Option<u16>; 2],
+) -> Result<Sealed, AllocError>
+    requires { length stations.now ≤ 16 }
+    ensures { IfOk result
+        (λ s.
+        s
+        ≡ record {
+          window = window;
+          sent = sent_from guardian.now window 0 stations.now;
+          corrupt_a = slice_index_or corrupt 0 None;
+          corrupt_b = slice_index_or corrupt 1 None;
+        }) }
+{
+    let sent = all_sent(alloc, guardian, &window, stations)?;
+    Ok(Sealed {
+        window,
+        sent,
+        corrupt,
+    })
+}
+
+/// Appends a window to those that were sealed.
+fn append(list: &mut Vec<Sealed>, sealed: Sealed) -> Result<(), AllocError>
+    ensures ok { OnOk result (list.new.items ≡ list.old.items ++ sealed ∷ []) }
+    ensures err { OnErr result (list.new.items ≡ list.old.items) }
+{
+    list.push(sealed)?;
+    Ok(())
+}
+
+/// The phase in which this window opens, or the run's last where there is none.
+fn phase_at(window: &Option<Window>) -> Phase
+    ensures { result ≡ phase_at window.now }
+{
+    match window {
+        Some(_) => Phase::Collect,
+        None => Phase::Finished,
+    }
+}
+
+/// Whether this is the window's number, if there is a window.
+fn has_number(number: u32, window: &Option<Window>) -> bool
+    ensures { result ≡ has_number number window.now }
+{
+    match window {
+        Some(window) => window.number == number,
+        None => false,
+    }
+}
+
+impl Bus {
+    ghost use Rattle.std.specs.Prelude.{◌≡◌, OnOk, OnErr, IfOk, length};
+    ghost use Rattle.std.specs.Result.{result_err};
+    ghost use Rattle.fr_bus.specs.declared.error.Phase.TheVariants as phase;
+    ghost use Rattle.fr_bus.specs.declared.fault.Fault.TheVariants as fault;
+    ghost use Rattle.fr_bus.specs.Windows.{cycles_begun};
+    ghost use Rattle.fr_bus.specs.States.{is_node, all_put, all_taken, collecting_of, put_refusal, put_done, inject_refusal, inject_done, Seals, take_refusal, take_done, last_recorded, seen_last, advance_refusal, advanced, IsRun, OneSenderEach, Opens};
+    ghost use Rattle.fr_slots.specs.declared.channel.Channel.TheVariants as channel;
+
+    /// The bus of a cluster for a run of so many cycles, 1 to 1024. It collects in its first window: cycle 0, slot 1.
+    ///
+    /// Refused with `BadCycles` for 0 cycles or more than 1024, and then with `Memory` where memory is refused.
+    pub fn new(alloc: Global, cluster: &Cluster, cycles: u16) -> Result<Bus, BusError>
+        ensures { Opens cluster.now cycles result }
+    {
+        if cycles == 0 || cycles > 1024 {
+            return Err(BusError::BadCycles);
+        }
+        let Ok(guardian) = Guardian::new(alloc, cluster) else {
+            return Err(BusError::Memory);
+        };
+        let Ok(stations) = idle_stations(alloc, usize::from(cluster.nodes())) else {
+            return Err(BusError::Memory);
+        };
+        let course = Course::new(cluster.params(), cycles);
+        let opened = course.next();
+        Ok(Bus {
+            alloc,
+            guardian,
+            cycles,
+            phase: Phase::Collect,
+            opened,
+            course,
+            stations,
+            corrupt: [None, None],
+            record: Vec::new(alloc),
+        })
+    }
+
+    /// The open window. None once the run is over.
+    pub fn window(&self) -> Option<Window>
+        ensures { result ≡ self.now.opened }
+    {
+        self.opened
+    }
+
+    /// Where the open window stands.
+    pub fn phase(&self) -> Phase
+        ensures { result ≡ self.now.phase }
+    {
+        self.phase
+    }
+
+    /// The open window, while nodes put their offers. None once it is sealed, and once the run is over.
+    pub fn collecting(&self) -> Option<Window>
+        ensures { result ≡ collecting_of self.now }
+    {
+        if self.phase.collects() {
+            self.opened
+        } else {
+            None
+        }
+    }
+
+    /// The number of nodes, 1 to 16.
+    pub fn nodes(&self) -> u8
+        ensures { result ≡ length self.now.stations }
+    {
+        self.stations.len() as u8
+    }
+
+    /// Whether all nodes have put their offers in the open window.
+    pub fn all_put(&self) -> bool
+        ensures { result ≡ all_put self.now }
+    {
+        all_put(self.stations.as_slice())
+    }
+
+    /// Whether all nodes have taken what they see in the open window.
+    pub fn all_taken(&self) -> bool
+        ensures { result ≡ all_taken self.now }
+    {
+        all_taken(self.stations.as_slice())
+    }
+
+    /// The windows that were sealed, in order of their numbers, which are counted from 0.
+    ///
+    /// Each is the window that follows those before it, and has what became of the offers and faults of the cluster's
+    /// nodes. So in a static slot of a guarded channel what passed is all of one sender.
+    pub fn record(&self) -> &[Sealed]
+        ensures value { result.now ≡ self.now.sealed }
+        ensures run { IsRun self.now }
+        ensures one_sender { OneSenderEach self.now.cluster self.now.sealed }
+    {
+        self.known();
+        self.record.as_slice()
+    }
+
+    /// What every bus keeps: its record is that of a run, no static slot of a guarded channel carries two senders, and a
+    /// run that is over had all its cycles. It does nothing but tell so.
+    pub fn known(&self)
+        ensures run { IsRun self.now }
+        ensures one_sender { OneSenderEach self.now.cluster self.now.sealed }
+        ensures all_cycles { self.now.phase ≡ phase.Finished → cycles_begun self.now.sealed ≡ self.now.cycles }
+    {
+        self.course.known();
+    }
+
+    /// Whether the cluster has the node.
+    fn is_node(&self, node: NodeId) -> bool
+        ensures { result ≡ is_node self.now node }
+    {
+        usize::from(node.number()) < self.stations.len()
+    }
+
+    /// Takes a copy of what the node offers in the open window, of which this is the number. On a channel without a slot,
+    /// and without bytes, an offer is taken and comes to nothing.
+    ///
+    /// Refused, in this order, with `UnknownNode`, `NotCollecting`, `WrongWindow` where another window is open, and
+    /// `AlreadyPut`; the bus is then unchanged.
+    pub fn put(&mut self, node: NodeId, number: u32, offer: &Offer) -> Result<(), BusError>
+        ensures refusal { result_err result ≡ put_refusal self.old node number }
+        ensures accepted { OnOk result (self.new ≡ put_done self.old node offer.now) }
+        ensures refused { OnErr result (self.new ≡ self.old) }
+    {
+        if !self.is_node(node) {
+            return Err(BusError::UnknownNode);
+        }
+        if !self.phase.collects() {
+            return Err(BusError::NotCollecting);
+        }
+        if !has_number(number, &self.opened) {
+            return Err(BusError::WrongWindow);
+        }
+        let station = &mut self.stations[usize::from(node.number())];
+        if station.put {
+            return Err(BusError::AlreadyPut);
+        }
+        station.put(offer);
+        Ok(())
+    }
+
+    /// Adds a transmission of the node.
+    fn babble(&mut self, node: NodeId, channel: Channel, bytes: Bytes) -> Result<(), BusError>
+        ensures refusal { result_err result ≡ inject_refusal self.old (fault.Babble node channel bytes) }
+        ensures accepted { OnOk result (self.new ≡ inject_done self.old (fault.Babble node channel bytes)) }
+        ensures refused { OnErr result (self.new ≡ self.old) }
+    {
+        if !self.is_node(node) {
+            return Err(BusError::UnknownNode);
+        }
+        if !self.phase.collects() {
+            return Err(BusError::NotCollecting);
+        }
+        let station = &mut self.stations[usize::from(node.number())];
+        if station.side(channel).babble.is_some() {
+            return Err(BusError::TooManyFaults);
+        }
+        station.babble(channel, bytes);
+        Ok(())
+    }
+
+    /// Loses the node's offer on the channel.
+    fn mute(&mut self, node: NodeId, channel: Channel) -> Result<(), BusError>
+        ensures refusal { result_err result ≡ inject_refusal self.old (fault.Mute node channel) }
+        ensures accepted { OnOk result (self.new ≡ inject_done self.old (fault.Mute node channel)) }
+        ensures refused { OnErr result (self.new ≡ self.old) }
+    {
+        if !self.is_node(node) {
+            return Err(BusError::UnknownNode);
+        }
+        if !self.phase.collects() {
+            return Err(BusError::NotCollecting);
+        }
+        let station = &mut self.stations[usize::from(node.number())];
+        if station.side(channel).mute {
+            return Err(BusError::TooManyFaults);
+        }
+        station.mute(channel);
+        Ok(())
+    }
+
+    /// Has a bit turned on the channel.
+    fn corrupt(&mut self, channel: Channel, bit: u16) -> Result<(), BusError>
+        ensures refusal { result_err result ≡ inject_refusal self.old (fault.Corrupt channel bit) }
+        ensures accepted { OnOk result (self.new ≡ inject_done self.old (fault.Corrupt channel bit)) }
+        ensures refused { OnErr result (self.new ≡ self.old) }
+    {
+        if !self.phase.collects() {
+            return Err(BusError::NotCollecting);
+        }
+        let [a, b] = self.corrupt;
+        match (channel, a, b) {
+            (Channel::A, None, _) => self.corrupt = [Some(bit), b],
+            (Channel::B, _, None) => self.corrupt = [a, Some(bit)],
+            _ => return Err(BusError::TooManyFaults),
+        }
+        Ok(())
+    }
+
+    /// Does the fault to the open window, and to no later one.
+    ///
+    /// Refused, in this order, with `UnknownNode`, `NotCollecting`, and `TooManyFaults` where the window has a fault of
+    /// this kind, node and channel; of `Corrupt` it has one for each channel. A babble without bytes counts too. The bus is
+    /// then unchanged.
+    pub fn inject(&mut self, fault: Fault) -> Result<(), BusError>
+        ensures refusal { result_err result ≡ inject_refusal self.old fault }
+        ensures accepted { OnOk result (self.new ≡ inject_done self.old fault) }
+        ensures refused { OnErr result (self.new ≡ self.old) }
+    {
+        match fault {
+            Fault::Babble {
+                node,
+                channel,
+                bytes,
+            } => self.babble(node, channel, bytes),
+            Fault::Mute { node, channel } => self.mute(node, channel),
+            Fault::Corrupt { channel, bit } => self.corrupt(channel, bit),
+        }
+    }
+
+    /// Settles what becomes of each transmission of the open window, and appends that to the record.
+    ///
+    /// A muted offer is lost. Of all other transmissions those pass that the guardian lets pass.
+    ///
+    /// Refused, in this order, with `NotCollecting`, `NotAllPut`, and `Memory` where memory for the record is refused; the
+    /// bus is then unchanged, and another call may give what this one would have given.
+    pub fn seal(&mut self) -> Result<(), BusError>
+        ensures { Seals self.old result self.new }
+    {
+        if !self.phase.collects() {
+            return Err(BusError::NotCollecting);
+        }
+        if !self.all_put() {
+            return Err(BusError::NotAllPut);
+        }
+        let Some(window) = self.opened else {
+            unreachable!();
+        };
+        let Ok(sealed) = sealed_window(
+            self.alloc,
+            &self.guardian,
+            window,
+            &self.stations,
+            self.corrupt,
+        ) else {
+            return Err(BusError::Memory);
+        };
+        let a = sealed.longest(Channel::A);
+        let b = sealed.longest(Channel::B);
+        let Ok(()) = append(&mut self.record, sealed) else {
+            return Err(BusError::Memory);
+        };
+        self.course.pass(&window, a, b);
+        self.phase = Phase::Sealed;
+        Ok(())
+    }
+
+    /// The window that was sealed last.
+    fn last(&self) -> Option<&Sealed>
+        ensures { option_map (λ sealed. sealed.now) result ≡ last_recorded self.now }
+    {
+        let place = self.record.len().saturating_sub(1);
+        self.record.get(place)
+    }
+
+    /// What the node sees on the channel of the window that was sealed last.
+    fn seen_last(&self, node: NodeId, channel: Channel) -> Seen
+        ensures { result ≡ seen_last self.now channel node }
+    {
+        match self.last() {
+            Some(sealed) => sealed.seen(self.course.params(), channel, node),
+            None => Seen::Silence,
+        }
+    }
+
+    /// What the node sees in the sealed window, of which this is the number, on channel A and on B.
+    ///
+    /// Refused, in this order, with `UnknownNode`, `NotSealed`, `WrongWindow` where another window is open, and
+    /// `AlreadyTaken`; the bus is then unchanged.
+    pub fn take(&mut self, node: NodeId, number: u32) -> Result<(Seen, Seen), BusError>
+        ensures refusal { result_err result ≡ take_refusal self.old node number }
+        ensures seen { IfOk result (λ s. s ≡ (seen_last self.old channel.A node, seen_last self.old channel.B node)) }
+        ensures accepted { OnOk result (self.new ≡ take_done self.old node) }
+        ensures refused { OnErr result (self.new ≡ self.old) }
+    {
+        if !self.is_node(node) {
+            return Err(BusError::UnknownNode);
+        }
+        if !self.phase.seals() {
+            return Err(BusError::NotSealed);
+        }
+        if !has_number(number, &self.opened) {
+            return Err(BusError::WrongWindow);
+        }
+        let place = usize::from(node.number());
+        if self.stations[place].taken {
+            return Err(BusError::AlreadyTaken);
+        }
+        let a = self.seen_last(node, Channel::A);
+        let b = self.seen_last(node, Channel::B);
+        self.stations[place].taken = true;
+        Ok((a, b))
+    }
+
+    /// Opens the next window, without offers and faults, or ends the run: the next static slot, or else the next minislot
+    /// at which a channel opens a slot, or else the first slot of the next cycle.
+    ///
+    /// Refused, in this order, with `NotSealed` and `NotAllTaken`; the bus is then unchanged.
+    pub fn advance(&mut self) -> Result<(), BusError>
+        ensures refusal { result_err result ≡ advance_refusal self.old }
+        ensures accepted { OnOk result (self.new ≡ advanced self.old) }
+        ensures refused { OnErr result (self.new ≡ self.old) }
+    {
+        if !self.phase.seals() {
+            return Err(BusError::NotSealed);
+        }
+        if !self.all_taken() {
+            return Err(BusError::NotAllTaken);
+        }
+        clear(&mut self.stations);
+        self.corrupt = [None, None];
+        let opened = self.course.next();
+        self.phase = phase_at(&opened);
+        self.opened = opened;
+        Ok(())
+    }
+}

@@ -1,0 +1,226 @@
+//! Which window of a run comes next.
+//!
+//! The windows of a cycle follow from all that passed in it. This keeps numbers and two lanes in place of that list.
+
+ghost use Rattle.std.specs.Prelude.{◌≡◌, ◌<◌, ◌≤◌, ◌%◌, Some, None, true, if◌then◌else◌};
+ghost use Rattle.fr_bus.specs.Courses.{ended};
+ghost use Rattle.fr_bus.specs.Windows.{opens_cycle, has_row, least_of};
+ghost use Rattle.fr_minislot.specs.Lanes.{close_refusal};
+ghost use Rattle.fr_slots.specs.Windows.{is_static};
+
+use fr_minislot::lane::Lane;
+use fr_slots::channel::Channel;
+use fr_slots::numbers::{Cycle, SlotId};
+use fr_slots::params::Params;
+use fr_slots::window::Window;
+use std::marker::Model;
+
+/// How far a run has come (chapter 5; what a window is, is own profile).
+#[derive(Drop)]
+pub(crate) struct Course {
+    params: Params,
+    /// The cycles of the run.
+    cycles: u16,
+    /// The windows that it passed.
+    windows: u32,
+    /// The cycles that began.
+    begun: u16,
+    /// The static windows that it passed in the last of these.
+    statics: u16,
+    /// How far channel A's dynamic segment has come in it.
+    a: Lane,
+    /// The same of channel B.
+    b: Lane,
+}
+
+impl Model for Course {
+    ghost use Rattle.fr_bus.specs.Courses.{Standpoint};
+
+    ghost Value = { Standpoint };
+
+    ghost use Rattle.fr_bus.specs.CourseFields.{standpoint_in, IsLawful};
+
+    ghost view = { standpoint_in };
+
+    ghost invariant = { IsLawful };
+}
+
+/// The lesser of two numbers, of which either may lack.
+fn least_of(a: Option<u16>, b: Option<u16>) -> Option<u16>
+    ensures { result ≡ least_of a b }
+{
+    match (a, b) {
+        (Some(a), Some(b)) => Some(a.min(b)),
+        (Some(a), None) => Some(a),
+        (None, b) => b,
+    }
+}
+
+/// The cycle number of the run's cycle of this number: cycles are counted up to 63, and then from 0 again.
+fn cycle_of(number: u16) -> Cycle
+    ensures { result ≡ number % 64 }
+{
+    Cycle::from_bits((number % 64) as u8)
+}
+
+/// The static slot of this number.
+fn slot_of(number: u16) -> SlotId
+    requires from_one { 1 ≤ number }
+    requires at_most { number ≤ 2047 }
+    ensures { result ≡ number }
+{
+    match SlotId::new(number) {
+        Some(slot) => slot,
+        None => unreachable!(),
+    }
+}
+
+/// Whether a cycle begins with the window.
+fn opens_cycle(window: &Window) -> bool
+    ensures { result ≡ opens_cycle window.now }
+{
+    window.is_static() && window.a.is_some_and(|slot| slot.number() == 1)
+}
+
+/// 1 for a static window, and 0 for a dynamic one.
+fn static_count(window: &Window) -> u16
+    ensures { result ≡ if is_static window.now then 1 else 0 }
+{
+    if window.is_static() { 1 } else { 0 }
+}
+
+/// Whether the window is dynamic and has a slot on the channel.
+fn has_row(channel: Channel, window: &Window) -> bool
+    ensures { result ≡ has_row channel window.now }
+{
+    !window.is_static() && window.slot(channel).is_some()
+}
+
+/// The lane after the window, in which the longest transmission that passed on the channel had so many bytes.
+fn ended(channel: Channel, lane: &Lane, window: &Window, bytes: u16) -> Lane
+    requires { has_row channel window.now ≡ true → close_refusal lane.now bytes ≡ None }
+    ensures { result ≡ ended channel lane.now window.now bytes }
+{
+    let mut lane = *lane;
+    if has_row(channel, window) {
+        let closed = lane.close(bytes);
+        let is_closed = closed.is_ok();
+        prove!(is_closed);
+    }
+    lane
+}
+
+impl Course {
+    ghost use Rattle.std.specs.Prelude.{◌≡◌, ◌≤◌, [], Some};
+    ghost use Rattle.fr_bus.specs.Courses.{IsCourse, course_of, passed, first_next, inner_next, dynamic_next, next_of};
+
+    /// The course of a run of so many cycles, from its start.
+    pub(crate) fn new(params: &Params, cycles: u16) -> Course
+        requires { cycles ≤ 1024 }
+        ensures { result ≡ course_of params.now cycles [] }
+    {
+        let params = params.duplicate();
+        Course {
+            params,
+            cycles,
+            windows: 0,
+            begun: 0,
+            statics: 0,
+            a: Lane::new(&params),
+            b: Lane::new(&params),
+        }
+    }
+
+    /// The parameters of the cluster.
+    pub(crate) fn params(&self) -> &Params
+        ensures { result.now ≡ self.now.params }
+    {
+        &self.params
+    }
+
+    /// What every course keeps.
+    pub(crate) fn known(&self)
+        ensures { IsCourse self.now }
+    {
+        let _ = &self.windows;
+    }
+
+    /// The first window of the next cycle, if the run has a further cycle.
+    fn first_next(&self) -> Option<Window>
+        ensures { result ≡ first_next self.now }
+    {
+        if self.begun < self.cycles {
+            Some(Window::fixed(self.windows, cycle_of(self.begun), slot_of(1)))
+        } else {
+            None
+        }
+    }
+
+    /// The next dynamic window of the cycle.
+    fn dynamic_next(&self) -> Option<Window>
+        requires { 1 ≤ self.now.windows }
+        ensures { result ≡ dynamic_next self.now }
+    {
+        let minislot = least_of(self.a.next(), self.b.next())?;
+        let a = self.a.opens(minislot);
+        let b = self.b.opens(minislot);
+        let cycle = cycle_of(self.begun - 1);
+        Window::dynamic(self.windows, cycle, minislot, a, b)
+    }
+
+    /// The next window of the cycle.
+    fn inner_next(&self) -> Option<Window>
+        requires { 1 ≤ self.now.windows }
+        ensures { result ≡ inner_next self.now }
+    {
+        if self.statics < self.params.static_slots {
+            let cycle = cycle_of(self.begun - 1);
+            Some(Window::fixed(self.windows, cycle, slot_of(self.statics + 1)))
+        } else {
+            self.dynamic_next()
+        }
+    }
+
+    /// The next window, if the run has one.
+    pub(crate) fn next(&self) -> Option<Window>
+        ensures { result ≡ next_of self.now }
+    {
+        if self.windows == 0 {
+            return self.first_next();
+        }
+        match self.inner_next() {
+            Some(window) => Some(window),
+            None => self.first_next(),
+        }
+    }
+
+    /// Goes past the next window, in which the longest transmissions on A and on B had so many bytes.
+    pub(crate) fn pass(&mut self, window: &Window, a: u16, b: u16)
+        requires next { next_of self.old ≡ Some window.now }
+        requires few_a { a ≤ 262 }
+        requires few_b { b ≤ 262 }
+        ensures { self.new ≡ passed self.old window.now a b }
+    {
+        if opens_cycle(window) {
+            *self = Course {
+                params: self.params,
+                cycles: self.cycles,
+                windows: self.windows + 1,
+                begun: self.begun + 1,
+                statics: 1,
+                a: Lane::new(&self.params),
+                b: Lane::new(&self.params),
+            };
+        } else {
+            *self = Course {
+                params: self.params,
+                cycles: self.cycles,
+                windows: self.windows + 1,
+                begun: self.begun,
+                statics: self.statics + static_count(window),
+                a: ended(Channel::A, &self.a, window, a),
+                b: ended(Channel::B, &self.b, window, b),
+            };
+        }
+    }
+}

@@ -1,0 +1,27 @@
+//! Faults of a window.
+
+use fr_frame::frame::Bytes;
+use fr_slots::channel::Channel;
+use fr_slots::numbers::NodeId;
+
+/// A fault of the open window, and of no other (own profile). On a channel without a slot it has no effect.
+#[derive(Debug, Drop, PartialEq, Eq)]
+pub enum Fault {
+    /// The node sends these bytes on the channel, beside what it offers. Without bytes it sends nothing more.
+    Babble {
+        node: NodeId,
+        channel: Channel,
+        bytes: Bytes,
+    },
+    /// What the node offers on the channel is lost, and what it babbles isn't.
+    Mute {
+        node: NodeId,
+        channel: Channel,
+    },
+    /// One bit is turned where exactly one transmission passes on the channel, counted from the most significant bit of
+    /// its first byte. A bit after its last byte turns nothing.
+    Corrupt {
+        channel: Channel,
+        bit: u16,
+    },
+}

@@ -1,0 +1,419 @@
+//! What becomes of the transmissions of a window, and what each node sees of them.
+
+ghost use Rattle.std.specs.Prelude.{◌≡◌, ◌<◌, ◌≤◌, [], ◌∷◌, ◌++◌, List, length, IfOk, OnOk, OnErr};
+ghost use Rattle.std.specs.Prelude.{None, ◌&&◌, ◌+◌, IfSome, IfNone};
+ghost use Rattle.std.specs.List.{list_any};
+ghost use Rattle.fr_bus.specs.Outcome.{fate_of, transmission, sent_on, sent_in, sent_of, sent_from, passed_on, is_of, overruns, seen_of, all_passed, received, longest};
+ghost use Rattle.fr_bus.specs.Corruption.{turned, with_bit_turned, corrupted};
+ghost use Rattle.fr_slots.specs.declared.channel.Channel.TheVariants as Channel;
+ghost use Rattle.fr_guardian.specs.Guarding.{passes};
+ghost use Rattle.fr_slots.specs.Windows.{slot_of};
+
+use crate::station::{Side, Station};
+use fr_frame::frame::Bytes;
+use fr_guardian::guardian::Guardian;
+use fr_slots::channel::Channel;
+use fr_slots::numbers::NodeId;
+use fr_slots::params::Params;
+use fr_slots::window::Window;
+use fr_status::seen::Seen;
+use std::alloc::{AllocError, Global};
+use std::marker::Model;
+
+/// What becomes of a transmission (own profile).
+#[derive(Clone, Copy, Debug, PartialEq, Eq)]
+pub enum Fate {
+    /// It reaches the channel.
+    Passed,
+    /// The guardian of its node stops it.
+    Blocked,
+    /// A fault loses it.
+    Muted,
+}
+
+/// A transmission of a sealed window (own profile).
+#[derive(Debug, Drop, PartialEq, Eq)]
+pub struct Sent {
+    /// Who sent it.
+    pub node: NodeId,
+    /// Where it was sent.
+    pub channel: Channel,
+    /// Whether it is a babble, and not the node's offer.
+    pub babble: bool,
+    /// What was sent, 1 to 262 bytes, before any of its bits is turned.
+    pub bytes: Bytes,
+    /// What became of it.
+    pub fate: Fate,
+}
+
+/// A window of the record (own profile).
+#[derive(Drop)]
+pub struct Sealed {
+    /// The window.
+    pub window: Window,
+    /// What was sent in it, in the order of nodes; of a node on channel A before B, and its offer before its babble. On a
+    /// channel without a slot nothing is sent, and nothing is a transmission that has no bytes.
+    pub sent: Vec<Sent>,
+    /// The bits that a fault turns on channel A and on B, if any, counted from the most significant bit of the first byte.
+    /// They stand here as they were injected, also where they turn nothing.
+    pub corrupt: [Option<u16>; 2],
+}
+
+impl Model for Sealed {
+    ghost use Rattle.fr_bus.specs.Record.{Recorded};
+
+    ghost Value = { Recorded };
+
+    ghost use Rattle.fr_bus.specs.SealedFields.{recorded_in};
+
+    ghost view = { recorded_in };
+}
+
+/// A copy of the bytes.
+fn duplicate(bytes: &Bytes) -> Bytes
+    ensures { result ≡ bytes.now }
+{
+    let mut copy = Bytes::new();
+    let outcome = copy.try_extend_from_slice(bytes.as_slice());
+    let fits = outcome.is_ok();
+    prove!(fits);
+    copy
+}
+
+/// A copy of the bytes, if there are any.
+pub(crate) fn duplicate_option(bytes: &Option<Bytes>) -> Option<Bytes>
+    ensures { result ≡ bytes.now }
+{
+    match bytes {
+        Some(bytes) => Some(duplicate(bytes)),
+        None => None,
+    }
+}
+
+/// What becomes of a transmission that a fault loses or not, and that the guardian lets pass or not.
+fn fate_of(muted: bool, let_pass: bool) -> Fate
+    ensures { result ≡ fate_of muted let_pass }
+{
+    if muted {
+        Fate::Muted
+    } else if let_pass {
+        Fate::Passed
+    } else {
+        Fate::Blocked
+    }
+}
+
+/// Appends a transmission, unless it has no bytes.
+fn add(
+    list: &mut Vec<Sent>,
+    node: NodeId,
+    channel: Channel,
+    babble: bool,
+    fate: Fate,
+    bytes: &Option<Bytes>,
+) -> Result<(), AllocError>
+    ensures { OnOk result (list.new.items ≡ list.old.items ++ transmission node channel babble fate bytes.now) }
+{
+    let Some(bytes) = bytes else {
+        return Ok(());
+    };
+    if bytes.len() == 0 {
+        return Ok(());
+    }
+    let bytes = duplicate(bytes);
+    list.push(Sent {
+        node,
+        channel,
+        babble,
+        bytes,
+        fate,
+    })?;
+    Ok(())
+}
+
+/// Appends what the node sends on the channel, which has a slot.
+fn add_side(
+    list: &mut Vec<Sent>,
+    guardian: &Guardian,
+    window: &Window,
+    node: NodeId,
+    channel: Channel,
+    side: &Side,
+) -> Result<(), AllocError>
+    ensures { OnOk result (list.new.items ≡ list.old.items ++ sent_on guardian.now window.now node channel side.now) }
+{
+    let let_pass = guardian.passes(node, window, channel);
+    add(
+        list,
+        node,
+        channel,
+        false,
+        fate_of(side.mute, let_pass),
+        &side.offer,
+    )?;
+    add(
+        list,
+        node,
+        channel,
+        true,
+        fate_of(false, let_pass),
+        &side.babble,
+    )
+}
+
+/// Appends what the node sends on the channel, which may have no slot.
+fn add_in(
+    list: &mut Vec<Sent>,
+    guardian: &Guardian,
+    window: &Window,
+    node: NodeId,
+    channel: Channel,
+    side: &Side,
+) -> Result<(), AllocError>
+    ensures { OnOk result (list.new.items ≡ list.old.items ++ sent_in guardian.now window.now node channel side.now (slot_of window.now channel)) }
+{
+    match window.slot(channel) {
+        Some(_) => add_side(list, guardian, window, node, channel, side),
+        None => Ok(()),
+    }
+}
+
+/// Appends what the node sends.
+fn add_station(
+    list: &mut Vec<Sent>,
+    guardian: &Guardian,
+    window: &Window,
+    node: NodeId,
+    station: &Station,
+) -> Result<(), AllocError>
+    ensures { OnOk result (list.new.items ≡ list.old.items ++ sent_of guardian.now window.now node station.now) }
+{
+    add_in(list, guardian, window, node, Channel::A, &station.a)?;
+    add_in(list, guardian, window, node, Channel::B, &station.b)
+}
+
+/// How many offers and babbles there are, of which some may be no transmissions.
+fn count_offered(stations: &[Station]) -> usize
+    requires { length stations.now ≤ 16 }
+    ensures { result ≤ 64 }
+{
+    let mut count = 0;
+    for station in stations {
+        count += station.count_offered();
+    }
+    count
+}
+
+/// The node of this number.
+fn node_of(number: usize) -> NodeId
+    requires { number < 16 }
+    ensures { result ≡ number }
+{
+    match NodeId::new(number as u8) {
+        Some(node) => node,
+        None => unreachable!(),
+    }
+}
+
+/// What all nodes send. The list has room for these alone, so no transmission is moved as it grows.
+pub(crate) fn all_sent(
+    alloc: Global,
+    guardian: &Guardian,
+    window: &Window,
+    stations: &[Station],
+) -> Result<Vec<Sent>, AllocError>
+    requires { length stations.now ≤ 16 }
+    ensures { IfOk result (λ list. list.items ≡ sent_from guardian.now window.now 0 stations.now) }
+{
+    let mut list = Vec::with_capacity(alloc, count_offered(stations))?;
+    for (number, station) in stations.iter().enumerate() {
+        add_station(&mut list, guardian, window, node_of(number), station)?;
+    }
+    Ok(list)
+}
+
+/// Whether the transmission passed on the channel.
+fn passed_on(channel: Channel, sent: &Sent) -> bool
+    ensures { result ≡ passed_on channel sent.now }
+{
+    sent.channel == channel && sent.fate == Fate::Passed
+}
+
+/// Whether it is the node's.
+fn is_of(node: NodeId, sent: &Sent) -> bool
+    ensures { result ≡ is_of node sent.now }
+{
+    sent.node == node
+}
+
+/// The first transmission that passed on the channel, and all that were sent after it.
+fn next_passed<'a>(channel: Channel, sent: &'a [Sent]) -> Option<(&'a Sent, &'a [Sent])>
+    ensures none { IfNone result (all_passed channel sent.now ≡ []) }
+    ensures some { IfSome result (λ r. all_passed channel sent.now ≡ r.0.now ∷ all_passed channel r.1.now) }
+{
+    for (place, t) in sent.iter().enumerate() {
+        if passed_on(channel, t) {
+            return Some((t, &sent[place + 1..]));
+        }
+    }
+    None
+}
+
+/// Whether a transmission of the node passed on the channel.
+#[tactic(auto, using(crate::proofs::SeenLemmas::any_filtered))]
+fn any_own(channel: Channel, node: NodeId, sent: &[Sent]) -> bool
+    ensures { result ≡ list_any (is_of node) (all_passed channel sent.now) }
+{
+    any_passed_of(channel, node, sent)
+}
+
+/// The same, transmission by transmission.
+fn any_passed_of(channel: Channel, node: NodeId, sent: &[Sent]) -> bool
+    ensures { result ≡ list_any (λ t. passed_on channel t && is_of node t) sent.now }
+{
+    sent.iter().any(|t| passed_on(channel, t) && is_of(node, t))
+}
+
+/// Whether so many bytes are too long for the window.
+fn overruns(params: &Params, window: &Window, bytes: usize) -> bool
+    requires { bytes ≤ 262 }
+    ensures { result ≡ overruns params.now window.now bytes }
+{
+    let params = params.duplicate();
+    if window.is_static() {
+        bytes > 8 + 2 * usize::from(params.static_words)
+    } else {
+        let filled = bytes.div_ceil(2 * usize::from(params.words_per_minislot));
+        usize::from(window.minislot) - 1 + filled > usize::from(params.minislots)
+    }
+}
+
+/// The byte with this bit turned, counted from its most significant one, which is 0.
+fn turned(byte: u8, bit: u16) -> u8
+    requires { bit < 8 }
+    ensures { result ≡ turned byte bit }
+{
+    byte ^ (1 << (7 - bit))
+}
+
+/// Turns one bit, counted from the most significant bit of the first byte. A bit after the last byte is none of them.
+fn turn_bit(bytes: &mut Bytes, bit: u16)
+    ensures { bytes.new.items ≡ with_bit_turned bytes.old.items bit }
+{
+    let place = usize::from(bit / 8);
+    let all = bytes.as_mut_slice();
+    if place < all.len() {
+        all[place] = turned(all[place], bit % 8);
+    }
+}
+
+/// The bytes with the bit turned, if there is one to turn.
+fn corrupted(bytes: &Bytes, corrupt: Option<u16>) -> Bytes
+    ensures { result ≡ corrupted bytes.now corrupt }
+{
+    let mut copy = duplicate(bytes);
+    if let Some(bit) = corrupt {
+        turn_bit(&mut copy, bit);
+    }
+    copy
+}
+
+/// What the other nodes see of the only transmission that passed.
+fn received(params: &Params, window: &Window, corrupt: Option<u16>, bytes: &Bytes) -> Seen
+    ensures { result ≡ received params.now window.now corrupt bytes.now }
+{
+    if overruns(params, window, bytes.len()) {
+        Seen::Overrun
+    } else {
+        Seen::Bytes(corrupted(bytes, corrupt))
+    }
+}
+
+/// What a node sees on a channel of the window where this was sent, and this bit is turned (own profile).
+fn seen_in(
+    params: &Params,
+    window: &Window,
+    corrupt: Option<u16>,
+    channel: Channel,
+    node: NodeId,
+    sent: &[Sent],
+) -> Seen
+    ensures { result ≡ seen_of params.now window.now corrupt node (all_passed channel sent.now) }
+{
+    let Some((only, rest)) = next_passed(channel, sent) else {
+        return Seen::Silence;
+    };
+    if next_passed(channel, rest).is_some() {
+        return if any_own(channel, node, sent) {
+            Seen::Conflict
+        } else {
+            Seen::Noise
+        };
+    }
+    if is_of(node, only) {
+        Seen::Own
+    } else {
+        received(params, window, corrupt, &only.bytes)
+    }
+}
+
+impl Sealed {
+    ghost use Rattle.std.specs.Prelude.{◌≡◌, ◌≤◌};
+    ghost use Rattle.fr_bus.specs.Record.{corrupt_on, seen_by};
+    ghost use Rattle.fr_bus.specs.Outcome.{longest};
+
+    /// The bit that a fault turns on the channel, if any.
+    fn corrupt_on(&self, channel: Channel) -> Option<u16>
+        ensures { result ≡ corrupt_on self.now channel }
+    {
+        match channel {
+            Channel::A => self.corrupt[0],
+            Channel::B => self.corrupt[1],
+        }
+    }
+
+    /// What the node sees on the channel.
+    pub(crate) fn seen(&self, params: &Params, channel: Channel, node: NodeId) -> Seen
+        ensures { result ≡ seen_by params.now self.now channel node }
+    {
+        let corrupt = self.corrupt_on(channel);
+        seen_in(
+            params,
+            &self.window,
+            corrupt,
+            channel,
+            node,
+            self.sent.as_slice(),
+        )
+    }
+
+    /// The bytes of the longest transmission that passed on the channel, up to 262, or 0 where none did.
+    pub(crate) fn longest(&self, channel: Channel) -> u16
+        ensures value { result ≡ longest channel self.now.sent }
+        ensures few { result ≤ 262 }
+    {
+        longest(channel, self.sent.as_slice())
+    }
+}
+
+/// The bytes of the longest transmission that passed on the channel, or 0 where none did.
+fn longest(channel: Channel, sent: &[Sent]) -> u16
+    ensures value { result ≡ longest channel sent.now }
+    ensures few { result ≤ 262 }
+{
+    let mut most = 0;
+    for t in sent {
+        if passed_on(channel, t) {
+            most = most.max(length_of(t));
+        }
+    }
+    most
+}
+
+/// How many bytes it has.
+fn length_of(sent: &Sent) -> u16
+    ensures value { result ≡ length sent.now.bytes.items }
+    ensures few { result ≤ 262 }
+{
+    sent.bytes.len() as u16
+}

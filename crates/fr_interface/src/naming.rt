@@ -1,0 +1,83 @@
+//! The frame that an origin names.
+
+ghost use Rattle.std.specs.Prelude.{◌≡◌, ◌≤◌, [], length, take};
+ghost use Rattle.std.specs.Option.{option_and_then, option_copied};
+ghost use Rattle.fr_journal.specs.Counts.{seen_on};
+ghost use Rattle.fr_journal.specs.Held.{frame_in_entry, frame_named};
+ghost use Rattle.fr_journal.specs.OpenWindow.{open_window, window_mark};
+
+use crate::observed::Told;
+use fr_frame::frame::Frame;
+use fr_journal::entry::{Entry, Origin};
+use fr_journal::journal::Journal;
+use fr_slots::channel::Channel;
+use fr_slots::params::Params;
+use fr_slots::window::Window;
+use fr_status::seen::Seen;
+
+/// The valid data frame that the observe of this number had on this channel, if it is an observe and had one.
+pub(crate) fn frame_named(params: &Params, journal: &Journal, origin: Origin) -> Option<Frame>
+    ensures { result ≡ frame_named params.now journal.now.entries origin }
+{
+    let entry = journal.get(origin.entry)?;
+    let window = window_open_at(journal, origin.entry);
+    frame_in_entry(params, origin.channel, &window, entry)
+}
+
+/// What the entry tells of a frame on the channel, where this window is open before it.
+fn frame_in_entry(
+    params: &Params,
+    channel: Channel,
+    window: &Option<Window>,
+    entry: &Entry,
+) -> Option<Frame>
+    ensures { result ≡ frame_in_entry params.now channel window.now entry.now }
+{
+    match (entry, window) {
+        (Entry::Observe { window: _, a, b }, Some(window)) => {
+            Told::of(params, window, channel, seen_on(channel, a, b)).frame
+        }
+        _ => None,
+    }
+}
+
+/// What was seen on the channel.
+fn seen_on<'a>(channel: Channel, a: &'a Seen, b: &'a Seen) -> &'a Seen
+    ensures { result.now ≡ seen_on channel a.now b.now }
+{
+    match channel {
+        Channel::A => a,
+        Channel::B => b,
+    }
+}
+
+/// What the entry says of the open window, if it says something: a fetch opens one, and an observe closes it.
+fn window_mark(entry: &Entry) -> Option<Option<Window>>
+    ensures { result ≡ window_mark [] entry.now }
+{
+    match entry {
+        Entry::Fetch { window, .. } => Some(Some(*window)),
+        Entry::Observe { .. } => Some(None),
+        Entry::Commit { .. } | Entry::Read { .. } | Entry::Pop { .. } => None,
+    }
+}
+
+/// What the entry says of the open window, if there is an entry and it says something.
+fn window_said(last: Option<&Entry>) -> Option<Option<Window>>
+    ensures { result ≡ option_and_then (window_mark []) (option_copied last.entry) }
+{
+    window_mark(last?)
+}
+
+/// The window that is open before the entry of this number: the last one that says something decides, and it is near.
+fn window_open_at(journal: &Journal, number: u32) -> Option<Window>
+    requires { number ≤ length journal.now.entries }
+    ensures { result ≡ open_window (take number journal.now.entries) }
+{
+    for place in (0..number).rev() {
+        if let Some(window) = window_said(journal.get(place)) {
+            return window;
+        }
+    }
+    None
+}

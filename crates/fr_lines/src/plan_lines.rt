@@ -1,0 +1,38 @@
+//! The lines of a plan behind its first, told apart by their first words.
+ghost use Rattle.std.specs.Prelude.{◌≡◌};
+ghost use Rattle.fr_text.specs.Spaces.{words_of};
+ghost use Rattle.fr_lines.specs.Reading.{plan_line_in};
+
+use crate::buffers::{receive_of, transmit_of};
+use crate::owned::ownership_of;
+use crate::queues::reception_of;
+use fr_slots::plan::{Buffer, Own, Queue};
+use fr_text::words::Words;
+
+/// A line of a plan behind the line of its numbers (own profile).
+#[derive(Clone, Copy, Debug, PartialEq, Eq)]
+pub enum PlanLine {
+    /// A line `own`.
+    Own(Own),
+    /// A line `tx` or `rx`.
+    Buffer(Buffer),
+    /// A line `queue`.
+    Queue(Queue),
+}
+
+/// What the line tells of a plan: an ownership line, a buffer or the queue, each as its own function reads it.
+///
+/// `None` for a line of another form, or with a number out of its range.
+#[tactic(auto, unfolding(crate::specs::Reading::plan_line_in))]
+pub fn plan_line_of(line: &[u8]) -> Option<PlanLine>
+    ensures { result ≡ plan_line_in (words_of line.now) }
+{
+    let mut words = Words::new(line);
+    match words.next_word()? {
+        b"own" => ownership_of(&mut words).map(PlanLine::Own),
+        b"tx" => transmit_of(&mut words).map(PlanLine::Buffer),
+        b"rx" => receive_of(&mut words).map(PlanLine::Buffer),
+        b"queue" => reception_of(&mut words).map(PlanLine::Queue),
+        _ => None,
+    }
+}

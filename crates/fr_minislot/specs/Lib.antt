@@ -1,0 +1,3 @@
+pub mod DynamicRows
+pub mod Lanes
+pub mod LaneFields

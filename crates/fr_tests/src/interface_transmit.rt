@@ -1,0 +1,263 @@
+//! Transmit buffers: what is offered, and what becomes of the commits.
+
+use fr_frame::frame::Bytes;
+use fr_frame::payload::Payload;
+use fr_interface::errors::{HostError, SlotError};
+use fr_interface::interface::{Interface, Offer, Receipt};
+use fr_interface::source::Source;
+use fr_journal::entry::{Entry, Offered};
+use fr_journal::fate::Tally;
+use fr_slots::channel::Channels;
+use fr_slots::filter::{CycleFilter, Filter};
+use fr_slots::numbers::{Cycle, SlotId, TaskId};
+use fr_slots::params::Params;
+use fr_slots::plan::{Buffer, Mode, NodePlan, Own};
+use fr_slots::window::Window;
+use fr_status::seen::Seen;
+use std::alloc::Global;
+use std::test::Fail;
+
+/// A cycle of 120 macroticks, with ten minislots of four words and a symbol window.
+const SMALL_CYCLE: [i64; 10] = [3, 10, 1, 20, 5, 4, 6, 120, 1, 4];
+
+/// A cycle of 90 macroticks with three static slots, whose frames have one word.
+const ONE_WORD_CYCLE: [i64; 10] = [3, 4, 1, 20, 5, 0, 10, 90, 0, 5];
+
+/// The data frame of slot 2 in cycle 0 with payload `0a0b`, on channel A and on channel B.
+const DATA_ON_A: [u8; 10] = [0x20, 0x02, 0x03, 0xc1, 0x40, 0x0a, 0x0b, 0xa3, 0x22, 0x17];
+
+const DATA_ON_B: [u8; 10] = [0x20, 0x02, 0x03, 0xc1, 0x40, 0x0a, 0x0b, 0x85, 0xa2, 0xc6];
+
+/// The null frame of slot 2 in cycle 1, on channel A.
+const NULL_ON_A: [u8; 10] = [0x00, 0x02, 0x03, 0xc1, 0x41, 0x00, 0x00, 0xd1, 0x4f, 0x6c];
+
+fn slot(number: u16) -> Result<SlotId, Fail> {
+    Ok(SlotId::new(number).ok_or("no slot")?)
+}
+
+fn task(number: u8) -> Result<TaskId, Fail> {
+    Ok(TaskId::new(number).ok_or("no task")?)
+}
+
+fn payload(bytes: &[u8]) -> Result<Payload, Fail> {
+    Ok(Payload::from_slice(bytes)?)
+}
+
+fn sent(bytes: &[u8]) -> Result<Option<Bytes>, Fail> {
+    let mut kept = Bytes::new();
+    kept.try_extend_from_slice(bytes)?;
+    Ok(Some(kept))
+}
+
+fn interface(alloc: Global, params: [i64; 10], plan: &NodePlan) -> Result<Interface, Fail> {
+    let params = Params::new(params)?;
+    if plan.fault(&params).is_some() {
+        return Err(Fail::from("the plan has a fault"));
+    }
+    Ok(Interface::new(alloc, &params, plan)?)
+}
+
+/// A plan that owns slot 2 on both channels, with a transmit buffer for it.
+fn sender(mode: Mode, host_entries: u16) -> Result<NodePlan, Fail> {
+    let mut plan = NodePlan::new(1, [0, 0], host_entries, 8)?;
+    plan.add_own(Own {
+        slot: slot(2)?,
+        channels: Channels::Both,
+        sync: false,
+        startup: false,
+    })?;
+    plan.add_buffer(Buffer {
+        mode,
+        filter: Filter {
+            slot: slot(2)?,
+            channels: Channels::Both,
+            cycles: CycleFilter::default(),
+        },
+        words: None,
+        preamble: false,
+    })?;
+    Ok(plan)
+}
+
+/// The window of static slot 2 in the cycle of its number.
+fn slot_two(number: u8) -> Result<Window, Fail> {
+    let cycle = Cycle::new(number).ok_or("no cycle")?;
+    Ok(Window::fixed(u32::from(number), cycle, slot(2)?))
+}
+
+/// What the fetch at this entry handed out on channel A.
+fn fetched(interface: &Interface, entry: u32) -> Result<Offered, Fail> {
+    match interface.journal().get(entry) {
+        Some(Entry::Fetch { a, .. }) => Ok(*a),
+        _ => Err(Fail::from("no fetch")),
+    }
+}
+
+fn tally(committed: u32, sent: u32, overwritten: u32, pending: u32) -> Option<Tally> {
+    Some(Tally {
+        committed,
+        sent,
+        overwritten,
+        pending,
+    })
+}
+
+/// Two commits, a fetch, and a third commit.
+fn three_commits(alloc: Global, mode: Mode) -> Result<Interface, Fail> {
+    let mut interface = interface(alloc, ONE_WORD_CYCLE, &sender(mode, 8)?)?;
+    interface.commit(task(0)?, 0, &payload(&[0, 1])?)?;
+    interface.commit(task(0)?, 0, &payload(&[0, 2])?)?;
+    interface.fetch(&slot_two(0)?)?;
+    interface.commit(task(0)?, 0, &payload(&[0, 3])?)?;
+    Ok(interface)
+}
+
+/// The same, and two further windows.
+fn three_windows(alloc: Global, mode: Mode) -> Result<Interface, Fail> {
+    let mut interface = three_commits(alloc, mode)?;
+    interface.observe(0, &Seen::Own, &Seen::Own)?;
+    interface.fetch(&slot_two(1)?)?;
+    interface.observe(1, &Seen::Own, &Seen::Own)?;
+    interface.fetch(&slot_two(2)?)?;
+    Ok(interface)
+}
+
+#[test]
+fn an_event_commit_is_sent_once(rt: HostRuntime) -> Result<(), Fail> {
+    let interface = three_commits(rt.alloc(), Mode::Event)?;
+    assert_eq!(rt; fetched(&interface, 2)?, Offered::Data(1));
+    assert_eq!(rt; interface.tally(0), tally(3, 1, 1, 1));
+    assert_eq!(rt; interface.held(0), Some(Source::Commit(3)));
+    let interface = three_windows(rt.alloc(), Mode::Event)?;
+    assert_eq!(rt; fetched(&interface, 5)?, Offered::Data(3));
+    assert_eq!(rt; fetched(&interface, 7)?, Offered::Null);
+    assert_eq!(rt; interface.tally(0), tally(3, 2, 1, 0));
+    Ok(())
+}
+
+#[test]
+fn a_state_commit_is_sent_again(rt: HostRuntime) -> Result<(), Fail> {
+    let interface = three_windows(rt.alloc(), Mode::State)?;
+    assert_eq!(rt; fetched(&interface, 2)?, Offered::Data(1));
+    assert_eq!(rt; fetched(&interface, 5)?, Offered::Data(3));
+    assert_eq!(rt; fetched(&interface, 7)?, Offered::Data(3));
+    assert_eq!(rt; interface.tally(0), tally(3, 2, 1, 0));
+    Ok(())
+}
+
+#[test]
+fn an_offer_is_the_spelled_frame(rt: HostRuntime) -> Result<(), Fail> {
+    let mut interface = interface(rt.alloc(), ONE_WORD_CYCLE, &sender(Mode::Event, 8)?)?;
+    let receipt = interface.commit(task(0)?, 0, &payload(&[0x0a, 0x0b])?)?;
+    assert_eq!(rt;
+        receipt,
+        Receipt {
+            task: task(0)?,
+            entry: 0
+        }
+    );
+    let offer = interface.fetch(&slot_two(0)?)?;
+    assert_eq!(rt;
+        offer,
+        Offer {
+            a: sent(&DATA_ON_A)?,
+            b: sent(&DATA_ON_B)?
+        }
+    );
+    interface.observe(0, &Seen::Own, &Seen::Own)?;
+    let offer = interface.fetch(&slot_two(1)?)?;
+    assert_eq!(rt; offer.a, sent(&NULL_ON_A)?);
+    Ok(())
+}
+
+/// What is offered to slot 8 on channel A at minislot 5, by the latest minislot there.
+fn offered_at_five(alloc: Global, latest: u16) -> Result<(Offered, Option<Tally>), Fail> {
+    let mut plan = NodePlan::new(1, [latest, 0], 8, 8)?;
+    plan.add_buffer(Buffer {
+        mode: Mode::Event,
+        filter: Filter {
+            slot: slot(8)?,
+            channels: Channels::A,
+            cycles: CycleFilter::default(),
+        },
+        words: Some(4),
+        preamble: false,
+    })?;
+    let mut interface = interface(alloc, SMALL_CYCLE, &plan)?;
+    interface.commit(task(0)?, 0, &payload(&[1; 8])?)?;
+    let window = Window::dynamic(0, Cycle::from_bits(0), 5, Some(slot(8)?), None);
+    interface.fetch(&window.ok_or("no window")?)?;
+    Ok((fetched(&interface, 1)?, interface.tally(0)))
+}
+
+#[test]
+fn a_transmission_begins_at_the_latest_minislot(rt: HostRuntime) -> Result<(), Fail> {
+    let sent = (Offered::Data(0), tally(1, 1, 0, 0));
+    let pending = (Offered::Nothing, tally(1, 0, 0, 1));
+    assert_eq!(rt; offered_at_five(rt.alloc(), 5)?, sent);
+    assert_eq!(rt; offered_at_five(rt.alloc(), 4)?, pending);
+    assert_eq!(rt; offered_at_five(rt.alloc(), 0)?, pending);
+    Ok(())
+}
+
+#[test]
+fn full_host_entries_stop_the_host_alone(rt: HostRuntime) -> Result<(), Fail> {
+    let mut interface = interface(rt.alloc(), ONE_WORD_CYCLE, &sender(Mode::Event, 2)?)?;
+    let word = payload(&[0, 1])?;
+    interface.commit(task(0)?, 0, &word)?;
+    interface.commit(task(0)?, 0, &word)?;
+    assert_eq!(rt;
+        interface.commit(task(0)?, 0, &word),
+        Err(HostError::HostFull)
+    );
+    interface.fetch(&slot_two(0)?)?;
+    interface.observe(0, &Seen::Own, &Seen::Own)?;
+    assert_eq!(rt; interface.journal().len(), 4);
+    Ok(())
+}
+
+#[test]
+fn commits_that_are_refused(rt: HostRuntime) -> Result<(), Fail> {
+    let mut plan = sender(Mode::Event, 8)?;
+    plan.add_buffer(Buffer::default())?;
+    let mut interface = interface(rt.alloc(), ONE_WORD_CYCLE, &plan)?;
+    let two_words = payload(&[0, 1, 0, 2])?;
+    assert_eq!(rt;
+        interface.commit(task(1)?, 2, &two_words),
+        Err(HostError::UnknownTask)
+    );
+    assert_eq!(rt;
+        interface.commit(task(0)?, 2, &two_words),
+        Err(HostError::UnknownBuffer)
+    );
+    assert_eq!(rt;
+        interface.commit(task(0)?, 1, &two_words),
+        Err(HostError::NotTransmit)
+    );
+    assert_eq!(rt;
+        interface.commit(task(0)?, 0, &two_words),
+        Err(HostError::WrongLength)
+    );
+    assert_eq!(rt; interface.read(task(0)?, 0), Err(HostError::NotReceive));
+    assert_eq!(rt; interface.tally(1), None);
+    assert_eq!(rt; interface.tally(2), None);
+    assert_eq!(rt; interface.journal().len(), 0);
+    Ok(())
+}
+
+#[test]
+fn a_fetch_needs_room_for_its_observe(rt: HostRuntime) -> Result<(), Fail> {
+    let mut plan = NodePlan::new(1, [0, 0], 1, 3)?;
+    plan.add_own(Own {
+        slot: slot(2)?,
+        channels: Channels::A,
+        sync: true,
+        startup: false,
+    })?;
+    let mut interface = interface(rt.alloc(), ONE_WORD_CYCLE, &plan)?;
+    interface.fetch(&slot_two(0)?)?;
+    interface.observe(0, &Seen::Own, &Seen::Silence)?;
+    assert_eq!(rt; fetched(&interface, 0)?, Offered::Null);
+    assert_eq!(rt; interface.fetch(&slot_two(1)?), Err(SlotError::SlotFull));
+    Ok(())
+}

@@ -1,0 +1,271 @@
+//! Worked numbers, filters, windows, parameters and plans, and printed names.
+
+use fr_slots::channel::{Channel, Channels};
+use fr_slots::filter::{CycleFilter, Filter, FilterError};
+use fr_slots::numbers::{Cycle, NodeId, SlotId, TaskId};
+use fr_slots::params::{Key, Params, RangeError};
+use fr_slots::plan::{Buffer, LINES, NodePlan, Own, PlanError, Queue};
+use fr_slots::window::Window;
+use std::test::Fail;
+
+/// A cycle of 120 macroticks, with ten minislots and a symbol window.
+const SMALL_CYCLE: [i64; 10] = [3, 10, 1, 20, 5, 4, 6, 120, 1, 4];
+
+/// A cycle of 90 macroticks, in which a minislot carries five words.
+const ONE_WORD_CYCLE: [i64; 10] = [3, 4, 1, 20, 5, 0, 10, 90, 0, 5];
+
+fn cycle(number: u8) -> Result<Cycle, Fail> {
+    Ok(Cycle::new(number).ok_or("no cycle")?)
+}
+
+fn slot(number: u16) -> Result<SlotId, Fail> {
+    Ok(SlotId::new(number).ok_or("no slot")?)
+}
+
+#[test]
+fn numbers_end_at_their_bounds(rt: HostRuntime) -> Result<(), Fail> {
+    assert_eq!(rt; SlotId::new(0), None);
+    assert_eq!(rt; slot(1)?.number(), 1);
+    assert_eq!(rt; slot(2047)?.number(), 2047);
+    assert_eq!(rt; SlotId::new(2048), None);
+    assert_eq!(rt; cycle(63)?.number(), 63);
+    assert_eq!(rt; Cycle::new(64), None);
+    assert_eq!(rt; Cycle::from_bits(63), cycle(63)?);
+    assert_eq!(rt; NodeId::new(15).map(|node| node.number()), Some(15));
+    assert_eq!(rt; NodeId::new(16), None);
+    assert_eq!(rt; TaskId::new(7).map(|task| task.number()), Some(7));
+    assert_eq!(rt; TaskId::new(8), None);
+    Ok(())
+}
+
+#[test]
+fn after_the_last_cycle_comes_the_first(rt: HostRuntime) -> Result<(), Fail> {
+    assert_eq!(rt; cycle(62)?.next(), cycle(63)?);
+    assert_eq!(rt; cycle(63)?.next(), cycle(0)?);
+    Ok(())
+}
+
+#[test]
+fn cycle_filters_that_meet(rt: HostRuntime) -> Result<(), Fail> {
+    let every_second = CycleFilter::new(1, 2)?;
+    let every_fourth = CycleFilter::new(3, 4)?;
+    assert_eq!(rt; every_second.admits(cycle(1)?), true);
+    assert_eq!(rt; every_fourth.admits(cycle(1)?), false);
+    assert_eq!(rt; every_second.admits(cycle(2)?), false);
+    assert_eq!(rt; every_second.admits(cycle(3)?), true);
+    assert_eq!(rt; every_fourth.admits(cycle(3)?), true);
+    assert_eq!(rt; every_fourth.base(), 3);
+    assert_eq!(rt; every_fourth.repetition(), 4);
+    assert_eq!(rt; every_second.first_common(&every_fourth), Some(cycle(3)?));
+    let even = CycleFilter::new(0, 2)?;
+    assert_eq!(rt; even.first_common(&every_fourth), None);
+    let last = CycleFilter::new(63, 64)?;
+    assert_eq!(rt; every_fourth.first_common(&last), Some(cycle(63)?));
+    Ok(())
+}
+
+#[test]
+fn numbers_that_are_no_cycle_filter(rt: HostRuntime) {
+    assert_eq!(rt;
+        CycleFilter::new(0, 3),
+        Err(FilterError::RepetitionNotPower)
+    );
+    assert_eq!(rt; CycleFilter::new(64, 64), Err(FilterError::BaseTooLarge));
+    assert_eq!(rt;
+        CycleFilter::new(9, 0),
+        Err(FilterError::RepetitionNotPower)
+    );
+}
+
+#[test]
+fn a_filter_asks_for_slot_channel_and_cycle(rt: HostRuntime) -> Result<(), Fail> {
+    let filter = Filter {
+        slot: slot(4)?,
+        channels: Channels::A,
+        cycles: CycleFilter::new(1, 2)?,
+    };
+    assert_eq!(rt; filter.admits(cycle(5)?, slot(4)?, Channel::A), true);
+    assert_eq!(rt; filter.admits(cycle(5)?, slot(5)?, Channel::A), false);
+    assert_eq!(rt; filter.admits(cycle(5)?, slot(4)?, Channel::B), false);
+    assert_eq!(rt; filter.admits(cycle(4)?, slot(4)?, Channel::A), false);
+    assert_eq!(rt; Channels::Both.includes(Channel::B), true);
+    Ok(())
+}
+
+#[test]
+fn a_static_window_has_its_slot_on_both_channels(rt: HostRuntime) -> Result<(), Fail> {
+    let window = Window::fixed(7, cycle(2)?, slot(3)?);
+    assert_eq!(rt; window.is_static(), true);
+    assert_eq!(rt; window.slot(Channel::A), Some(slot(3)?));
+    assert_eq!(rt; window.slot(Channel::B), Some(slot(3)?));
+    Ok(())
+}
+
+#[test]
+fn a_dynamic_window_needs_a_minislot_and_a_slot(rt: HostRuntime) -> Result<(), Fail> {
+    let open = Some(slot(5)?);
+    let window = Window::dynamic(7, cycle(2)?, 8000, open, None).ok_or("no window")?;
+    assert_eq!(rt; window.is_static(), false);
+    assert_eq!(rt; window.slot(Channel::A), open);
+    assert_eq!(rt; window.slot(Channel::B), None);
+    assert_eq!(rt; Window::dynamic(7, cycle(2)?, 0, open, None), None);
+    assert_eq!(rt; Window::dynamic(7, cycle(2)?, 8001, open, None), None);
+    assert_eq!(rt; Window::dynamic(7, cycle(2)?, 1, None, None), None);
+    Ok(())
+}
+
+#[test]
+fn keys_are_printed_as_cluster_files_spell_them(rt: HostRuntime) -> Result<(), Fail> {
+    let spelled = [
+        (Key::StaticSlots, "static_slots"),
+        (Key::Minislots, "minislots"),
+        (Key::StaticWords, "static_words"),
+        (Key::StaticMt, "static_mt"),
+        (Key::MinislotMt, "minislot_mt"),
+        (Key::SymbolMt, "symbol_mt"),
+        (Key::NitMt, "nit_mt"),
+        (Key::CycleMt, "cycle_mt"),
+        (Key::Idle, "idle"),
+        (Key::WordsPerMinislot, "words_per_minislot"),
+    ];
+    for (key, name) in spelled {
+        let printed = format!(in rt.alloc(); "{key}")?;
+        assert_eq!(rt; printed.as_str(), name);
+        assert_eq!(rt; key.name(), name);
+    }
+    Ok(())
+}
+
+#[test]
+fn channels_are_printed_by_their_letters(rt: HostRuntime) -> Result<(), Fail> {
+    let (a, b) = (Channel::A, Channel::B);
+    let printed = format!(in rt.alloc(); "{a} {b}")?;
+    assert_eq!(rt; printed.as_str(), "A B");
+    Ok(())
+}
+
+#[test]
+fn a_key_admits_its_range(rt: HostRuntime) {
+    assert_eq!(rt; Key::StaticSlots.least(), 2);
+    assert_eq!(rt; Key::CycleMt.greatest(), 20000);
+    assert_eq!(rt; Key::StaticSlots.admits(2), true);
+    assert_eq!(rt; Key::StaticSlots.admits(1), false);
+    assert_eq!(rt; Key::Idle.admits(-1), false);
+    assert_eq!(rt; Key::CycleMt.admits(20001), false);
+}
+
+#[test]
+fn parameters_that_fill_their_cycle(rt: HostRuntime) -> Result<(), Fail> {
+    let small = Params::new(SMALL_CYCLE)?;
+    assert_eq!(rt; small.cycle_mt, 120);
+    assert_eq!(rt; small.words_per_minislot, 4);
+    assert_eq!(rt; small.duplicate(), small);
+    assert_eq!(rt; Params::new(ONE_WORD_CYCLE)?.cycle_mt, 90);
+    Ok(())
+}
+
+#[test]
+fn numbers_that_are_no_parameters(rt: HostRuntime) {
+    let out_of_range = [3, 8001, 128, 20, 5, 4, 6, 120, 1, 4];
+    assert_eq!(rt;
+        Params::new(out_of_range),
+        Err(RangeError::OutOfRange(Key::Minislots))
+    );
+    let longer_cycle = [3, 4, 1, 20, 5, 0, 10, 91, 0, 5];
+    assert_eq!(rt; Params::new(longer_cycle), Err(RangeError::CycleSum));
+}
+
+#[test]
+fn a_plan_of_one_receive_buffer(rt: HostRuntime) -> Result<(), Fail> {
+    let mut plan = NodePlan::new(1, [0, 8000], 16384, 65536)?;
+    plan.add_buffer(Buffer::default())?;
+    let plan = plan.duplicate();
+    assert_eq!(rt; plan.tasks(), 1);
+    assert_eq!(rt; plan.host_entries(), 16384);
+    assert_eq!(rt; plan.slot_entries(), 65536);
+    assert_eq!(rt; plan.buffers(), [Buffer::default()].as_slice());
+    assert_eq!(rt; plan.owned().len(), 0);
+    assert_eq!(rt; plan.queue(), None);
+    Ok(())
+}
+
+#[test]
+fn ownership_lines_that_are_refused(rt: HostRuntime) -> Result<(), Fail> {
+    let mut plan = NodePlan::new(1, [0, 0], 1, 2)?;
+    let beyond = Own {
+        slot: slot(1024)?,
+        ..Own::default()
+    };
+    assert_eq!(rt; plan.add_own(beyond), Err(PlanError::OutOfRange));
+    let startup_alone = Own {
+        startup: true,
+        ..Own::default()
+    };
+    assert_eq!(rt; plan.add_own(startup_alone), Err(PlanError::OutOfRange));
+    let last = Own {
+        slot: slot(1023)?,
+        sync: true,
+        startup: true,
+        ..Own::default()
+    };
+    for _ in 0..LINES {
+        plan.add_own(last)?;
+    }
+    assert_eq!(rt; plan.add_own(last), Err(PlanError::TooMany));
+    assert_eq!(rt; plan.owned().len(), LINES);
+    assert_eq!(rt; plan.owned()[0], last);
+    Ok(())
+}
+
+#[test]
+fn a_node_has_one_queue(rt: HostRuntime) -> Result<(), Fail> {
+    let queue = Queue {
+        capacity: 256,
+        first: slot(4)?,
+        last: slot(4)?,
+        channels: Channels::Both,
+        cycles: CycleFilter::default(),
+    };
+    let mut plan = NodePlan::new(1, [0, 0], 1, 2)?;
+    let too_many_frames = Queue {
+        capacity: 257,
+        ..queue
+    };
+    assert_eq!(rt; plan.set_queue(too_many_frames), Err(PlanError::OutOfRange));
+    let no_slots = Queue {
+        first: slot(5)?,
+        ..queue
+    };
+    assert_eq!(rt; plan.set_queue(no_slots), Err(PlanError::OutOfRange));
+    plan.set_queue(queue)?;
+    assert_eq!(rt; plan.set_queue(queue), Err(PlanError::TooMany));
+    assert_eq!(rt; plan.queue(), Some(queue));
+    Ok(())
+}
+
+#[test]
+fn a_latest_minislot_for_each_channel(rt: HostRuntime) -> Result<(), Fail> {
+    let plan = NodePlan::new(1, [3, 8000], 1, 2)?;
+    assert_eq!(rt; plan.latest(Channel::A), 3);
+    assert_eq!(rt; plan.latest(Channel::B), 8000);
+    Ok(())
+}
+
+#[test]
+fn lines_that_are_refused(rt: HostRuntime) -> Result<(), Fail> {
+    assert_eq!(rt;
+        NodePlan::new(9, [0, 0], 1, 2).err(),
+        Some(PlanError::OutOfRange)
+    );
+    let mut plan = NodePlan::new(1, [0, 0], 1, 2)?;
+    let with_words = Buffer {
+        words: Some(1),
+        ..Buffer::default()
+    };
+    assert_eq!(rt; plan.add_buffer(with_words), Err(PlanError::OutOfRange));
+    for _ in 0..LINES {
+        plan.add_buffer(Buffer::default())?;
+    }
+    assert_eq!(rt; plan.add_buffer(Buffer::default()), Err(PlanError::TooMany));
+    Ok(())
+}
