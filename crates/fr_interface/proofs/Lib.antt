@@ -1,7 +1,11 @@
-pub mod CountingLemmas
-pub mod FateLemmas
-pub mod HeldLemmas
+pub mod AnswerLemmas
+pub mod ChangeLemmas
+pub mod CounterLemmas
+pub mod KeptLemmas
 pub mod NamingLemmas
 pub mod OpeningLemmas
-pub mod QueueLemmas
+pub mod ReceiveLemmas
+pub mod SenderLemmas
 pub mod TestLemmas
+pub mod TransmitLemmas
+pub mod WaitingLemmas

@@ -1,5 +1,6 @@
 -- The open window, looked for from the last entry back.
-use Rattle.std.proofs.Common.{◌≡◌, ℕ, ◌+◌, ◌-◌, ◌<◌, ◌≤◌, List, [], ◌∷◌, ◌++◌, take, get_or, length, Option, Some, None, refl, sym, ap, ◌∙◌, arith}
+use Rattle.std.proofs.Common.{◌≡◌, ℕ, zero, suc, ◌+◌, ◌-◌, ◌<◌, ◌≤◌, List, [], ◌∷◌, ◌++◌, take, get_or, length, Option, Some, None, refl, sym, ap, ◌∙◌, arith}
+use Rattle.std.specs.Prelude.{slice_get}
 use Rattle.std.specs.Option.{option_and_then, option_or}
 use Rattle.std.proofs.lemmas.List.{take_more}
 use Rattle.fr_journal.specs.declared.entry.Entry.{Entry}
@@ -40,3 +41,34 @@ pub passed_over : (entries : List Entry) (n : ℕ) (e : Entry) → 0 < n → n �
     → open_window (take n entries) ≡ open_window (take (n - 1) entries)
 passed_over entries n e some few is says =
     by_last entries n e some few is ∙ ap (λ (m : Option (Option Opportunity)). option_and_then (λ w. w) (option_or m (rest_of entries n))) says
+
+-- ---- the same, by what stands at a place
+
+there_is : (xs : List Entry) (n : ℕ) (x : Entry) → slice_get xs n ≡ Some x → x ≡ get_or xs n x
+there_is [] n x is = absurd cc
+there_is (y ∷ xs) zero x is = cc
+there_is (y ∷ xs) (suc n) x is = there_is xs n x is
+
+none_past : (xs : List Entry) (n : ℕ) → n < length xs → slice_get xs n ≡ None → ⊥
+none_past [] n lt is = omega arith
+none_past (y ∷ xs) zero lt is = cc
+none_past (y ∷ xs) (suc n) lt is = none_past xs n (omega arith) is
+
+module _ (entries : List Entry) (n : ℕ) (some : 0 < n) (few : n ≤ length entries) where
+  pub decided_at : (w : Option Opportunity) → option_and_then (window_mark []) (slice_get entries (n - 1)) ≡ Some w → open_window (take n entries) ≡ w
+  decided_at w = by_entry (slice_get entries (n - 1)) refl
+    where
+      by_entry : (o : Option Entry) → slice_get entries (n - 1) ≡ o → option_and_then (window_mark []) o ≡ Some w → open_window (take n entries) ≡ w
+      by_entry None is says = absurd cc
+      by_entry (Some e) is says = decided entries n e w some few (there_is entries (n - 1) e is) says
+
+  pub passed_at : option_and_then (window_mark []) (slice_get entries (n - 1)) ≡ None → open_window (take n entries) ≡ open_window (take (n - 1) entries)
+  passed_at = by_entry (slice_get entries (n - 1)) refl
+    where
+      by_entry : (o : Option Entry) → slice_get entries (n - 1) ≡ o → option_and_then (window_mark []) o ≡ None → open_window (take n entries) ≡ open_window (take (n - 1) entries)
+      by_entry None is says = absurd (none_past entries (n - 1) (omega (arith, some, few)) is)
+      by_entry (Some e) is says = passed_over entries n e some few (there_is entries (n - 1) e is) says
+
+pub none_open : open_window [] ≡ None
+unfolding last_after
+none_open = refl

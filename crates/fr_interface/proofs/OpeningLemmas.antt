@@ -1,27 +1,31 @@
--- What a scan knows of the windows, with one more entry.
-use Rattle.std.proofs.Common.{◌≡◌, ℕ, ◌+◌, ◌<◌, List, [], ◌∷◌, ◌++◌, take, get_or, length, None, refl, sym, ap, subst, ◌∙◌}
-use Rattle.std.proofs.lemmas.List.{take_more}
+-- What is known of the windows, with one more entry.
+use Rattle.std.proofs.Common.{◌≡◌, ℕ, List, [], ◌∷◌, ◌++◌, Option, Some, None, refl}
 use Rattle.fr_journal.specs.declared.entry.Entry.{Entry}
 use Rattle.fr_journal.specs.declared.entry.Entry.TheVariants.{Commit, Read, Pop, Fetch, Observe}
-use Rattle.fr_interface.specs.declared.scan.Opening.{Opening}
-use Rattle.fr_interface.specs.Opening.{IsOpening, next_opening}
-use Rattle.fr_slots.specs.History.{last_after}
+use Rattle.fr_journal.specs.declared.entry.Offered.{Offered}
+use Rattle.fr_journal.specs.declared.entry.Origin.{Origin}
+use Rattle.fr_journal.specs.OpenWindow.{last_number}
 use Rattle.fr_journal.proofs.OpenWindowLemmas.{open_window-snoc, last_number-snoc}
+use Rattle.fr_interface.specs.Known.{opening_of}
+use Rattle.fr_slots.specs.History.{last_after}
+use Rattle.fr_slots.specs.Windows.{Opportunity}
+use Rattle.fr_status.specs.declared.seen.Seen.{Seen}
 
-pub IsOpening-none : IsOpening [] (record { window = None; last = None })
+pub opening-none : opening_of [] ≡ record { window = None; last = None }
 unfolding last_after
-IsOpening-none = record { window_is = refl; last_is = refl }
+opening-none = refl
 
-pub IsOpening-snoc : (xs : List Entry) (e : Entry) (o : Opening) → IsOpening xs o → IsOpening (xs ++ e ∷ []) (next_opening o e)
-IsOpening-snoc xs (Commit task buffer payload) o h = record { window_is = h.window_is ∙ sym (open_window-snoc xs (Commit task buffer payload)); last_is = h.last_is ∙ sym (last_number-snoc xs (Commit task buffer payload)) }
-IsOpening-snoc xs (Read task buffer from) o h = record { window_is = h.window_is ∙ sym (open_window-snoc xs (Read task buffer from)); last_is = h.last_is ∙ sym (last_number-snoc xs (Read task buffer from)) }
-IsOpening-snoc xs (Pop task from) o h = record { window_is = h.window_is ∙ sym (open_window-snoc xs (Pop task from)); last_is = h.last_is ∙ sym (last_number-snoc xs (Pop task from)) }
-IsOpening-snoc xs (Fetch window a b) o h = record { window_is = sym (open_window-snoc xs (Fetch window a b)); last_is = sym (last_number-snoc xs (Fetch window a b)) }
-IsOpening-snoc xs (Observe window a b) o h = record { window_is = sym (open_window-snoc xs (Observe window a b)); last_is = h.last_is ∙ sym (last_number-snoc xs (Observe window a b)) }
+pub opening-commit : (xs : List Entry) (task buffer : ℕ) (payload : List ℕ) → opening_of (xs ++ Commit task buffer payload ∷ []) ≡ opening_of xs
+opening-commit xs task buffer payload = λ i. record { window = open_window-snoc xs (Commit task buffer payload) i; last = last_number-snoc xs (Commit task buffer payload) i }
 
--- the same, as a scan goes on
-pub IsOpening-more : (entries : List Entry) (i : ℕ) (e : Entry) (o next : Opening) → i < length entries → e ≡ get_or entries i e → next ≡ next_opening o e
-    → IsOpening (take i entries) o → IsOpening (take (i + 1) entries) next
-IsOpening-more entries i e o next lt is step h =
-    let split : take (i + 1) entries ≡ take i entries ++ e ∷ [] = take_more entries i e lt ∙ ap (λ (x : Entry). take i entries ++ x ∷ []) (sym is) in
-    subst (λ (xs : List Entry). IsOpening xs next) (sym split) (subst (λ (n : Opening). IsOpening (take i entries ++ e ∷ []) n) (sym step) (IsOpening-snoc (take i entries) e o h))
+pub opening-read : (xs : List Entry) (task buffer : ℕ) (from : Option Origin) → opening_of (xs ++ Read task buffer from ∷ []) ≡ opening_of xs
+opening-read xs task buffer from = λ i. record { window = open_window-snoc xs (Read task buffer from) i; last = last_number-snoc xs (Read task buffer from) i }
+
+pub opening-pop : (xs : List Entry) (task : ℕ) (from : Option Origin) → opening_of (xs ++ Pop task from ∷ []) ≡ opening_of xs
+opening-pop xs task from = λ i. record { window = open_window-snoc xs (Pop task from) i; last = last_number-snoc xs (Pop task from) i }
+
+pub opening-fetch : (xs : List Entry) (window : Opportunity) (a b : Offered) → opening_of (xs ++ Fetch window a b ∷ []) ≡ record { window = Some window; last = Some window.number }
+opening-fetch xs window a b = λ i. record { window = open_window-snoc xs (Fetch window a b) i; last = last_number-snoc xs (Fetch window a b) i }
+
+pub opening-observe : (xs : List Entry) (window : ℕ) (a b : Seen) → opening_of (xs ++ Observe window a b ∷ []) ≡ record { window = None; last = last_number xs }
+opening-observe xs window a b = λ i. record { window = open_window-snoc xs (Observe window a b) i; last = last_number-snoc xs (Observe window a b) i }

@@ -1,6 +1,5 @@
-pub mod Counting
-pub mod Opening
-pub mod Queueing
-pub mod State
-pub mod Tallying
 pub mod InterfaceFields
+pub mod Known
+pub mod Seeing
+pub mod Sending
+pub mod State

@@ -2,19 +2,22 @@
 
 ghost use Rattle.std.specs.Prelude.{◌≡◌, option_map};
 ghost use Rattle.fr_journal.specs.Held.{frame_of, origin_of};
-ghost use Rattle.fr_journal.specs.Entries.{AreBytes, IsSeen};
+ghost use Rattle.fr_journal.specs.Entries.{AreBytes, IsOrigin, IsSeen};
 ghost use Rattle.fr_frame.specs.Payload.{IsPayload};
 ghost use Rattle.fr_interface.specs.State.{is_not_above, has_words};
 ghost use Rattle.fr_slots.specs.Windows.{IsInRange, IsSlotOrNone};
 
-use crate::counting::counters_of;
 use crate::errors::{HostError, InterfaceError, SlotError};
-use crate::fate::{last_commit, tally_of};
 use crate::naming::frame_named;
-use crate::offers::{handed_out, offered};
-use crate::queue::{length_of, lost_of, oldest};
-use crate::scan::{held, opening_of};
+use crate::observed::{Told, arrive_all, count_seen, store_all};
+use crate::offers::{handed_out, offered_by};
+use crate::opening::Opening;
+use crate::receiving::{arrival_at, observed_at, pop_from, receive_buffers, receive_queue};
+use crate::sending::{commit_at, commit_to, send_from, sender_on, tally_at, transmit_buffers};
 use crate::source::Source;
+use fr_buffers::queue::ReceiveQueue;
+use fr_buffers::receive::RxBuffer;
+use fr_buffers::transmit::TxBuffer;
 use fr_frame::frame::{Bytes, Frame};
 use fr_frame::payload::Payload;
 use fr_journal::entry::{Arrival, Entry, Origin};
@@ -54,6 +57,11 @@ pub struct Interface {
     params: Params,
     plan: NodePlan,
     journal: Journal,
+    opening: Opening,
+    transmit: Vec<TxBuffer>,
+    receive: Vec<RxBuffer>,
+    queue: Option<ReceiveQueue>,
+    counters: Counters,
 }
 
 impl Model for Interface {
@@ -87,10 +95,18 @@ impl Interface {
     {
         let host = u32::from(plan.host_entries());
         let journal = Journal::with_limits(alloc, host, plan.slot_entries())?;
+        let transmit = transmit_buffers(alloc, plan.buffers())?;
+        let receive = receive_buffers(alloc, plan.buffers())?;
+        let queue = receive_queue(alloc, plan.queue())?;
         Ok(Interface {
             params: params.duplicate(),
             plan: plan.duplicate(),
             journal,
+            opening: Opening::NONE,
+            transmit,
+            receive,
+            queue,
+            counters: Counters::NONE,
         })
     }
 
@@ -129,6 +145,7 @@ impl Interface {
         }
         let entry = self.journal.len();
         let payload = kept_payload(payload);
+        commit_to(&mut self.transmit, buffer, entry, &payload);
         self.journal.push_host(Entry::Commit {
             task,
             buffer,
@@ -160,7 +177,7 @@ impl Interface {
         if self.journal.host_room() == 0 {
             return Err(HostError::HostFull);
         }
-        let held = held(&self.params, &line.filter, self.journal.entries());
+        let held = arrival_at(&self.receive, buffer);
         let from = origin_in(&held);
         self.journal.push_host(Entry::Read { task, buffer, from });
         Ok(frame_in(held))
@@ -180,13 +197,13 @@ impl Interface {
         if task.number() >= self.plan.tasks() {
             return Err(HostError::UnknownTask);
         }
-        let Some(queue) = self.plan.queue() else {
+        if self.plan.queue().is_none() {
             return Err(HostError::NoQueue);
-        };
+        }
         if self.journal.host_room() == 0 {
             return Err(HostError::HostFull);
         }
-        let oldest = oldest(&self.params, &self.plan, &queue, self.journal.entries());
+        let oldest = pop_from(&mut self.queue);
         let from = origin_in(&oldest);
         self.journal.push_host(Entry::Pop { task, from });
         Ok(frame_in(oldest))
@@ -208,27 +225,34 @@ impl Interface {
         ensures accepted { OnOk result (self.new ≡ with_entry self.old (entries.Fetch window.now (offered self.old.plan self.old.entries window.now Channel.A) (offered self.old.plan self.old.entries window.now Channel.B))) }
         ensures refused { OnErr result (self.new ≡ self.old) }
     {
-        let opening = opening_of(self.journal.entries());
-        if opening.window.is_some() {
+        if self.opening.window.is_some() {
             return Err(SlotError::NotObserved);
         }
         if !self.params.has_window(window) {
             return Err(SlotError::BadWindow);
         }
-        if is_not_above(window.number, opening.last) {
+        if is_not_above(window.number, self.opening.last) {
             return Err(SlotError::WindowOrder);
         }
         if self.journal.slot_room() < 2 {
             return Err(SlotError::SlotFull);
         }
-        let (params, plan, entries) = (&self.params, &self.plan, self.journal.entries());
-        let a = offered(plan, entries, window, Channel::A);
-        let b = offered(plan, entries, window, Channel::B);
+        let (params, plan, buffers) = (&self.params, &self.plan, self.transmit.as_slice());
+        let from_a = sender_on(plan, buffers, window, Channel::A);
+        let from_b = sender_on(plan, buffers, window, Channel::B);
         let offer = Offer {
-            a: handed_out(params, plan, entries, window, Channel::A, a),
-            b: handed_out(params, plan, entries, window, Channel::B, b),
+            a: handed_out(params, plan, buffers, window, Channel::A, from_a),
+            b: handed_out(params, plan, buffers, window, Channel::B, from_b),
         };
+        let a = offered_by(plan, window, Channel::A, from_a);
+        let b = offered_by(plan, window, Channel::B, from_b);
+        send_from(&mut self.transmit, from_a);
+        send_from(&mut self.transmit, from_b);
         let window = kept_window(window);
+        self.opening = Opening {
+            window: Some(window),
+            last: Some(window.number),
+        };
         self.journal.push_slot(Entry::Fetch { window, a, b });
         Ok(offer)
     }
@@ -241,13 +265,32 @@ impl Interface {
         ensures accepted { OnOk result (self.new ≡ with_entry self.old (entries.Observe number a.now b.now)) }
         ensures refused { OnErr result (self.new ≡ self.old) }
     {
-        let opening = opening_of(self.journal.entries());
-        let Some(window) = opening.window else {
+        let Some(window) = self.opening.window else {
             return Err(SlotError::NotFetched);
         };
         if window.number != number {
             return Err(SlotError::WrongWindow);
         }
+        let entry = self.journal.len();
+        let told_a = Told::of(&self.params, &window, Channel::A, a);
+        let told_b = Told::of(&self.params, &window, Channel::B, b);
+        count_seen(&mut self.counters, Channel::A, told_a.status);
+        count_seen(&mut self.counters, Channel::B, told_b.status);
+        let (frame_a, frame_b) = (told_a.frame, told_b.frame);
+        let lines = self.plan.buffers();
+        store_all(&mut self.receive, lines, entry, &window, &frame_a, &frame_b);
+        arrive_all(
+            &mut self.queue,
+            &self.plan,
+            entry,
+            &window,
+            frame_a,
+            frame_b,
+        );
+        self.opening = Opening {
+            window: None,
+            last: self.opening.last,
+        };
         self.journal.push_slot(Entry::Observe {
             window: number,
             a: kept(a),
@@ -262,11 +305,11 @@ impl Interface {
         ensures { result ≡ source_of self.now buffer }
     {
         let line = self.plan.buffer(buffer)?;
-        if !line.mode.is_receive() {
-            return last_commit(buffer, self.journal.entries()).map(Source::Commit);
+        if line.mode.is_receive() {
+            observed_at(&self.receive, buffer)
+        } else {
+            commit_at(&self.transmit, buffer)
         }
-        let arrival = held(&self.params, &line.filter, self.journal.entries())?;
-        Some(Source::Observed(arrival.origin))
     }
 
     /// What became of the commits on a transmit buffer (own profile). None for a receive buffer, and for one that the plan
@@ -281,7 +324,7 @@ impl Interface {
         if line.mode.is_receive() {
             return None;
         }
-        Some(tally_of(buffer, self.journal.entries()))
+        tally_at(&self.transmit, buffer)
     }
 
     /// The frame that a receive buffer holds, and where it comes from (chapter 9). None for an empty buffer, for a
@@ -293,7 +336,7 @@ impl Interface {
         if !line.mode.is_receive() {
             return None;
         }
-        held(&self.params, &line.filter, self.journal.entries())
+        arrival_at(&self.receive, buffer)
     }
 
     /// The valid data frame that the origin names: that of the observe of its number on its channel (chapter 9). None
@@ -301,7 +344,7 @@ impl Interface {
     pub fn frame_at(&self, origin: Origin) -> Option<Frame>
         ensures { result ≡ frame_named self.now.params self.now.entries origin }
     {
-        frame_named(&self.params, self.journal.entries(), origin)
+        frame_named(&self.params, &self.journal, origin)
     }
 
     /// How many frames the receive queue holds, at most its capacity (own profile). None where the plan has no queue.
@@ -309,8 +352,10 @@ impl Interface {
         ensures value { result ≡ length_of self.now }
         ensures within { IfSome result (λ n. IfSome self.now.plan.queue (λ q. n ≤ q.capacity)) }
     {
-        let queue = self.plan.queue()?;
-        Some(length_of(&self.params, &self.plan, &queue, self.journal.entries()))
+        match &self.queue {
+            Some(queue) => Some(queue.len()),
+            None => None,
+        }
     }
 
     /// How many frames the receive queue lost since others took their places (own profile). None where the plan has no
@@ -320,8 +365,10 @@ impl Interface {
         // What arrived was popped, is still there, or was lost.
         ensures balance { IfSome result (λ lost. IfSome self.now.plan.queue (λ q. arrived_of self.now q ≡ popped_of self.now + queued_of self.now q + lost)) }
     {
-        let queue = self.plan.queue()?;
-        Some(lost_of(&self.params, &self.plan, &queue, self.journal.entries()))
+        match &self.queue {
+            Some(queue) => Some(queue.lost()),
+            None => None,
+        }
     }
 
     /// How many observed windows had each bit of the slot status on each channel (chapter 6). A channel without a
@@ -329,7 +376,7 @@ impl Interface {
     pub fn counters(&self) -> Counters
         ensures { result ≡ counters_of self.now.params self.now.entries }
     {
-        counters_of(&self.params, self.journal.entries())
+        self.counters
     }
 
     /// The journal, which holds each accepted call.
@@ -420,10 +467,19 @@ fn kept(seen: &Seen) -> Seen
 
 /// Where a frame that arrived comes from.
 fn origin_in(arrival: &Option<Arrival>) -> Option<Origin>
-    ensures { result ≡ option_map origin_of arrival.now }
+    ensures value { result ≡ option_map origin_of arrival.now }
+    ensures fits { IsOrigin result }
 {
     match arrival {
-        Some(arrival) => Some(arrival.origin),
+        Some(
+            Arrival {
+                origin: Origin { entry, channel },
+                ..
+            },
+        ) => Some(Origin {
+            entry: *entry,
+            channel: *channel,
+        }),
         None => None,
     }
 }

@@ -1,4 +1,5 @@
-//! The calls of a host and of a controller on a journal, and the answers that the journal gives.
+//! The calls of a host and of a controller on a journal, and the answers that the journal gives. What
+//! they need is kept beside it, so that no call scans it.
 //!
 //! ```text
 //! let mut interface = Interface::new(alloc, &params, &plan)?; // of a plan without fault
@@ -12,12 +13,12 @@
 //! *(own profile)* marks a rule of this project's own, which says nothing of the standard.
 #![tactic(auto)]
 
-mod counting;
 pub mod errors;
-mod fate;
 pub mod interface;
 mod naming;
+mod observed;
 mod offers;
-mod queue;
-mod scan;
+mod opening;
+mod receiving;
+mod sending;
 pub mod source;

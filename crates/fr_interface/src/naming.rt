@@ -1,25 +1,26 @@
 //! The frame that an origin names.
 
-ghost use Rattle.std.specs.Prelude.{◌≡◌, []};
+ghost use Rattle.std.specs.Prelude.{◌≡◌, ◌≤◌, [], length, take};
+ghost use Rattle.std.specs.Option.{option_and_then, option_copied};
 ghost use Rattle.fr_journal.specs.Counts.{seen_on};
 ghost use Rattle.fr_journal.specs.Held.{frame_in_entry, frame_named};
 ghost use Rattle.fr_journal.specs.OpenWindow.{open_window, window_mark};
 
-use crate::scan::data_frame_seen;
+use crate::observed::Told;
 use fr_frame::frame::Frame;
 use fr_journal::entry::{Entry, Origin};
+use fr_journal::journal::Journal;
 use fr_slots::channel::Channel;
 use fr_slots::params::Params;
 use fr_slots::window::Window;
 use fr_status::seen::Seen;
 
 /// The valid data frame that the observe of this number had on this channel, if it is an observe and had one.
-pub(crate) fn frame_named(params: &Params, entries: &[Entry], origin: Origin) -> Option<Frame>
-    ensures { result ≡ frame_named params.now entries.now origin }
+pub(crate) fn frame_named(params: &Params, journal: &Journal, origin: Origin) -> Option<Frame>
+    ensures { result ≡ frame_named params.now journal.now.entries origin }
 {
-    let place = origin.entry as usize;
-    let entry = entries.get(place)?;
-    let window = window_open_after(&entries[..place]);
+    let entry = journal.get(origin.entry)?;
+    let window = window_open_at(journal, origin.entry);
     frame_in_entry(params, origin.channel, &window, entry)
 }
 
@@ -33,12 +34,9 @@ fn frame_in_entry(
     ensures { result ≡ frame_in_entry params.now channel window.now entry.now }
 {
     match (entry, window) {
-        (Entry::Observe { window: _, a, b }, Some(window)) => data_frame_seen(
-            params,
-            window,
-            channel,
-            seen_on(channel, a, b),
-        ),
+        (Entry::Observe { window: _, a, b }, Some(window)) => {
+            Told::of(params, window, channel, seen_on(channel, a, b)).frame
+        }
         _ => None,
     }
 }
@@ -64,12 +62,20 @@ fn window_mark(entry: &Entry) -> Option<Option<Window>>
     }
 }
 
-/// The window that is open after the entries: the last one that says something decides, and it is near the end.
-fn window_open_after(entries: &[Entry]) -> Option<Window>
-    ensures { result ≡ open_window entries.now }
+/// What the entry says of the open window, if there is an entry and it says something.
+fn window_said(last: Option<&Entry>) -> Option<Option<Window>>
+    ensures { result ≡ option_and_then (window_mark []) (option_copied last.entry) }
 {
-    for place in (0..entries.len()).rev() {
-        if let Some(window) = window_mark(&entries[place]) {
+    window_mark(last?)
+}
+
+/// The window that is open before the entry of this number: the last one that says something decides, and it is near.
+fn window_open_at(journal: &Journal, number: u32) -> Option<Window>
+    requires { number ≤ length journal.now.entries }
+    ensures { result ≡ open_window (take number journal.now.entries) }
+{
+    for place in (0..number).rev() {
+        if let Some(window) = window_said(journal.get(place)) {
             return window;
         }
     }

@@ -1,20 +1,22 @@
-//! What a node offers in a window, decided on the entries before its fetch.
+//! What a node offers in a window, and the frames that go out.
 
-ghost use Rattle.std.specs.Prelude.{◌≡◌, ◌*◌, ◌<◌, ◌≤◌, ◌^◌, length, replicate, IfSome};
+ghost use Rattle.std.specs.Prelude.{◌≡◌, ◌<◌, length, IfSome};
 ghost use Rattle.std.specs.List.{position};
 ghost use Rattle.fr_journal.specs.Entries.{IsOffered};
 ghost use Rattle.fr_slots.specs.Faults.{claims};
-ghost use Rattle.fr_journal.specs.Offers.{is_admitting, transmitter, may_begin, ready, ready_in, commit_offered, ownership, offered, line_of, sync_of, startup_of, payload_of, preamble_in, null_frame, data_frame_of, frame_with, IsHandedOut, bytes_of};
+ghost use Rattle.fr_interface.specs.Sending.{offered_by, data_frame_by, frame_by};
+ghost use Rattle.fr_journal.specs.Offers.{is_admitting, transmitter, may_begin, ownership, line_of, owns, sync_of, startup_of, preamble_in, null_frame, IsHandedOut, bytes_of};
 
-use crate::fate::{last_commit, pending_commit};
+use crate::sending::{Sender, payload_at};
+use fr_buffers::transmit::TxBuffer;
 use fr_frame::encode::encode;
 use fr_frame::frame::{Bytes, Frame};
 use fr_frame::payload::Payload;
-use fr_journal::entry::{Entry, Offered};
+use fr_journal::entry::Offered;
 use fr_slots::channel::Channel;
 use fr_slots::numbers::SlotId;
 use fr_slots::params::Params;
-use fr_slots::plan::{Buffer, Mode, NodePlan, Own};
+use fr_slots::plan::{Buffer, NodePlan, Own};
 use fr_slots::window::Window;
 
 /// Whether this is a transmit buffer that admits the window on the channel.
@@ -35,7 +37,7 @@ fn first_admitting(buffers: &[Buffer], window: &Window, channel: Channel) -> Opt
 }
 
 /// The number of the transmit buffer that admits the window on the channel.
-fn transmitter(plan: &NodePlan, window: &Window, channel: Channel) -> Option<u8>
+pub(crate) fn transmitter(plan: &NodePlan, window: &Window, channel: Channel) -> Option<u8>
     ensures { result ≡ transmitter plan.now window.now channel }
 {
     let place = first_admitting(plan.buffers(), window, channel)?;
@@ -43,48 +45,10 @@ fn transmitter(plan: &NodePlan, window: &Window, channel: Channel) -> Option<u8>
 }
 
 /// Whether the node may begin to transmit in the window on the channel.
-fn may_begin(plan: &NodePlan, window: &Window, channel: Channel) -> bool
+pub(crate) fn may_begin(plan: &NodePlan, window: &Window, channel: Channel) -> bool
     ensures { result ≡ may_begin plan.now window.now channel }
 {
     window.is_static() || window.minislot <= plan.latest(channel)
-}
-
-/// What a buffer of this mode and number offers where it admits.
-fn ready(mode: Mode, buffer: u8, entries: &[Entry]) -> Option<u32>
-    requires { length entries.now < 2 ^ 32 }
-    ensures { result ≡ ready mode buffer entries.now }
-{
-    match mode {
-        Mode::Event => pending_commit(buffer, entries),
-        Mode::State => last_commit(buffer, entries),
-        Mode::Receive => None,
-    }
-}
-
-/// What the buffer of this number offers where it admits.
-fn ready_in(plan: &NodePlan, entries: &[Entry], buffer: u8) -> Option<u32>
-    requires { length entries.now < 2 ^ 32 }
-    ensures { result ≡ ready_in plan.now entries.now buffer }
-{
-    let line = plan.buffer(buffer)?;
-    ready(line.mode, buffer, entries)
-}
-
-/// The commit that the node offers in the window on the channel.
-fn commit_offered(
-    plan: &NodePlan,
-    entries: &[Entry],
-    window: &Window,
-    channel: Channel,
-) -> Option<u32>
-    requires { length entries.now < 2 ^ 32 }
-    ensures { result ≡ commit_offered plan.now entries.now window.now channel }
-{
-    if !may_begin(plan, window, channel) {
-        return None;
-    }
-    let buffer = transmitter(plan, window, channel)?;
-    ready_in(plan, entries, buffer)
 }
 
 /// The place of the first line for the slot on the channel.
@@ -113,24 +77,30 @@ fn line_of(plan: &NodePlan, window: &Window, channel: Channel, slot: SlotId) -> 
     }
 }
 
-/// What the node offers in the window on the channel.
-pub(crate) fn offered(
+/// Whether the window is static and the node owns the slot on the channel.
+fn owns(plan: &NodePlan, window: &Window, channel: Channel, slot: SlotId) -> bool
+    ensures { result ≡ owns plan.now window.now channel slot }
+{
+    line_of(plan, window, channel, slot).is_some()
+}
+
+/// What the node offers in the window on the channel, where this offers a commit.
+pub(crate) fn offered_by(
     plan: &NodePlan,
-    entries: &[Entry],
     window: &Window,
     channel: Channel,
+    sender: Option<Sender>,
 ) -> Offered
-    requires { length entries.now < 2 ^ 32 }
-    ensures value { result ≡ offered plan.now entries.now window.now channel }
+    ensures value { result ≡ offered_by plan.now window.now channel sender }
     ensures fits { IsOffered result }
 {
     let Some(slot) = window.slot(channel) else {
         return Offered::Nothing;
     };
-    match commit_offered(plan, entries, window, channel) {
-        Some(commit) => Offered::Data(commit),
+    match sender {
+        Some(sender) => Offered::Data(sender.commit),
         None => {
-            if line_of(plan, window, channel, slot).is_some() {
+            if owns(plan, window, channel, slot) {
                 Offered::Null
             } else {
                 Offered::Nothing
@@ -156,16 +126,6 @@ fn startup_of(line: &Option<Own>) -> bool
     match line {
         Some(own) => own.startup,
         None => false,
-    }
-}
-
-/// The payload of the commit of this number.
-fn payload_of(entries: &[Entry], commit: u32) -> Payload
-    ensures { result ≡ payload_of entries.now commit }
-{
-    match entries.get(commit as usize) {
-        Some(Entry::Commit { payload, .. }) => payload.duplicate(),
-        _ => Payload::default(),
     }
 }
 
@@ -204,16 +164,16 @@ fn null_frame(
     }
 }
 
-/// The data frame of a commit.
-fn data_frame_of(
+/// The data frame of the commit that this offers.
+fn data_frame_by(
     plan: &NodePlan,
-    entries: &[Entry],
+    buffers: &[TxBuffer],
     window: &Window,
     channel: Channel,
     slot: SlotId,
-    commit: u32,
+    sender: Sender,
 ) -> Frame
-    ensures { result ≡ data_frame_of plan.now entries.now window.now channel slot commit }
+    ensures { result ≡ data_frame_by plan.now buffers.now window.now channel slot sender }
 {
     let line = line_of(plan, window, channel, slot);
     Frame {
@@ -222,43 +182,48 @@ fn data_frame_of(
         sync: sync_of(&line),
         startup: startup_of(&line),
         id: slot.number(),
-        payload: payload_of(entries, commit),
+        payload: payload_at(buffers, sender.buffer),
         cycle: window.cycle,
     }
 }
 
-/// The frame of what is offered.
-fn frame_with(
+/// The frame that goes out in the window on the channel, where this offers a commit.
+fn frame_by(
     params: &Params,
     plan: &NodePlan,
-    entries: &[Entry],
+    buffers: &[TxBuffer],
     window: &Window,
     channel: Channel,
-    offered: Offered,
+    sender: Option<Sender>,
 ) -> Option<Frame>
-    ensures { result ≡ frame_with params.now plan.now entries.now window.now channel offered }
+    ensures { result ≡ frame_by params.now plan.now buffers.now window.now channel sender }
 {
     let slot = window.slot(channel)?;
-    match offered {
-        Offered::Nothing => None,
-        Offered::Null => Some(null_frame(params, plan, window, channel, slot)),
-        Offered::Data(commit) => Some(data_frame_of(plan, entries, window, channel, slot, commit)),
+    match sender {
+        Some(sender) => Some(data_frame_by(plan, buffers, window, channel, slot, sender)),
+        None => {
+            if owns(plan, window, channel, slot) {
+                Some(null_frame(params, plan, window, channel, slot))
+            } else {
+                None
+            }
+        }
     }
 }
 
-/// The bytes of what is offered.
+/// The bytes that go out in the window on the channel, where this offers a commit.
 pub(crate) fn handed_out(
     params: &Params,
     plan: &NodePlan,
-    entries: &[Entry],
+    buffers: &[TxBuffer],
     window: &Window,
     channel: Channel,
-    offered: Offered,
+    sender: Option<Sender>,
 ) -> Option<Bytes>
-    ensures spelled { IsHandedOut channel (frame_with params.now plan.now entries.now window.now channel offered) result }
-    ensures bytes { result ≡ bytes_of channel (frame_with params.now plan.now entries.now window.now channel offered) }
+    ensures spelled { IsHandedOut channel (frame_by params.now plan.now buffers.now window.now channel sender) result }
+    ensures bytes { result ≡ bytes_of channel (frame_by params.now plan.now buffers.now window.now channel sender) }
 {
-    match frame_with(params, plan, entries, window, channel, offered) {
+    match frame_by(params, plan, buffers, window, channel, sender) {
         Some(frame) => Some(encode(&frame, channel)),
         None => None,
     }

@@ -3,7 +3,7 @@
 ghost use Rattle.std.specs.Prelude.{◌≡◌, ◌<◌, ◌≤◌, ◌∷◌, [], ◌++◌, IfOk, IsTrue, ◌↔◌, false, length, slice_get};
 ghost use Rattle.std.specs.Option.{option_copied};
 ghost use Rattle.fr_journal.specs.Entries.{is_host};
-ghost use Rattle.fr_journal.specs.Kept.{host_room, slot_room, IsWithin};
+ghost use Rattle.fr_journal.specs.Kept.{host_room, slot_room};
 ghost use Rattle.fr_slots.specs.Numbers.{most_host_entries, most_slot_entries, most_entries};
 
 use crate::entry::Entry;
@@ -108,15 +108,5 @@ impl Journal {
         ensures { option_copied result ≡ slice_get self.now.entries number }
     {
         self.entries.as_slice().get(number as usize)
-    }
-
-    /// All entries, in order.
-    #[tactic(auto, using(crate::proofs::KindLemmas::kinds_fill))]
-    pub fn entries(&self) -> &[Entry]
-        ensures value { result.now ≡ self.now.entries }
-        ensures within { IsWithin self.now }
-        ensures few { length self.now.entries ≤ most_entries }
-    {
-        self.entries.as_slice()
     }
 }

@@ -75,6 +75,7 @@ fn a_full_queue_loses_its_oldest_frame(rt: HostRuntime) -> Result<(), Fail> {
     let mut queue = ReceiveQueue::new(rt.alloc(), 2)?;
     assert_eq!(rt; queue.is_empty(), true);
     for entry in 0..5 {
+        assert!(rt; queue.lost() < 3);
         queue.arrive(entry, Channel::A, frame(entry as u8)?);
     }
     assert_eq!(rt; queue.len(), 2);

@@ -1,14 +1,9 @@
-use Rattle.std.proofs.Common.{◌≡◌, ◌≤◌, ◌∙◌, Option, Some, sym, subst, arith}
-use Rattle.std.specs.Prelude.{IfSome}
-use Rattle.fr_journal.specs.Arrivals.{moves}
-use Rattle.fr_journal.proofs.ContentLemmas.{queue_length-capacity}
-use Rattle.fr_slots.specs.declared.plan.Queue.{Queue}
+use Rattle.std.proofs.Common.{length, Some, ap, sym, ◌∙◌, option_map}
+use Rattle.fr_buffers.specs.Waiting.{Waiting}
+use Rattle.fr_interface.specs.InterfaceFields.{state_in}
+use Rattle.fr_interface.proofs.AnswerLemmas.{length-place}
 use Rattle.fr_interface.proofs.interface.Interface.queue_len.Goals as goal
 
-pub returns-clause-within : goal.returns-clause-within
-returns-clause-within c =
-    let plan = c.self.inside.plan in
-    let q = c.in_ok-queue.queue in
-    let there : plan.queue ≡ Some q = sym c.queue.ensures.value ∙ c.in_ok-queue.was in
-    let within : c.length_of.result ≤ q.capacity = omega (arith, c.length_of.ensures, queue_length-capacity q.capacity (moves c.self.inside.params plan q c.entries.result.now)) in
-    rw (sym c.self.view_is) (subst (λ (o : Option Queue). IfSome o (λ r. c.length_of.result ≤ r.capacity)) (sym there) within)
+pub returns-in-Some-clause-value : goal.returns-in-Some-clause-value
+returns-in-Some-clause-value c =
+    rw (sym c.self.view_is) (ap Some c.len.ensures.value ∙ ap (option_map (λ (w : Waiting). length w.frames)) (sym c.in-Some.is) ∙ length-place (state_in c.self.inside) c.self.inside.queue c.self.invariant.queue_is)

@@ -1,0 +1,12 @@
+-- The status of the slot that a channel of a window has, where this was seen (chapter 6).
+use Rattle.std.specs.Prelude.{Option, option_map}
+use Rattle.fr_slots.specs.declared.channel.Channel.{Channel}
+use Rattle.fr_slots.specs.Parameters.{Parameters}
+use Rattle.fr_slots.specs.Windows.{Opportunity, slot_of}
+use Rattle.fr_status.specs.declared.seen.Seen.{Seen}
+use Rattle.fr_status.specs.declared.status.SlotStatus.{SlotStatus}
+use Rattle.fr_status.specs.Status.{status_in}
+
+-- a channel without a slot has none
+abbrev pub status_seen : Parameters → Opportunity → Channel → Seen → Option SlotStatus
+status_seen params window channel seen = option_map (λ slot. status_in params window.cycle slot channel seen) (slot_of window channel)

@@ -1,0 +1,189 @@
+//! What an observed window brings: to the receive buffers, to the receive queue and to the counters.
+
+ghost use Rattle.std.specs.Prelude.{◌≡◌, ◌+◌, ◌<◌, ◌^◌, length, is_some};
+ghost use Rattle.std.specs.List.{list_any};
+ghost use Rattle.std.specs.Option.{option_and_then, option_or, ForSome};
+ghost use Rattle.fr_interface.specs.Known.{frame_on, taken_by, stored_all, queued_on, with_arrival, with_arrivals, with_seen};
+ghost use Rattle.fr_interface.specs.Seeing.{status_seen};
+ghost use Rattle.fr_journal.specs.Arrivals.{takes_window, is_for_queue};
+ghost use Rattle.fr_journal.specs.Held.{data_frame_seen, with_data};
+ghost use Rattle.fr_status.specs.Counting.{HasRoom};
+
+use fr_buffers::queue::ReceiveQueue;
+use fr_buffers::receive::RxBuffer;
+use fr_frame::frame::Frame;
+use fr_slots::channel::Channel;
+use fr_slots::params::Params;
+use fr_slots::plan::{Buffer, NodePlan, Queue};
+use fr_slots::window::Window;
+use fr_status::counters::Counters;
+use fr_status::seen::Seen;
+use fr_status::status::{SlotStatus, status_of};
+
+/// What a channel of a window tells: the status of its slot, and the valid data frame that came. A channel without a slot
+/// tells neither.
+#[derive(Debug, Drop, PartialEq, Eq)]
+pub(crate) struct Told {
+    pub status: Option<SlotStatus>,
+    pub frame: Option<Frame>,
+}
+
+impl Told {
+    /// What the channel tells where this was seen.
+    pub(crate) fn of(params: &Params, window: &Window, channel: Channel, seen: &Seen) -> Told
+        ensures status { result.status ≡ status_seen params.now window.now channel seen.now }
+        ensures frame { result.frame ≡ data_frame_seen params.now window.now channel seen.now }
+    {
+        let Some(slot) = window.slot(channel) else {
+            return Told {
+                status: None,
+                frame: None,
+            };
+        };
+        let (status, frame) = status_of(params, window.cycle, slot, channel, seen);
+        Told {
+            status: Some(status),
+            frame: data_frame(frame),
+        }
+    }
+}
+
+/// The frame, where it is no null frame.
+fn data_frame(frame: Option<Frame>) -> Option<Frame>
+    ensures { result ≡ option_and_then with_data frame }
+{
+    match frame {
+        Some(frame) => { if frame.has_data { Some(frame) } else { None } }
+        None => None,
+    }
+}
+
+/// Counts the slot of this status on the channel, if the channel has one.
+pub(crate) fn count_seen(counters: &mut Counters, channel: Channel, status: Option<SlotStatus>)
+    requires { (s : SlotStatus) → HasRoom counters.old channel s }
+    ensures { counters.new ≡ with_seen counters.old channel status }
+{
+    if let Some(status) = status {
+        counters.count(channel, &status);
+    }
+}
+
+/// Stores a data frame of the channel, if one came and the buffer admits the window there. Says whether it did.
+fn store_on(
+    buffer: &mut RxBuffer,
+    line: &Buffer,
+    number: u32,
+    window: &Window,
+    channel: Channel,
+    frame: &Option<Frame>,
+) -> bool
+    ensures stored { buffer.new ≡ option_or (frame_on number window.now channel frame.now line.now) buffer.old }
+    ensures told { result ≡ is_some (frame_on number window.now channel frame.now line.now) }
+{
+    match frame {
+        Some(frame) if line.filter.admits_window(window, channel) => {
+            buffer.store(number, channel, frame);
+            true
+        }
+        _ => false,
+    }
+}
+
+/// Stores what the buffer takes of a window in which these data frames came.
+fn store_in(
+    buffer: &mut RxBuffer,
+    line: &Buffer,
+    number: u32,
+    window: &Window,
+    a: &Option<Frame>,
+    b: &Option<Frame>,
+)
+    ensures { buffer.new ≡ option_or (taken_by number window.now a.now b.now line.now) buffer.old }
+{
+    if line.mode.is_receive() && !store_on(buffer, line, number, window, Channel::A, a) {
+        let _ = store_on(buffer, line, number, window, Channel::B, b);
+    }
+}
+
+/// Stores what each receive buffer takes of a window in which these data frames came.
+pub(crate) fn store_all(
+    buffers: &mut [RxBuffer],
+    lines: &[Buffer],
+    number: u32,
+    window: &Window,
+    a: &Option<Frame>,
+    b: &Option<Frame>,
+)
+    requires { length buffers.old ≡ length lines.now }
+    ensures { buffers.new ≡ stored_all number window.now a.now b.now lines.now buffers.old }
+{
+    for place in 0..lines.len() {
+        let buffer = &mut buffers[place];
+        store_in(buffer, &lines[place], number, window, a, b);
+    }
+}
+
+/// Whether this is a receive buffer that admits the window on the channel.
+fn takes(window: &Window, channel: Channel, buffer: &Buffer) -> bool
+    ensures { result ≡ takes_window window.now channel buffer.now }
+{
+    buffer.mode.is_receive() && buffer.filter.admits_window(window, channel)
+}
+
+/// Whether one of the buffers is a receive buffer that admits the window on the channel.
+fn is_taken(buffers: &[Buffer], window: &Window, channel: Channel) -> bool
+    ensures { result ≡ list_any (takes_window window.now channel) buffers.now }
+{
+    buffers.iter().any(|buffer| takes(window, channel, buffer))
+}
+
+/// Whether the queue, and no receive buffer, takes what comes in the window on the channel.
+fn is_for_queue(plan: &NodePlan, queue: &Queue, window: &Window, channel: Channel) -> bool
+    ensures { result ≡ is_for_queue plan.now queue.now window.now channel }
+{
+    match window.slot(channel) {
+        Some(slot) => queue.admits(window.cycle, slot, channel)
+            && !is_taken(plan.buffers(), window, channel),
+        None => false,
+    }
+}
+
+/// Appends the data frame of the channel to the queue, if one came and the queue takes it.
+pub(crate) fn arrive(
+    waiting: &mut ReceiveQueue,
+    plan: &NodePlan,
+    queue: &Queue,
+    number: u32,
+    window: &Window,
+    channel: Channel,
+    frame: Option<Frame>,
+)
+    requires { waiting.old.lost + 1 < 2 ^ 32 }
+    ensures { waiting.new ≡ with_arrival waiting.old (queued_on plan.now queue.now number window.now channel frame) }
+{
+    if let Some(frame) = frame {
+        if is_for_queue(plan, queue, window, channel) {
+            waiting.arrive(number, channel, frame);
+        }
+    }
+}
+
+/// Appends the data frames of a window that the queue takes, channel A's before B's. A plan without a queue takes none.
+pub(crate) fn arrive_all(
+    queue: &mut Option<ReceiveQueue>,
+    plan: &NodePlan,
+    number: u32,
+    window: &Window,
+    a: Option<Frame>,
+    b: Option<Frame>,
+)
+    requires { ForSome queue.old (λ w. w.lost + 2 < 2 ^ 32) }
+    ensures { queue.new ≡ with_arrivals plan.now number window.now a b plan.now.queue queue.old }
+{
+    if let Some(line) = plan.queue() {
+        if let Some(waiting) = queue {
+            arrive(waiting, plan, &line, number, window, Channel::A, a);
+            arrive(waiting, plan, &line, number, window, Channel::B, b);
+        }
+    }
+}

@@ -1,0 +1,131 @@
+//! The transmit buffers of a node: which offers a commit in a window, and that it goes out.
+
+ghost use Rattle.std.specs.Prelude.{◌≡◌, ◌+◌, ◌<◌, ◌≤◌, ◌^◌, length, map, slice_get, option_map, IfOk, IfSome};
+ghost use Rattle.std.specs.Option.{option_and_then};
+ghost use Rattle.fr_buffers.specs.Transmitting.{new_transmitter, with_commit, entry_of};
+ghost use Rattle.fr_interface.specs.Known.{change_at};
+ghost use Rattle.fr_interface.specs.Sending.{ready_at, sender_on, held_payload, payload_at, send_offered, after_sender};
+
+use crate::offers::{may_begin, transmitter};
+use crate::source::Source;
+use fr_buffers::transmit::TxBuffer;
+use fr_frame::payload::Payload;
+use fr_journal::fate::Tally;
+use fr_slots::channel::Channel;
+use fr_slots::plan::{Buffer, NodePlan};
+use fr_slots::window::Window;
+use std::alloc::{AllocError, Global};
+
+/// The transmit buffer that offers a commit in a window on a channel, and that commit.
+#[derive(Clone, Copy, Debug, PartialEq, Eq)]
+pub(crate) struct Sender {
+    /// The number of the buffer.
+    pub buffer: u8,
+    /// The number of the commit's entry.
+    pub commit: u32,
+}
+
+/// A buffer without a commit for each line.
+pub(crate) fn transmit_buffers(alloc: Global, lines: &[Buffer]) -> Result<Vec<TxBuffer>, AllocError>
+    ensures { IfOk result (λ v. v.items ≡ map (λ b. new_transmitter b.mode) lines.now) }
+{
+    lines
+        .iter()
+        .map(|line| TxBuffer::new(line.mode))
+        .collect(alloc)
+}
+
+/// Where what the buffer of this number holds comes from.
+pub(crate) fn commit_at(buffers: &[TxBuffer], number: u8) -> Option<Source>
+    ensures { result ≡ option_map Source.Commit (option_and_then entry_of (slice_get buffers.now number)) }
+{
+    let entry = buffers.get(usize::from(number))?.entry()?;
+    Some(Source::Commit(entry))
+}
+
+/// What became of the commits on the buffer of this number.
+pub(crate) fn tally_at(buffers: &[TxBuffer], number: u8) -> Option<Tally>
+    ensures value { result ≡ option_map (λ b. b.tally) (slice_get buffers.now number) }
+    ensures fates { IfSome result (λ t. t.committed ≡ t.sent + t.overwritten + t.pending) }
+    ensures one_pending { IfSome result (λ t. t.pending ≤ 1) }
+{
+    let buffer = buffers.get(usize::from(number))?;
+    Some(buffer.tally())
+}
+
+/// The commit that the buffer of this number offers.
+fn ready_at(buffers: &[TxBuffer], number: u8) -> Option<u32>
+    ensures { result ≡ ready_at buffers.now number }
+{
+    buffers.get(usize::from(number))?.offers()
+}
+
+/// What offers a commit in the window on the channel.
+pub(crate) fn sender_on(
+    plan: &NodePlan,
+    buffers: &[TxBuffer],
+    window: &Window,
+    channel: Channel,
+) -> Option<Sender>
+    ensures { result ≡ sender_on plan.now buffers.now window.now channel }
+{
+    if window.slot(channel).is_none() || !may_begin(plan, window, channel) {
+        return None;
+    }
+    let buffer = transmitter(plan, window, channel)?;
+    let commit = ready_at(buffers, buffer)?;
+    Some(Sender { buffer, commit })
+}
+
+/// The payload that the buffer of this number holds.
+pub(crate) fn payload_at(buffers: &[TxBuffer], number: u8) -> Payload
+    ensures { result ≡ payload_at buffers.now number }
+{
+    match buffers.get(usize::from(number)) {
+        Some(buffer) => held_payload(buffer),
+        None => Payload::default(),
+    }
+}
+
+/// The payload that the buffer holds.
+fn held_payload(buffer: &TxBuffer) -> Payload
+    ensures { result ≡ held_payload buffer.now }
+{
+    match buffer.payload() {
+        Some(payload) => payload.duplicate(),
+        None => Payload::default(),
+    }
+}
+
+/// The commit of this entry goes to the buffer of this number.
+pub(crate) fn commit_to(buffers: &mut [TxBuffer], number: u8, entry: u32, payload: &Payload)
+    requires there { number < length buffers.old }
+    requires few { IfSome (slice_get buffers.old number) (λ b. b.tally.committed + 1 < 2 ^ 32) }
+    ensures { buffers.new ≡ change_at (λ b. with_commit b (record { entry = entry; payload = payload.now })) buffers.old number }
+{
+    let buffer = &mut buffers[usize::from(number)];
+    buffer.commit(entry, payload);
+}
+
+/// What is offered goes out.
+pub(crate) fn send_from(buffers: &mut [TxBuffer], sender: Option<Sender>)
+    ensures { buffers.new ≡ after_sender buffers.old sender }
+{
+    let Some(sender) = sender else {
+        return;
+    };
+    let place = usize::from(sender.buffer);
+    if place < buffers.len() {
+        let buffer = &mut buffers[place];
+        send_offered(buffer);
+    }
+}
+
+/// What the buffer offers goes out, if it offers anything.
+fn send_offered(buffer: &mut TxBuffer)
+    ensures { buffer.new ≡ send_offered buffer.old }
+{
+    if buffer.offers().is_some() {
+        buffer.send();
+    }
+}
