@@ -8,6 +8,4 @@
 
 pub mod queue;
 pub mod receive;
-#[cfg(test)]
-mod tests;
 pub mod transmit;

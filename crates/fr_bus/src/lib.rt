@@ -7,5 +7,3 @@ pub mod error;
 pub mod fault;
 pub mod outcome;
 mod station;
-#[cfg(test)]
-mod tests;

@@ -17,5 +17,3 @@ pub mod decode;
 pub mod encode;
 pub mod frame;
 pub mod payload;
-#[cfg(test)]
-mod tests;

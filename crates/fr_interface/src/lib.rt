@@ -19,11 +19,5 @@ pub mod interface;
 mod naming;
 mod offers;
 mod queue;
-#[cfg(test)]
-mod queue_tests;
 mod scan;
 pub mod source;
-#[cfg(test)]
-mod tests;
-#[cfg(test)]
-mod transmit_tests;

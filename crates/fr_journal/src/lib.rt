@@ -18,5 +18,3 @@
 pub mod entry;
 pub mod fate;
 pub mod journal;
-#[cfg(test)]
-mod tests;

@@ -22,6 +22,4 @@ pub mod parameters;
 mod parts;
 pub mod plan_lines;
 pub mod queues;
-#[cfg(test)]
-mod tests;
 pub mod writing;

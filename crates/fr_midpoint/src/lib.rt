@@ -13,5 +13,3 @@
 
 pub mod midpoint;
 pub mod ranks;
-#[cfg(test)]
-mod tests;

@@ -14,5 +14,3 @@
 
 pub mod error;
 pub mod table;
-#[cfg(test)]
-mod tests;

@@ -18,5 +18,3 @@ mod faults;
 mod file;
 mod node;
 mod table;
-#[cfg(test)]
-mod tests;

@@ -15,13 +15,9 @@
 
 pub mod channel;
 pub mod fault;
-#[cfg(test)]
-mod fault_tests;
 pub mod filter;
 pub mod numbers;
 pub mod params;
 pub mod plan;
 pub mod sharing;
-#[cfg(test)]
-mod tests;
 pub mod window;

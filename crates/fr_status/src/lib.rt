@@ -15,5 +15,3 @@
 pub mod counters;
 pub mod seen;
 pub mod status;
-#[cfg(test)]
-mod tests;

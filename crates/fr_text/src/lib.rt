@@ -15,6 +15,4 @@
 
 pub mod hexes;
 pub mod numbers;
-#[cfg(test)]
-mod tests;
 pub mod words;

@@ -14,5 +14,3 @@
 
 pub mod cycle;
 pub mod place;
-#[cfg(test)]
-mod tests;

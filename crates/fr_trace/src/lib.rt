@@ -18,6 +18,4 @@ pub mod error;
 pub mod pieces;
 mod replay;
 pub mod report;
-#[cfg(test)]
-mod tests;
 pub mod trace;

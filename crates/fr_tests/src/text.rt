@@ -1,7 +1,7 @@
-use crate::hexes::{bytes_of, write_hex};
-use crate::numbers::number_of;
-use crate::words::Words;
 use arrayvec::ArrayVec;
+use fr_text::hexes::{bytes_of, write_hex};
+use fr_text::numbers::number_of;
+use fr_text::words::Words;
 use std::test::Fail;
 
 #[test]

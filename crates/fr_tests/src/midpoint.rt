@@ -1,7 +1,7 @@
 //! Worked midpoints, refusals and printed errors.
 
-use super::midpoint::midpoint;
-use super::ranks::{Midpoint, MidpointError};
+use fr_midpoint::midpoint::midpoint;
+use fr_midpoint::ranks::{Midpoint, MidpointError};
 use std::test::Fail;
 
 /// The midpoint of this value and these ranks.

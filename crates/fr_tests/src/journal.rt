@@ -1,7 +1,7 @@
 //! Entries of both kinds in a journal.
 
-use super::entry::Entry;
-use super::journal::Journal;
+use fr_journal::entry::Entry;
+use fr_journal::journal::Journal;
 use fr_slots::numbers::TaskId;
 use fr_status::seen::Seen;
 use std::test::Fail;

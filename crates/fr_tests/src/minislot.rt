@@ -1,6 +1,6 @@
 //! The lanes of the small cycle, and the last slot of all.
 
-use super::lane::{Lane, LaneError};
+use fr_minislot::lane::{Lane, LaneError};
 use fr_slots::numbers::SlotId;
 use fr_slots::params::Params;
 use std::test::Fail;

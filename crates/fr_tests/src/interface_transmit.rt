@@ -1,10 +1,10 @@
 //! Transmit buffers: what is offered, and what becomes of the commits.
 
-use super::errors::{HostError, SlotError};
-use super::interface::{Interface, Offer, Receipt};
-use super::source::Source;
 use fr_frame::frame::Bytes;
 use fr_frame::payload::Payload;
+use fr_interface::errors::{HostError, SlotError};
+use fr_interface::interface::{Interface, Offer, Receipt};
+use fr_interface::source::Source;
 use fr_journal::entry::{Entry, Offered};
 use fr_journal::fate::Tally;
 use fr_slots::channel::Channels;

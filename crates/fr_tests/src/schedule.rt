@@ -1,8 +1,8 @@
 //! The three-node cluster, files with each fault, and printed faults.
 
-use super::cluster::Cluster;
-use super::error::ConfigError;
 use fr_params::error::ParamError;
+use fr_schedule::cluster::Cluster;
+use fr_schedule::error::ConfigError;
 use fr_slots::channel::Channel;
 use fr_slots::numbers::{Cycle, NodeId, SlotId};
 use fr_slots::params::Key;

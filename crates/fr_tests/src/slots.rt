@@ -1,11 +1,11 @@
 //! Worked numbers, filters, windows, parameters and plans, and printed names.
 
-use super::channel::{Channel, Channels};
-use super::filter::{CycleFilter, Filter, FilterError};
-use super::numbers::{Cycle, NodeId, SlotId, TaskId};
-use super::params::{Key, Params, RangeError};
-use super::plan::{Buffer, LINES, NodePlan, Own, PlanError, Queue};
-use super::window::Window;
+use fr_slots::channel::{Channel, Channels};
+use fr_slots::filter::{CycleFilter, Filter, FilterError};
+use fr_slots::numbers::{Cycle, NodeId, SlotId, TaskId};
+use fr_slots::params::{Key, Params, RangeError};
+use fr_slots::plan::{Buffer, LINES, NodePlan, Own, PlanError, Queue};
+use fr_slots::window::Window;
 use std::test::Fail;
 
 /// A cycle of 120 macroticks, with ten minislots and a symbol window.

@@ -2,10 +2,10 @@
 
 ghost use Rattle.std.specs.Prelude.{◌≡◌, ◌<◌};
 
-use super::cycle::{locate, start_of};
-use super::place::Place;
 use fr_slots::numbers::SlotId;
 use fr_slots::params::Params;
+use fr_timing::cycle::{locate, start_of};
+use fr_timing::place::Place;
 use std::test::Fail;
 
 /// A cycle of 120 macroticks, with ten minislots and a symbol window.

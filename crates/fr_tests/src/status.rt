@@ -1,12 +1,12 @@
 //! Statuses with small parameters: three static slots of one word, then slots of minislots.
 
-use super::counters::Counters;
-use super::seen::Seen;
-use super::status::{SlotStatus, status_of};
 use fr_frame::frame::{Bytes, Frame};
 use fr_slots::channel::Channel;
 use fr_slots::numbers::{Cycle, SlotId};
 use fr_slots::params::Params;
+use fr_status::counters::Counters;
+use fr_status::seen::Seen;
+use fr_status::status::{SlotStatus, status_of};
 use std::test::Fail;
 
 /// What is made of things seen on channel A in this slot of this cycle.

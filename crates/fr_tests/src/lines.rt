@@ -1,15 +1,17 @@
 //! Lines as they stand in traces.
 
-use crate::buffers::buffer_of;
-use crate::entries::entry_of;
-use crate::nodes::node_of;
-use crate::owned::own_of;
-use crate::parameters::params_of;
-use crate::queues::queue_of;
-use crate::writing::{write_buffer, write_entry, write_node, write_own, write_params, write_queue};
 use arrayvec::ArrayVec;
 use fr_frame::payload::Payload;
 use fr_journal::entry::{Entry, Offered, Origin};
+use fr_lines::buffers::buffer_of;
+use fr_lines::entries::entry_of;
+use fr_lines::nodes::node_of;
+use fr_lines::owned::own_of;
+use fr_lines::parameters::params_of;
+use fr_lines::queues::queue_of;
+use fr_lines::writing::{
+    write_buffer, write_entry, write_node, write_own, write_params, write_queue,
+};
 use fr_slots::channel::{Channel, Channels};
 use fr_slots::filter::{CycleFilter, Filter};
 use fr_slots::numbers::{Cycle, SlotId, TaskId};

@@ -1,12 +1,12 @@
 //! Plans with each fault and with several, and printed faults.
 
-use super::channel::{Channel, Channels};
-use super::fault::{PlanFault, claims, transmits_dynamic, words_of};
-use super::filter::{CycleFilter, Filter};
-use super::numbers::{Cycle, SlotId};
-use super::params::Params;
-use super::plan::{Buffer, Mode, NodePlan, Own};
-use super::sharing::{Occasion, first_shared};
+use fr_slots::channel::{Channel, Channels};
+use fr_slots::fault::PlanFault;
+use fr_slots::filter::{CycleFilter, Filter};
+use fr_slots::numbers::{Cycle, SlotId};
+use fr_slots::params::Params;
+use fr_slots::plan::{Buffer, Mode, NodePlan, Own};
+use fr_slots::sharing::{Occasion, first_shared};
 use std::test::Fail;
 
 /// A cycle of ten minislots, of four words each, one of which stays idle behind a transmission.
@@ -102,28 +102,28 @@ fn a_plan_of_other_parameters(rt: HostRuntime) -> Result<(), Fail> {
 #[test]
 fn a_line_for_channel_b(rt: HostRuntime) -> Result<(), Fail> {
     let line = own(2, Channels::B)?;
-    assert!(rt; claims(slot(2)?, Channel::B, &line));
-    assert!(rt; !claims(slot(2)?, Channel::A, &line));
-    assert!(rt; !claims(slot(3)?, Channel::B, &line));
+    assert!(rt; line.claims(slot(2)?, Channel::B));
+    assert!(rt; !line.claims(slot(2)?, Channel::A));
+    assert!(rt; !line.claims(slot(3)?, Channel::B));
     Ok(())
 }
 
 #[test]
 fn buffers_that_transmit_in_dynamic_slots(rt: HostRuntime) -> Result<(), Fail> {
     let params = Params::new(ONE_WORD_CYCLE)?;
-    assert!(rt; transmits_dynamic(&params, &event(4, Channels::A, Some(1))?));
-    assert!(rt; !transmits_dynamic(&params, &event(3, Channels::A, None)?));
+    assert!(rt; event(4, Channels::A, Some(1))?.transmits_dynamic(&params));
+    assert!(rt; !event(3, Channels::A, None)?.transmits_dynamic(&params));
     let mut receiver = event(4, Channels::A, None)?;
     receiver.mode = Mode::Receive;
-    assert!(rt; !transmits_dynamic(&params, &receiver));
+    assert!(rt; !receiver.transmits_dynamic(&params));
     Ok(())
 }
 
 #[test]
 fn words_of_a_static_and_of_a_dynamic_buffer(rt: HostRuntime) -> Result<(), Fail> {
     let params = Params::new(ONE_WORD_CYCLE)?;
-    assert_eq!(rt; words_of(&params, &event(3, Channels::A, None)?), 1);
-    assert_eq!(rt; words_of(&params, &event(4, Channels::A, Some(7))?), 7);
+    assert_eq!(rt; event(3, Channels::A, None)?.words(&params), 1);
+    assert_eq!(rt; event(4, Channels::A, Some(7))?.words(&params), 7);
     Ok(())
 }
 

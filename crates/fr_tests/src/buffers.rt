@@ -1,8 +1,8 @@
 //! Buffers of each kind, call by call.
 
-use super::queue::ReceiveQueue;
-use super::receive::RxBuffer;
-use super::transmit::TxBuffer;
+use fr_buffers::queue::ReceiveQueue;
+use fr_buffers::receive::RxBuffer;
+use fr_buffers::transmit::TxBuffer;
 use fr_frame::frame::Frame;
 use fr_frame::payload::Payload;
 use fr_journal::fate::Tally;

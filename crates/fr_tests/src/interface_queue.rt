@@ -1,8 +1,8 @@
 //! The receive queue and the status counters, in a cluster of three static slots of one word.
 
-use super::errors::HostError;
-use super::interface::Interface;
 use fr_frame::frame::{Bytes, Frame};
+use fr_interface::errors::HostError;
+use fr_interface::interface::Interface;
 use fr_journal::entry::{Entry, Origin};
 use fr_slots::channel::{Channel, Channels};
 use fr_slots::filter::{CycleFilter, Filter};

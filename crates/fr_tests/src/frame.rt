@@ -2,11 +2,11 @@
 
 ghost use Rattle.std.specs.Prelude.{◌<◌, ◌^◌};
 
-use super::crc::{crc11, crc24, header_crc};
-use super::decode::{DecodeError, decode};
-use super::encode::encode;
-use super::frame::Frame;
-use super::payload::{FrameError, Payload};
+use fr_frame::crc::{crc11, crc24, header_crc};
+use fr_frame::decode::{DecodeError, decode};
+use fr_frame::encode::encode;
+use fr_frame::frame::Frame;
+use fr_frame::payload::{FrameError, Payload};
 use fr_slots::channel::Channel;
 use fr_slots::numbers::Cycle;
 use std::test::Fail;

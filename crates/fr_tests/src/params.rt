@@ -1,7 +1,7 @@
 //! Tables that hold parameters and tables that don't, and printed errors.
 
-use super::error::ParamError;
-use super::table::from_table;
+use fr_params::error::ParamError;
+use fr_params::table::from_table;
 use fr_slots::params::{Key, Params};
 use std::alloc::Global;
 use std::test::Fail;

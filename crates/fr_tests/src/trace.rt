@@ -2,12 +2,12 @@
 
 ghost use Rattle.std.specs.Prelude.{◌<◌};
 
-use crate::audit::audit;
-use crate::auditor::Auditor;
-use crate::error::TraceError;
-use crate::pieces::audit_pieces;
-use crate::report::write_report;
-use crate::trace::write_trace;
+use fr_trace::audit::audit;
+use fr_trace::auditor::Auditor;
+use fr_trace::error::TraceError;
+use fr_trace::pieces::audit_pieces;
+use fr_trace::report::write_report;
+use fr_trace::trace::write_trace;
 use std::alloc::Global;
 use std::io::{self, Read, Write};
 use std::test::Fail;

@@ -1,9 +1,9 @@
 //! A receive buffer on both channels, in a cluster of three static slots of one word.
 
-use super::errors::{HostError, SlotError};
-use super::interface::{Interface, Offer};
-use super::source::Source;
 use fr_frame::frame::Bytes;
+use fr_interface::errors::{HostError, SlotError};
+use fr_interface::interface::{Interface, Offer};
+use fr_interface::source::Source;
 use fr_journal::entry::{Entry, Offered, Origin};
 use fr_journal::journal::Journal;
 use fr_slots::channel::{Channel, Channels};
