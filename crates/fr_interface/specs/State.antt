@@ -2,6 +2,7 @@
 use Rattle.std.specs.Prelude.{◌≡◌, ℕ, ◌+◌, ◌*◌, ◌==◌, nat_lt, nat_le, not, Bool, false, List, [], ◌∷◌, ◌++◌, length, Option, Some, None, is_some, if◌then◌else◌, count_by, option_map}
 use Rattle.std.specs.Option.{option_and_then}
 use Rattle.fr_journal.specs.declared.entry.Entry.{Entry}
+use Rattle.fr_journal.specs.declared.entry.Entry.TheVariants as entries
 use Rattle.fr_interface.specs.declared.errors.HostError.{HostError}
 use Rattle.fr_interface.specs.declared.errors.HostError.TheVariants.{UnknownTask, UnknownBuffer, NotTransmit, WrongLength, HostFull, NotReceive, NoQueue}
 use Rattle.fr_interface.specs.declared.errors.SlotError.{SlotError}
@@ -15,7 +16,9 @@ use Rattle.fr_journal.specs.Entries.{is_host, is_slot}
 use Rattle.fr_journal.specs.Fate.{last_commit, tally_of}
 use Rattle.fr_journal.specs.Held.{held, origin_of}
 use Rattle.fr_journal.specs.Legal.{IsLegalJournal, AreEntries}
+use Rattle.fr_journal.specs.Offers.{offered}
 use Rattle.fr_journal.specs.OpenWindow.{open_window, last_number}
+use Rattle.fr_slots.specs.declared.channel.Channel.TheVariants as channel
 use Rattle.fr_slots.specs.declared.plan.Buffer.{Buffer}
 use Rattle.fr_slots.specs.declared.plan.Queue.{Queue}
 use Rattle.fr_slots.specs.Faults.{plan_fault, words_of}
@@ -90,6 +93,17 @@ length_of s = option_map (queued_of s) s.plan.queue
 -- how many frames the node's queue lost
 abbrev pub lost_of : State → Option ℕ
 lost_of s = option_map (λ q. queue_lost s.params s.plan q s.entries) s.plan.queue
+
+-- ---- the entries that calls leave, with what they answer
+
+abbrev pub read_entry : State → ℕ → ℕ → Entry
+read_entry s task buffer = entries.Read task buffer (option_map origin_of (received_by s buffer))
+
+abbrev pub pop_entry : State → ℕ → Entry
+pop_entry s task = entries.Pop task (option_map origin_of (oldest_of s))
+
+abbrev pub fetch_entry : State → Opportunity → Entry
+fetch_entry s window = entries.Fetch window (offered s.plan s.entries window channel.A) (offered s.plan s.entries window channel.B)
 
 -- ---- the refusals, in the order in which they are tested
 

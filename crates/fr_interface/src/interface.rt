@@ -82,8 +82,9 @@ impl Interface {
     ghost use Rattle.fr_journal.specs.declared.entry.Entry.TheVariants as entries;
     ghost use Rattle.fr_journal.specs.Counts.{counters_of};
     ghost use Rattle.fr_journal.specs.Held.{frame_named, frame_of, origin_of, IsReceivable};
-    ghost use Rattle.fr_journal.specs.Offers.{frame_offered, offered, IsHandedOut, bytes_of};
-    ghost use Rattle.fr_interface.specs.State.{with_entry, received_by, source_of, tally_by, oldest_of, length_of, lost_of, arrived_of, popped_of, queued_of, commit_refusal, read_refusal, pop_refusal, fetch_refusal, observe_refusal, IsLegalInterface};
+    ghost use Rattle.fr_journal.specs.Offers.{frame_offered, IsHandedOut, bytes_of};
+    ghost use Rattle.fr_interface.specs.State.{with_entry, read_entry, pop_entry, fetch_entry};
+    ghost use Rattle.fr_interface.specs.State.{received_by, source_of, tally_by, oldest_of, length_of, lost_of, arrived_of, popped_of, queued_of, commit_refusal, read_refusal, pop_refusal, fetch_refusal, observe_refusal, IsLegalInterface};
     ghost use Rattle.fr_slots.specs.Faults.{plan_fault};
 
     /// An interface with an empty journal, for which it reserves all the room that the plan asks for.
@@ -162,7 +163,7 @@ impl Interface {
         ensures refusal { result_err result ≡ read_refusal self.old task buffer }
         ensures answer { IfOk result (λ frame. frame ≡ option_map frame_of (received_by self.old buffer)) }
         ensures frames { IfOk result (λ frame. IfSome frame IsReceivable) }
-        ensures accepted { OnOk result (self.new ≡ with_entry self.old (entries.Read task buffer (option_map origin_of (received_by self.old buffer)))) }
+        ensures accepted { OnOk result (self.new ≡ with_entry self.old (read_entry self.old task buffer)) }
         ensures refused { OnErr result (self.new ≡ self.old) }
     {
         if task.number() >= self.plan.tasks() {
@@ -191,7 +192,7 @@ impl Interface {
         ensures refusal { result_err result ≡ pop_refusal self.old task }
         ensures answer { IfOk result (λ frame. frame ≡ option_map frame_of (oldest_of self.old)) }
         ensures frames { IfOk result (λ frame. IfSome frame IsReceivable) }
-        ensures accepted { OnOk result (self.new ≡ with_entry self.old (entries.Pop task (option_map origin_of (oldest_of self.old)))) }
+        ensures accepted { OnOk result (self.new ≡ with_entry self.old (pop_entry self.old task)) }
         ensures refused { OnErr result (self.new ≡ self.old) }
     {
         if task.number() >= self.plan.tasks() {
@@ -222,7 +223,7 @@ impl Interface {
         ensures offer_b { IfOk result (λ o. IsHandedOut Channel.B (frame_offered self.old.params self.old.plan self.old.entries window.now Channel.B) o.b) }
         ensures bytes_a { IfOk result (λ o. o.a ≡ bytes_of Channel.A (frame_offered self.old.params self.old.plan self.old.entries window.now Channel.A)) }
         ensures bytes_b { IfOk result (λ o. o.b ≡ bytes_of Channel.B (frame_offered self.old.params self.old.plan self.old.entries window.now Channel.B)) }
-        ensures accepted { OnOk result (self.new ≡ with_entry self.old (entries.Fetch window.now (offered self.old.plan self.old.entries window.now Channel.A) (offered self.old.plan self.old.entries window.now Channel.B))) }
+        ensures accepted { OnOk result (self.new ≡ with_entry self.old (fetch_entry self.old window.now)) }
         ensures refused { OnErr result (self.new ≡ self.old) }
     {
         if self.opening.window.is_some() {

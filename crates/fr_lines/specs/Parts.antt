@@ -31,7 +31,7 @@ channels_word channels.A = codes "A"
 channels_word channels.B = codes "B"
 channels_word channels.Both = codes "AB"
 
--- behind the number of an entry
+-- after the number of an entry
 abbrev pub channel_mark : Channel → List ℕ
 channel_mark channel.A = codes ":A"
 channel_mark channel.B = codes ":B"

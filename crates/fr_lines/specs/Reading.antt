@@ -24,7 +24,7 @@ parameter_in word = do
 abbrev pub Five : Type 0
 Five = ℤ × ℤ × ℤ × ℤ × ℤ
 
--- five numbers, and the words behind them
+-- five numbers, and the words after them
 unfoldable pub five_in : List (List ℕ) → Option (Five × List (List ℕ))
 five_in (a ∷ b ∷ c ∷ d ∷ e ∷ rest) = do
   v ← parameter_in a
@@ -133,7 +133,7 @@ unfoldable pub queue_in : List (List ℕ) → Option Queue
 queue_in [] = None
 queue_in (kind ∷ words) = if bytes_eq kind (codes "queue") then reception_in words else None
 
--- ---- a line of the plan behind its first: an ownership line, a buffer or the queue, by its first word
+-- ---- a line of the plan after its first: an ownership line, a buffer or the queue, by its first word
 
 unfoldable pub plan_line_in : List (List ℕ) → Option PlanLine
 plan_line_in [] = None

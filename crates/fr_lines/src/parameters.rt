@@ -66,8 +66,10 @@ fn parsed(line: &[u8]) -> Option<[i64; 10]>
 /// `None` for a line of another form and where a number doesn't fit 32 bits. The ranges of the keys are left to
 /// `Params::new`.
 pub fn params_of(line: &[u8]) -> Option<[i64; 10]>
-    ensures found { IfSome result (λ numbers. (p : Parameters) → parameters_of numbers ≡ Ok p → line.now ≡ line_of (params_words p)) }
-    ensures only { (p : Parameters) → IsParameters p → line.now ≡ line_of (params_words p) → IsSomeAnd result (λ numbers. parameters_of numbers ≡ Ok p) }
+    ensures found { IfSome result (λ numbers.
+        (p : Parameters) → parameters_of numbers ≡ Ok p → line.now ≡ line_of (params_words p)) }
+    ensures only { (p : Parameters) → IsParameters p → line.now ≡ line_of (params_words p)
+        → IsSomeAnd result (λ numbers. parameters_of numbers ≡ Ok p) }
     ensures exact { result ≡ params_in (words_of line.now) }
 {
     parsed(line)

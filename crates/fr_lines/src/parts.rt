@@ -1,7 +1,9 @@
 //! The parts of which lines are made.
 ghost use Rattle.std.specs.Prelude.{◌≡◌, ◌<◌, ◌^◌};
 ghost use Rattle.fr_text.specs.Reading.{number_in};
-ghost use Rattle.fr_lines.specs.PartReading.{slot_in, optional_slot_in, channels_in, cycles_in, filter_in, flag_in, mode_in, size_in, payload_in, channel_in, origin_in, from_in, offered_in, seen_bytes_in, seen_in, same_slot, window_of, window_in};
+ghost use Rattle.fr_lines.specs.PartReading.{slot_in, optional_slot_in, channels_in, cycles_in, filter_in, flag_in};
+ghost use Rattle.fr_lines.specs.PartReading.{mode_in, size_in, payload_in, channel_in, origin_in, from_in};
+ghost use Rattle.fr_lines.specs.PartReading.{offered_in, seen_bytes_in, seen_in, same_slot, window_of, window_in};
 
 use fr_frame::frame::FRAME_BYTES;
 use fr_frame::payload::{PAYLOAD_BYTES, Payload};
@@ -139,7 +141,7 @@ pub(crate) fn payload_of(word: &[u8]) -> Option<Payload>
     Payload::from_slice(bytes.as_slice()).ok()
 }
 
-/// The channel that stands behind the number of an entry.
+/// The channel that stands after the number of an entry.
 #[tactic(auto, unfolding(crate::specs::PartReading::channel_in))]
 fn channel_of(mark: &[u8]) -> Option<Channel>
     ensures { result ≡ channel_in mark.now }

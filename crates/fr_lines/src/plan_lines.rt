@@ -1,4 +1,4 @@
-//! The lines of a plan behind its first, told apart by their first words.
+//! The lines of a plan after its first, told apart by their first words.
 ghost use Rattle.std.specs.Prelude.{◌≡◌};
 ghost use Rattle.fr_text.specs.Spaces.{words_of};
 ghost use Rattle.fr_lines.specs.Reading.{plan_line_in};
@@ -9,7 +9,7 @@ use crate::queues::reception_of;
 use fr_slots::plan::{Buffer, Own, Queue};
 use fr_text::words::Words;
 
-/// A line of a plan behind the line of its numbers (own profile).
+/// A line of a plan after the line of its numbers (own profile).
 #[derive(Clone, Copy, Debug, PartialEq, Eq)]
 pub enum PlanLine {
     /// A line `own`.

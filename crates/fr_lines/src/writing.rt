@@ -1,11 +1,12 @@
 //! The lines of a trace, written with their line feeds (own profile).
 //!
 //! Each function fails where the writer fails, and then a part of the line may have gone out.
-ghost use Rattle.std.specs.Prelude.{◌≡◌, ◌∷◌, OnOk};
-ghost use Rattle.std.specs.Io.KnownBytes.{Appends};
+ghost use Rattle.std.specs.Prelude.{◌≡◌, ◌∷◌};
+ghost use Rattle.fr_text.specs.Writing.{Writes};
 ghost use Rattle.fr_journal.specs.declared.entry.Entry.TheVariants as entries;
 ghost use Rattle.fr_lines.specs.Parts.{channels_word, flag_word, from_word, offered_word, optional_number, seen_word};
-ghost use Rattle.fr_lines.specs.Spelling.{line_text, params_words, node_words, own_words, transmit_words, receive_words, buffer_words, queue_words, entry_words};
+ghost use Rattle.fr_lines.specs.Spelling.{line_text, params_words, node_words, own_words, transmit_words};
+ghost use Rattle.fr_lines.specs.Spelling.{receive_words, buffer_words, queue_words, entry_words};
 
 use fr_frame::payload::Payload;
 use fr_journal::entry::{Entry, Offered, Origin};
@@ -40,7 +41,7 @@ fn flag_word(flag: bool) -> &'static str
 
 /// Writes a space, and the word of a slot or of none.
 fn write_slot<W: Write>(writer: &mut W, slot: Option<SlotId>) -> io::Result<()>
-    ensures { OnOk result (Appends (W.contents writer.old) (W.contents writer.new) (32 ∷ optional_number slot)) }
+    ensures { Writes W.contents writer.old writer.new result (32 ∷ optional_number slot) }
 {
     match slot {
         Some(slot) => write!(writer, " {}", slot.number()),
@@ -50,7 +51,7 @@ fn write_slot<W: Write>(writer: &mut W, slot: Option<SlotId>) -> io::Result<()>
 
 /// Writes a space, and the word of words of two bytes, or of none stated.
 fn write_size<W: Write>(writer: &mut W, words: Option<u8>) -> io::Result<()>
-    ensures { OnOk result (Appends (W.contents writer.old) (W.contents writer.new) (32 ∷ optional_number words)) }
+    ensures { Writes W.contents writer.old writer.new result (32 ∷ optional_number words) }
 {
     match words {
         Some(words) => write!(writer, " {words}"),
@@ -60,7 +61,7 @@ fn write_size<W: Write>(writer: &mut W, words: Option<u8>) -> io::Result<()>
 
 /// Writes a space, and the word of where a frame comes from.
 fn write_from<W: Write>(writer: &mut W, from: &Option<Origin>) -> io::Result<()>
-    ensures { OnOk result (Appends (W.contents writer.old) (W.contents writer.new) (32 ∷ from_word from.now)) }
+    ensures { Writes W.contents writer.old writer.new result (32 ∷ from_word from.now) }
 {
     let Some(origin) = from else {
         return write!(writer, " -");
@@ -73,7 +74,7 @@ fn write_from<W: Write>(writer: &mut W, from: &Option<Origin>) -> io::Result<()>
 
 /// Writes a space, and the word of what is offered.
 fn write_offered<W: Write>(writer: &mut W, offered: Offered) -> io::Result<()>
-    ensures { OnOk result (Appends (W.contents writer.old) (W.contents writer.new) (32 ∷ offered_word offered)) }
+    ensures { Writes W.contents writer.old writer.new result (32 ∷ offered_word offered) }
 {
     match offered {
         Offered::Nothing => write!(writer, " -"),
@@ -84,7 +85,7 @@ fn write_offered<W: Write>(writer: &mut W, offered: Offered) -> io::Result<()>
 
 /// Writes a space, and the word of what was seen.
 fn write_seen<W: Write>(writer: &mut W, seen: &Seen) -> io::Result<()>
-    ensures { OnOk result (Appends (W.contents writer.old) (W.contents writer.new) (32 ∷ seen_word seen.now)) }
+    ensures { Writes W.contents writer.old writer.new result (32 ∷ seen_word seen.now) }
 {
     match seen {
         Seen::Silence => write!(writer, " -"),
@@ -101,7 +102,7 @@ fn write_seen<W: Write>(writer: &mut W, seen: &Seen) -> io::Result<()>
 
 /// Writes the line of the parameters.
 pub fn write_params<W: Write>(writer: &mut W, params: &Params) -> io::Result<()>
-    ensures { OnOk result (Appends (W.contents writer.old) (W.contents writer.new) (line_text (params_words params.now))) }
+    ensures { Writes W.contents writer.old writer.new result (line_text (params_words params.now)) }
 {
     write!(
         writer,
@@ -116,7 +117,7 @@ pub fn write_params<W: Write>(writer: &mut W, params: &Params) -> io::Result<()>
 
 /// Writes the line of a plan's numbers. Its ownership lines, buffers and queue have lines of their own.
 pub fn write_node<W: Write>(writer: &mut W, plan: &NodePlan) -> io::Result<()>
-    ensures { OnOk result (Appends (W.contents writer.old) (W.contents writer.new) (line_text (node_words plan.now))) }
+    ensures { Writes W.contents writer.old writer.new result (line_text (node_words plan.now)) }
 {
     let (latest_a, latest_b) = (plan.latest(Channel::A), plan.latest(Channel::B));
     write!(writer, "node {} {latest_a} {latest_b}", plan.tasks())?;
@@ -125,7 +126,7 @@ pub fn write_node<W: Write>(writer: &mut W, plan: &NodePlan) -> io::Result<()>
 
 /// Writes an ownership line.
 pub fn write_own<W: Write>(writer: &mut W, own: &Own) -> io::Result<()>
-    ensures { OnOk result (Appends (W.contents writer.old) (W.contents writer.new) (line_text (own_words own.now))) }
+    ensures { Writes W.contents writer.old writer.new result (line_text (own_words own.now)) }
 {
     let channels = channels_word(own.channels);
     let (sync, startup) = (flag_word(own.sync), flag_word(own.startup));
@@ -138,7 +139,7 @@ pub fn write_own<W: Write>(writer: &mut W, own: &Own) -> io::Result<()>
 
 /// Writes the line of a transmit buffer of this mode.
 fn write_transmit<W: Write>(writer: &mut W, mode: &str, buffer: &Buffer) -> io::Result<()>
-    ensures { OnOk result (Appends (W.contents writer.old) (W.contents writer.new) (line_text (transmit_words mode.now buffer.now))) }
+    ensures { Writes W.contents writer.old writer.new result (line_text (transmit_words mode.now buffer.now)) }
 {
     let filter = &buffer.filter;
     let (slot, channels) = (filter.slot.number(), channels_word(filter.channels));
@@ -150,7 +151,7 @@ fn write_transmit<W: Write>(writer: &mut W, mode: &str, buffer: &Buffer) -> io::
 
 /// Writes the line of a receive buffer.
 fn write_receive<W: Write>(writer: &mut W, filter: &Filter) -> io::Result<()>
-    ensures { OnOk result (Appends (W.contents writer.old) (W.contents writer.new) (line_text (receive_words filter.now))) }
+    ensures { Writes W.contents writer.old writer.new result (line_text (receive_words filter.now)) }
 {
     let (slot, channels) = (filter.slot.number(), channels_word(filter.channels));
     let (base, repetition) = (filter.cycles.base(), filter.cycles.repetition());
@@ -159,7 +160,7 @@ fn write_receive<W: Write>(writer: &mut W, filter: &Filter) -> io::Result<()>
 
 /// Writes the line of a buffer.
 pub fn write_buffer<W: Write>(writer: &mut W, buffer: &Buffer) -> io::Result<()>
-    ensures { OnOk result (Appends (W.contents writer.old) (W.contents writer.new) (line_text (buffer_words buffer.now))) }
+    ensures { Writes W.contents writer.old writer.new result (line_text (buffer_words buffer.now)) }
 {
     match buffer.mode {
         Mode::Event => write_transmit(writer, "event", buffer),
@@ -170,7 +171,7 @@ pub fn write_buffer<W: Write>(writer: &mut W, buffer: &Buffer) -> io::Result<()>
 
 /// Writes the line of a receive queue.
 pub fn write_queue<W: Write>(writer: &mut W, queue: &Queue) -> io::Result<()>
-    ensures { OnOk result (Appends (W.contents writer.old) (W.contents writer.new) (line_text (queue_words queue.now))) }
+    ensures { Writes W.contents writer.old writer.new result (line_text (queue_words queue.now)) }
 {
     let (first, last) = (queue.first.number(), queue.last.number());
     let channels = channels_word(queue.channels);
@@ -181,7 +182,7 @@ pub fn write_queue<W: Write>(writer: &mut W, queue: &Queue) -> io::Result<()>
 
 /// Writes the line of a fetch.
 fn write_fetch<W: Write>(writer: &mut W, window: &Window, a: Offered, b: Offered) -> io::Result<()>
-    ensures { OnOk result (Appends (W.contents writer.old) (W.contents writer.new) (line_text (entry_words (entries.Fetch window.now a b)))) }
+    ensures { Writes W.contents writer.old writer.new result (line_text (entry_words (entries.Fetch window.now a b))) }
 {
     let (number, cycle) = (window.number, window.cycle.number());
     write!(writer, "fetch {number} {cycle} {}", window.minislot)?;
@@ -194,7 +195,8 @@ fn write_fetch<W: Write>(writer: &mut W, window: &Window, a: Offered, b: Offered
 
 /// Writes the line of an observe.
 fn write_observe<W: Write>(writer: &mut W, window: u32, a: &Seen, b: &Seen) -> io::Result<()>
-    ensures { OnOk result (Appends (W.contents writer.old) (W.contents writer.new) (line_text (entry_words (entries.Observe window a.now b.now)))) }
+    ensures { Writes W.contents writer.old writer.new result
+        (line_text (entry_words (entries.Observe window a.now b.now))) }
 {
     write!(writer, "see {window}")?;
     write_seen(writer, a)?;
@@ -209,7 +211,8 @@ fn write_commit<W: Write>(
     buffer: u8,
     payload: &Payload,
 ) -> io::Result<()>
-    ensures { OnOk result (Appends (W.contents writer.old) (W.contents writer.new) (line_text (entry_words (entries.Commit task buffer payload.now)))) }
+    ensures { Writes W.contents writer.old writer.new result
+        (line_text (entry_words (entries.Commit task buffer payload.now))) }
 {
     write!(writer, "commit {} {buffer} ", task.number())?;
     write_hex(writer, payload.as_slice())?;
@@ -223,7 +226,8 @@ fn write_read<W: Write>(
     buffer: u8,
     from: &Option<Origin>,
 ) -> io::Result<()>
-    ensures { OnOk result (Appends (W.contents writer.old) (W.contents writer.new) (line_text (entry_words (entries.Read task buffer from.now)))) }
+    ensures { Writes W.contents writer.old writer.new result
+        (line_text (entry_words (entries.Read task buffer from.now))) }
 {
     write!(writer, "read {} {buffer}", task.number())?;
     write_from(writer, from)?;
@@ -232,7 +236,7 @@ fn write_read<W: Write>(
 
 /// Writes the line of a pop.
 fn write_pop<W: Write>(writer: &mut W, task: TaskId, from: &Option<Origin>) -> io::Result<()>
-    ensures { OnOk result (Appends (W.contents writer.old) (W.contents writer.new) (line_text (entry_words (entries.Pop task from.now)))) }
+    ensures { Writes W.contents writer.old writer.new result (line_text (entry_words (entries.Pop task from.now))) }
 {
     write!(writer, "pop {}", task.number())?;
     write_from(writer, from)?;
@@ -241,7 +245,7 @@ fn write_pop<W: Write>(writer: &mut W, task: TaskId, from: &Option<Origin>) -> i
 
 /// Writes the line of an entry.
 pub fn write_entry<W: Write>(writer: &mut W, entry: &Entry) -> io::Result<()>
-    ensures { OnOk result (Appends (W.contents writer.old) (W.contents writer.new) (line_text (entry_words entry.now))) }
+    ensures { Writes W.contents writer.old writer.new result (line_text (entry_words entry.now)) }
 {
     match entry {
         Entry::Commit {

@@ -305,8 +305,14 @@ fn plans_are_written_as_their_lines(rt: HostRuntime) -> Result<(), Fail> {
         cycles: CycleFilter::default(),
     };
     write_queue(&mut text, &queue)?;
-    let lines =
-        b"params 3 4 1 20 5 0 10 90 0 5\nnode 2 0 4 256 65536\nown 2 B 1 0\ntx event 7 A 1 2 - 0\ntx state 8 AB 0 1 127 1\nrx 9 B 63 64\nqueue 2 4 7 AB 0 1\n";
+    let lines = b"params 3 4 1 20 5 0 10 90 0 5
+node 2 0 4 256 65536
+own 2 B 1 0
+tx event 7 A 1 2 - 0
+tx state 8 AB 0 1 127 1
+rx 9 B 63 64
+queue 2 4 7 AB 0 1
+";
     assert_eq!(rt; text.as_slice(), lines.as_slice());
     Ok(())
 }

@@ -3,3 +3,4 @@ pub mod Reading
 pub mod Spaces
 pub mod Words
 pub mod Plain
+pub mod Writing

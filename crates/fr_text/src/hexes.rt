@@ -1,6 +1,6 @@
 //! The bytes that words spell: the letter `x`, and two lower-case hexadecimal digits for each byte.
-ghost use Rattle.std.specs.Prelude.{◌≡◌, ◌≤◌, length, option_map, OnOk};
-ghost use Rattle.std.specs.Io.KnownBytes.{Appends};
+ghost use Rattle.std.specs.Prelude.{◌≡◌, ◌≤◌, length, option_map};
+ghost use Rattle.fr_text.specs.Writing.{Writes};
 ghost use Rattle.fr_text.specs.Reading.{bytes_in, bytes_as};
 ghost use Rattle.fr_text.specs.Spelling.{hex_text};
 ghost use Rattle.hex.specs.Hex.{decode_of};
@@ -40,8 +40,8 @@ fn digits_of<const N: usize>(digits: &[u8]) -> Option<ArrayVec<u8, N>>
     ArrayVec::try_from(&*bytes).ok()
 }
 
-/// The bytes that the word spells: the letter `x`, and two lower-case digits for each byte. `None` where the word, which
-/// may be empty, is no such spelling, or where it has more than `N` bytes. `N` is at most `MOST_BYTES`.
+/// The bytes that the word spells: the letter `x`, and two lower-case digits for each byte. `None` where the word,
+/// which may be empty, is no such spelling, or where it has more than `N` bytes. `N` is at most `MOST_BYTES`.
 #[tactic(auto, unfolding(crate::specs::Reading::bytes_in))]
 pub fn bytes_of<const N: usize>(word: &[u8]) -> Option<ArrayVec<u8, N>>
     requires { N ≤ MOST_BYTES }
@@ -58,7 +58,7 @@ pub fn bytes_of<const N: usize>(word: &[u8]) -> Option<ArrayVec<u8, N>>
 /// Writes the word of at most `MOST_BYTES` bytes: the letter `x`, and two lower-case digits for each byte.
 pub fn write_hex<W: Write>(writer: &mut W, bytes: &[u8]) -> io::Result<()>
     requires { length bytes.now ≤ MOST_BYTES }
-    ensures { OnOk result (Appends (W.contents writer.old) (W.contents writer.new) (hex_text bytes.now)) }
+    ensures { Writes W.contents writer.old writer.new result (hex_text bytes.now) }
 {
     let mut room = [0u8; MOST_DIGITS + 1];
     room[0] = b'x';

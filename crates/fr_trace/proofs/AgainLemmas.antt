@@ -191,7 +191,7 @@ text_again s is =
     let entries = entries_read s.params s.plan s.entries [] (begin_text s.params s.plan) is.plan_is is.legal is.entries_are begun in
     next_line fresh (body_text s) end_line (body s) (finished s) entries refl refl (omega arith) refl
 
--- its line feed of `begin` comes behind the plan
+-- its line feed of `begin` comes after the plan
 pub text_begins : (s : State) → IsLegalInterface s → Begins fresh (trace_text s)
 text_begins s is =
     let front = plan_text s.params s.plan ++ begin_line in

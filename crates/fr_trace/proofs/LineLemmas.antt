@@ -27,7 +27,7 @@ whole_line p line q opened plain short led =
     fold-append take_byte (reading p []) line line_feed
     ∙ (ap (λ s. take_bytes s line_feed) (fill p line [] opened plain (omega arith)) ∙ (take_in-open p line 10 opened ∙ ap after_line led))
 
--- the next line, behind a text that has been read
+-- the next line, after a text that has been read
 pub next_line : (start : Progress) (text line : List ℕ) (p q : Phase) → take_bytes start text ≡ reading p [] → is_open p ≡ true → has_no_feed line ≡ true → length line ≤ 1200 → take_line p line ≡ Ok q
     → take_bytes start (text ++ (line ++ line_feed)) ≡ reading q []
 next_line start text line p q came opened plain short led =

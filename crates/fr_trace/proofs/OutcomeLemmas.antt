@@ -2,7 +2,7 @@
 use Rattle.std.proofs.Common.{◌≡◌, ℕ, List, ◌++◌, Option, Some, None, Result, Ok, Err, refl, sym, ap, subst, ◌∙◌}
 use Rattle.std.proofs.lemmas.List.{append-nil}
 use Rattle.fr_interface.specs.State.{State, IsLegalInterface}
-use Rattle.fr_trace.specs.Audit.{IsTextOf, IsRefused, HasBegin, Leaves, Audits, Stops, StopsIn, BeginsIn, ReadsThrough, IsNotRefused, IsOfText}
+use Rattle.fr_trace.specs.Audit.{IsTextOf, IsRefusedBy, HasBegin, Leaves, Audits, Stops, StopsIn, BeginsIn, ReadsThrough, IsNotRefused, IsOfText}
 use Rattle.fr_trace.specs.Feeds.{Begins}
 use Rattle.fr_trace.specs.declared.error.TraceError.{TraceError}
 use Rattle.fr_trace.specs.declared.error.TraceError.TheVariants.{BadMagic, BadLine, LineTooLong, Refused, WrongAnswer, Truncated, Read, Write, Memory}
@@ -53,7 +53,7 @@ through_begins None rest h = tt
 through_begins (Some text) None h = absurd h
 through_begins (Some text) (Some rest) h = piece_begins text rest h
 
-refused_by : (text rest : Option (List ℕ)) (e : TraceError) → IsOfText e → ReadsThrough text rest (Err e) → IsRefused e text
+refused_by : (text rest : Option (List ℕ)) (e : TraceError) → IsOfText e → ReadsThrough text rest (Err e) → IsRefusedBy e text
 refused_by None rest e of_text h = tt
 refused_by (Some text) None e of_text h = absurd h
 refused_by (Some text) (Some rest) BadMagic of_text h = h.0
@@ -104,7 +104,7 @@ leaves_stopped (Some text) (Some rest) old new (Err Memory) h = h.0
 clash : {A : Type 0} (r : Result A TraceError) (s : A) (e : TraceError) → r ≡ Ok s → r ≡ Err e → ⊥
 clash r s e good bad = cc (sym good ∙ bad)
 
-given_fault : (text old new : Option (List ℕ)) (e : TraceError) → Audits text old new (Err e) → IsOfText e → IsRefused e text
+given_fault : (text old new : Option (List ℕ)) (e : TraceError) → Audits text old new (Err e) → IsOfText e → IsRefusedBy e text
 given_fault text old new BadMagic h of_text = h.0
 given_fault text old new (BadLine n) h of_text = h.0
 given_fault text old new (LineTooLong n) h of_text = h.0
@@ -119,4 +119,4 @@ pub not_refused : (text old new : Option (List ℕ)) (r : Result (Unit {0}) Trac
 not_refused text old new (Ok x) s h is same = tt
 not_refused text old new (Err e) s h is same =
     λ of_text. clash (outcome_of (take_bytes fresh (trace_text s))) s e (legal_outcome (trace_text s) s is refl)
-    (subst (λ (t : Option (List ℕ)). IsRefused e t) same (given_fault text old new e h of_text))
+    (subst (λ (t : Option (List ℕ)). IsRefusedBy e t) same (given_fault text old new e h of_text))

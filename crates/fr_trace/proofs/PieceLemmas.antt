@@ -67,7 +67,7 @@ not_write Read of_text = absurd of_text
 not_write Write of_text = absurd of_text
 not_write Memory of_text = absurd of_text
 
--- the fault is the text's, since no bytes behind it change the answer
+-- the fault is the text's, since no bytes after it change the answer
 piece_fault : (text front bytes rest : List ℕ) (e : TraceError) → text ≡ front ++ (bytes ++ rest) → length bytes ≤ 4096 → HasNoFault front → take_bytes fresh (front ++ bytes) ≡ failed e
     → Through text rest (Err e)
 piece_fault text front bytes rest e is short faultless stuck =

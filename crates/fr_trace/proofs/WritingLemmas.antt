@@ -30,7 +30,7 @@ none_behind [] i lt is = omega arith
 none_behind (y ∷ xs) zero lt is = cc is
 none_behind (y ∷ xs) (suc i) lt is = none_behind xs i (omega arith) is
 
--- what a last step writes, behind what the steps before it wrote
+-- what a last step writes, after what the steps before it wrote
 pub appends-last : {A E : Type 0} (r : Result A E) (old mid new : Option (List ℕ)) (front back : List ℕ) → Appends old mid front → OnOk r (Appends mid new back) → OnOk r (Appends old new (front ++ back))
 appends-last (Ok x) old mid new front back before last = Appends-trans old mid new front back before last
 appends-last (Err e) old mid new front back before last = tt

@@ -1,13 +1,11 @@
 -- Whether an entry that a trace tells is the one that its call makes.
-use Rattle.std.specs.Prelude.{ℕ, ◌==◌, Bool, true, false, ◌&&◌, Option, Some, None, is_some, option_map, if◌then◌else◌}
+use Rattle.std.specs.Prelude.{ℕ, ◌==◌, Bool, true, false, ◌&&◌, Option, Some, None, is_some, if◌then◌else◌}
 use Rattle.fr_journal.specs.declared.entry.Entry.{Entry}
 use Rattle.fr_journal.specs.declared.entry.Entry.TheVariants.{Commit, Read, Pop, Fetch, Observe}
 use Rattle.fr_journal.specs.declared.entry.Offered.{Offered}
 use Rattle.fr_journal.specs.declared.entry.Offered.TheVariants.{Nothing, Null, Data}
 use Rattle.fr_journal.specs.declared.entry.Origin.{Origin}
-use Rattle.fr_journal.specs.Held.{origin_of}
-use Rattle.fr_journal.specs.Offers.{offered}
-use Rattle.fr_interface.specs.State.{State, received_by, oldest_of, commit_refusal, read_refusal, pop_refusal, fetch_refusal, observe_refusal}
+use Rattle.fr_interface.specs.State.{State, read_entry, pop_entry, fetch_entry, commit_refusal, read_refusal, pop_refusal, fetch_refusal, observe_refusal}
 use Rattle.fr_slots.specs.declared.channel.Channel.{Channel}
 use Rattle.fr_slots.specs.declared.channel.Channel.TheVariants as channel
 use Rattle.fr_trace.specs.declared.error.TraceError.{TraceError}
@@ -46,9 +44,9 @@ is_refused s (Observe window a b) = is_some (observe_refusal s window)
 -- what the call of an entry appends: the entry with the call's own answers
 abbrev pub made_by : State → Entry → Entry
 made_by s (Commit task buffer payload) = Commit task buffer payload
-made_by s (Read task buffer from) = Read task buffer (option_map origin_of (received_by s buffer))
-made_by s (Pop task from) = Pop task (option_map origin_of (oldest_of s))
-made_by s (Fetch window a b) = Fetch window (offered s.plan s.entries window channel.A) (offered s.plan s.entries window channel.B)
+made_by s (Read task buffer from) = read_entry s task buffer
+made_by s (Pop task from) = pop_entry s task
+made_by s (Fetch window a b) = fetch_entry s window
 made_by s (Observe window a b) = Observe window a b
 
 -- two entries of one call have the same answers

@@ -29,9 +29,9 @@ IsTextOf s None = Unit {0}
 IsTextOf s (Some text) = text ≡ trace_text s
 
 -- the text is refused by this first fault
-abbrev pub IsRefused : TraceError → Option (List ℕ) → Type 0
-IsRefused e None = Unit {0}
-IsRefused e (Some text) = outcome_of (take_bytes fresh text) ≡ Err e
+abbrev pub IsRefusedBy : TraceError → Option (List ℕ) → Type 0
+IsRefusedBy e None = Unit {0}
+IsRefusedBy e (Some text) = outcome_of (take_bytes fresh text) ≡ Err e
 
 -- an interface is made in the text
 abbrev pub HasBegin : Option (List ℕ) → Type 0
@@ -45,11 +45,11 @@ Audits text old new (Ok x) = (s : State) × IsTextOf s text × IsLegalInterface 
 Audits text old new (Err Write) = (s : State) × IsTextOf s text × IsLegalInterface s
 Audits text old new (Err Read) = Keeps old new
 Audits text old new (Err Memory) = HasBegin text × Keeps old new
-Audits text old new (Err e) = IsRefused e text × Keeps old new
+Audits text old new (Err e) = IsRefusedBy e text × Keeps old new
 
 -- ---- how far a text is read
 
--- no fault shows in these bytes, whatever comes behind them
+-- no fault shows in these bytes, whatever comes after them
 abbrev pub HasNoFault : List ℕ → Type 0
 HasNoFault bytes = answer_of (take_bytes fresh bytes) ≡ Ok tt
 
@@ -57,7 +57,7 @@ HasNoFault bytes = answer_of (take_bytes fresh bytes) ≡ Ok tt
 abbrev pub StopsEarly : List ℕ → List ℕ → Type 0
 StopsEarly text rest = (front : List ℕ) × (text ≡ front ++ rest) × HasNoFault front
 
--- It is the last piece that decides: no fault shows before it, and of what comes behind it nothing was read.
+-- It is the last piece that decides: no fault shows before it, and of what comes after it nothing was read.
 abbrev pub StopsIn : (List ℕ → List ℕ → Type 0) → List ℕ → List ℕ → Type 0
 StopsIn Decides text rest =
     (front : List ℕ) × (piece : List ℕ) × (text ≡ front ++ (piece ++ rest)) × (length piece ≤ 4096) × HasNoFault front × Decides front piece

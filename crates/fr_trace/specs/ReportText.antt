@@ -28,14 +28,14 @@ abbrev pub held_words : ℕ → Option Arrival → List (List ℕ)
 held_words number None = codes "rx" ∷ decimal number ∷ absent ∷ absent ∷ []
 held_words number (Some arrival) = codes "rx" ∷ decimal number ∷ origin_word arrival.origin ∷ hex_text arrival.frame.payload ∷ []
 
-abbrev pub queue_words : ℕ → ℕ → List (List ℕ)
-queue_words length lost = codes "queue" ∷ decimal length ∷ decimal lost ∷ []
+abbrev pub queue_report_words : ℕ → ℕ → List (List ℕ)
+queue_report_words length lost = codes "queue" ∷ decimal length ∷ decimal lost ∷ []
 
 abbrev pub channel_words : Channel → StatusCounts → List (List ℕ)
 channel_words channel counts =
     letter_of channel ∷ decimal counts.valid ∷ decimal counts.syntax_errors ∷ decimal counts.content_errors ∷ decimal counts.boundary_violations ∷ decimal counts.conflicts ∷ []
 
--- the end of a channel's line, behind its first two counts
+-- the end of a channel's line, after its first two counts
 abbrev pub errors_text : ℕ → ℕ → ℕ → List ℕ
 errors_text content boundary conflict = 32 ∷ line_text (decimal content ∷ decimal boundary ∷ decimal conflict ∷ [])
 
@@ -71,7 +71,7 @@ reports_from s number (b ∷ buffers) = buffer_report s number b ++ reports_from
 -- the line of the queue, where there is one
 abbrev pub queue_report : State → Option Queue → List ℕ
 queue_report s None = []
-queue_report s (Some q) = line_text (queue_words (queue_length q.capacity (moves s.params s.plan q s.entries)) (queue_lost s.params s.plan q s.entries))
+queue_report s (Some q) = line_text (queue_report_words (queue_length q.capacity (moves s.params s.plan q s.entries)) (queue_lost s.params s.plan q s.entries))
 
 abbrev pub channel_report : State → Channel → List ℕ
 channel_report s channel = line_text (channel_words channel (counts_of s.params channel s.entries))

@@ -69,14 +69,15 @@ pub fn audit<R: Read, W: Write>(
 ) -> Result<(), TraceError>
     // What is accepted is the text of a legal interface, whose report is written, and nothing else.
     ensures found { Audits (R.remaining reader.old) (W.contents writer.old) (W.contents writer.new) result }
-    // It reads in pieces of at most 4096 bytes, and none behind the one that has the fault.
+    // It reads in pieces of at most 4096 bytes, and none after the one that has the fault.
     ensures read { Stops (R.remaining reader.old) (R.remaining reader.new) result }
     // What is accepted is no longer than so many lines of the greatest length.
     ensures short { ShortIfTaken result (R.remaining reader.old) }
     // The line that an error names is that of the byte with which the first fault shows.
     ensures line { IfSome (R.remaining reader.old) (λ text. LineIsNamed result text) }
     // The text of a legal interface is not refused.
-    ensures only { (s : State) → IsLegalInterface s → R.remaining reader.old ≡ Some (trace_text s) → IsNotRefused result }
+    ensures only { (s : State) → IsLegalInterface s → R.remaining reader.old ≡ Some (trace_text s)
+        → IsNotRefused result }
 {
     audit_through(alloc, reader, writer)
 }

@@ -172,7 +172,8 @@ fn plan_line(
     line: &[u8],
 ) -> Result<Phase, TraceError>
     requires { number ≡ line_number (lines params plan) }
-    ensures { GivesUnless (IsBegin (lines params plan) line.now) phase_of result (take_line (lines params plan) line.now) }
+    ensures { GivesUnless (IsBegin (lines params plan) line.now) phase_of result
+        (take_line (lines params plan) line.now) }
 {
     if line == b"begin".as_slice() {
         return begin(alloc, params, plan, number);

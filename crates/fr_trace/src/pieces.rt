@@ -31,13 +31,15 @@ pub fn audit_pieces(alloc: Global, pieces: &[&[u8]]) -> Result<Interface, TraceE
     // What is accepted is the text of the interface that is given, however it was cut.
     ensures found { IfOk result (λ s. (flat_map (λ p. p.now) pieces.now ≡ trace_text s) × IsLegalInterface s) }
     // The text of a legal interface is accepted as that interface, unless memory runs out.
-    ensures only { (s : State) → IsLegalInterface s → flat_map (λ p. p.now) pieces.now ≡ trace_text s → (result ≡ Ok s) ⊎ (result ≡ Err TraceError.Memory) }
+    ensures only { (s : State) → IsLegalInterface s → flat_map (λ p. p.now) pieces.now ≡ trace_text s
+        → (result ≡ Ok s) ⊎ (result ≡ Err TraceError.Memory) }
     // It is no longer than so many lines of the greatest length.
     ensures short { OnOk result (length (flat_map (λ p. p.now) pieces.now) ≤ longest_text) }
     // The line that an error names is that of the byte with which the first fault shows.
     ensures line { LineIsNamed result (flat_map (λ p. p.now) pieces.now) }
     // Which refusal comes. Memory can run out at the line `begin` alone.
-    ensures exact { (result ≡ outcome_of (take_bytes fresh (flat_map (λ p. p.now) pieces.now))) ⊎ ((result ≡ Err TraceError.Memory) × Begins fresh (flat_map (λ p. p.now) pieces.now)) }
+    ensures exact { (result ≡ outcome_of (take_bytes fresh (flat_map (λ p. p.now) pieces.now)))
+        ⊎ ((result ≡ Err TraceError.Memory) × Begins fresh (flat_map (λ p. p.now) pieces.now)) }
 {
     let auditor = fed(alloc, pieces);
     lawful(auditor.finish())

@@ -1,7 +1,7 @@
 //! The report of an interface.
 
-ghost use Rattle.std.specs.Prelude.{◌≡◌, OnOk, IfErr};
-ghost use Rattle.std.specs.Io.KnownBytes.{Appends};
+ghost use Rattle.std.specs.Prelude.{◌≡◌, IfErr};
+ghost use Rattle.fr_text.specs.Writing.{Writes};
 ghost use Rattle.fr_interface.specs.State.{received_by, tally_by};
 ghost use Rattle.fr_trace.specs.ReportText.{answer_words, channels_report, counts_in, errors_text};
 ghost use Rattle.fr_trace.specs.ReportText.{channel_words, held_words, queue_report, report_text};
@@ -19,7 +19,7 @@ use std::io::Write;
 
 /// Writes the line of a receive buffer.
 fn write_receive<W: Write>(writer: &mut W, number: u8, held: &Option<Arrival>) -> io::Result<()>
-    ensures { OnOk result (Appends (W.contents writer.old) (W.contents writer.new) (line_text (held_words number held.now))) }
+    ensures { Writes W.contents writer.old writer.new result (line_text (held_words number held.now)) }
 {
     let Some(arrival) = held else {
         return writeln!(writer, "rx {number} - -");
@@ -35,7 +35,7 @@ fn write_receive<W: Write>(writer: &mut W, number: u8, held: &Option<Arrival>) -
 
 /// Writes the line of a transmit buffer.
 fn write_transmit<W: Write>(writer: &mut W, number: u8, tally: &Tally) -> io::Result<()>
-    ensures { OnOk result (Appends (W.contents writer.old) (W.contents writer.new) (line_text (tally_words number tally.now))) }
+    ensures { Writes W.contents writer.old writer.new result (line_text (tally_words number tally.now)) }
 {
     write!(writer, "tx {number} {} {}", tally.committed, tally.sent)?;
     writeln!(writer, " {} {}", tally.overwritten, tally.pending)
@@ -43,7 +43,8 @@ fn write_transmit<W: Write>(writer: &mut W, number: u8, tally: &Tally) -> io::Re
 
 /// Writes the line of a buffer, by what the interface tells of it.
 fn write_buffer<W: Write>(interface: &Interface, writer: &mut W, number: u8) -> io::Result<()>
-    ensures { OnOk result (Appends (W.contents writer.old) (W.contents writer.new) (line_text (answer_words number (tally_by interface.now number) (received_by interface.now number)))) }
+    ensures { Writes W.contents writer.old writer.new result
+        (line_text (answer_words number (tally_by interface.now number) (received_by interface.now number))) }
 {
     match interface.tally(number) {
         Some(tally) => write_transmit(writer, number, &tally),
@@ -53,7 +54,7 @@ fn write_buffer<W: Write>(interface: &Interface, writer: &mut W, number: u8) -> 
 
 /// Writes the lines of the buffers.
 fn write_buffers<W: Write>(interface: &Interface, writer: &mut W) -> io::Result<()>
-    ensures { OnOk result (Appends (W.contents writer.old) (W.contents writer.new) (reports_from interface.now 0 interface.now.plan.buffers)) }
+    ensures { Writes W.contents writer.old writer.new result (reports_from interface.now 0 interface.now.plan.buffers) }
 {
     let count = interface.plan().buffers().len() as u8;
     for number in 0..count {
@@ -64,7 +65,7 @@ fn write_buffers<W: Write>(interface: &Interface, writer: &mut W) -> io::Result<
 
 /// Writes the line of the queue, where there is one.
 fn write_queue<W: Write>(interface: &Interface, writer: &mut W) -> io::Result<()>
-    ensures { OnOk result (Appends (W.contents writer.old) (W.contents writer.new) (queue_report interface.now interface.now.plan.queue)) }
+    ensures { Writes W.contents writer.old writer.new result (queue_report interface.now interface.now.plan.queue) }
 {
     match (interface.queue_len(), interface.queue_lost()) {
         (Some(length), Some(lost)) => writeln!(writer, "queue {length} {lost}"),
@@ -74,7 +75,7 @@ fn write_queue<W: Write>(interface: &Interface, writer: &mut W) -> io::Result<()
 
 /// Writes the line of a channel.
 fn write_channel<W: Write>(writer: &mut W, channel: Channel, counts: [u32; 5]) -> io::Result<()>
-    ensures { OnOk result (Appends (W.contents writer.old) (W.contents writer.new) (line_text (channel_words channel (counts_in counts)))) }
+    ensures { Writes W.contents writer.old writer.new result (line_text (channel_words channel (counts_in counts))) }
 {
     let [valid, syntax, content, boundary, conflict] = counts;
     write!(writer, "{channel} {valid} {syntax}")?;
@@ -88,14 +89,14 @@ fn write_errors<W: Write>(
     boundary: u32,
     conflict: u32,
 ) -> io::Result<()>
-    ensures { OnOk result (Appends (W.contents writer.old) (W.contents writer.new) (errors_text content boundary conflict)) }
+    ensures { Writes W.contents writer.old writer.new result (errors_text content boundary conflict) }
 {
     writeln!(writer, " {content} {boundary} {conflict}")
 }
 
 /// Writes the lines of both channels.
 fn write_channels<W: Write>(interface: &Interface, writer: &mut W) -> io::Result<()>
-    ensures { OnOk result (Appends (W.contents writer.old) (W.contents writer.new) (channels_report interface.now)) }
+    ensures { Writes W.contents writer.old writer.new result (channels_report interface.now) }
 {
     let counters = interface.counters();
     write_channel(writer, Channel::A, counters.a)?;
@@ -104,7 +105,7 @@ fn write_channels<W: Write>(interface: &Interface, writer: &mut W) -> io::Result
 
 /// Writes the whole report.
 fn write_lines<W: Write>(interface: &Interface, writer: &mut W) -> io::Result<()>
-    ensures { OnOk result (Appends (W.contents writer.old) (W.contents writer.new) (report_text interface.now)) }
+    ensures { Writes W.contents writer.old writer.new result (report_text interface.now) }
 {
     write_buffers(interface, writer)?;
     write_queue(interface, writer)?;
@@ -117,7 +118,7 @@ fn write_lines<W: Write>(interface: &Interface, writer: &mut W) -> io::Result<()
 /// Refused with `Write` where the writer fails, and then some of the report may have been
 /// written.
 pub fn write_report<W: Write>(interface: &Interface, writer: &mut W) -> Result<(), TraceError>
-    ensures written { OnOk result (Appends (W.contents writer.old) (W.contents writer.new) (report_text interface.now)) }
+    ensures written { Writes W.contents writer.old writer.new result (report_text interface.now) }
     ensures refused { IfErr result (λ e. e ≡ TraceError.Write) }
 {
     match write_lines(interface, writer) {

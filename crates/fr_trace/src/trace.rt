@@ -1,7 +1,7 @@
 //! The text of an interface: the one trace that tells of it.
 
-ghost use Rattle.std.specs.Prelude.{◌++◌, OnOk, IfErr, Ok, ◌≡◌};
-ghost use Rattle.std.specs.Io.KnownBytes.{Appends};
+ghost use Rattle.std.specs.Prelude.{◌++◌, IfErr, Ok, ◌≡◌};
+ghost use Rattle.fr_text.specs.Writing.{Writes};
 ghost use Rattle.std.specs.List.{flat_map};
 ghost use Rattle.fr_trace.specs.TraceText.{own_line, buffer_line, queue_lines, entry_line, numbers_text};
 ghost use Rattle.fr_trace.specs.TraceText.{plan_text, trace_text};
@@ -21,7 +21,7 @@ use std::io::Write;
 
 /// Writes ownership lines.
 fn write_owned<W: Write>(writer: &mut W, owned: &[Own]) -> io::Result<()>
-    ensures { OnOk result (Appends (W.contents writer.old) (W.contents writer.new) (flat_map own_line owned.now)) }
+    ensures { Writes W.contents writer.old writer.new result (flat_map own_line owned.now) }
 {
     for own in owned {
         write_own(writer, own)?;
@@ -31,7 +31,7 @@ fn write_owned<W: Write>(writer: &mut W, owned: &[Own]) -> io::Result<()>
 
 /// Writes the lines of buffers.
 fn write_buffers<W: Write>(writer: &mut W, buffers: &[Buffer]) -> io::Result<()>
-    ensures { OnOk result (Appends (W.contents writer.old) (W.contents writer.new) (flat_map buffer_line buffers.now)) }
+    ensures { Writes W.contents writer.old writer.new result (flat_map buffer_line buffers.now) }
 {
     for buffer in buffers {
         write_buffer(writer, buffer)?;
@@ -41,7 +41,7 @@ fn write_buffers<W: Write>(writer: &mut W, buffers: &[Buffer]) -> io::Result<()>
 
 /// Writes the line of a queue, where there is one.
 fn write_queues<W: Write>(writer: &mut W, queue: &Option<Queue>) -> io::Result<()>
-    ensures { OnOk result (Appends (W.contents writer.old) (W.contents writer.new) (queue_lines queue.now)) }
+    ensures { Writes W.contents writer.old writer.new result (queue_lines queue.now) }
 {
     match queue {
         Some(queue) => write_queue(writer, queue),
@@ -51,7 +51,7 @@ fn write_queues<W: Write>(writer: &mut W, queue: &Option<Queue>) -> io::Result<(
 
 /// Writes the lines up to the plan's numbers.
 fn write_numbers<W: Write>(writer: &mut W, params: &Params, plan: &NodePlan) -> io::Result<()>
-    ensures { OnOk result (Appends (W.contents writer.old) (W.contents writer.new) (numbers_text params.now plan.now)) }
+    ensures { Writes W.contents writer.old writer.new result (numbers_text params.now plan.now) }
 {
     writeln!(writer, "frtrace 1")?;
     write_params(writer, params)?;
@@ -60,7 +60,7 @@ fn write_numbers<W: Write>(writer: &mut W, params: &Params, plan: &NodePlan) -> 
 
 /// Writes the lines up to the end of the plan.
 fn write_plan<W: Write>(writer: &mut W, params: &Params, plan: &NodePlan) -> io::Result<()>
-    ensures { OnOk result (Appends (W.contents writer.old) (W.contents writer.new) (plan_text params.now plan.now)) }
+    ensures { Writes W.contents writer.old writer.new result (plan_text params.now plan.now) }
 {
     write_numbers(writer, params, plan)?;
     write_owned(writer, plan.owned())?;
@@ -70,7 +70,7 @@ fn write_plan<W: Write>(writer: &mut W, params: &Params, plan: &NodePlan) -> io:
 
 /// Writes the lines of a journal's entries.
 fn write_entries<W: Write>(writer: &mut W, journal: &Journal) -> io::Result<()>
-    ensures { OnOk result (Appends (W.contents writer.old) (W.contents writer.new) (flat_map entry_line journal.now.entries)) }
+    ensures { Writes W.contents writer.old writer.new result (flat_map entry_line journal.now.entries) }
 {
     for number in 0..journal.len() {
         if let Some(entry) = journal.get(number) {
@@ -82,7 +82,7 @@ fn write_entries<W: Write>(writer: &mut W, journal: &Journal) -> io::Result<()>
 
 /// Writes the whole text.
 fn write_text<W: Write>(writer: &mut W, interface: &Interface) -> io::Result<()>
-    ensures written { OnOk result (Appends (W.contents writer.old) (W.contents writer.new) (trace_text interface.now)) }
+    ensures written { Writes W.contents writer.old writer.new result (trace_text interface.now) }
     ensures legal { IsLegalInterface interface.now }
 {
     write_plan(writer, interface.params(), interface.plan())?;
@@ -95,7 +95,7 @@ fn write_text<W: Write>(writer: &mut W, interface: &Interface) -> io::Result<()>
 ///
 /// Refused with `Write` where the writer fails, and then some of the text may have been written.
 pub fn write_trace<W: Write>(interface: &Interface, writer: &mut W) -> Result<(), TraceError>
-    ensures written { OnOk result (Appends (W.contents writer.old) (W.contents writer.new) (trace_text interface.now)) }
+    ensures written { Writes W.contents writer.old writer.new result (trace_text interface.now) }
     ensures refused { IfErr result (λ e. e ≡ TraceError.Write) }
     // That text is accepted, as this interface.
     ensures again { outcome_of (take_bytes fresh (trace_text interface.now)) ≡ Ok interface.now }
