@@ -1,5 +1,6 @@
 //! A receive buffer on both channels, in a cluster of three static slots of one word.
 
+use crate::support::{DATA_ON_A, DATA_ON_B};
 use fr_frame::frame::Bytes;
 use fr_interface::errors::{HostError, SlotError};
 use fr_interface::interface::{Interface, Offer};
@@ -15,11 +16,6 @@ use fr_slots::window::Window;
 use fr_status::seen::Seen;
 use std::alloc::Global;
 use std::test::Fail;
-
-/// Data frames of slot 2 in cycle 0, for channel A and for channel B.
-const DATA_ON_A: [u8; 10] = [0x20, 0x02, 0x03, 0xc1, 0x40, 0x0a, 0x0b, 0xa3, 0x22, 0x17];
-
-const DATA_ON_B: [u8; 10] = [0x20, 0x02, 0x03, 0xc1, 0x40, 0x0a, 0x0b, 0x85, 0xa2, 0xc6];
 
 /// A plan of one task and of one buffer, which receives slot 2 on both channels in every cycle.
 fn receive_plan(host_entries: u16, slot_entries: u32) -> Result<NodePlan, Fail> {

@@ -1,12 +1,13 @@
 //! The receive queue and the status counters, in a cluster of three static slots of one word.
 
+use crate::support::{slot, task};
 use fr_frame::frame::{Bytes, Frame};
 use fr_interface::errors::HostError;
 use fr_interface::interface::Interface;
 use fr_journal::entry::{Entry, Origin};
 use fr_slots::channel::{Channel, Channels};
 use fr_slots::filter::{CycleFilter, Filter};
-use fr_slots::numbers::{Cycle, SlotId, TaskId};
+use fr_slots::numbers::Cycle;
 use fr_slots::params::Params;
 use fr_slots::plan::{Buffer, Mode, NodePlan, Queue};
 use fr_slots::window::Window;
@@ -27,14 +28,6 @@ const FIRST_ON_B: [u8; 10] = [0x20, 0x02, 0x03, 0xc1, 0x40, 0x00, 0x01, 0xf4, 0x
 
 /// The null frame of slot 2 in cycle 1, on channel A.
 const NULL_FRAME: [u8; 10] = [0x00, 0x02, 0x03, 0xc1, 0x41, 0x00, 0x00, 0xd1, 0x4f, 0x6c];
-
-fn slot(number: u16) -> Result<SlotId, Fail> {
-    Ok(SlotId::new(number).ok_or("no slot")?)
-}
-
-fn task(number: u8) -> Result<TaskId, Fail> {
-    Ok(TaskId::new(number).ok_or("no task")?)
-}
 
 fn came(bytes: &[u8]) -> Result<Seen, Fail> {
     let mut kept = Bytes::new();

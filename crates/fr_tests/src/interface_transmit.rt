@@ -1,5 +1,6 @@
 //! Transmit buffers: what is offered, and what becomes of the commits.
 
+use crate::support::{DATA_ON_A, DATA_ON_B, ONE_WORD_CYCLE, SMALL_CYCLE, slot, task};
 use fr_frame::frame::Bytes;
 use fr_frame::payload::Payload;
 use fr_interface::errors::{HostError, SlotError};
@@ -9,7 +10,7 @@ use fr_journal::entry::{Entry, Offered};
 use fr_journal::fate::Tally;
 use fr_slots::channel::Channels;
 use fr_slots::filter::{CycleFilter, Filter};
-use fr_slots::numbers::{Cycle, SlotId, TaskId};
+use fr_slots::numbers::Cycle;
 use fr_slots::params::Params;
 use fr_slots::plan::{Buffer, Mode, NodePlan, Own};
 use fr_slots::window::Window;
@@ -17,27 +18,8 @@ use fr_status::seen::Seen;
 use std::alloc::Global;
 use std::test::Fail;
 
-/// A cycle of 120 macroticks, with ten minislots of four words and a symbol window.
-const SMALL_CYCLE: [i64; 10] = [3, 10, 1, 20, 5, 4, 6, 120, 1, 4];
-
-/// A cycle of 90 macroticks with three static slots, whose frames have one word.
-const ONE_WORD_CYCLE: [i64; 10] = [3, 4, 1, 20, 5, 0, 10, 90, 0, 5];
-
-/// The data frame of slot 2 in cycle 0 with payload `0a0b`, on channel A and on channel B.
-const DATA_ON_A: [u8; 10] = [0x20, 0x02, 0x03, 0xc1, 0x40, 0x0a, 0x0b, 0xa3, 0x22, 0x17];
-
-const DATA_ON_B: [u8; 10] = [0x20, 0x02, 0x03, 0xc1, 0x40, 0x0a, 0x0b, 0x85, 0xa2, 0xc6];
-
 /// The null frame of slot 2 in cycle 1, on channel A.
 const NULL_ON_A: [u8; 10] = [0x00, 0x02, 0x03, 0xc1, 0x41, 0x00, 0x00, 0xd1, 0x4f, 0x6c];
-
-fn slot(number: u16) -> Result<SlotId, Fail> {
-    Ok(SlotId::new(number).ok_or("no slot")?)
-}
-
-fn task(number: u8) -> Result<TaskId, Fail> {
-    Ok(TaskId::new(number).ok_or("no task")?)
-}
 
 fn payload(bytes: &[u8]) -> Result<Payload, Fail> {
     Ok(Payload::from_slice(bytes)?)

@@ -33,6 +33,8 @@ mod slots_fault;
 #[cfg(test)]
 mod status;
 #[cfg(test)]
+mod support;
+#[cfg(test)]
 mod text;
 #[cfg(test)]
 mod timing;

@@ -1,10 +1,11 @@
 //! The three-node cluster, files with each fault, and printed faults.
 
+use crate::support::{cycle, slot};
 use fr_params::error::ParamError;
 use fr_schedule::cluster::Cluster;
 use fr_schedule::error::ConfigError;
 use fr_slots::channel::Channel;
-use fr_slots::numbers::{Cycle, NodeId, SlotId};
+use fr_slots::numbers::NodeId;
 use fr_slots::params::Key;
 use std::alloc::Global;
 use std::test::Fail;
@@ -93,14 +94,6 @@ fn refusal(alloc: Global, text: &str) -> Option<ConfigError> {
 fn node_refusal(alloc: Global, node: &str) -> Result<Option<ConfigError>, Fail> {
     let text = one_node(alloc, node)?;
     Ok(refusal(alloc, text.as_str()))
-}
-
-fn slot(number: u16) -> Result<SlotId, Fail> {
-    Ok(SlotId::new(number).ok_or("no slot")?)
-}
-
-fn cycle(number: u8) -> Result<Cycle, Fail> {
-    Ok(Cycle::new(number).ok_or("no cycle")?)
 }
 
 fn node(number: u8) -> Result<NodeId, Fail> {

@@ -1,5 +1,6 @@
 //! Worked numbers, filters, windows, parameters and plans, and printed names.
 
+use crate::support::{ONE_WORD_CYCLE, SMALL_CYCLE, cycle, slot};
 use fr_slots::channel::{Channel, Channels};
 use fr_slots::filter::{CycleFilter, Filter, FilterError};
 use fr_slots::numbers::{Cycle, NodeId, SlotId, TaskId};
@@ -7,20 +8,6 @@ use fr_slots::params::{Key, Params, RangeError};
 use fr_slots::plan::{Buffer, LINES, NodePlan, Own, PlanError, Queue};
 use fr_slots::window::Window;
 use std::test::Fail;
-
-/// A cycle of 120 macroticks, with ten minislots and a symbol window.
-const SMALL_CYCLE: [i64; 10] = [3, 10, 1, 20, 5, 4, 6, 120, 1, 4];
-
-/// A cycle of 90 macroticks, in which a minislot carries five words.
-const ONE_WORD_CYCLE: [i64; 10] = [3, 4, 1, 20, 5, 0, 10, 90, 0, 5];
-
-fn cycle(number: u8) -> Result<Cycle, Fail> {
-    Ok(Cycle::new(number).ok_or("no cycle")?)
-}
-
-fn slot(number: u16) -> Result<SlotId, Fail> {
-    Ok(SlotId::new(number).ok_or("no slot")?)
-}
 
 #[test]
 fn numbers_end_at_their_bounds(rt: HostRuntime) -> Result<(), Fail> {

@@ -1,27 +1,13 @@
 //! Plans with each fault and with several, and printed faults.
 
+use crate::support::{ONE_WORD_CYCLE, SMALL_CYCLE, cycle, slot};
 use fr_slots::channel::{Channel, Channels};
 use fr_slots::fault::PlanFault;
 use fr_slots::filter::{CycleFilter, Filter};
-use fr_slots::numbers::{Cycle, SlotId};
 use fr_slots::params::Params;
 use fr_slots::plan::{Buffer, Mode, NodePlan, Own};
 use fr_slots::sharing::{Occasion, first_shared};
 use std::test::Fail;
-
-/// A cycle of ten minislots, of four words each, one of which stays idle behind a transmission.
-const SMALL_CYCLE: [i64; 10] = [3, 10, 1, 20, 5, 4, 6, 120, 1, 4];
-
-/// A cycle of four minislots, of five words each.
-const ONE_WORD_CYCLE: [i64; 10] = [3, 4, 1, 20, 5, 0, 10, 90, 0, 5];
-
-fn slot(number: u16) -> Result<SlotId, Fail> {
-    Ok(SlotId::new(number).ok_or("no slot")?)
-}
-
-fn cycle(number: u8) -> Result<Cycle, Fail> {
-    Ok(Cycle::new(number).ok_or("no cycle")?)
-}
 
 fn filter(number: u16, channels: Channels, base: u8, repetition: u8) -> Result<Filter, Fail> {
     Ok(Filter {

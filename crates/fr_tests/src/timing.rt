@@ -2,14 +2,12 @@
 
 ghost use Rattle.std.specs.Prelude.{◌≡◌, ◌<◌};
 
+use crate::support::SMALL_CYCLE;
 use fr_slots::numbers::SlotId;
 use fr_slots::params::Params;
 use fr_timing::cycle::{locate, start_of};
 use fr_timing::place::Place;
 use std::test::Fail;
-
-/// A cycle of 120 macroticks, with ten minislots and a symbol window.
-const SMALL_CYCLE: [i64; 10] = [3, 10, 1, 20, 5, 4, 6, 120, 1, 4];
 
 /// A place in a static slot.
 fn in_static_slot(number: u16, offset: u32) -> Result<Place, Fail> {
