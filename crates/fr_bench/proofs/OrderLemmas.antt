@@ -1,16 +1,19 @@
 -- The commands are of the kind of which `clap` tells all faults, what a parse holds tells the command's name and the
 -- word for its file, and so the answer is the one that is due.
-use Rattle.std.proofs.Common.{◌≡◌, ◌∷◌, [], List, Option, Some, None, Err, option_map, is_some, true≢false, ap, sym, refl, ◌∙◌, ℕ, arith, inl, inr, codes, true}
+use Rattle.std.proofs.Common.{◌≡◌, ◌∷◌, [], List, Option, Some, None, Err, option_map, is_some, true≢false, ap, sym}
+use Rattle.std.proofs.Common.{refl, ◌∙◌, ℕ, arith, inl, inr, codes, true}
 use Rattle.std.specs.Prelude.{IfSome, IsSome}
 use Rattle.std.specs.Option.{ok_or, option_map_or}
 use Rattle.clap.specs.Values.{kind_of}
-use Rattle.clap.specs.Words.{HasKind, IsAmong, Kinds, Row, Text, fault_of, first_of, is_simple, is_simple_and_free, subcommand_of}
+use Rattle.clap.specs.Words.{HasKind, IsAmong, Kinds, Row, Text, fault_of, first_of, is_simple, is_simple_and_free}
+use Rattle.clap.specs.Words.{subcommand_of}
 use Rattle.clap.specs.declared.error.Error.{Error}
 use Rattle.clap.proofs.OnLiterals.{clap_on_literals}
 use Rattle.fr_bench.specs.declared.command.Order.{Order}
 use Rattle.fr_bench.specs.declared.command.OrderError.{OrderError}
 use Rattle.fr_bench.specs.declared.command.OrderError.TheVariants as refusal
-use Rattle.fr_bench.specs.Orders.{HasFile, IsAnswer, IsNamed, IsOrder, IsWhole, file_in, name_in, order_error_of, the_commands}
+use Rattle.fr_bench.specs.Orders.{HasFile, IsAnswer, IsNamed, IsOrder, IsWhole, file_in, name_in, order_error_of}
+use Rattle.fr_bench.specs.Orders.{the_commands}
 use Rattle.fr_bench.proofs.WholeLemmas.{whole}
 
 pub are_simple : is_simple the_commands ≡ true

@@ -1,6 +1,8 @@
 -- Where `clap` finds no fault with words, they enter one of the commands, with its file where it has one: each
 -- value that a walk over the words of a command keeps is one of the words.
-use Rattle.std.proofs.Common.{◌≡◌, ◌∙◌, ◌<◌, ◌&&◌, ◌++◌, ◌∷◌, [], ℕ, zero, suc, List, length, Bool, cond, true, false, not, Option, Some, None, option_map, is_some, true≢false, ◌||◌, fold, refl, sym, subst, arith, inl, inr, codes}
+use Rattle.std.proofs.Common.{◌≡◌, ◌∙◌, ◌<◌, ◌&&◌, ◌++◌, ◌∷◌, [], ℕ, zero, suc, List, length, Bool, cond, true, false}
+use Rattle.std.proofs.Common.{not, Option, Some, None, option_map, is_some, true≢false, ◌||◌, fold, refl, sym, subst}
+use Rattle.std.proofs.Common.{arith, inl, inr, codes}
 use Rattle.std.specs.Prelude.{IfSome, option_and_then, slice_get, drop}
 use Rattle.std.specs.Option.{option_map_or}
 use Rattle.std.specs.List.{find, slice_index_or}
@@ -8,7 +10,12 @@ use Rattle.std.specs.Str.{bytes_eq, chars}
 use Rattle.std.specs.Char.{encode_utf8}
 use Rattle.std.proofs.lemmas.List.{length-append}
 use Rattle.clap.specs.Words.{Row, Rule, Shape, Text, fault_of, first_of, subcommand_of}
-use Rattle.clap.specs.Walk.{Held, Names, Outcome, Step, Waiting, Walk, after_flag, after_step, arg_by_id, bundle_met, bundle_step, finished, has_row, nothing_held, option, option_word, plain_word, pushed, reading_by, refused, settled, settled_rows, to_positional, used, used_by_id, walk, walked, walked_from, walk_from, with_values, without, word_met, long_or_other, short_or_plain, subcommand_or_other, more_values, done, waits, plain, idle, positional, next, trailing, subcommand, value, positional_held, started}
+use Rattle.clap.specs.Walk.{Held, Names, Outcome, Step, Waiting, Walk, after_flag, after_step, arg_by_id, bundle_met}
+use Rattle.clap.specs.Walk.{bundle_step, finished, has_row, nothing_held, option, option_word, plain_word, pushed}
+use Rattle.clap.specs.Walk.{reading_by, refused, settled, settled_rows, to_positional, used, used_by_id, walk, walked}
+use Rattle.clap.specs.Walk.{walked_from, walk_from, with_values, without, word_met, long_or_other, short_or_plain}
+use Rattle.clap.specs.Walk.{subcommand_or_other, more_values, done, waits, plain, idle, positional, next, trailing}
+use Rattle.clap.specs.Walk.{subcommand, value, positional_held, started}
 use Rattle.clap.specs.Simple.{built, entered, filled, help_shape, names_of, rows_at, with_index}
 use Rattle.clap.specs.Facts.{explicit_source}
 use Rattle.clap.specs.Lexer.{long_of}

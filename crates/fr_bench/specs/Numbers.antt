@@ -1,5 +1,6 @@
 -- The numbers that a text spells for `midpoint`.
-use Rattle.std.specs.Prelude.{map, ◌++◌, ℕ, ◌==◌, nat_lt, nat_le, ◌&&◌, min, Bool, List, [], ◌∷◌, length, ℤ, pos, neg_ℤ, Option, Some, None, if◌then◌else◌}
+use Rattle.std.specs.Prelude.{map, ◌++◌, ℕ, ◌==◌, nat_lt, nat_le, ◌&&◌, min, Bool, List, [], ◌∷◌, length, ℤ, pos, neg_ℤ}
+use Rattle.std.specs.Prelude.{Option, Some, None, if◌then◌else◌}
 use Rattle.std.specs.Char.{is_ascii_digit}
 use Rattle.std.specs.List.{list_all}
 use Rattle.std.specs.Str.Parse.{digits_value}

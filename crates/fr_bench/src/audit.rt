@@ -26,7 +26,8 @@ pub fn audit<R: Read, W: Write>(
     // It reads in pieces of at most 4096 bytes, and none behind the one that has the fault.
     ensures read { Ends (R.remaining reader.old) (R.remaining reader.new) result }
     // The text of a legal interface is not refused.
-    ensures only { (s : State) → IsLegalInterface s → R.remaining reader.old ≡ Some (trace_text s) → IsNotRefused result }
+    ensures only { (s : State) → IsLegalInterface s → R.remaining reader.old ≡ Some (trace_text s)
+        → IsNotRefused result }
 {
     let mut report = Vec::new(alloc);
     match fr_trace::audit::audit(alloc, reader, &mut report) {

@@ -19,7 +19,8 @@ pub fn check_text<R: Read, W: Write>(
     reader: &mut R,
     writer: &mut W,
 ) -> Result<(), BenchError>
-    ensures { IfSome (R.remaining reader.old) (λ text. Checks text (W.contents writer.old) (W.contents writer.new) result) }
+    ensures { IfSome (R.remaining reader.old)
+        (λ text. Checks text (W.contents writer.old) (W.contents writer.new) result) }
 {
     let cluster = cluster_of(alloc, reader)?;
     let mut line = Vec::new(alloc);

@@ -44,7 +44,8 @@ pub fn midpoint_text<R: Read, W: Write>(
     reader: &mut R,
     writer: &mut W,
 ) -> Result<(), BenchError>
-    ensures { IfSome (R.remaining reader.old) (λ text. Midpoints text (W.contents writer.old) (W.contents writer.new) result) }
+    ensures { IfSome (R.remaining reader.old)
+        (λ text. Midpoints text (W.contents writer.old) (W.contents writer.new) result) }
 {
     let text = read_up_to(alloc, reader, MOST_BYTES)?;
     let numbers = numbers_of(alloc, text.as_slice())?;

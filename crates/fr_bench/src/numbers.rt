@@ -70,7 +70,8 @@ fn spaced(alloc: Global, text: &[u8]) -> Result<Vec<u8>, AllocError>
 #[tactic(auto, using(crate::proofs::NumberLemmas::one_more))]
 pub fn numbers_of(alloc: Global, text: &[u8]) -> Result<Vec<i32>, BenchError>
     ensures found { IfOk result (λ numbers. numbers_in (words_in text.now) ≡ Some numbers.items) }
-    ensures refused { IfErr result (λ e. (e ≡ refusal.Memory) ⊎ ((e ≡ refusal.BadNumber) × (numbers_in (words_in text.now) ≡ None))) }
+    ensures refused { IfErr result (λ e. (e ≡ refusal.Memory)
+        ⊎ ((e ≡ refusal.BadNumber) × (numbers_in (words_in text.now) ≡ None))) }
 {
     let Ok(spaced) = spaced(alloc, text) else {
         return Err(BenchError::Memory);

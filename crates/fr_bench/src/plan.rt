@@ -209,7 +209,8 @@ pub fn write_plan<W: Write>(
     write_guards(writer, guardian, cluster.nodes())
 }
 
-/// Reads a cluster file to its end, and writes who sends where and when each channel is open to each node (own profile).
+/// Reads a cluster file to its end, and writes who sends where and when each channel is open to each node (own
+/// profile).
 ///
 /// Refused as `check` is. On every refusal but `Write` nothing is written.
 pub fn plan_text<R: Read, W: Write>(
@@ -217,7 +218,8 @@ pub fn plan_text<R: Read, W: Write>(
     reader: &mut R,
     writer: &mut W,
 ) -> Result<(), BenchError>
-    ensures { IfSome (R.remaining reader.old) (λ text. Plans text (W.contents writer.old) (W.contents writer.new) result) }
+    ensures { IfSome (R.remaining reader.old)
+        (λ text. Plans text (W.contents writer.old) (W.contents writer.new) result) }
 {
     let cluster = cluster_of(alloc, reader)?;
     let Ok(guardian) = Guardian::new(alloc, &cluster) else {

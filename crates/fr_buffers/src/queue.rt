@@ -42,8 +42,8 @@ impl ReceiveQueue {
         Ok(ReceiveQueue { ring, lost: 0 })
     }
 
-    /// Appends a frame that the observe of this entry saw on the channel. In a full queue the oldest frame makes room, and
-    /// is lost.
+    /// Appends a frame that the observe of this entry saw on the channel. In a full queue the oldest frame makes room,
+    /// and is lost.
     ///
     /// One lost frame more has to fit 32 bits.
     pub fn arrive(&mut self, entry: u32, channel: Channel, frame: Frame)

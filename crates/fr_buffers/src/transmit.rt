@@ -2,7 +2,8 @@
 
 ghost use Rattle.std.specs.Prelude.{◌≡◌, ◌+◌, ◌<◌, ◌≤◌, ◌^◌, IsSome, option_map};
 ghost use Rattle.std.specs.Option.{option_copied};
-ghost use Rattle.fr_buffers.specs.Transmitting.{new_transmitter, with_commit, entry_of, payload_of, offer_of, after_send};
+ghost use Rattle.fr_buffers.specs.Transmitting.{new_transmitter, with_commit, entry_of, payload_of, offer_of};
+ghost use Rattle.fr_buffers.specs.Transmitting.{after_send};
 
 use fr_frame::payload::Payload;
 use fr_journal::fate::Tally;
@@ -18,8 +19,8 @@ pub struct HeldCommit {
     pub payload: Payload,
 }
 
-/// What a node keeps of a buffer that transmits: its mode, its last commit, and what became of all of them (chapter 9; the
-/// modes and the tally are own profile).
+/// What a node keeps of a buffer that transmits: its mode, its last commit, and what became of all of them (chapter 9;
+/// the modes and the tally are own profile).
 #[derive(Debug, Drop)]
 pub struct TxBuffer {
     mode: Mode,

@@ -1,11 +1,13 @@
 -- The windows of a cycle ascend, so a course that passes its next window is a course again.
-use Rattle.std.proofs.Common.{◌≡◌, ◌⊎◌, ℕ, ◌+◌, ◌*◌, ◌<◌, ◌≤◌, Bool, true, false, cond, [], Option, Some, None, inl, inr, refl, sym, ap, ◌∙◌, subst, arith}
+use Rattle.std.proofs.Common.{◌≡◌, ◌⊎◌, ℕ, ◌+◌, ◌*◌, ◌<◌, ◌≤◌, Bool, true, false, cond, [], Option, Some, None, inl}
+use Rattle.std.proofs.Common.{inr, refl, sym, ap, ◌∙◌, subst, arith}
 use Rattle.std.proofs.lemmas.Bool.{ltb-true, leb-true, eqb-true, ne_eqb}
 use Rattle.std.proofs.lemmas.Bool.Decides.{eqb_tells}
 use Rattle.std.specs.Prelude.{◌&&◌, ◌==◌, ◌%◌, not, nat_lt, nat_le, is_some, min, option_map}
 use Rattle.std.specs.Option.{option_or}
 use Rattle.fr_bus.proofs.NextLemmas.{some_if, and_left}
-use Rattle.fr_bus.specs.Courses.{Standpoint, IsAhead, IsCourse, opportunities, first_passed, later_passed, first_next, inner_next, dynamic_next, opening, cycle_of, next_of}
+use Rattle.fr_bus.specs.Courses.{Standpoint, IsAhead, IsCourse, opportunities, first_passed, later_passed, first_next}
+use Rattle.fr_bus.specs.Courses.{inner_next, dynamic_next, opening, cycle_of, next_of}
 use Rattle.fr_bus.specs.Windows.{opens_cycle, least_of}
 use Rattle.fr_minislot.proofs.RowLemmas.{row_has_one}
 use Rattle.fr_minislot.specs.Lanes.{Standing, standing_after, closed, opened_in, next_in}

@@ -1,12 +1,14 @@
 -- One window more of a run.
-use Rattle.std.proofs.Common.{◌≡◌, ℕ, ◌+◌, Bool, true, false, cond, List, [], ◌∷◌, ◌++◌, length, length-append, map, refl, sym, ap, ◌∙◌, arith}
+use Rattle.std.proofs.Common.{◌≡◌, ℕ, ◌+◌, Bool, true, false, cond, List, [], ◌∷◌, ◌++◌, length, length-append, map}
+use Rattle.std.proofs.Common.{refl, sym, ap, ◌∙◌, arith}
 use Rattle.std.proofs.lemmas.List.{map-append, append-nil}
 use Rattle.std.proofs.lemmas.List.Elements.{filter-append}
 use Rattle.std.proofs.lemmas.List.Sums.{sum_by-append}
 use Rattle.std.specs.Prelude.{count_by, ◌&&◌, not, is_some}
 use Rattle.std.specs.List.{filter, fold}
 use Rattle.fr_bus.specs.Courses.{lane_on, course_of, ended, first_passed, later_passed, course_after}
-use Rattle.fr_bus.specs.Windows.{begins_cycle, is_first_slot, cycles_begun, with_window, this_cycle, is_row_of, counts_on, is_static_one, statics_of}
+use Rattle.fr_bus.specs.Windows.{begins_cycle, is_first_slot, cycles_begun, with_window, this_cycle, is_row_of}
+use Rattle.fr_bus.specs.Windows.{counts_on, is_static_one, statics_of}
 use Rattle.fr_bus.specs.Outcome.{longest}
 use Rattle.fr_bus.specs.Record.{Recorded}
 use Rattle.fr_minislot.proofs.RowLemmas.{closed_more}

@@ -1,5 +1,6 @@
 -- A new bus, a seal and an advance keep what every bus keeps.
-use Rattle.std.proofs.Common.{◌≡◌, ℕ, ◌-◌, ◌≤◌, Bool, true, false, cond, List, [], ◌∷◌, ◌++◌, length, length-append, replicate, Option, Some, None, slice_get, refl, subst, sym, ap, ◌∙◌, arith}
+use Rattle.std.proofs.Common.{◌≡◌, ℕ, ◌-◌, ◌≤◌, Bool, true, false, cond, List, [], ◌∷◌, ◌++◌, length, length-append}
+use Rattle.std.proofs.Common.{replicate, Option, Some, None, slice_get, refl, subst, sym, ap, ◌∙◌, arith}
 use Rattle.std.proofs.lemmas.Bool.{lt-ltb, ltb-false}
 use Rattle.std.proofs.lemmas.List.{length-replicate}
 use Rattle.std.specs.Prelude.{◌%◌, is_some, nat_lt, option_map}
@@ -13,7 +14,8 @@ use Rattle.fr_bus.specs.declared.station.Station.{Station}
 use Rattle.fr_bus.specs.Windows.{cycles_begun, following}
 use Rattle.fr_bus.specs.Outcome.{longest}
 use Rattle.fr_bus.specs.Record.{Recorded}
-use Rattle.fr_bus.specs.States.{BusState, IsRecorded, IsRun, Stands, collects, next_of_bus, outcome_of, new_bus, phase_at, advanced, idle_station}
+use Rattle.fr_bus.specs.States.{BusState, IsRecorded, IsRun, Stands, collects, next_of_bus, outcome_of, new_bus}
+use Rattle.fr_bus.specs.States.{phase_at, advanced, idle_station}
 use Rattle.fr_schedule.specs.Clusters.{IsCluster}
 use Rattle.fr_schedule.specs.Descriptions.{Description}
 use Rattle.fr_slots.proofs.HistoryLemmas.{AllAfter-snoc}

@@ -1,7 +1,9 @@
 -- How far a run has come, as a bus keeps it, and the window that this leads to.
-use Rattle.std.specs.Prelude.{◌≡◌, ℕ, ◌+◌, ◌-◌, ◌*◌, ◌%◌, ◌<◌, ◌≤◌, ◌==◌, nat_lt, true, List, [], length, Option, Some, option_map, if◌then◌else◌}
+use Rattle.std.specs.Prelude.{◌≡◌, ℕ, ◌+◌, ◌-◌, ◌*◌, ◌%◌, ◌<◌, ◌≤◌, ◌==◌, nat_lt, true, List, [], length, Option, Some}
+use Rattle.std.specs.Prelude.{option_map, if◌then◌else◌}
 use Rattle.std.specs.Option.{option_or}
-use Rattle.fr_bus.specs.Windows.{opens_cycle, has_row, cycles_begun, this_cycle, counts_on, statics_of, first_of_cycle, least_of}
+use Rattle.fr_bus.specs.Windows.{opens_cycle, has_row, cycles_begun, this_cycle, counts_on, statics_of, first_of_cycle}
+use Rattle.fr_bus.specs.Windows.{least_of}
 use Rattle.fr_bus.specs.Outcome.{longest}
 use Rattle.fr_bus.specs.Record.{Recorded}
 use Rattle.fr_minislot.specs.Lanes.{Standing, standing_after, opened_in, next_in, closed}

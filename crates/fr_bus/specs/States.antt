@@ -1,9 +1,13 @@
 -- What a bus is seen as, what its calls answer and leave, and what every bus keeps.
-use Rattle.std.specs.Prelude.{◌≡◌, ℕ, ◌≤◌, ◌-◌, ◌==◌, nat_lt, nat_le, Bool, true, false, not, ◌&&◌, List, [], ◌∷◌, ◌++◌, length, replicate, Option, Some, None, is_some, option_map, Result, Ok, Err, Contains, slice_set, slice_index_or, slice_get, if◌then◌else◌}
+use Rattle.std.specs.Prelude.{◌≡◌, ℕ, ◌≤◌, ◌-◌, ◌==◌, nat_lt, nat_le, Bool, true, false, not, ◌&&◌, List, [], ◌∷◌, ◌++◌}
+use Rattle.std.specs.Prelude.{length, replicate, Option, Some, None, is_some, option_map, Result, Ok, Err, Contains}
+use Rattle.std.specs.Prelude.{slice_set, slice_index_or, slice_get, if◌then◌else◌}
 use Rattle.std.specs.List.{list_all}
 use Rattle.arrayvec.specs.ArrayVec.{ArrayVec}
 use Rattle.fr_bus.specs.declared.error.BusError.{BusError}
-use Rattle.fr_bus.specs.declared.error.BusError.TheVariants.{UnknownNode, NotCollecting, WrongWindow, AlreadyPut, TooManyFaults, NotAllPut, NotSealed, AlreadyTaken, NotAllTaken, BadCycles, Memory}
+use Rattle.fr_bus.specs.declared.error.BusError.TheVariants.{UnknownNode, NotCollecting, WrongWindow, AlreadyPut}
+use Rattle.fr_bus.specs.declared.error.BusError.TheVariants.{TooManyFaults, NotAllPut, NotSealed, AlreadyTaken}
+use Rattle.fr_bus.specs.declared.error.BusError.TheVariants.{NotAllTaken, BadCycles, Memory}
 use Rattle.fr_bus.specs.declared.error.Phase.{Phase}
 use Rattle.fr_bus.specs.declared.error.Phase.TheVariants.{Collect, Sealed as InSealed, Finished}
 use Rattle.fr_bus.specs.declared.fault.Fault.{Fault}

@@ -1,6 +1,7 @@
 //! The bus of a cluster.
 
-ghost use Rattle.std.specs.Prelude.{◌≡◌, ◌≤◌, [], ◌∷◌, ◌++◌, length, IfOk, OnOk, OnErr, slice_index_or, None, option_map};
+ghost use Rattle.std.specs.Prelude.{◌≡◌, ◌≤◌, [], ◌∷◌, ◌++◌, length, IfOk, OnOk, OnErr, slice_index_or, None};
+ghost use Rattle.std.specs.Prelude.{option_map};
 ghost use Rattle.std.specs.Result.{result_err};
 ghost use Rattle.fr_bus.specs.Outcome.{sent_from};
 ghost use Rattle.fr_bus.specs.Record.{Recorded};
@@ -25,9 +26,9 @@ use std::marker::Model;
 /// The bus of a cluster in a run of so many cycles: the open window, what the nodes put and take in it, the faults
 /// injected, and the record of all windows before it (own profile, but for the order of slots, which is chapter 5's).
 ///
-/// A window goes through three steps. While it collects, each node puts its offer once, and faults may be injected. Once all
-/// have put, `seal` settles what became of each transmission and appends that to the record. Then each node takes what it
-/// sees, once, and when all have taken `advance` opens the next window.
+/// A window goes through three steps. While it collects, each node puts its offer once, and faults may be injected.
+/// Once all have put, `seal` settles what became of each transmission and appends that to the record. Then each node
+/// takes what it sees, once, and when all have taken `advance` opens the next window.
 #[derive(Drop)]
 pub struct Bus {
     alloc: Global,
@@ -119,7 +120,9 @@ impl Bus {
     ghost use Rattle.fr_bus.specs.declared.error.Phase.TheVariants as phase;
     ghost use Rattle.fr_bus.specs.declared.fault.Fault.TheVariants as fault;
     ghost use Rattle.fr_bus.specs.Windows.{cycles_begun};
-    ghost use Rattle.fr_bus.specs.States.{is_node, all_put, all_taken, collecting_of, put_refusal, put_done, inject_refusal, inject_done, Seals, take_refusal, take_done, last_recorded, seen_last, advance_refusal, advanced, IsRun, OneSenderEach, Opens};
+    ghost use Rattle.fr_bus.specs.States.{is_node, all_put, all_taken, collecting_of, put_refusal, put_done};
+    ghost use Rattle.fr_bus.specs.States.{inject_refusal, inject_done, Seals, take_refusal, take_done, last_recorded};
+    ghost use Rattle.fr_bus.specs.States.{seen_last, advance_refusal, advanced, IsRun, OneSenderEach, Opens};
     ghost use Rattle.fr_slots.specs.declared.channel.Channel.TheVariants as channel;
 
     /// The bus of a cluster for a run of so many cycles, 1 to 1024. It collects in its first window: cycle 0, slot 1.
@@ -211,8 +214,8 @@ impl Bus {
         self.record.as_slice()
     }
 
-    /// What every bus keeps: its record is that of a run, no static slot of a guarded channel carries two senders, and a
-    /// run that is over had all its cycles. It does nothing but tell so.
+    /// What every bus keeps: its record is that of a run, no static slot of a guarded channel carries two senders, and
+    /// a run that is over had all its cycles. It does nothing but tell so.
     pub fn known(&self)
         ensures run { IsRun self.now }
         ensures one_sender { OneSenderEach self.now.cluster self.now.sealed }
@@ -228,8 +231,8 @@ impl Bus {
         usize::from(node.number()) < self.stations.len()
     }
 
-    /// Takes a copy of what the node offers in the open window, of which this is the number. On a channel without a slot,
-    /// and without bytes, an offer is taken and comes to nothing.
+    /// Takes a copy of what the node offers in the open window, of which this is the number. On a channel without a
+    /// slot, and without bytes, an offer is taken and comes to nothing.
     ///
     /// Refused, in this order, with `UnknownNode`, `NotCollecting`, `WrongWindow` where another window is open, and
     /// `AlreadyPut`; the bus is then unchanged.
@@ -316,8 +319,8 @@ impl Bus {
     /// Does the fault to the open window, and to no later one.
     ///
     /// Refused, in this order, with `UnknownNode`, `NotCollecting`, and `TooManyFaults` where the window has a fault of
-    /// this kind, node and channel; of `Corrupt` it has one for each channel. A babble without bytes counts too. The bus is
-    /// then unchanged.
+    /// this kind, node and channel; of `Corrupt` it has one for each channel. A babble without bytes counts too. The
+    /// bus is then unchanged.
     pub fn inject(&mut self, fault: Fault) -> Result<(), BusError>
         ensures refusal { result_err result ≡ inject_refusal self.old fault }
         ensures accepted { OnOk result (self.new ≡ inject_done self.old fault) }
@@ -338,8 +341,8 @@ impl Bus {
     ///
     /// A muted offer is lost. Of all other transmissions those pass that the guardian lets pass.
     ///
-    /// Refused, in this order, with `NotCollecting`, `NotAllPut`, and `Memory` where memory for the record is refused; the
-    /// bus is then unchanged, and another call may give what this one would have given.
+    /// Refused, in this order, with `NotCollecting`, `NotAllPut`, and `Memory` where memory for the record is refused;
+    /// the bus is then unchanged, and another call may give what this one would have given.
     pub fn seal(&mut self) -> Result<(), BusError>
         ensures { Seals self.old result self.new }
     {
@@ -418,8 +421,8 @@ impl Bus {
         Ok((a, b))
     }
 
-    /// Opens the next window, without offers and faults, or ends the run: the next static slot, or else the next minislot
-    /// at which a channel opens a slot, or else the first slot of the next cycle.
+    /// Opens the next window, without offers and faults, or ends the run: the next static slot, or else the next
+    /// minislot at which a channel opens a slot, or else the first slot of the next cycle.
     ///
     /// Refused, in this order, with `NotSealed` and `NotAllTaken`; the bus is then unchanged.
     pub fn advance(&mut self) -> Result<(), BusError>

@@ -1,4 +1,5 @@
-//! The bus of a cluster: the windows of a run, what the nodes send in each, the faults injected, and what each node sees.
+//! The bus of a cluster: the windows of a run, what the nodes send in each, the faults injected, and what each node
+//! sees.
 #![tactic(auto)]
 
 pub mod bus;

@@ -3,7 +3,8 @@
 ghost use Rattle.std.specs.Prelude.{◌≡◌, ◌<◌, ◌≤◌, [], ◌∷◌, ◌++◌, List, length, IfOk, OnOk, OnErr};
 ghost use Rattle.std.specs.Prelude.{None, ◌&&◌, ◌+◌, IfSome, IfNone};
 ghost use Rattle.std.specs.List.{list_any};
-ghost use Rattle.fr_bus.specs.Outcome.{fate_of, transmission, sent_on, sent_in, sent_of, sent_from, passed_on, is_of, overruns, seen_of, all_passed, received, longest};
+ghost use Rattle.fr_bus.specs.Outcome.{fate_of, transmission, sent_on, sent_in, sent_of, sent_from, passed_on, is_of};
+ghost use Rattle.fr_bus.specs.Outcome.{overruns, seen_of, all_passed, received, longest};
 ghost use Rattle.fr_bus.specs.Corruption.{turned, with_bit_turned, corrupted};
 ghost use Rattle.fr_slots.specs.declared.channel.Channel.TheVariants as Channel;
 ghost use Rattle.fr_guardian.specs.Guarding.{passes};
@@ -51,11 +52,11 @@ pub struct Sent {
 pub struct Sealed {
     /// The window.
     pub window: Window,
-    /// What was sent in it, in the order of nodes; of a node on channel A before B, and its offer before its babble. On a
-    /// channel without a slot nothing is sent, and nothing is a transmission that has no bytes.
+    /// What was sent in it, in the order of nodes; of a node on channel A before B, and its offer before its babble. On
+    /// a channel without a slot nothing is sent, and nothing is a transmission that has no bytes.
     pub sent: Vec<Sent>,
-    /// The bits that a fault turns on channel A and on B, if any, counted from the most significant bit of the first byte.
-    /// They stand here as they were injected, also where they turn nothing.
+    /// The bits that a fault turns on channel A and on B, if any, counted from the most significant bit of the first
+    /// byte. They stand here as they were injected, also where they turn nothing.
     pub corrupt: [Option<u16>; 2],
 }
 
@@ -170,7 +171,8 @@ fn add_in(
     channel: Channel,
     side: &Side,
 ) -> Result<(), AllocError>
-    ensures { OnOk result (list.new.items ≡ list.old.items ++ sent_in guardian.now window.now node channel side.now (slot_of window.now channel)) }
+    ensures { OnOk result (list.new.items
+        ≡ list.old.items ++ sent_in guardian.now window.now node channel side.now (slot_of window.now channel)) }
 {
     match window.slot(channel) {
         Some(_) => add_side(list, guardian, window, node, channel, side),

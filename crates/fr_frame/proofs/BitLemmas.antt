@@ -1,10 +1,13 @@
 -- The bits of a number after a shift, a mask or an xor.
-use Rattle.std.proofs.Common.{◌≡◌, ℕ, zero, suc, ◌+◌, ◌-◌, ◌*◌, ◌/◌, ◌%◌, ◌^◌, ◌≤◌, ◌<◌, Bool, true, false, not, cond, eqb, leb, List, [], ◌∷◌, ◌++◌, length, refl, sym, ap, subst, ◌∙◌, arith, inl, inr, add_comm, bit_and}
+use Rattle.std.proofs.Common.{◌≡◌, ℕ, zero, suc, ◌+◌, ◌-◌, ◌*◌, ◌/◌, ◌%◌, ◌^◌, ◌≤◌, ◌<◌, Bool, true, false, not, cond}
+use Rattle.std.proofs.Common.{eqb, leb, List, [], ◌∷◌, ◌++◌, length, refl, sym, ap, subst, ◌∙◌, arith, inl, inr}
+use Rattle.std.proofs.Common.{add_comm, bit_and}
 use Rattle.std.proofs.Math.Nat.{mod-one}
 use mathlib.Core.Bool.{beq}
 use Rattle.std.specs.Int.{bit_at}
 use Rattle.std.specs.Int.Bits.{bit_xor}
-use Rattle.std.proofs.lemmas.Nat.{mod-pow-add, shl-shr, shr_split, shr_below, le-div, div_below, pow_pos, mod_below, and_mask, shl_whole, shl_below, xor_comm}
+use Rattle.std.proofs.lemmas.Nat.{mod-pow-add, shl-shr, shr_split, shr_below, le-div, div_below, pow_pos, mod_below}
+use Rattle.std.proofs.lemmas.Nat.{and_mask, shl_whole, shl_below, xor_comm}
 use Rattle.std.proofs.lemmas.Bool.{cases_lt, lt-leb, le-leb}
 use Rattle.std.proofs.lemmas.Nat.Bits.{bit_at_xor, bit_at-lt, bit_at-suc, bit_at_lowest, bit_at_cat_low}
 use Rattle.fr_frame.specs.Bits.{bits_of, number_of}

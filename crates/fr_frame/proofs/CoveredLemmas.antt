@@ -1,5 +1,6 @@
 -- The bits that a header CRC covers, as code puts them together.
-use Rattle.std.proofs.Common.{◌≡◌, ℕ, ◌+◌, ◌*◌, ◌/◌, ◌%◌, ◌^◌, ◌≤◌, ◌<◌, Bool, true, false, cond, List, [], ◌∷◌, ◌++◌, length, refl, sym, ap, subst, ◌∙◌, arith, bit_or, lit≤}
+use Rattle.std.proofs.Common.{◌≡◌, ℕ, ◌+◌, ◌*◌, ◌/◌, ◌%◌, ◌^◌, ◌≤◌, ◌<◌, Bool, true, false, cond, List, [], ◌∷◌, ◌++◌}
+use Rattle.std.proofs.Common.{length, refl, sym, ap, subst, ◌∙◌, arith, bit_or, lit≤}
 use mir.Val.{bool_byte}
 use Rattle.fr_frame.specs.Bits.{bits_of}
 use Rattle.fr_frame.specs.Fields.{Fields}

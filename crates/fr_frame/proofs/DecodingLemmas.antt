@@ -1,9 +1,12 @@
 -- `decoded` gives the frame that the bytes spell, and no other.
-use Rattle.std.proofs.Common.{◌≡◌, ℕ, ◌+◌, ◌-◌, ◌*◌, ◌/◌, ◌^◌, ◌≤◌, ◌<◌, Bool, true, false, not, cond, eqb, List, [], ◌∷◌, ◌++◌, length, take, drop, Option, Some, None, Result, Ok, Err, refl, sym, ap, subst, ◌∙◌, arith, lit<, ltb-false, eqb-true, length-append}
+use Rattle.std.proofs.Common.{◌≡◌, ℕ, ◌+◌, ◌-◌, ◌*◌, ◌/◌, ◌^◌, ◌≤◌, ◌<◌, Bool, true, false, not, cond, eqb, List, []}
+use Rattle.std.proofs.Common.{◌∷◌, ◌++◌, length, take, drop, Option, Some, None, Result, Ok, Err, refl, sym, ap, subst}
+use Rattle.std.proofs.Common.{◌∙◌, arith, lit<, ltb-false, eqb-true, length-append}
 use Rattle.std.specs.Prelude.{IfOk}
 use Rattle.std.specs.Option.{is_some}
 use Rattle.std.specs.Result.{result_ok, result_err}
-use Rattle.std.proofs.lemmas.List.{append_assoc, length-take, length-drop, take-append-drop, take-take, drop-take, drop-drop, take_at, take_all}
+use Rattle.std.proofs.lemmas.List.{append_assoc, length-take, length-drop, take-append-drop, take-take, drop-take}
+use Rattle.std.proofs.lemmas.List.{drop-drop, take_at, take_all}
 use Rattle.fr_slots.specs.declared.channel.Channel.{Channel}
 use Rattle.fr_frame.specs.declared.decode.DecodeError.{DecodeError}
 use Rattle.fr_frame.specs.Bits.{bits_of, number_of, bits_of_bytes}

@@ -1,5 +1,6 @@
 -- The bytes of a frame spell it, and are decoded to it.
-use Rattle.std.proofs.Common.{◌≡◌, ℕ, zero, suc, ◌+◌, ◌*◌, ◌/◌, ◌%◌, ◌^◌, ◌<◌, ◌≤◌, Bool, false, cond, List, ◌∷◌, ◌++◌, length, Some, refl, sym, ap, ◌∙◌, arith, bit_or, lit≤, length-append}
+use Rattle.std.proofs.Common.{◌≡◌, ℕ, zero, suc, ◌+◌, ◌*◌, ◌/◌, ◌%◌, ◌^◌, ◌<◌, ◌≤◌, Bool, false, cond, List, ◌∷◌, ◌++◌}
+use Rattle.std.proofs.Common.{length, Some, refl, sym, ap, ◌∙◌, arith, bit_or, lit≤, length-append}
 use Rattle.std.specs.Int.{byte_at, bytes_high_first}
 use Rattle.std.proofs.Math.Nat.{mod-eq_of_lt, div-one, pow-suc}
 use Rattle.std.proofs.lemmas.List.Concat.{flat_map-cons}

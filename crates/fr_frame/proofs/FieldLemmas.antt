@@ -1,9 +1,11 @@
 -- Fields of a number and of its bits.
-use Rattle.std.proofs.Common.{◌≡◌, ℕ, zero, suc, ◌+◌, ◌-◌, ◌*◌, ◌/◌, ◌%◌, ◌^◌, ◌≤◌, ◌<◌, Bool, List, [], ◌∷◌, ◌++◌, length, take, drop, get_or, refl, sym, ap, subst, ◌∙◌, arith, add_comm, bit_and, bit_or}
+use Rattle.std.proofs.Common.{◌≡◌, ℕ, zero, suc, ◌+◌, ◌-◌, ◌*◌, ◌/◌, ◌%◌, ◌^◌, ◌≤◌, ◌<◌, Bool, List, [], ◌∷◌, ◌++◌}
+use Rattle.std.proofs.Common.{length, take, drop, get_or, refl, sym, ap, subst, ◌∙◌, arith, add_comm, bit_and, bit_or}
 use Rattle.std.specs.Int.{bit_at}
 use Rattle.std.proofs.lemmas.List.{take_at, drop_at, take_more, append-nil}
 use Rattle.std.proofs.lemmas.List.Concat.{flat_map-append, flat_map-cons}
-use Rattle.std.proofs.lemmas.Nat.{shr-shr, shr_high, mod_low, or_shifted, or_lt, and_mask, mod_below, pow_pos, shl_whole, shl_below}
+use Rattle.std.proofs.lemmas.Nat.{shr-shr, shr_high, mod_low, or_shifted, or_lt, and_mask, mod_below, pow_pos}
+use Rattle.std.proofs.lemmas.Nat.{shl_whole, shl_below}
 use Rattle.std.proofs.Math.Nat.{mod-eq_of_lt}
 use Rattle.std.proofs.Math.Pow.{pow_mono}
 use Rattle.fr_frame.specs.Bits.{bits_of, number_of, bits_of_bytes}

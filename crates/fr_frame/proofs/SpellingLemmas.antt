@@ -1,5 +1,6 @@
 -- Bytes spell one frame at most, and what is spelled is not refused.
-use Rattle.std.proofs.Common.{◌≡◌, ℕ, ◌+◌, ◌-◌, ◌/◌, ◌^◌, ◌<◌, Bool, List, ◌∷◌, ◌++◌, length, take, drop, None, sym, ap, ◌∙◌, arith, lit<, length-append}
+use Rattle.std.proofs.Common.{◌≡◌, ℕ, ◌+◌, ◌-◌, ◌/◌, ◌^◌, ◌<◌, Bool, List, ◌∷◌, ◌++◌, length, take, drop, None, sym, ap}
+use Rattle.std.proofs.Common.{◌∙◌, arith, lit<, length-append}
 use Rattle.std.proofs.lemmas.List.{append_assoc, take_at, drop_at}
 use Rattle.std.proofs.Math.Nat.{mod-eq_of_lt}
 use Rattle.std.proofs.lemmas.Bool.{le-ltb, eq-eqb}

@@ -1,6 +1,7 @@
 -- The two cyclic redundancy checks of a frame, as long division of a list of bits (chapter 4, which gives them as a
 -- register that takes one bit after another).
-use Rattle.std.specs.Prelude.{ℕ, zero, suc, Bool, true, false, List, [], ◌∷◌, ◌++◌, length, drop, replicate, if◌then◌else◌}
+use Rattle.std.specs.Prelude.{ℕ, zero, suc, Bool, true, false, List, [], ◌∷◌, ◌++◌, length, drop, replicate}
+use Rattle.std.specs.Prelude.{if◌then◌else◌}
 use Rattle.fr_frame.specs.Bits.{bits_of, bits_of_bytes}
 use Rattle.fr_slots.specs.declared.channel.Channel.{Channel}
 use Rattle.fr_slots.specs.declared.channel.Channel.TheVariants.{A, B}

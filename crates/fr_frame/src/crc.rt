@@ -102,7 +102,8 @@ fn step_header(register: u16, bit: bool) -> u16
 fn step_byte(mut register: u32, byte: u8) -> u32
     requires { register < 2 ^ 24 }
     ensures fits { result < 2 ^ 24 }
-    ensures bits { bits_of 24 result ≡ stepped_all (bits_of 24 frame_polynomial) (bits_of 24 register) (bits_of 8 byte) }
+    ensures bits { bits_of 24 result
+        ≡ stepped_all (bits_of 24 frame_polynomial) (bits_of 24 register) (bits_of 8 byte) }
 {
     for place in (0..8u32).rev() {
         register = step_frame(register, byte >> place & 1 == 1);

@@ -35,8 +35,8 @@ fn add(intervals: &mut Vec<(u32, u32)>, start: u32, end: u32) -> Result<(), Allo
 }
 
 /// The macroticks of a cycle in which a channel is open to a node, as half-open intervals: the static slots that it
-/// owns, or all of them where the channel isn't guarded, and the dynamic segment. Where such parts touch they are in one
-/// interval.
+/// owns, or all of them where the channel isn't guarded, and the dynamic segment. Where such parts touch they are in
+/// one interval.
 pub fn open_intervals(
     alloc: Global,
     params: &Params,

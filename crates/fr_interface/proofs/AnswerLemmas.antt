@@ -1,12 +1,14 @@
 -- What is kept beside the journal answers as the journal does.
-use Rattle.std.proofs.Common.{◌≡◌, ℕ, zero, suc, ◌+◌, Bool, true, false, cond, List, [], ◌∷◌, length, map, Option, Some, None, refl, sym, ap, ◌∙◌, option_map}
+use Rattle.std.proofs.Common.{◌≡◌, ℕ, zero, suc, ◌+◌, Bool, true, false, cond, List, [], ◌∷◌, length, map, Option, Some}
+use Rattle.std.proofs.Common.{None, refl, sym, ap, ◌∙◌, option_map}
 use Rattle.std.specs.Prelude.{IfSome, slice_get}
 use Rattle.std.specs.Option.{option_and_then}
 use Rattle.fr_buffers.specs.Transmitting.{Transmitter, entry_of}
 use Rattle.fr_buffers.specs.Waiting.{Waiting}
 use Rattle.fr_interface.specs.declared.source.Source.TheVariants as source
 use Rattle.fr_interface.specs.Known.{transmitter_of, transmitters, held_in, waiting_of}
-use Rattle.fr_interface.specs.State.{State, received_in, received_by, source_by, source_of, tally_in, tally_by, length_of, arrived_of, popped_of, queued_of}
+use Rattle.fr_interface.specs.State.{State, received_in, received_by, source_by, source_of, tally_in, tally_by}
+use Rattle.fr_interface.specs.State.{length_of, arrived_of, popped_of, queued_of}
 use Rattle.fr_interface.proofs.ChangeLemmas.{get_each}
 use Rattle.fr_interface.proofs.TransmitLemmas.{entry_of-commit}
 use Rattle.fr_journal.specs.Arrivals.{moves}

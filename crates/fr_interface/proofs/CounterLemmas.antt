@@ -1,5 +1,6 @@
 -- The status counters, with one more entry.
-use Rattle.std.proofs.Common.{◌≡◌, ℕ, ◌+◌, ◌≤◌, Bool, true, false, cond, List, [], ◌∷◌, ◌++◌, length, Option, Some, None, refl, ap, ◌∙◌, arith, option_map}
+use Rattle.std.proofs.Common.{◌≡◌, ℕ, ◌+◌, ◌≤◌, Bool, true, false, cond, List, [], ◌∷◌, ◌++◌, length, Option, Some}
+use Rattle.std.proofs.Common.{None, refl, ap, ◌∙◌, arith, option_map}
 use Rattle.fr_interface.specs.Known.{with_seen}
 use Rattle.fr_interface.specs.Seeing.{status_seen}
 use Rattle.fr_journal.specs.Counts.{bit_at, bit_in, has_bit, count_of, seen_on, counters_of}

@@ -1,5 +1,6 @@
 -- What goes out in a window, and the transmit buffers after it.
-use Rattle.std.proofs.Common.{◌≡◌, ℕ, ◌+◌, Bool, true, false, cond, eqb, ◌||◌, List, [], ◌∷◌, ◌++◌, length, drop, Option, Some, None, refl, sym, ap, subst, ◌∙◌, arith, option_map}
+use Rattle.std.proofs.Common.{◌≡◌, ℕ, ◌+◌, Bool, true, false, cond, eqb, ◌||◌, List, [], ◌∷◌, ◌++◌, length, drop}
+use Rattle.std.proofs.Common.{Option, Some, None, refl, sym, ap, subst, ◌∙◌, arith, option_map}
 use Rattle.std.specs.Prelude.{IfSome, IsSomeAnd, slice_get, is_some, unwrap_or}
 use Rattle.std.specs.Option.{option_and_then, option_or}
 use Rattle.std.proofs.Common.{eq-eqb}
@@ -8,7 +9,9 @@ use Rattle.std.proofs.lemmas.List.{append_assoc}
 use Rattle.fr_buffers.specs.Transmitting.{Transmitter, offer_of, after_send}
 use Rattle.fr_interface.specs.declared.sending.Sender.{Sender}
 use Rattle.fr_interface.specs.Known.{commit_of, transmitter_of, transmitters, each_buffer}
-use Rattle.fr_interface.specs.Sending.{ready_at, sender_of, sender_at, sender_in, sender_on, commit_in, offered_in, offered_by, held_payload, payload_at, frame_at, frame_by, send_offered, after_sender}
+use Rattle.fr_interface.specs.Sending.{ready_at, sender_of, sender_at, sender_in, sender_on, commit_in, offered_in}
+use Rattle.fr_interface.specs.Sending.{offered_by, held_payload, payload_at, frame_at, frame_by, send_offered}
+use Rattle.fr_interface.specs.Sending.{after_sender}
 use Rattle.fr_interface.proofs.ChangeLemmas.{change_each, each-same_there, get_each}
 use Rattle.fr_interface.proofs.TransmitLemmas.{offer-ready, tally-other, tally_after, same_commit}
 use Rattle.fr_journal.specs.declared.entry.Entry.{Entry}
@@ -16,8 +19,10 @@ use Rattle.fr_journal.specs.declared.entry.Entry.TheVariants.{Commit, Fetch}
 use Rattle.fr_journal.specs.declared.entry.Offered.{Offered}
 use Rattle.fr_journal.specs.declared.entry.Offered.TheVariants.{Nothing, Null}
 use Rattle.fr_journal.specs.declared.fate.Tally.{Tally}
-use Rattle.fr_journal.specs.Fate.{is_commit_on, is_data_of, is_pending, last_commit, fate_of, sends, tally_of, if_pending}
-use Rattle.fr_journal.specs.Offers.{ready, ready_in, may_begin, transmitter, owns, data_or, offered, offered_at, payload_of, null_frame, data_frame_of, frame_of_offer, frame_offered}
+use Rattle.fr_journal.specs.Fate.{is_commit_on, is_data_of, is_pending, last_commit, fate_of, sends, tally_of}
+use Rattle.fr_journal.specs.Fate.{if_pending}
+use Rattle.fr_journal.specs.Offers.{ready, ready_in, may_begin, transmitter, owns, data_or, offered, offered_at}
+use Rattle.fr_journal.specs.Offers.{payload_of, null_frame, data_frame_of, frame_of_offer, frame_offered}
 use Rattle.fr_journal.proofs.FateStepLemmas.{SendsLast, OnlyLast, sends_last_from}
 use Rattle.fr_journal.proofs.LastCommitLemmas.{IsCommitAt, last_commit-there, slice_get-next}
 use Rattle.fr_slots.specs.declared.channel.Channel.{Channel}

@@ -1,5 +1,6 @@
 -- The transmit buffers, with one more entry.
-use Rattle.std.proofs.Common.{◌≡◌, ℕ, ◌+◌, ◌≤◌, ◌<◌, Bool, true, false, cond, eqb, List, [], ◌∷◌, ◌++◌, length, map, Option, Some, None, refl, sym, ap, ◌∙◌, arith, option_map, length-append}
+use Rattle.std.proofs.Common.{◌≡◌, ℕ, ◌+◌, ◌≤◌, ◌<◌, Bool, true, false, cond, eqb, List, [], ◌∷◌, ◌++◌, length, map}
+use Rattle.std.proofs.Common.{Option, Some, None, refl, sym, ap, ◌∙◌, arith, option_map, length-append}
 use Rattle.std.specs.Prelude.{count_by, IfSome}
 use Rattle.std.proofs.Common.{eq-eqb}
 use Rattle.std.proofs.lemmas.Bool.{eqb-true}
@@ -13,10 +14,12 @@ use Rattle.fr_journal.specs.declared.entry.Entry.TheVariants.{Commit}
 use Rattle.fr_journal.specs.declared.fate.Fate.{Fate}
 use Rattle.fr_journal.specs.declared.fate.Fate.TheVariants.{Pending}
 use Rattle.fr_journal.specs.declared.fate.Tally.{Tally}
-use Rattle.fr_journal.specs.Fate.{is_commit_on, last_commit, sends, fate_of, fates_from, fates, is_sent, is_overwritten, is_pending, tally_of}
+use Rattle.fr_journal.specs.Fate.{is_commit_on, last_commit, sends, fate_of, fates_from, fates, is_sent, is_overwritten}
+use Rattle.fr_journal.specs.Fate.{is_pending, tally_of}
 use Rattle.fr_journal.specs.Offers.{ready}
 use Rattle.fr_journal.proofs.FateStepLemmas.{after_commit, after_fetch, fates_from-commit, fates_from-other, SendsLast}
-use Rattle.fr_journal.proofs.LastCommitLemmas.{last_commit-commit, last_commit-other, last_commit-below, payload_of-front, payload_of-next}
+use Rattle.fr_journal.proofs.LastCommitLemmas.{last_commit-commit, last_commit-other, last_commit-below}
+use Rattle.fr_journal.proofs.LastCommitLemmas.{payload_of-front, payload_of-next}
 use Rattle.fr_journal.proofs.TallyLemmas.{fates_fill, after_commit-counts, after_fetch-counts, pending_commit-counts}
 use Rattle.fr_slots.specs.declared.plan.Buffer.{Buffer}
 use Rattle.fr_slots.specs.declared.plan.Mode.{Mode}

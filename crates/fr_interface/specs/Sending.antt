@@ -1,5 +1,6 @@
 -- What transmit buffers that stand in place offer in a window, and what goes out (chapter 5; the modes are own profile).
-use Rattle.std.specs.Prelude.{ℕ, List, [], slice_get, Option, Some, None, is_some, true, if◌then◌else◌, option_map, unwrap_or}
+use Rattle.std.specs.Prelude.{ℕ, List, [], slice_get, Option, Some, None, is_some, true, if◌then◌else◌, option_map}
+use Rattle.std.specs.Prelude.{unwrap_or}
 use Rattle.std.specs.Option.{option_and_then}
 use Rattle.fr_buffers.specs.Transmitting.{Transmitter, offer_of, payload_of, after_send}
 use Rattle.fr_frame.specs.Fields.{Fields}
@@ -7,7 +8,8 @@ use Rattle.fr_interface.specs.declared.sending.Sender.{Sender}
 use Rattle.fr_interface.specs.Known.{change_at}
 use Rattle.fr_journal.specs.declared.entry.Offered.{Offered}
 use Rattle.fr_journal.specs.declared.entry.Offered.TheVariants.{Nothing, Null}
-use Rattle.fr_journal.specs.Offers.{may_begin, transmitter, owns, data_or, sync_of, startup_of, line_of, preamble_in, null_frame}
+use Rattle.fr_journal.specs.Offers.{may_begin, transmitter, owns, data_or, sync_of, startup_of, line_of, preamble_in}
+use Rattle.fr_journal.specs.Offers.{null_frame}
 use Rattle.fr_slots.specs.declared.channel.Channel.{Channel}
 use Rattle.fr_slots.specs.Parameters.{Parameters}
 use Rattle.fr_slots.specs.Plans.{Plan}

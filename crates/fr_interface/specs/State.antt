@@ -1,12 +1,15 @@
 -- What an interface is seen as, and what its calls refuse.
-use Rattle.std.specs.Prelude.{◌≡◌, ℕ, ◌+◌, ◌*◌, ◌==◌, nat_lt, nat_le, not, Bool, false, List, [], ◌∷◌, ◌++◌, length, Option, Some, None, is_some, if◌then◌else◌, count_by, option_map}
+use Rattle.std.specs.Prelude.{◌≡◌, ℕ, ◌+◌, ◌*◌, ◌==◌, nat_lt, nat_le, not, Bool, false, List, [], ◌∷◌, ◌++◌, length}
+use Rattle.std.specs.Prelude.{Option, Some, None, is_some, if◌then◌else◌, count_by, option_map}
 use Rattle.std.specs.Option.{option_and_then}
 use Rattle.fr_journal.specs.declared.entry.Entry.{Entry}
 use Rattle.fr_journal.specs.declared.entry.Entry.TheVariants as entries
 use Rattle.fr_interface.specs.declared.errors.HostError.{HostError}
-use Rattle.fr_interface.specs.declared.errors.HostError.TheVariants.{UnknownTask, UnknownBuffer, NotTransmit, WrongLength, HostFull, NotReceive, NoQueue}
+use Rattle.fr_interface.specs.declared.errors.HostError.TheVariants.{UnknownTask, UnknownBuffer, NotTransmit}
+use Rattle.fr_interface.specs.declared.errors.HostError.TheVariants.{WrongLength, HostFull, NotReceive, NoQueue}
 use Rattle.fr_interface.specs.declared.errors.SlotError.{SlotError}
-use Rattle.fr_interface.specs.declared.errors.SlotError.TheVariants.{NotObserved, WindowOrder, SlotFull, NotFetched, WrongWindow, BadWindow}
+use Rattle.fr_interface.specs.declared.errors.SlotError.TheVariants.{NotObserved, WindowOrder, SlotFull, NotFetched}
+use Rattle.fr_interface.specs.declared.errors.SlotError.TheVariants.{WrongWindow, BadWindow}
 use Rattle.fr_journal.specs.declared.entry.Arrival.{Arrival}
 use Rattle.fr_journal.specs.declared.fate.Tally.{Tally}
 use Rattle.fr_interface.specs.declared.source.Source.{Source}

@@ -84,7 +84,9 @@ impl Interface {
     ghost use Rattle.fr_journal.specs.Held.{frame_named, frame_of, origin_of, IsReceivable};
     ghost use Rattle.fr_journal.specs.Offers.{frame_offered, IsHandedOut, bytes_of};
     ghost use Rattle.fr_interface.specs.State.{with_entry, read_entry, pop_entry, fetch_entry};
-    ghost use Rattle.fr_interface.specs.State.{received_by, source_of, tally_by, oldest_of, length_of, lost_of, arrived_of, popped_of, queued_of, commit_refusal, read_refusal, pop_refusal, fetch_refusal, observe_refusal, IsLegalInterface};
+    ghost use Rattle.fr_interface.specs.State.{received_by, source_of, tally_by, oldest_of, length_of, lost_of};
+    ghost use Rattle.fr_interface.specs.State.{arrived_of, popped_of, queued_of, commit_refusal, read_refusal};
+    ghost use Rattle.fr_interface.specs.State.{pop_refusal, fetch_refusal, observe_refusal, IsLegalInterface};
     ghost use Rattle.fr_slots.specs.Faults.{plan_fault};
 
     /// An interface with an empty journal, for which it reserves all the room that the plan asks for.
@@ -219,10 +221,14 @@ impl Interface {
     /// before, and `SlotFull` where the journal has room for fewer than two further slot entries.
     pub fn fetch(&mut self, window: &Window) -> Result<Offer, SlotError>
         ensures refusal { result_err result ≡ fetch_refusal self.old window.now }
-        ensures offer_a { IfOk result (λ o. IsHandedOut Channel.A (frame_offered self.old.params self.old.plan self.old.entries window.now Channel.A) o.a) }
-        ensures offer_b { IfOk result (λ o. IsHandedOut Channel.B (frame_offered self.old.params self.old.plan self.old.entries window.now Channel.B) o.b) }
-        ensures bytes_a { IfOk result (λ o. o.a ≡ bytes_of Channel.A (frame_offered self.old.params self.old.plan self.old.entries window.now Channel.A)) }
-        ensures bytes_b { IfOk result (λ o. o.b ≡ bytes_of Channel.B (frame_offered self.old.params self.old.plan self.old.entries window.now Channel.B)) }
+        ensures offer_a { IfOk result (λ o. IsHandedOut Channel.A
+            (frame_offered self.old.params self.old.plan self.old.entries window.now Channel.A) o.a) }
+        ensures offer_b { IfOk result (λ o. IsHandedOut Channel.B
+            (frame_offered self.old.params self.old.plan self.old.entries window.now Channel.B) o.b) }
+        ensures bytes_a { IfOk result (λ o. o.a ≡ bytes_of Channel.A
+            (frame_offered self.old.params self.old.plan self.old.entries window.now Channel.A)) }
+        ensures bytes_b { IfOk result (λ o. o.b ≡ bytes_of Channel.B
+            (frame_offered self.old.params self.old.plan self.old.entries window.now Channel.B)) }
         ensures accepted { OnOk result (self.new ≡ with_entry self.old (fetch_entry self.old window.now)) }
         ensures refused { OnErr result (self.new ≡ self.old) }
     {
@@ -313,8 +319,8 @@ impl Interface {
         }
     }
 
-    /// What became of the commits on a transmit buffer (own profile). None for a receive buffer, and for one that the plan
-    /// doesn't have.
+    /// What became of the commits on a transmit buffer (own profile). None for a receive buffer, and for one that the
+    /// plan doesn't have.
     pub fn tally(&self, buffer: u8) -> Option<Tally>
         ensures value { result ≡ tally_by self.now buffer }
         // Each commit met one fate, and at most one is pending.
@@ -364,7 +370,8 @@ impl Interface {
     pub fn queue_lost(&self) -> Option<u32>
         ensures value { result ≡ lost_of self.now }
         // What arrived was popped, is still there, or was lost.
-        ensures balance { IfSome result (λ lost. IfSome self.now.plan.queue (λ q. arrived_of self.now q ≡ popped_of self.now + queued_of self.now q + lost)) }
+        ensures balance { IfSome result (λ lost. IfSome self.now.plan.queue
+            (λ q. arrived_of self.now q ≡ popped_of self.now + queued_of self.now q + lost)) }
     {
         match &self.queue {
             Some(queue) => Some(queue.lost()),
@@ -383,7 +390,8 @@ impl Interface {
     /// The journal, which holds each accepted call.
     pub fn journal(&self) -> &Journal
         ensures entries { result.now.entries ≡ self.now.entries }
-        ensures limits { (result.now.host_limit ≡ self.now.plan.host_entries) × (result.now.slot_limit ≡ self.now.plan.slot_entries) }
+        ensures limits { (result.now.host_limit ≡ self.now.plan.host_entries)
+            × (result.now.slot_limit ≡ self.now.plan.slot_entries) }
         ensures legal { IsLegalInterface self.now }
     {
         &self.journal

@@ -3,7 +3,8 @@
 ghost use Rattle.std.specs.Prelude.{◌≡◌, ◌+◌, ◌<◌, ◌^◌, length, is_some};
 ghost use Rattle.std.specs.List.{list_any};
 ghost use Rattle.std.specs.Option.{option_and_then, option_or, ForSome};
-ghost use Rattle.fr_interface.specs.Known.{frame_on, taken_by, stored_all, queued_on, with_arrival, with_arrivals, with_seen};
+ghost use Rattle.fr_interface.specs.Known.{frame_on, taken_by, stored_all, queued_on, with_arrival, with_arrivals};
+ghost use Rattle.fr_interface.specs.Known.{with_seen};
 ghost use Rattle.fr_interface.specs.Seeing.{status_seen};
 ghost use Rattle.fr_journal.specs.Arrivals.{takes_window, is_for_queue};
 ghost use Rattle.fr_journal.specs.Held.{data_frame_seen, with_data};
@@ -20,8 +21,8 @@ use fr_status::counters::Counters;
 use fr_status::seen::Seen;
 use fr_status::status::{SlotStatus, status_of};
 
-/// What a channel of a window tells: the status of its slot, and the valid data frame that came. A channel without a slot
-/// tells neither.
+/// What a channel of a window tells: the status of its slot, and the valid data frame that came. A channel without a
+/// slot tells neither.
 #[derive(Debug, Drop, PartialEq, Eq)]
 pub(crate) struct Told {
     pub status: Option<SlotStatus>,

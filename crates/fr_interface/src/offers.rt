@@ -5,7 +5,8 @@ ghost use Rattle.std.specs.List.{position};
 ghost use Rattle.fr_journal.specs.Entries.{IsOffered};
 ghost use Rattle.fr_slots.specs.Faults.{claims};
 ghost use Rattle.fr_interface.specs.Sending.{offered_by, data_frame_by, frame_by};
-ghost use Rattle.fr_journal.specs.Offers.{is_admitting, transmitter, may_begin, ownership, line_of, owns, sync_of, startup_of, preamble_in, null_frame, IsHandedOut, bytes_of};
+ghost use Rattle.fr_journal.specs.Offers.{is_admitting, transmitter, may_begin, ownership, line_of, owns, sync_of};
+ghost use Rattle.fr_journal.specs.Offers.{startup_of, preamble_in, null_frame, IsHandedOut, bytes_of};
 
 use crate::sending::{Sender, payload_at};
 use fr_buffers::transmit::TxBuffer;

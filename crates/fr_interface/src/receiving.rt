@@ -49,7 +49,8 @@ pub(crate) fn arrival_at(buffers: &[RxBuffer], number: u8) -> Option<Arrival>
 
 /// Where what the buffer of this number holds comes from.
 pub(crate) fn observed_at(buffers: &[RxBuffer], number: u8) -> Option<Source>
-    ensures { result ≡ option_map (λ a. Source.Observed (origin_of a)) (option_and_then (λ h. h) (slice_get buffers.now number)) }
+    ensures { result ≡ option_map (λ a. Source.Observed (origin_of a))
+        (option_and_then (λ h. h) (slice_get buffers.now number)) }
 {
     let arrival = buffers.get(usize::from(number))?.held()?;
     Some(Source::Observed(arrival.origin))

@@ -101,7 +101,8 @@ fn held_payload(buffer: &TxBuffer) -> Payload
 pub(crate) fn commit_to(buffers: &mut [TxBuffer], number: u8, entry: u32, payload: &Payload)
     requires there { number < length buffers.old }
     requires few { IfSome (slice_get buffers.old number) (λ b. b.tally.committed + 1 < 2 ^ 32) }
-    ensures { buffers.new ≡ change_at (λ b. with_commit b (record { entry = entry; payload = payload.now })) buffers.old number }
+    ensures { buffers.new
+        ≡ change_at (λ b. with_commit b (record { entry = entry; payload = payload.now })) buffers.old number }
 {
     let buffer = &mut buffers[usize::from(number)];
     buffer.commit(entry, payload);

@@ -1,5 +1,6 @@
 -- What a queue holds, with one more move.
-use Rattle.std.proofs.Common.{◌≡◌, ℕ, zero, suc, ◌+◌, ◌-◌, ◌≤◌, ◌<◌, List, [], ◌∷◌, ◌++◌, drop, length, refl, sym, ap, ◌∙◌, arith, length-append, append-nil, length-drop, drop-drop}
+use Rattle.std.proofs.Common.{◌≡◌, ℕ, zero, suc, ◌+◌, ◌-◌, ◌≤◌, ◌<◌, List, [], ◌∷◌, ◌++◌, drop, length, refl, sym, ap}
+use Rattle.std.proofs.Common.{◌∙◌, arith, length-append, append-nil, length-drop, drop-drop}
 use Rattle.std.specs.Prelude.{min}
 use Rattle.std.specs.List.{fold}
 use Rattle.std.proofs.lemmas.List.{drop-append-le, drop_all}

@@ -1,8 +1,10 @@
 -- What the receive queue holds comes from an entry that is there.
-use Rattle.std.proofs.Common.{ℕ, zero, suc, ◌+◌, ◌-◌, ◌≤◌, ◌<◌, ◌^◌, Bool, true, false, cond, List, [], ◌∷◌, ◌++◌, drop, length, Option, Some, None, arith, length-append, option_map, subst, sym}
+use Rattle.std.proofs.Common.{ℕ, zero, suc, ◌+◌, ◌-◌, ◌≤◌, ◌<◌, ◌^◌, Bool, true, false, cond, List, [], ◌∷◌, ◌++◌, drop}
+use Rattle.std.proofs.Common.{length, Option, Some, None, arith, length-append, option_map, subst, sym}
 use Rattle.std.specs.Prelude.{IfSome, option_to_list, slice_get}
 use Rattle.fr_frame.specs.Fields.{Fields}
-use Rattle.fr_journal.specs.Arrivals.{Move, is_for_queue, queue_arrival_on, queue_arrivals_in, moves_at, moves, arrived, queue_length, oldest}
+use Rattle.fr_journal.specs.Arrivals.{Move, is_for_queue, queue_arrival_on, queue_arrivals_in, moves_at, moves, arrived}
+use Rattle.fr_journal.specs.Arrivals.{queue_length, oldest}
 use Rattle.fr_journal.specs.declared.entry.Arrival.{Arrival}
 use Rattle.fr_journal.specs.declared.entry.Entry.{Entry}
 use Rattle.fr_journal.specs.declared.entry.Entry.TheVariants.{Commit, Read, Pop, Fetch, Observe}

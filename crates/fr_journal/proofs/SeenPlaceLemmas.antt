@@ -1,22 +1,27 @@
 -- What a receive buffer or the queue holds was seen by an observe of the journal, and is a data frame of a slot.
-use Rattle.std.proofs.Common.{◌≡◌, ℕ, zero, suc, ◌*◌, ◌-◌, ◌==◌, Bool, true, false, cond, not, ◌&&◌, ◌||◌, List, [], ◌∷◌, ◌++◌, length, Option, Some, None, refl, sym, ap, subst, ◌∙◌, inl, inr, ◌⊎◌, slice_get, option_map}
+use Rattle.std.proofs.Common.{◌≡◌, ℕ, zero, suc, ◌*◌, ◌-◌, ◌==◌, Bool, true, false, cond, not, ◌&&◌, ◌||◌, List, []}
+use Rattle.std.proofs.Common.{◌∷◌, ◌++◌, length, Option, Some, None, refl, sym, ap, subst, ◌∙◌, inl, inr, ◌⊎◌}
+use Rattle.std.proofs.Common.{slice_get, option_map}
 use Rattle.std.specs.Prelude.{option_to_list, IfSome}
 use Rattle.std.specs.Option.{option_and_then, option_or}
 use Rattle.std.proofs.lemmas.Bool.{and_parts, eqb-true}
 use Rattle.fr_frame.specs.Decoding.{decoded}
 use Rattle.fr_frame.specs.Fields.{Fields}
-use Rattle.fr_journal.specs.Arrivals.{is_for_queue, queue_arrival_on, queue_arrivals_in, moves_at, moves, arrived, queue_content, queue_length, oldest}
+use Rattle.fr_journal.specs.Arrivals.{is_for_queue, queue_arrival_on, queue_arrivals_in, moves_at, moves, arrived}
+use Rattle.fr_journal.specs.Arrivals.{queue_content, queue_length, oldest}
 use Rattle.fr_journal.specs.Counts.{seen_on}
 use Rattle.fr_journal.specs.declared.entry.Arrival.{Arrival}
 use Rattle.fr_journal.specs.declared.entry.Entry.{Entry}
 use Rattle.fr_journal.specs.declared.entry.Entry.TheVariants.{Commit, Read, Pop, Fetch, Observe}
 use Rattle.fr_journal.specs.Entries.{IsEntry}
-use Rattle.fr_journal.specs.Held.{held, arrival_at, arrival_in, arrival_on, arrival_of, data_frame_seen, with_data, frame_of, IsReceivable}
+use Rattle.fr_journal.specs.Held.{held, arrival_at, arrival_in, arrival_on, arrival_of, data_frame_seen, with_data}
+use Rattle.fr_journal.specs.Held.{frame_of, IsReceivable}
 use Rattle.fr_journal.specs.Legal.{AreEntries}
 use Rattle.fr_slots.specs.Plans.{admits_window}
 use Rattle.fr_journal.specs.OpenWindow.{open_window, window_mark}
 use Rattle.fr_journal.proofs.MoveLemmas.{arrived-append, arrived-all}
-use Rattle.fr_slots.proofs.PlaceLemmas.{same_some, IsAmong, IsCutAt, among-append, among-drop, last_after-at, each_after-at, AllAfter-cut, AllAfter-front}
+use Rattle.fr_slots.proofs.PlaceLemmas.{same_some, IsAmong, IsCutAt, among-append, among-drop, last_after-at}
+use Rattle.fr_slots.proofs.PlaceLemmas.{each_after-at, AllAfter-cut, AllAfter-front}
 use Rattle.fr_slots.specs.declared.channel.Channel.{Channel}
 use Rattle.fr_slots.specs.declared.channel.Channel.TheVariants.{A, B}
 use Rattle.fr_slots.specs.declared.filter.Filter.{Filter}

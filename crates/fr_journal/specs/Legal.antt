@@ -1,5 +1,6 @@
 -- Which journals are legal for given parameters and a given plan.
-use Rattle.std.specs.Prelude.{◌≡◌, ℕ, ◌+◌, ◌*◌, ◌≤◌, ◌<◌, true, false, List, [], length, Option, None, count_by, IfSome, IsSomeAnd, option_map}
+use Rattle.std.specs.Prelude.{◌≡◌, ℕ, ◌+◌, ◌*◌, ◌≤◌, ◌<◌, true, false, List, [], length, Option, None, count_by, IfSome}
+use Rattle.std.specs.Prelude.{IsSomeAnd, option_map}
 use Rattle.fr_journal.specs.Arrivals.{moves, oldest}
 use Rattle.fr_journal.specs.declared.entry.Entry.{Entry}
 use Rattle.fr_journal.specs.declared.entry.Entry.TheVariants.{Commit, Read, Pop, Fetch, Observe}

@@ -1,10 +1,12 @@
 -- The line of a buffer.
-use Rattle.std.proofs.Common.{◌≡◌, ℕ, ◌≤◌, ◌⊎◌, inl, inr, Bool, true, false, List, [], ◌∷◌, length, codes, Option, Some, None, refl, sym, ap, ◌∙◌, arith}
+use Rattle.std.proofs.Common.{◌≡◌, ℕ, ◌≤◌, ◌⊎◌, inl, inr, Bool, true, false, List, [], ◌∷◌, length, codes, Option, Some}
+use Rattle.std.proofs.Common.{None, refl, sym, ap, ◌∙◌, arith}
 use Rattle.std.proofs.lemmas.Bool.{and_parts}
 use Rattle.std.specs.Fmt.{decimal}
 use Rattle.std.specs.Str.{bytes_eq}
 use Rattle.fr_lines.proofs.PartLemmas.{word_or, repetition_small}
-use Rattle.fr_lines.proofs.PlanPartLemmas.{filter_takes, filter_again, flag_takes, flag_again, mode_takes, mode_again, size_takes, size_again}
+use Rattle.fr_lines.proofs.PlanPartLemmas.{filter_takes, filter_again, flag_takes, flag_again, mode_takes, mode_again}
+use Rattle.fr_lines.proofs.PlanPartLemmas.{size_takes, size_again}
 use Rattle.fr_lines.proofs.WordLemmas.{number_word, channels_plain, flag_plain, size_word}
 use Rattle.fr_lines.specs.PartReading.{filter_in, flag_in, mode_in, size_in}
 use Rattle.fr_lines.specs.Parts.{channels_word, flag_word, optional_number}
@@ -17,7 +19,8 @@ use Rattle.fr_slots.specs.declared.plan.Mode.{Mode}
 use Rattle.fr_slots.specs.declared.plan.Mode.TheVariants.{Event, State, Receive}
 use Rattle.fr_slots.specs.Plans.{IsFilter, words_fit, buffer_fits}
 use Rattle.fr_text.proofs.BindLemmas.{bind_some}
-use Rattle.fr_text.proofs.LineLemmas.{cons_same, line_of-words_of, words_of-line_of, has_no_feed-line_of, length-line_of-le}
+use Rattle.fr_text.proofs.LineLemmas.{cons_same, line_of-words_of, words_of-line_of, has_no_feed-line_of}
+use Rattle.fr_text.proofs.LineLemmas.{length-line_of-le}
 use Rattle.fr_text.specs.Plain.{ArePlain, has_no_feed}
 use Rattle.fr_text.specs.Spaces.{words_of, line_of}
 

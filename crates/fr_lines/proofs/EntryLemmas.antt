@@ -1,13 +1,16 @@
 -- The line of an entry, for the entries that are read.
-use Rattle.std.proofs.Common.{◌≡◌, ℕ, ◌≤◌, ◌^◌, inl, inr, true, false, List, [], ◌∷◌, length, codes, None, Some, refl, sym, ap, ◌∙◌, arith, if◌then◌else◌}
+use Rattle.std.proofs.Common.{◌≡◌, ℕ, ◌≤◌, ◌^◌, inl, inr, true, false, List, [], ◌∷◌, length, codes, None, Some, refl}
+use Rattle.std.proofs.Common.{sym, ap, ◌∙◌, arith, if◌then◌else◌}
 use Rattle.std.specs.Fmt.{decimal}
 use Rattle.std.specs.Str.{bytes_eq}
 use Rattle.fr_journal.specs.declared.entry.Entry.{Entry}
 use Rattle.fr_journal.specs.declared.entry.Entry.TheVariants.{Commit, Read, Pop, Fetch, Observe}
-use Rattle.fr_lines.proofs.PartLemmas.{word_or, from_takes, from_again, offered_takes, offered_again, seen_takes, seen_again}
+use Rattle.fr_lines.proofs.PartLemmas.{word_or, from_takes, from_again, offered_takes, offered_again, seen_takes}
+use Rattle.fr_lines.proofs.PartLemmas.{seen_again}
 use Rattle.fr_lines.proofs.PlanPartLemmas.{payload_takes, payload_again}
 use Rattle.fr_lines.proofs.WindowLemmas.{window_takes, window_again}
-use Rattle.fr_lines.proofs.WordLemmas.{number_word, long_word, payload_word, slot_word, from_plain, offered_plain, seen_plain}
+use Rattle.fr_lines.proofs.WordLemmas.{number_word, long_word, payload_word, slot_word, from_plain, offered_plain}
+use Rattle.fr_lines.proofs.WordLemmas.{seen_plain}
 use Rattle.fr_lines.specs.PartReading.{payload_in, from_in, offered_in, seen_in, window_in}
 use Rattle.fr_lines.specs.Parts.{optional_number, from_word, offered_word, seen_word}
 use Rattle.fr_lines.specs.Reading.{commit_in, read_in, pop_in, fetch_in, observe_in, entry_in}
@@ -15,7 +18,8 @@ use Rattle.fr_lines.specs.Spelled.{IsSpelledEntry}
 use Rattle.fr_lines.specs.Spelling.{entry_words, begin_line, end_line}
 use Rattle.fr_slots.specs.Windows.{IsInRange}
 use Rattle.fr_text.proofs.BindLemmas.{bind_some}
-use Rattle.fr_text.proofs.LineLemmas.{cons_same, line_of-words_of, words_of-line_of, has_no_feed-line_of, length-line_of-le}
+use Rattle.fr_text.proofs.LineLemmas.{cons_same, line_of-words_of, words_of-line_of, has_no_feed-line_of}
+use Rattle.fr_text.proofs.LineLemmas.{length-line_of-le}
 use Rattle.fr_text.proofs.NumberLemmas.{number_takes, number_again}
 use Rattle.fr_text.specs.Plain.{ArePlain, has_no_feed}
 use Rattle.fr_text.specs.Reading.{number_in}

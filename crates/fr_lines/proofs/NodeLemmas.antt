@@ -1,5 +1,6 @@
 -- The line of a plan's numbers.
-use Rattle.std.proofs.Common.{◌≡◌, ℕ, ◌<◌, ◌≤◌, ◌&&◌, inl, inr, true, List, [], ◌∷◌, length, codes, Some, None, refl, sym, ap, ◌∙◌, arith, leb}
+use Rattle.std.proofs.Common.{◌≡◌, ℕ, ◌<◌, ◌≤◌, ◌&&◌, inl, inr, true, List, [], ◌∷◌, length, codes, Some, None, refl}
+use Rattle.std.proofs.Common.{sym, ap, ◌∙◌, arith, leb}
 use Rattle.std.proofs.lemmas.Bool.{and_parts, cases_Bool, leb-true, le-leb}
 use Rattle.std.specs.Fmt.{decimal}
 use Rattle.std.specs.Result.{result_ok}
@@ -10,7 +11,8 @@ use Rattle.fr_lines.specs.Spelled.{bare_plan}
 use Rattle.fr_lines.specs.Spelling.{node_words}
 use Rattle.fr_slots.specs.Plans.{Plan, IsPlan, plan_of, empty_plan, limits_fit}
 use Rattle.fr_text.proofs.BindLemmas.{bind_some}
-use Rattle.fr_text.proofs.LineLemmas.{cons_same, line_of-words_of, words_of-line_of, has_no_feed-line_of, length-line_of-le}
+use Rattle.fr_text.proofs.LineLemmas.{cons_same, line_of-words_of, words_of-line_of, has_no_feed-line_of}
+use Rattle.fr_text.proofs.LineLemmas.{length-line_of-le}
 use Rattle.fr_text.proofs.NumberLemmas.{number_takes, number_again}
 use Rattle.fr_text.specs.Plain.{ArePlain, has_no_feed}
 use Rattle.fr_text.specs.Reading.{number_in}

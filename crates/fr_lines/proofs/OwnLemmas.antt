@@ -1,5 +1,6 @@
 -- The line of an ownership.
-use Rattle.std.proofs.Common.{◌≡◌, ℕ, ◌≤◌, inl, inr, true, false, List, [], ◌∷◌, length, codes, Some, refl, sym, ap, ◌∙◌, arith}
+use Rattle.std.proofs.Common.{◌≡◌, ℕ, ◌≤◌, inl, inr, true, false, List, [], ◌∷◌, length, codes, Some, refl, sym, ap}
+use Rattle.std.proofs.Common.{◌∙◌, arith}
 use Rattle.std.proofs.lemmas.Bool.{cases_Bool}
 use Rattle.std.specs.Fmt.{decimal}
 use Rattle.std.specs.Str.{bytes_eq}
@@ -14,7 +15,8 @@ use Rattle.fr_lines.specs.Spelling.{own_words, begin_line}
 use Rattle.fr_slots.specs.declared.plan.Own.{Own}
 use Rattle.fr_slots.specs.Plans.{own_fits}
 use Rattle.fr_text.proofs.BindLemmas.{bind_some}
-use Rattle.fr_text.proofs.LineLemmas.{cons_same, line_of-words_of, words_of-line_of, has_no_feed-line_of, length-line_of-le}
+use Rattle.fr_text.proofs.LineLemmas.{cons_same, line_of-words_of, words_of-line_of, has_no_feed-line_of}
+use Rattle.fr_text.proofs.LineLemmas.{length-line_of-le}
 use Rattle.fr_text.specs.Plain.{ArePlain, has_no_feed}
 use Rattle.fr_text.specs.Spaces.{words_of, line_of}
 

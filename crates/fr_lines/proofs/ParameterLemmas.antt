@@ -1,5 +1,6 @@
 -- The line of the parameters.
-use Rattle.std.proofs.Common.{◌≡◌, ℕ, ◌<◌, ◌≤◌, ◌^◌, inl, inr, true, List, [], ◌∷◌, length, codes, Some, Result, Ok, Err, refl, sym, ap, ◌∙◌, arith}
+use Rattle.std.proofs.Common.{◌≡◌, ℕ, ◌<◌, ◌≤◌, ◌^◌, inl, inr, true, List, [], ◌∷◌, length, codes, Some, Result, Ok}
+use Rattle.std.proofs.Common.{Err, refl, sym, ap, ◌∙◌, arith}
 use Rattle.std.specs.Prelude.{ℤ, pos, ◌==◌}
 use Rattle.std.proofs.lemmas.Bool.{cases_Bool, le-leb, eq-eqb}
 use Rattle.std.specs.Fmt.{decimal}
@@ -9,12 +10,15 @@ use Rattle.fr_lines.specs.Reading.{Five, numbers_of, at_end, parameter_in, five_
 use Rattle.fr_lines.specs.Spelled.{parameter_numbers}
 use Rattle.fr_lines.specs.Spelling.{params_words}
 use Rattle.fr_slots.specs.declared.params.Key.{Key}
-use Rattle.fr_slots.specs.declared.params.Key.TheVariants.{StaticSlots, Minislots, StaticWords, StaticMt, MinislotMt, SymbolMt, NitMt, CycleMt, Idle, WordsPerMinislot}
+use Rattle.fr_slots.specs.declared.params.Key.TheVariants.{StaticSlots, Minislots, StaticWords, StaticMt, MinislotMt}
+use Rattle.fr_slots.specs.declared.params.Key.TheVariants.{SymbolMt, NitMt, CycleMt, Idle, WordsPerMinislot}
 use Rattle.fr_slots.specs.declared.params.RangeError.{RangeError}
-use Rattle.fr_slots.specs.Parameters.{Parameters, IsParameters, IsWithin, least_of, greatest_of, admits, unsigned, number_at, first_five, last_five, parameters_of, assembled, summed, macroticks_of}
+use Rattle.fr_slots.specs.Parameters.{Parameters, IsParameters, IsWithin, least_of, greatest_of, admits, unsigned}
+use Rattle.fr_slots.specs.Parameters.{number_at, first_five, last_five, parameters_of, assembled, summed, macroticks_of}
 use Rattle.fr_slots.specs.Parameters as slots
 use Rattle.fr_text.proofs.BindLemmas.{bind_some}
-use Rattle.fr_text.proofs.LineLemmas.{cons_same, line_of-words_of, words_of-line_of, has_no_feed-line_of, length-line_of-le}
+use Rattle.fr_text.proofs.LineLemmas.{cons_same, line_of-words_of, words_of-line_of, has_no_feed-line_of}
+use Rattle.fr_text.proofs.LineLemmas.{length-line_of-le}
 use Rattle.fr_text.proofs.NumberLemmas.{number_takes, number_again}
 use Rattle.fr_text.specs.Plain.{ArePlain, has_no_feed}
 use Rattle.fr_text.specs.Reading.{number_in}

@@ -1,5 +1,6 @@
 -- A word is the spelling of at most one part of a line.
-use Rattle.std.proofs.Common.{◌≡◌, ℕ, ◌-◌, ◌<◌, ◌≤◌, ◌^◌, ◌&&◌, ◌⊎◌, inl, inr, true, false, List, ◌++◌, length, take, drop, codes, Option, Some, None, refl, sym, ap, ◌∙◌, arith, leb, length-append}
+use Rattle.std.proofs.Common.{◌≡◌, ℕ, ◌-◌, ◌<◌, ◌≤◌, ◌^◌, ◌&&◌, ◌⊎◌, inl, inr, true, false, List, ◌++◌, length, take}
+use Rattle.std.proofs.Common.{drop, codes, Option, Some, None, refl, sym, ap, ◌∙◌, arith, leb, length-append}
 use Rattle.std.specs.Prelude.{if◌then◌else◌}
 use Rattle.std.specs.Result.{result_ok}
 use Rattle.std.proofs.lemmas.Bool.{and_parts, cases_Bool, leb-true, leb-false, lt-leb, le-leb}
@@ -13,8 +14,10 @@ use Rattle.fr_journal.specs.declared.entry.Offered.{Offered}
 use Rattle.fr_journal.specs.declared.entry.Offered.TheVariants as offered
 use Rattle.fr_journal.specs.declared.entry.Origin.{Origin}
 use Rattle.fr_journal.specs.Entries.{IsOrigin, IsOffered, IsSeen}
-use Rattle.fr_lines.specs.PartReading.{slot_in, optional_slot_in, channels_in, cycles_in, channel_in, origin_in, from_in, offered_in, seen_bytes_in, seen_in}
-use Rattle.fr_lines.specs.Parts.{absent, optional_number, channels_word, channel_mark, origin_word, from_word, offered_word, seen_word}
+use Rattle.fr_lines.specs.PartReading.{slot_in, optional_slot_in, channels_in, cycles_in, channel_in, origin_in}
+use Rattle.fr_lines.specs.PartReading.{from_in, offered_in, seen_bytes_in, seen_in}
+use Rattle.fr_lines.specs.Parts.{absent, optional_number, channels_word, channel_mark, origin_word, from_word}
+use Rattle.fr_lines.specs.Parts.{offered_word, seen_word}
 use Rattle.fr_slots.specs.Admission.{CycleClass, IsCycleClass, cycle_class, is_repetition}
 use Rattle.fr_slots.specs.declared.channel.Channel.{Channel}
 use Rattle.fr_slots.specs.declared.channel.Channel.TheVariants as channel

@@ -1,11 +1,13 @@
 -- A line of a plan is the ownership line, the buffer or the queue that it is by itself, since their first words differ.
-use Rattle.std.proofs.Common.{◌≡◌, ℕ, true, false, List, [], ◌∷◌, Option, Some, None, codes, inl, inr, refl, sym, ap, subst, ◌∙◌, option_map}
+use Rattle.std.proofs.Common.{◌≡◌, ℕ, true, false, List, [], ◌∷◌, Option, Some, None, codes, inl, inr, refl, sym, ap}
+use Rattle.std.proofs.Common.{subst, ◌∙◌, option_map}
 use Rattle.std.specs.Str.{bytes_eq}
 use Rattle.std.proofs.lemmas.Bool.{cases_Bool}
 use Rattle.std.proofs.lemmas.Slice.Eq.{bytes_eq-Decides}
 use Rattle.fr_lines.specs.declared.plan_lines.PlanLine.{PlanLine}
 use Rattle.fr_lines.specs.declared.plan_lines.PlanLine.TheVariants as plan_line
-use Rattle.fr_lines.specs.Reading.{ownership_in, own_in, transmit_in, receive_in, buffer_in, reception_in, queue_in, plan_line_in}
+use Rattle.fr_lines.specs.Reading.{ownership_in, own_in, transmit_in, receive_in, buffer_in, reception_in, queue_in}
+use Rattle.fr_lines.specs.Reading.{plan_line_in}
 use Rattle.fr_slots.specs.declared.plan.Buffer.{Buffer}
 use Rattle.fr_slots.specs.declared.plan.Own.{Own}
 use Rattle.fr_slots.specs.declared.plan.Queue.{Queue}

@@ -1,10 +1,12 @@
 -- The line of a queue.
-use Rattle.std.proofs.Common.{◌≡◌, ℕ, ◌≤◌, ◌&&◌, inl, inr, true, false, List, [], ◌∷◌, length, codes, None, Some, refl, sym, ap, ◌∙◌, arith}
+use Rattle.std.proofs.Common.{◌≡◌, ℕ, ◌≤◌, ◌&&◌, inl, inr, true, false, List, [], ◌∷◌, length, codes, None, Some, refl}
+use Rattle.std.proofs.Common.{sym, ap, ◌∙◌, arith}
 use Rattle.std.proofs.lemmas.Bool.{and_parts, cases_Bool, leb-true}
 use Rattle.std.specs.Prelude.{nat_le}
 use Rattle.std.specs.Fmt.{decimal}
 use Rattle.std.specs.Str.{bytes_eq}
-use Rattle.fr_lines.proofs.PartLemmas.{word_or, slot_takes, slot_again, channels_takes, channels_again, cycles_takes, cycles_again, repetition_small}
+use Rattle.fr_lines.proofs.PartLemmas.{word_or, slot_takes, slot_again, channels_takes, channels_again, cycles_takes}
+use Rattle.fr_lines.proofs.PartLemmas.{cycles_again, repetition_small}
 use Rattle.fr_lines.proofs.WordLemmas.{number_word, channels_plain}
 use Rattle.fr_lines.specs.PartReading.{slot_in, channels_in, cycles_in}
 use Rattle.fr_lines.specs.Parts.{channels_word}
@@ -14,7 +16,8 @@ use Rattle.fr_lines.specs.Spelling.{queue_words, begin_line}
 use Rattle.fr_slots.specs.declared.plan.Queue.{Queue}
 use Rattle.fr_slots.specs.Plans.{queue_fits}
 use Rattle.fr_text.proofs.BindLemmas.{bind_some}
-use Rattle.fr_text.proofs.LineLemmas.{cons_same, line_of-words_of, words_of-line_of, has_no_feed-line_of, length-line_of-le}
+use Rattle.fr_text.proofs.LineLemmas.{cons_same, line_of-words_of, words_of-line_of, has_no_feed-line_of}
+use Rattle.fr_text.proofs.LineLemmas.{length-line_of-le}
 use Rattle.fr_text.proofs.NumberLemmas.{number_takes, number_again}
 use Rattle.fr_text.specs.Plain.{ArePlain, has_no_feed}
 use Rattle.fr_text.specs.Reading.{number_in}

@@ -1,5 +1,6 @@
 -- Five words are the spelling of at most one window.
-use Rattle.std.proofs.Common.{◌≡◌, ℕ, ◌<◌, ◌≤◌, ◌^◌, ◌==◌, ◌&&◌, inl, inr, true, List, Option, Some, None, refl, sym, arith, leb}
+use Rattle.std.proofs.Common.{◌≡◌, ℕ, ◌<◌, ◌≤◌, ◌^◌, ◌==◌, ◌&&◌, inl, inr, true, List, Option, Some, None, refl, sym}
+use Rattle.std.proofs.Common.{arith, leb}
 use Rattle.std.specs.Prelude.{is_some, ◌||◌}
 use Rattle.std.proofs.lemmas.Bool.{and_parts, cases_Bool, leb-true, le-leb, eqb-true, eqb-false, eq-eqb}
 use Rattle.std.specs.Fmt.{decimal}

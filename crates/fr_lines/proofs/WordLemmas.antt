@@ -1,5 +1,6 @@
 -- The words of a line are plain, and few bytes long.
-use Rattle.std.proofs.Common.{◌≡◌, ℕ, ◌<◌, ◌≤◌, ◌^◌, Bool, true, false, List, length, Option, Some, None, refl, arith, length-append}
+use Rattle.std.proofs.Common.{◌≡◌, ℕ, ◌<◌, ◌≤◌, ◌^◌, Bool, true, false, List, length, Option, Some, None, refl, arith}
+use Rattle.std.proofs.Common.{length-append}
 use Rattle.std.proofs.lemmas.Bool.{leb-true}
 use Rattle.std.proofs.lemmas.Fmt.{length-decimal-le}
 use Rattle.std.specs.Fmt.{decimal}
@@ -7,7 +8,8 @@ use Rattle.fr_journal.specs.declared.entry.Offered.{Offered}
 use Rattle.fr_journal.specs.declared.entry.Offered.TheVariants as offered
 use Rattle.fr_journal.specs.declared.entry.Origin.{Origin}
 use Rattle.fr_journal.specs.Entries.{IsOrigin, IsOffered, IsSeen}
-use Rattle.fr_lines.specs.Parts.{flag_word, optional_number, channels_word, channel_mark, from_word, offered_word, seen_word}
+use Rattle.fr_lines.specs.Parts.{flag_word, optional_number, channels_word, channel_mark, from_word, offered_word}
+use Rattle.fr_lines.specs.Parts.{seen_word}
 use Rattle.fr_slots.specs.declared.channel.Channel.{Channel}
 use Rattle.fr_slots.specs.declared.channel.Channel.TheVariants as channel
 use Rattle.fr_slots.specs.declared.channel.Channels.{Channels}

@@ -1,5 +1,6 @@
 -- The midpoint by places in values that ascend.
-use Rattle.std.specs.Prelude.{ℕ, ◌+◌, ◌-◌, ◌==◌, List, length, slice_index_or, ℤ, pos, ◌+ℤ◌, int_div, Option, Some, None, if◌then◌else◌}
+use Rattle.std.specs.Prelude.{ℕ, ◌+◌, ◌-◌, ◌==◌, List, length, slice_index_or, ℤ, pos, ◌+ℤ◌, int_div, Option, Some}
+use Rattle.std.specs.Prelude.{None, if◌then◌else◌}
 use Rattle.fr_midpoint.specs.declared.ranks.Midpoint.{Midpoint}
 use Rattle.fr_midpoint.specs.Midpoint.{dropped}
 

@@ -1,6 +1,7 @@
 //! The midpoint of values, by sorting them.
 
-ghost use Rattle.std.specs.Prelude.{◌≡◌, ◌≤◌, ◌↔◌, IfOk, IfSome, IsNone, IsSome, length, All, false, pos, ◌+ℤ◌, int_div};
+ghost use Rattle.std.specs.Prelude.{◌≡◌, ◌≤◌, ◌↔◌, IfOk, IfSome, IsNone, IsSome, length, All, false, pos, ◌+ℤ◌};
+ghost use Rattle.std.specs.Prelude.{int_div};
 ghost use Rattle.std.specs.List.{list_any};
 ghost use Rattle.std.specs.List.Sorted.{IsPermutation, IsSorted};
 ghost use Rattle.std.specs.Ordering.{int_cmp};

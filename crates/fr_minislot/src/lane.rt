@@ -28,9 +28,9 @@ pub enum LaneError {
 
 /// One channel's dynamic segment in one cycle: how far its slots have come (chapter 5).
 ///
-/// It stands after the slots that were closed, at the one that is next. The first dynamic slot is the one after the last
-/// static slot, and opens at minislot 1. The next one opens after the minislots that the one before it took: one where
-/// nothing was sent, else those that its longest transmission fills and the idle ones after them (own profile).
+/// It stands after the slots that were closed, at the one that is next. The first dynamic slot is the one after the
+/// last static slot, and opens at minislot 1. The next one opens after the minislots that the one before it took: one
+/// where nothing was sent, else those that its longest transmission fills and the idle ones after them (own profile).
 #[derive(Clone, Copy, Debug, PartialEq, Eq)]
 pub struct Lane {
     params: Params,
@@ -100,8 +100,8 @@ impl Lane {
         &self.params
     }
 
-    /// The slot that the channel opens at the minislot, counted from 1 (chapter 5). None where the slot that is next begins
-    /// at another minislot or after the segment's last one, and where slot 2047 was closed.
+    /// The slot that the channel opens at the minislot, counted from 1 (chapter 5). None where the slot that is next
+    /// begins at another minislot or after the segment's last one, and where slot 2047 was closed.
     pub fn opens(&self, minislot: u16) -> Option<SlotId>
         ensures value { result ≡ opened_in self.now minislot }
         ensures rows { (counts : List ℕ)
@@ -115,8 +115,8 @@ impl Lane {
         }
     }
 
-    /// The minislot, counted from 1, at which the channel opens its next slot (chapter 5). None where it opens no further
-    /// one in the cycle.
+    /// The minislot, counted from 1, at which the channel opens its next slot (chapter 5). None where it opens no
+    /// further one in the cycle.
     pub fn next(&self) -> Option<u16>
         ensures { result ≡ next_in self.now }
     {
@@ -127,8 +127,8 @@ impl Lane {
         }
     }
 
-    /// Ends the slot that is next (chapter 5). `bytes` is the length of the longest transmission that passed in it, or 0
-    /// where none did.
+    /// Ends the slot that is next (chapter 5). `bytes` is the length of the longest transmission that passed in it, or
+    /// 0 where none did.
     ///
     /// Refused with `NothingOpen` where the channel opens no further slot, and then with `TooLong` for more than 262
     /// bytes.

@@ -1,10 +1,12 @@
 -- Numbers in their ranges are parameters, or don't fill the cycle.
-use Rattle.std.proofs.Common.{◌≡◌, ℕ, ◌==◌, true, false, Bool, List, refl, ap, ◌∙◌, arith, ℤ, pos, Result, Ok, Err, if◌then◌else◌}
+use Rattle.std.proofs.Common.{◌≡◌, ℕ, ◌==◌, true, false, Bool, List, refl, ap, ◌∙◌, arith, ℤ, pos, Result, Ok, Err}
+use Rattle.std.proofs.Common.{if◌then◌else◌}
 use Rattle.std.proofs.lemmas.Bool.Decides.{nat_tests}
 use Rattle.fr_slots.specs.declared.params.Key.{Key}
 use Rattle.fr_slots.specs.declared.params.RangeError.{RangeError}
 use Rattle.fr_slots.specs.declared.params.RangeError.TheVariants as range
-use Rattle.fr_slots.specs.Parameters.{Parameters, IsWithin, Five, AreFirst, AreLast, assembled, macroticks_of, admits, number_at, first_five, last_five, parameters_of}
+use Rattle.fr_slots.specs.Parameters.{Parameters, IsWithin, Five, AreFirst, AreLast, assembled, macroticks_of, admits}
+use Rattle.fr_slots.specs.Parameters.{number_at, first_five, last_five, parameters_of}
 use Rattle.fr_params.specs.declared.error.ParamError.{ParamError}
 use Rattle.fr_params.specs.declared.error.ParamError.TheVariants as param
 use Rattle.fr_params.specs.Table.{numbers_of, summed}

@@ -3,7 +3,8 @@
 use Rattle.std.specs.Prelude.{ℕ, ◌==◌, ℤ, pos, List, [], ◌∷◌, Option, Some, None, Result, Ok, Err, if◌then◌else◌}
 use Rattle.toml.specs.Data.{Data, Members, get_member, as_integer}
 use Rattle.fr_slots.specs.declared.params.Key.{Key}
-use Rattle.fr_slots.specs.declared.params.Key.TheVariants.{StaticSlots, Minislots, StaticWords, StaticMt, MinislotMt, SymbolMt, NitMt, CycleMt, Idle, WordsPerMinislot}
+use Rattle.fr_slots.specs.declared.params.Key.TheVariants.{StaticSlots, Minislots, StaticWords, StaticMt, MinislotMt}
+use Rattle.fr_slots.specs.declared.params.Key.TheVariants.{SymbolMt, NitMt, CycleMt, Idle, WordsPerMinislot}
 use Rattle.fr_slots.specs.Parameters.{Parameters, name_of, admits, unsigned, macroticks_of, Five, assembled}
 use Rattle.fr_params.specs.declared.error.ParamError.{ParamError}
 use Rattle.fr_params.specs.declared.error.ParamError.TheVariants.{Missing, NotANumber, OutOfRange, CycleSum}

@@ -1,5 +1,6 @@
 -- The first fault of a file's table, step by step.
-use Rattle.std.proofs.Common.{◌≡◌, ℕ, suc, ◌+◌, ◌≤◌, List, [], ◌∷◌, length, Option, Some, None, Result, Ok, Err, refl, sym, ap, subst, ◌∙◌}
+use Rattle.std.proofs.Common.{◌≡◌, ℕ, suc, ◌+◌, ◌≤◌, List, [], ◌∷◌, length, Option, Some, None, Result, Ok, Err, refl}
+use Rattle.std.proofs.Common.{sym, ap, subst, ◌∙◌}
 use Rattle.fr_schedule.proofs.StepLemmas.{then_ok, same_Ok}
 use Rattle.fr_schedule.proofs.ClusterLemmas.{cluster_is}
 use Rattle.fr_schedule.proofs.FitLemmas.{plans-fit}

@@ -1,9 +1,11 @@
 -- The first fault that nodes give, and the first slot that lines or buffers of several nodes share.
-use Rattle.std.proofs.Common.{◌≡◌, ℕ, ◌+◌, Bool, true, false, if◌then◌else◌, List, [], ◌∷◌, Option, Some, None, option_map, refl, sym, ap, ◌∙◌}
+use Rattle.std.proofs.Common.{◌≡◌, ℕ, ◌+◌, Bool, true, false, if◌then◌else◌, List, [], ◌∷◌, Option, Some, None}
+use Rattle.std.proofs.Common.{option_map, refl, sym, ap, ◌∙◌}
 use Rattle.std.specs.Option.{option_or}
 use Rattle.fr_schedule.specs.declared.error.ConfigError.{ConfigError}
 use Rattle.fr_schedule.specs.declared.error.ConfigError.TheVariants as error
-use Rattle.fr_schedule.specs.FileFaults.{all_owned, all_buffers, first_in_nodes, taken_at, taken_in, first_taken, overlap_at, overlap_on, overlap_in, first_overlap}
+use Rattle.fr_schedule.specs.FileFaults.{all_owned, all_buffers, first_in_nodes, taken_at, taken_in, first_taken}
+use Rattle.fr_schedule.specs.FileFaults.{overlap_at, overlap_on, overlap_in, first_overlap}
 use Rattle.fr_slots.proofs.FaultlessLemmas.{map_none}
 use Rattle.fr_slots.proofs.ScanLemmas.{taken-none, taken-some, overlap-none, overlap-some}
 use Rattle.fr_slots.specs.declared.channel.Channel.{Channel}

@@ -1,5 +1,7 @@
 -- What is read from a file's tables is for the parameters of the file.
-use Rattle.std.proofs.Common.{◌≡◌, ℕ, ◌+◌, ◌≤◌, ℤ, pos, nat_lt, Bool, true, false, not, ◌&&◌, ◌||◌, if◌then◌else◌, List, [], ◌∷◌, codes, Option, Some, None, Result, Ok, Err, refl, sym, ap, subst, ◌∙◌, inl, inr, arith}
+use Rattle.std.proofs.Common.{◌≡◌, ℕ, ◌+◌, ◌≤◌, ℤ, pos, nat_lt, Bool, true, false, not, ◌&&◌, ◌||◌, if◌then◌else◌, List}
+use Rattle.std.proofs.Common.{[], ◌∷◌, codes, Option, Some, None, Result, Ok, Err, refl, sym, ap, subst, ◌∙◌, inl, inr}
+use Rattle.std.proofs.Common.{arith}
 use Rattle.std.proofs.lemmas.Bool.{cases_Bool, and_parts, cond-true, cond-false, leb-true, le-leb}
 use Rattle.std.proofs.lemmas.Option.{same_Some, cond_some}
 use Rattle.std.specs.Int.Signed.{le_z}
@@ -11,8 +13,10 @@ use Rattle.fr_schedule.proofs.StepLemmas.{then_some, then_ok, or_ok, same_Ok}
 use Rattle.fr_schedule.specs.declared.error.ConfigError.{ConfigError}
 use Rattle.fr_schedule.specs.declared.error.ConfigError.TheVariants as error
 use Rattle.fr_schedule.specs.Files.{each_of, buffer_read, with_buffers, with_buffers_of, plan_of}
-use Rattle.fr_schedule.specs.NodeTables.{own_in, own_of, words_in, transmit_buffer_in, buffer_by, buffer_in, buffer_of, limits_in, with_owned_in, head_in, filter_in}
-use Rattle.fr_schedule.specs.TableReading.{within, number_in, number_at, number_or, or_default, flag_at, mode_in, channels_in, tables_at, all_of}
+use Rattle.fr_schedule.specs.NodeTables.{own_in, own_of, words_in, transmit_buffer_in, buffer_by, buffer_in, buffer_of}
+use Rattle.fr_schedule.specs.NodeTables.{limits_in, with_owned_in, head_in, filter_in}
+use Rattle.fr_schedule.specs.TableReading.{within, number_in, number_at, number_or, or_default, flag_at, mode_in}
+use Rattle.fr_schedule.specs.TableReading.{channels_in, tables_at, all_of}
 use Rattle.fr_slots.specs.declared.plan.Own.{Own}
 use Rattle.fr_slots.specs.declared.plan.Buffer.{Buffer}
 use Rattle.fr_slots.specs.declared.plan.Mode.{Mode}

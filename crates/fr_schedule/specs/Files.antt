@@ -1,5 +1,6 @@
 -- The cluster that a file describes, or the first of its faults (own profile).
-use Rattle.std.specs.Prelude.{◌≡◌, ℕ, ◌+◌, nat_le, ◌&&◌, List, [], ◌∷◌, length, codes, Option, Some, None, ok_or, option_and_then, Result, Ok, Err, if◌then◌else◌, String}
+use Rattle.std.specs.Prelude.{◌≡◌, ℕ, ◌+◌, nat_le, ◌&&◌, List, [], ◌∷◌, length, codes, Option, Some, None, ok_or}
+use Rattle.std.specs.Prelude.{option_and_then, Result, Ok, Err, if◌then◌else◌, String}
 use Rattle.std.specs.BTreeMap.{BTreeMap}
 use Rattle.std.specs.declared.alloc.Global.{Global}
 use Rattle.std.specs.Str.{bytes_eq}
@@ -13,7 +14,8 @@ use Rattle.fr_slots.specs.Plans.{Plan}
 use Rattle.fr_schedule.specs.Clusters.{most_nodes}
 use Rattle.fr_schedule.specs.Descriptions.{Description}
 use Rattle.fr_schedule.specs.declared.error.ConfigError.{ConfigError}
-use Rattle.fr_schedule.specs.declared.error.ConfigError.TheVariants.{Toml, Params, BadGuard, TooManyNodes, BadNode, BadBuffer, Memory}
+use Rattle.fr_schedule.specs.declared.error.ConfigError.TheVariants.{Toml, Params, BadGuard, TooManyNodes, BadNode}
+use Rattle.fr_schedule.specs.declared.error.ConfigError.TheVariants.{BadBuffer, Memory}
 use Rattle.fr_schedule.specs.FileFaults.{file_fault}
 use Rattle.fr_schedule.specs.NodeTables.{head_in, buffer_of}
 use Rattle.fr_schedule.specs.TableReading.{channels_named, array_in, tables_at}

@@ -9,7 +9,8 @@ use Rattle.fr_slots.specs.declared.plan.Queue.{Queue}
 use Rattle.fr_slots.specs.Numbers.{last_slot, most_words, most_tasks, most_frames, most_host_entries, most_slot_entries}
 use Rattle.fr_slots.specs.Parameters.{Parameters, is_static_slot}
 use Rattle.fr_slots.specs.Plans.{Plan, plan_of, own_fits, with_queue, is_receive, queue_fits, buffer_fits}
-use Rattle.fr_schedule.specs.TableReading.{◌>>=◌, or_default, number_at, number_or, flag_at, mode_in, channels_in, cycles_in, tables_at, all_of}
+use Rattle.fr_schedule.specs.TableReading.{◌>>=◌, or_default, number_at, number_or, flag_at, mode_in, channels_in}
+use Rattle.fr_schedule.specs.TableReading.{cycles_in, tables_at, all_of}
 use Rattle.toml.specs.Data.{Data, Members, get_member, as_table}
 
 -- the value, where it passes the test

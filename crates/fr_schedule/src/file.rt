@@ -174,7 +174,8 @@ pub(crate) fn plans_of(
     requires { length values.now ≤ 16 }
     ensures plans { IfOk result (λ plans. each_of (plan_of params.now) 0 (map view values.now) ≡ Ok plans.items) }
     ensures lawful { IfOk result (λ plans. Each IsPlan plans.items) }
-    ensures refused { IfErr result (λ e. ¬ (e ≡ error.Memory) → each_of (plan_of params.now) 0 (map view values.now) ≡ Err e) }
+    ensures refused { IfErr result (λ e. ¬ (e ≡ error.Memory)
+        → each_of (plan_of params.now) 0 (map view values.now) ≡ Err e) }
 {
     let mut plans = Vec::new(alloc);
     for (number, value) in values.iter().enumerate() {

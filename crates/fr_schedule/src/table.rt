@@ -182,7 +182,8 @@ fn are_tables(values: &[Value]) -> bool
 
 /// Whether these are at most 64 tables.
 fn are_few_tables(values: &[Value]) -> bool
-    ensures value { result ≡ (nat_le (length values.now) most_lines && list_all (λ value. is_table (view value)) values.now) }
+    ensures value { result
+        ≡ (nat_le (length values.now) most_lines && list_all (λ value. is_table (view value)) values.now) }
     ensures few { IsTrue result → length values.now ≤ most_lines }
 {
     values.len() <= LINES && are_tables(values)

@@ -1,6 +1,8 @@
 -- What a plan without fault gives.
-use Rattle.std.proofs.Common.{◌≡◌, ℕ, zero, suc, ◌+◌, ◌-◌, ◌≤◌, nat_lt, leb, not, Bool, true, false, cond, ◌&&◌, ◌||◌, List, [], ◌∷◌, Option, Some, None, refl, sym, ap, ◌∙◌, inl, inr, arith}
-use Rattle.std.proofs.lemmas.Bool.{cases_Bool, and_from, or_parts, both_ways, not-false, true_from_ne_false, false_from_ne_true, ltb-false, le-leb, leb-true, cond-true, cond-false}
+use Rattle.std.proofs.Common.{◌≡◌, ℕ, zero, suc, ◌+◌, ◌-◌, ◌≤◌, nat_lt, leb, not, Bool, true, false, cond, ◌&&◌, ◌||◌}
+use Rattle.std.proofs.Common.{List, [], ◌∷◌, Option, Some, None, refl, sym, ap, ◌∙◌, inl, inr, arith}
+use Rattle.std.proofs.lemmas.Bool.{cases_Bool, and_from, or_parts, both_ways, not-false, true_from_ne_false}
+use Rattle.std.proofs.lemmas.Bool.{false_from_ne_true, ltb-false, le-leb, leb-true, cond-true, cond-false}
 use Rattle.std.proofs.lemmas.Iterator.Adapters.{position_from-zero}
 use Rattle.std.proofs.lemmas.Option.{same_Some}
 use Rattle.std.specs.Prelude.{IfNone, is_some, position, slice_get}
@@ -9,10 +11,17 @@ use Rattle.std.specs.Option.{option_or, option_map}
 use Rattle.fr_slots.specs.declared.channel.Channel.{Channel}
 use Rattle.fr_slots.specs.declared.channel.Channel.TheVariants.{A, B}
 use Rattle.fr_slots.specs.declared.fault.PlanFault.{PlanFault}
-use Rattle.fr_slots.specs.declared.fault.PlanFault.TheVariants.{OutOfParams, SlotTaken, NotOwned, DynamicBoth, Overlap, TooLong}
+use Rattle.fr_slots.specs.declared.fault.PlanFault.TheVariants.{OutOfParams, SlotTaken, NotOwned, DynamicBoth, Overlap}
+use Rattle.fr_slots.specs.declared.fault.PlanFault.TheVariants.{TooLong}
 use Rattle.fr_slots.specs.declared.plan.Buffer.{Buffer}
 use Rattle.fr_slots.specs.Admission.{includes}
-use Rattle.fr_slots.specs.Faults.{two_pass, first_of, channels, slots, claims, is_owned, sends_at, transmits_static, transmits_dynamic, words_of, latest_on, minislots_filled, has_wrong_words, is_owned_beyond, has_late_latest, is_out_of_params, out_of_params, taken_at, taken_in, first_taken, first_buffer, is_unowned_on, not_owned, dynamic_both, overlap_at, overlap_on, overlap_in, first_overlap, ends_late, ends_late_on, too_long, ownership_fault, buffer_fault, plan_fault, HasOneSender, HasOneOwner, FitsStatic, FitsDynamic, IsFaultless}
+use Rattle.fr_slots.specs.Faults.{two_pass, first_of, channels, slots, claims, is_owned, sends_at, transmits_static}
+use Rattle.fr_slots.specs.Faults.{transmits_dynamic, words_of, latest_on, minislots_filled, has_wrong_words}
+use Rattle.fr_slots.specs.Faults.{is_owned_beyond, has_late_latest, is_out_of_params, out_of_params, taken_at, taken_in}
+use Rattle.fr_slots.specs.Faults.{first_taken, first_buffer, is_unowned_on, not_owned, dynamic_both, overlap_at}
+use Rattle.fr_slots.specs.Faults.{overlap_on, overlap_in, first_overlap, ends_late, ends_late_on, too_long}
+use Rattle.fr_slots.specs.Faults.{ownership_fault, buffer_fault, plan_fault, HasOneSender, HasOneOwner, FitsStatic}
+use Rattle.fr_slots.specs.Faults.{FitsDynamic, IsFaultless}
 use Rattle.fr_slots.specs.Numbers.{IsSlot}
 use Rattle.fr_slots.specs.Parameters.{Parameters, is_static_slot}
 use Rattle.fr_slots.specs.Plans.{Plan}

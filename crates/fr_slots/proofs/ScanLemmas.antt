@@ -1,5 +1,6 @@
 -- The first slot, channel and cycle of a plan's faults, from the first one that filters share.
-use Rattle.std.proofs.Common.{◌≡◌, ℕ, ◌<◌, ◌==◌, ◌%◌, Bool, true, false, cond, ◌&&◌, ◌||◌, List, [], ◌∷◌, map, Option, Some, None, refl, sym, ap, ◌∙◌, arith}
+use Rattle.std.proofs.Common.{◌≡◌, ℕ, ◌<◌, ◌==◌, ◌%◌, Bool, true, false, cond, ◌&&◌, ◌||◌, List, [], ◌∷◌, map, Option}
+use Rattle.std.proofs.Common.{Some, None, refl, sym, ap, ◌∙◌, arith}
 use Rattle.std.proofs.lemmas.Bool.{eq-eqb, cond-true, cond-false, false_from_ne_true}
 use Rattle.std.proofs.Math.Nat.{mod-one}
 use Rattle.std.specs.List.{list_any, filter}
@@ -11,9 +12,11 @@ use Rattle.fr_slots.specs.declared.plan.Own.{Own}
 use Rattle.fr_slots.specs.declared.plan.Buffer.{Buffer}
 use Rattle.fr_slots.specs.declared.sharing.Occasion.{Occasion}
 use Rattle.fr_slots.specs.Admission.{includes}
-use Rattle.fr_slots.specs.Faults.{two_pass, first_of, channels, slots, claims, transmits, sends_at, taken_at, first_taken, overlap_at, overlap_on, first_overlap}
+use Rattle.fr_slots.specs.Faults.{two_pass, first_of, channels, slots, claims, transmits, sends_at, taken_at}
+use Rattle.fr_slots.specs.Faults.{first_taken, overlap_at, overlap_on, first_overlap}
 use Rattle.fr_slots.specs.Numbers.{IsSlot}
-use Rattle.fr_slots.specs.Sharing.{place_of, IsFirstAt, IsFirst, admits_at, is_shared, own_filter, own_filters, buffer_filter, transmit_filters}
+use Rattle.fr_slots.specs.Sharing.{place_of, IsFirstAt, IsFirst, admits_at, is_shared, own_filter, own_filters}
+use Rattle.fr_slots.specs.Sharing.{buffer_filter, transmit_filters}
 use Rattle.fr_slots.proofs.FaultLemmas.{first-is, first-is_none}
 
 -- ---- all slots on all channels

@@ -1,6 +1,8 @@
 -- The first slot, on a channel and in a cycle, that passes a test, and that filters share.
-use Rattle.std.proofs.Common.{◌≡◌, ℕ, ◌<◌, ◌≤◌, ◌==◌, Bool, true, false, cond, subst, ◌&&◌, ◌||◌, List, [], ◌∷◌, ◌++◌, Option, Some, None, refl, sym, ap, ◌∙◌, inl, inr, arith}
-use Rattle.std.proofs.lemmas.Bool.{cases_Bool, cases_lt, eqb-true, eq-eqb, cond-true, and_from, and_parts, or_cases, or_left, or_right, false_from_ne_true, both_ways, ltb-true, ltb-false}
+use Rattle.std.proofs.Common.{◌≡◌, ℕ, ◌<◌, ◌≤◌, ◌==◌, Bool, true, false, cond, subst, ◌&&◌, ◌||◌, List, [], ◌∷◌, ◌++◌}
+use Rattle.std.proofs.Common.{Option, Some, None, refl, sym, ap, ◌∙◌, inl, inr, arith}
+use Rattle.std.proofs.lemmas.Bool.{cases_Bool, cases_lt, eqb-true, eq-eqb, cond-true, and_from, and_parts, or_cases}
+use Rattle.std.proofs.lemmas.Bool.{or_left, or_right, false_from_ne_true, both_ways, ltb-true, ltb-false}
 use Rattle.std.proofs.lemmas.Option.{cond_some}
 use Rattle.std.specs.List.{list_any}
 use Rattle.fr_slots.specs.declared.channel.Channel.{Channel}
@@ -12,7 +14,8 @@ use Rattle.fr_slots.specs.Admission.{includes, cycle_admitted}
 use Rattle.fr_slots.specs.Faults.{two_pass, common_in, first_common}
 use Rattle.fr_slots.specs.Numbers.{IsSlot}
 use Rattle.fr_slots.proofs.FaultLemmas.{first-none, first-some}
-use Rattle.fr_slots.specs.Sharing.{place_of, is_before, earlier, IsFirstAt, IsFirst, admits_at, is_shared, is_shared_with, is_shared_by, both_include, common_channel}
+use Rattle.fr_slots.specs.Sharing.{place_of, is_before, earlier, IsFirstAt, IsFirst, admits_at, is_shared}
+use Rattle.fr_slots.specs.Sharing.{is_shared_with, is_shared_by, both_include, common_channel}
 
 abbrev Test : Type 0
 Test = ℕ → Channel → ℕ → Bool

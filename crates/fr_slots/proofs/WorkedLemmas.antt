@@ -7,7 +7,8 @@ use Rattle.fr_slots.specs.declared.filter.FilterError.TheVariants.{RepetitionNot
 use Rattle.fr_slots.specs.Admission.{CycleClass, cycle_class, cycle_admitted}
 use Rattle.fr_slots.specs.Faults.{first_of, numbers_from, first_common, ends_late}
 use Rattle.fr_slots.specs.declared.params.Key.{Key}
-use Rattle.fr_slots.specs.declared.params.Key.TheVariants.{StaticSlots, Minislots, StaticWords, StaticMt, MinislotMt, SymbolMt, NitMt, CycleMt, Idle, WordsPerMinislot}
+use Rattle.fr_slots.specs.declared.params.Key.TheVariants.{StaticSlots, Minislots, StaticWords, StaticMt, MinislotMt}
+use Rattle.fr_slots.specs.declared.params.Key.TheVariants.{SymbolMt, NitMt, CycleMt, Idle, WordsPerMinislot}
 use Rattle.fr_slots.specs.Parameters.{Parameters, least_of, greatest_of, admits}
 use Rattle.fr_slots.specs.Plans.{Plan, empty_plan}
 use Rattle.fr_slots.specs.Windows.{Opportunity, static_window, window_fits}

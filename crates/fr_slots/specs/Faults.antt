@@ -1,5 +1,7 @@
 -- The faults of a plan, and what a plan without fault gives (chapters 5 and 9; the limits and the order are own profile).
-use Rattle.std.specs.Prelude.{◌≡◌, ℕ, suc, zero, ◌+◌, ◌-◌, ◌<◌, ◌≤◌, ◌==◌, nat_lt, nat_le, not, Bool, true, false, ◌&&◌, ◌||◌, List, [], ◌∷◌, Option, Some, None, is_some, unwrap_or, option_map, slice_get, position, if◌then◌else◌}
+use Rattle.std.specs.Prelude.{◌≡◌, ℕ, suc, zero, ◌+◌, ◌-◌, ◌<◌, ◌≤◌, ◌==◌, nat_lt, nat_le, not, Bool, true, false, ◌&&◌}
+use Rattle.std.specs.Prelude.{◌||◌, List, [], ◌∷◌, Option, Some, None, is_some, unwrap_or, option_map, slice_get}
+use Rattle.std.specs.Prelude.{position, if◌then◌else◌}
 use Rattle.std.specs.Int.{div_ceil}
 use Rattle.std.specs.List.{list_any, list_all}
 use Rattle.std.specs.Option.{option_or}
@@ -9,7 +11,8 @@ use Rattle.fr_slots.specs.declared.filter.Filter.{Filter}
 use Rattle.fr_slots.specs.declared.plan.Own.{Own}
 use Rattle.fr_slots.specs.declared.plan.Buffer.{Buffer}
 use Rattle.fr_slots.specs.declared.fault.PlanFault.{PlanFault}
-use Rattle.fr_slots.specs.declared.fault.PlanFault.TheVariants.{OutOfParams, SlotTaken, NotOwned, DynamicBoth, Overlap, TooLong}
+use Rattle.fr_slots.specs.declared.fault.PlanFault.TheVariants.{OutOfParams, SlotTaken, NotOwned, DynamicBoth, Overlap}
+use Rattle.fr_slots.specs.declared.fault.PlanFault.TheVariants.{TooLong}
 use Rattle.fr_slots.specs.Admission.{CycleClass, cycle_admitted, includes}
 use Rattle.fr_slots.specs.Numbers.{IsSlot, last_slot, cycle_count}
 use Rattle.fr_slots.specs.Parameters.{Parameters, is_static_slot}

@@ -1,8 +1,10 @@
 -- The ten parameters of a cluster, their ranges, and how they add up.
-use Rattle.std.specs.Prelude.{◌≡◌, ℕ, ◌+◌, ◌*◌, ◌≤◌, ◌==◌, nat_le, ℤ, pos, Bool, ◌&&◌, List, codes, slice_index_or, Result, Ok, Err, if◌then◌else◌}
+use Rattle.std.specs.Prelude.{◌≡◌, ℕ, ◌+◌, ◌*◌, ◌≤◌, ◌==◌, nat_le, ℤ, pos, Bool, ◌&&◌, List, codes, slice_index_or}
+use Rattle.std.specs.Prelude.{Result, Ok, Err, if◌then◌else◌}
 use Rattle.std.specs.Int.Signed.{le_z}
 use Rattle.fr_slots.specs.declared.params.Key.{Key}
-use Rattle.fr_slots.specs.declared.params.Key.TheVariants.{StaticSlots, Minislots, StaticWords, StaticMt, MinislotMt, SymbolMt, NitMt, CycleMt, Idle, WordsPerMinislot}
+use Rattle.fr_slots.specs.declared.params.Key.TheVariants.{StaticSlots, Minislots, StaticWords, StaticMt, MinislotMt}
+use Rattle.fr_slots.specs.declared.params.Key.TheVariants.{SymbolMt, NitMt, CycleMt, Idle, WordsPerMinislot}
 use Rattle.fr_slots.specs.declared.params.RangeError.{RangeError}
 use Rattle.fr_slots.specs.declared.params.RangeError.TheVariants.{OutOfRange, CycleSum}
 use Rattle.fr_slots.specs.Numbers.{last_static_slot, last_minislot, most_words}

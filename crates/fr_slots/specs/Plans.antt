@@ -1,5 +1,6 @@
 -- What the plan of a node may hold.
-use Rattle.std.specs.Prelude.{◌≡◌, ℕ, ◌≤◌, ◌==◌, nat_le, not, Bool, true, false, ◌&&◌, ◌||◌, List, [], ◌∷◌, ◌++◌, length, Option, Some, None, is_some, slice_get, Result, Ok, Err, if◌then◌else◌}
+use Rattle.std.specs.Prelude.{◌≡◌, ℕ, ◌≤◌, ◌==◌, nat_le, not, Bool, true, false, ◌&&◌, ◌||◌, List, [], ◌∷◌, ◌++◌}
+use Rattle.std.specs.Prelude.{length, Option, Some, None, is_some, slice_get, Result, Ok, Err, if◌then◌else◌}
 use Rattle.fr_slots.specs.declared.channel.Channel.{Channel}
 use Rattle.fr_slots.specs.declared.filter.Filter.{Filter}
 use Rattle.fr_slots.specs.declared.plan.Own.{Own}
@@ -10,7 +11,8 @@ use Rattle.fr_slots.specs.declared.plan.Queue.{Queue}
 use Rattle.fr_slots.specs.declared.plan.PlanError.{PlanError}
 use Rattle.fr_slots.specs.declared.plan.PlanError.TheVariants.{OutOfRange, TooMany}
 use Rattle.fr_slots.specs.Admission.{includes, cycle_admitted, IsCycleClass}
-use Rattle.fr_slots.specs.Numbers.{IsSlot, last_static_slot, last_minislot, most_words, most_tasks, most_lines, most_frames, most_host_entries, most_slot_entries}
+use Rattle.fr_slots.specs.Numbers.{IsSlot, last_static_slot, last_minislot, most_words, most_tasks, most_lines}
+use Rattle.fr_slots.specs.Numbers.{most_frames, most_host_entries, most_slot_entries}
 use Rattle.fr_slots.specs.Windows.{Opportunity, slot_of}
 
 -- slot, channel and cycle are all the filter's

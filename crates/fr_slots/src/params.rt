@@ -1,7 +1,8 @@
 //! The parameters of a cluster.
 
 ghost use Rattle.std.specs.Prelude.{◌≡◌, ◌≤◌, IfOk};
-ghost use Rattle.fr_slots.specs.Parameters.{name_of, admits, least_of, greatest_of, number_at, first_five, last_five, IsWithin, AreFirst, AreLast};
+ghost use Rattle.fr_slots.specs.Parameters.{name_of, admits, least_of, greatest_of, number_at, first_five, last_five};
+ghost use Rattle.fr_slots.specs.Parameters.{IsWithin, AreFirst, AreLast};
 
 use crate::numbers::SlotId;
 use crate::window::Window;

@@ -1,7 +1,8 @@
 //! The first slot, on a channel and in a cycle, that two filters share.
 
 ghost use Rattle.std.specs.Prelude.{◌≡◌};
-ghost use Rattle.fr_slots.specs.Sharing.{both_include, is_before, earlier, IsFirst, is_shared, is_shared_with, is_shared_by, common_channel};
+ghost use Rattle.fr_slots.specs.Sharing.{both_include, is_before, earlier, IsFirst, is_shared, is_shared_with};
+ghost use Rattle.fr_slots.specs.Sharing.{is_shared_by, common_channel};
 
 use crate::channel::{Channel, Channels};
 use crate::filter::Filter;

@@ -1,5 +1,6 @@
 -- The words of a line, from its first space.
-use Rattle.std.proofs.Common.{◌≡◌, ℕ, ◌+◌, ◌≤◌, inl, inr, List, [], ◌∷◌, length, take, drop, Some, None, refl, ap, ◌∙◌, arith, ltb}
+use Rattle.std.proofs.Common.{◌≡◌, ℕ, ◌+◌, ◌≤◌, inl, inr, List, [], ◌∷◌, length, take, drop, Some, None, refl, ap, ◌∙◌}
+use Rattle.std.proofs.Common.{arith, ltb}
 use Rattle.std.proofs.lemmas.Bool.{cases_Bool, ltb-true}
 use Rattle.std.proofs.lemmas.List.Splits.{slice_split_first, slice_split-cons_no}
 use Rattle.std.specs.List.{position, position_or_len, slice_split, onto_first}

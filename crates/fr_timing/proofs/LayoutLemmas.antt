@@ -1,5 +1,6 @@
 -- Places by multiplying and dividing are the places of the layout.
-use Rattle.std.proofs.Common.{◌≡◌, ℕ, zero, suc, ◌+◌, ◌-◌, ◌*◌, ◌/◌, ◌%◌, ◌<◌, ◌≤◌, inl, inr, List, [], ◌∷◌, ◌++◌, length, refl, sym, ap, subst, ◌∙◌, arith, Option, Some, None}
+use Rattle.std.proofs.Common.{◌≡◌, ℕ, zero, suc, ◌+◌, ◌-◌, ◌*◌, ◌/◌, ◌%◌, ◌<◌, ◌≤◌, inl, inr, List, [], ◌∷◌, ◌++◌}
+use Rattle.std.proofs.Common.{length, refl, sym, ap, subst, ◌∙◌, arith, Option, Some, None}
 use Rattle.std.specs.Prelude.{Contains}
 use Rattle.std.specs.List.{range_with_len}
 use Rattle.std.proofs.lemmas.List.Elements.{Contains-append_cases, Contains-append_left, Contains-append_right}
@@ -10,8 +11,10 @@ use Rattle.std.proofs.lemmas.Nat.{div_below, mod_below, div-add-mod', mul-add-lt
 use Rattle.fr_slots.specs.Parameters.{Parameters, IsParameters}
 use Rattle.fr_timing.specs.declared.place.Place.{Place}
 use Rattle.fr_timing.specs.declared.place.Place.TheVariants.{Static, Minislot, Symbol, Idle}
-use Rattle.fr_timing.specs.Division.{place_at, start_at, start_in_row, dynamic_start, symbol_start, idle_start, cycle_end}
-use Rattle.fr_timing.specs.Layout.{Part, static_slot, minislot, symbol_window, idle_time, Stretch, numbered, Interval, laid_from, layout, part_of, offset_of, IsAt}
+use Rattle.fr_timing.specs.Division.{place_at, start_at, start_in_row, dynamic_start, symbol_start, idle_start}
+use Rattle.fr_timing.specs.Division.{cycle_end}
+use Rattle.fr_timing.specs.Layout.{Part, static_slot, minislot, symbol_window, idle_time, Stretch, numbered, Interval}
+use Rattle.fr_timing.specs.Layout.{laid_from, layout, part_of, offset_of, IsAt}
 
 -- ---- membership
 

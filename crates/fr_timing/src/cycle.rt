@@ -3,7 +3,8 @@
 ghost use Rattle.std.specs.Prelude.{◌≡◌, ◌↔◌, ◌≤◌, ◌<◌, ◌+◌, ◌*◌, ◌^◌, ℕ, IfSome, IsNone};
 ghost use Rattle.fr_slots.specs.Parameters.{IsParameters};
 ghost use Rattle.fr_timing.specs.declared.place.Place.{Place};
-ghost use Rattle.fr_timing.specs.Division.{place_at, start_at, start_in_row, dynamic_start, symbol_start, idle_start, cycle_end};
+ghost use Rattle.fr_timing.specs.Division.{place_at, start_at, start_in_row, dynamic_start, symbol_start, idle_start};
+ghost use Rattle.fr_timing.specs.Division.{cycle_end};
 ghost use Rattle.fr_timing.specs.Layout.{IsAt};
 
 use crate::place::Place;

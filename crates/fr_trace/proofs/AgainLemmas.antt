@@ -1,5 +1,6 @@
 -- The text of a legal interface is read.
-use Rattle.std.proofs.Common.{◌≡◌, ℕ, zero, suc, ◌+◌, ◌≤◌, ◌<◌, List, [], ◌∷◌, ◌++◌, length, Option, Some, Ok, refl, sym, ap, subst, ◌∙◌, append_assoc, None, arith, length-append}
+use Rattle.std.proofs.Common.{◌≡◌, ℕ, zero, suc, ◌+◌, ◌≤◌, ◌<◌, List, [], ◌∷◌, ◌++◌, length, Option, Some, Ok, refl}
+use Rattle.std.proofs.Common.{sym, ap, subst, ◌∙◌, append_assoc, None, arith, length-append}
 use Rattle.std.specs.Prelude.{slice_get, IsSomeAnd}
 use Rattle.std.proofs.lemmas.List.{append-nil}
 use Rattle.std.proofs.lemmas.List.Sums.{fold-append}
@@ -10,7 +11,8 @@ use Rattle.fr_journal.specs.Entries.{IsEntry}
 use Rattle.fr_journal.specs.Legal.{IsLegal}
 use Rattle.fr_interface.specs.State.{State, IsLegalInterface, with_entry}
 use Rattle.fr_lines.specs.Spelled.{IsSpelledEntry, IsSpelledOwn, IsSpelledBuffer, IsSpelledQueue, bare_plan}
-use Rattle.fr_lines.specs.Spelling.{first_line, begin_line, end_line, params_words, node_words, own_words, buffer_words, queue_words, entry_words}
+use Rattle.fr_lines.specs.Spelling.{first_line, begin_line, end_line, params_words, node_words, own_words, buffer_words}
+use Rattle.fr_lines.specs.Spelling.{queue_words, entry_words}
 use Rattle.fr_lines.proofs.BufferLemmas.{buffer_line_again, buffer_no_feed, buffer_short, buffer_not_begin}
 use Rattle.fr_lines.proofs.EntryLemmas.{entry_line_again, entry_no_feed, entry_short, entry_not_end}
 use Rattle.fr_lines.proofs.NodeLemmas.{node_line_again, node_no_feed, node_short}
@@ -24,10 +26,12 @@ use Rattle.fr_slots.specs.declared.plan.Queue.{Queue}
 use Rattle.fr_slots.specs.Faults.{plan_fault}
 use Rattle.fr_slots.specs.History.{AllAfter}
 use Rattle.fr_slots.specs.Parameters.{Parameters, IsParameters}
-use Rattle.fr_slots.specs.Plans.{Plan, IsPlan, IsBuffer, IsOwn, IsQueueOrNone, QueueFits, Each, AllFit, buffer_fits, own_fits, with_buffer, with_own, with_queue}
+use Rattle.fr_slots.specs.Plans.{Plan, IsPlan, IsBuffer, IsOwn, IsQueueOrNone, QueueFits, Each, AllFit, buffer_fits}
+use Rattle.fr_slots.specs.Plans.{own_fits, with_buffer, with_own, with_queue}
 use Rattle.fr_text.specs.Spaces.{words_of, line_of}
 use Rattle.fr_trace.specs.Answers.{made_by}
-use Rattle.fr_trace.specs.Stream.{magic, params, node, lines, body, finished, reading, after_parameters, after_numbers, after_node, line_number, take_line, take_byte, take_bytes, fresh}
+use Rattle.fr_trace.specs.Stream.{magic, params, node, lines, body, finished, reading, after_parameters, after_numbers}
+use Rattle.fr_trace.specs.Stream.{after_node, line_number, take_line, take_byte, take_bytes, fresh}
 use Rattle.fr_lines.specs.Spelling.{line_feed, line_text}
 use Rattle.fr_trace.specs.TraceText.{entry_line, head_text, params_text, plan_text, begin_text, body_text, trace_text}
 use Rattle.fr_trace.proofs.AnswerLemmas.{no_fault, legal_accepted, made-answered}

@@ -1,5 +1,6 @@
 -- The call of an entry that is legal is accepted, and makes that entry again.
-use Rattle.std.proofs.Common.{◌≡◌, ℕ, ◌+◌, ◌*◌, ◌<◌, true, false, eqb, leb, ltb, List, length, Option, Some, None, refl, sym, ap, option_map}
+use Rattle.std.proofs.Common.{◌≡◌, ℕ, ◌+◌, ◌*◌, ◌<◌, true, false, eqb, leb, ltb, List, length, Option, Some, None, refl}
+use Rattle.std.proofs.Common.{sym, ap, option_map}
 use Rattle.std.specs.Prelude.{IfSome, IsSomeAnd, is_some, count_by}
 use Rattle.std.specs.Option.{option_and_then}
 use Rattle.std.proofs.lemmas.Bool.{and_parts, eqb-true, eq-eqb, lt-leb, le-ltb}
@@ -14,7 +15,9 @@ use Rattle.fr_journal.specs.Entries.{is_host, is_slot}
 use Rattle.fr_journal.specs.Legal.{IsLegal, IsLegalCommit, IsLegalRead, IsLegalPop, IsLegalFetch}
 use Rattle.fr_journal.specs.Offers.{offered}
 use Rattle.fr_journal.specs.OpenWindow.{open_window, last_number}
-use Rattle.fr_interface.specs.State.{State, received_by, commit_refusal, unless_transmit, received_in, read_refusal, unless_receive, pop_refusal, unless_queued, oldest_of, fetch_refusal, observe_refusal, unless_open, is_not_above, is_host_full}
+use Rattle.fr_interface.specs.State.{State, received_by, commit_refusal, unless_transmit, received_in, read_refusal}
+use Rattle.fr_interface.specs.State.{unless_receive, pop_refusal, unless_queued, oldest_of, fetch_refusal}
+use Rattle.fr_interface.specs.State.{observe_refusal, unless_open, is_not_above, is_host_full}
 use Rattle.fr_slots.specs.declared.channel.Channel.{Channel}
 use Rattle.fr_slots.specs.declared.channel.Channel.TheVariants.{A, B}
 use Rattle.fr_slots.specs.declared.plan.Buffer.{Buffer}

@@ -20,7 +20,11 @@ use Rattle.fr_text.specs.Spaces.{words_of}
 use Rattle.fr_trace.specs.Answers.{is_refused, is_answered}
 use Rattle.fr_trace.specs.Audit.{IsOfText}
 use Rattle.fr_trace.specs.declared.error.TraceError.{TraceError}
-use Rattle.fr_trace.specs.Stream.{Phase, magic, params, node, lines, body, finished, Progress, reading, failed, after_parameters, after_numbers, after_node, after_queue, after_buffer, has_owned_alone, after_own, after_plan_line, after_begin, after_call, after_entry, take_line, too_long, after_line, take_open, take_byte, take_bytes, longest_line, outcome_of}
+use Rattle.fr_trace.specs.Stream.{Phase, magic, params, node, lines, body, finished, Progress, reading, failed}
+use Rattle.fr_trace.specs.Stream.{after_parameters, after_numbers, after_node, after_queue, after_buffer}
+use Rattle.fr_trace.specs.Stream.{has_owned_alone, after_own, after_plan_line, after_begin, after_call, after_entry}
+use Rattle.fr_trace.specs.Stream.{take_line, too_long, after_line, take_open, take_byte, take_bytes, longest_line}
+use Rattle.fr_trace.specs.Stream.{outcome_of}
 
 abbrev pub FaultOfText : {A : Type 0} → Result A TraceError → Type 0
 FaultOfText (Ok x) = Unit {0}

@@ -2,11 +2,14 @@
 use Rattle.std.proofs.Common.{◌≡◌, ℕ, List, ◌++◌, Option, Some, None, Result, Ok, Err, refl, sym, ap, subst, ◌∙◌}
 use Rattle.std.proofs.lemmas.List.{append-nil}
 use Rattle.fr_interface.specs.State.{State, IsLegalInterface}
-use Rattle.fr_trace.specs.Audit.{IsTextOf, IsRefusedBy, HasBegin, Leaves, Audits, Stops, StopsIn, BeginsIn, ReadsThrough, IsNotRefused, IsOfText}
+use Rattle.fr_trace.specs.Audit.{IsTextOf, IsRefusedBy, HasBegin, Leaves, Audits, Stops, StopsIn, BeginsIn}
+use Rattle.fr_trace.specs.Audit.{ReadsThrough, IsNotRefused, IsOfText}
 use Rattle.fr_trace.specs.Feeds.{Begins}
 use Rattle.fr_trace.specs.declared.error.TraceError.{TraceError}
-use Rattle.fr_trace.specs.declared.error.TraceError.TheVariants.{BadMagic, BadLine, LineTooLong, Refused, WrongAnswer, Truncated, Read, Write, Memory}
-use Rattle.fr_trace.specs.Stream.{Progress, magic, params, node, lines, body, finished, reading, failed, fresh, take_bytes, outcome_of}
+use Rattle.fr_trace.specs.declared.error.TraceError.TheVariants.{BadMagic, BadLine, LineTooLong, Refused, WrongAnswer}
+use Rattle.fr_trace.specs.declared.error.TraceError.TheVariants.{Truncated, Read, Write, Memory}
+use Rattle.fr_trace.specs.Stream.{Progress, magic, params, node, lines, body, finished, reading, failed, fresh}
+use Rattle.fr_trace.specs.Stream.{take_bytes, outcome_of}
 use Rattle.fr_trace.specs.TraceText.{trace_text}
 use Rattle.fr_trace.proofs.AgainLemmas.{text_again, text_begins}
 use Rattle.fr_trace.proofs.FeedLemmas.{begins_before, begins_behind}

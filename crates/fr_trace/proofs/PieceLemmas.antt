@@ -1,5 +1,6 @@
 -- How far a reader has been read, and what has come of it.
-use Rattle.std.proofs.Common.{◌≡◌, ℕ, ◌≤◌, List, [], ◌++◌, length, Option, Some, None, Result, Ok, Err, inl, inr, refl, sym, ap, ◌∙◌, append_assoc, subst, ◌⊎◌}
+use Rattle.std.proofs.Common.{◌≡◌, ℕ, ◌≤◌, List, [], ◌++◌, length, Option, Some, None, Result, Ok, Err, inl, inr, refl}
+use Rattle.std.proofs.Common.{sym, ap, ◌∙◌, append_assoc, subst, ◌⊎◌}
 use Rattle.std.proofs.lemmas.List.{append-nil}
 use Rattle.std.proofs.lemmas.List.Sums.{fold-append}
 use Rattle.std.proofs.lemmas.List.Folds.{fold_stays}
@@ -9,7 +10,8 @@ use Rattle.fr_trace.specs.Audit.{IsOfText, HasNoFault, StopsIn, StopsAtEnd, Fail
 use Rattle.fr_trace.specs.Stream.{Progress, reading, failed, fresh, take_byte, take_bytes, answer_of, outcome_of}
 use Rattle.fr_trace.specs.Feeds.{Begins, Reads}
 use Rattle.fr_trace.specs.declared.error.TraceError.{TraceError}
-use Rattle.fr_trace.specs.declared.error.TraceError.TheVariants.{BadMagic, BadLine, LineTooLong, Refused, WrongAnswer, Truncated, Read, Write, Memory}
+use Rattle.fr_trace.specs.declared.error.TraceError.TheVariants.{BadMagic, BadLine, LineTooLong, Refused, WrongAnswer}
+use Rattle.fr_trace.specs.declared.error.TraceError.TheVariants.{Truncated, Read, Write, Memory}
 use Rattle.fr_trace.proofs.FaultLemmas.{FaultOfText, FailsByText, bytes_fault, outcome_fault}
 
 -- the auditor has read what the reader has lost, and no fault has shown

@@ -1,5 +1,6 @@
 -- What tests of a plan tell.
-use Rattle.std.proofs.Common.{◌≡◌, ◌<◌, true, false, inl, inr, List, [], ◌∷◌, length, arith, Option, Some, None, refl, eqb}
+use Rattle.std.proofs.Common.{◌≡◌, ◌<◌, true, false, inl, inr, List, [], ◌∷◌, length, arith, Option, Some, None, refl}
+use Rattle.std.proofs.Common.{eqb}
 use Rattle.std.specs.Prelude.{is_none, is_some}
 use Rattle.std.proofs.lemmas.Bool.{cases_Bool, eqb-true, lt-leb}
 use Rattle.fr_slots.specs.declared.plan.Buffer.{Buffer}

@@ -1,5 +1,7 @@
 -- Which line an error names, that no bytes after a fault help, and how long a text can be.
-use Rattle.std.proofs.Common.{◌≡◌, ℕ, zero, ◌+◌, ◌*◌, ◌≤◌, ◌==◌, ◌&&◌, Bool, true, false, List, [], ◌∷◌, ◌++◌, length, Option, Some, None, Result, Ok, Err, inl, inr, refl, sym, ap, subst, ◌∙◌, arith, cond, length-append, zero-add, eq-eqb}
+use Rattle.std.proofs.Common.{◌≡◌, ℕ, zero, ◌+◌, ◌*◌, ◌≤◌, ◌==◌, ◌&&◌, Bool, true, false, List, [], ◌∷◌, ◌++◌, length}
+use Rattle.std.proofs.Common.{Option, Some, None, Result, Ok, Err, inl, inr, refl, sym, ap, subst, ◌∙◌, arith, cond}
+use Rattle.std.proofs.Common.{length-append, zero-add, eq-eqb}
 use Rattle.std.specs.Prelude.{ℤ, is_none, IfSome}
 use Rattle.std.specs.Str.{bytes_eq}
 use Rattle.std.proofs.lemmas.Bool.{cases_Bool, eqb-true}
@@ -25,10 +27,16 @@ use Rattle.fr_text.specs.Spaces.{words_of}
 use Rattle.fr_trace.specs.Answers.{fault_of, made_by, is_answered, is_refused}
 use Rattle.fr_trace.specs.Audit.{IsOfText, HasNoFault, ReadsThrough, Audits}
 use Rattle.fr_trace.specs.declared.error.TraceError.{TraceError}
-use Rattle.fr_trace.specs.declared.error.TraceError.TheVariants.{BadMagic, BadLine, LineTooLong, Refused, WrongAnswer, Truncated, Read, Write, Memory}
+use Rattle.fr_trace.specs.declared.error.TraceError.TheVariants.{BadMagic, BadLine, LineTooLong, Refused, WrongAnswer}
+use Rattle.fr_trace.specs.declared.error.TraceError.TheVariants.{Truncated, Read, Write, Memory}
 use Rattle.fr_trace.specs.Feeds.{Reads}
-use Rattle.fr_trace.specs.Refusals.{line_of_error, feed_count, IsFirstFault, NamesItsLine, LineIsNamed, IsHopeless, HopelessIfRefused, HasFewLines, ShortIfTaken, longest_text}
-use Rattle.fr_trace.specs.Stream.{Phase, magic, params, node, lines, body, finished, Progress, reading, failed, line_count, line_number, after_parameters, after_numbers, after_node, after_queue, after_buffer, has_owned_alone, after_own, after_plan_line, after_begin, after_fault, after_call, after_entry, take_line, too_long, after_line, take_open, take_in, take_byte, take_bytes, fresh, longest_line, answer_of, outcome_of}
+use Rattle.fr_trace.specs.Refusals.{line_of_error, feed_count, IsFirstFault, NamesItsLine, LineIsNamed, IsHopeless}
+use Rattle.fr_trace.specs.Refusals.{HopelessIfRefused, HasFewLines, ShortIfTaken, longest_text}
+use Rattle.fr_trace.specs.Stream.{Phase, magic, params, node, lines, body, finished, Progress, reading, failed}
+use Rattle.fr_trace.specs.Stream.{line_count, line_number, after_parameters, after_numbers, after_node, after_queue}
+use Rattle.fr_trace.specs.Stream.{after_buffer, has_owned_alone, after_own, after_plan_line, after_begin, after_fault}
+use Rattle.fr_trace.specs.Stream.{after_call, after_entry, take_line, too_long, after_line, take_open, take_in}
+use Rattle.fr_trace.specs.Stream.{take_byte, take_bytes, fresh, longest_line, answer_of, outcome_of}
 use Rattle.fr_trace.specs.TraceText.{trace_text}
 use Rattle.fr_trace.proofs.OutcomeLemmas.{legal_outcome}
 use Rattle.fr_trace.proofs.PlanLemmas.{none_is, no_queue_yet}

@@ -1,5 +1,6 @@
 -- What has been read spells the phase and the front of a line.
-use Rattle.std.proofs.Common.{◌≡◌, ℕ, ◌==◌, ◌&&◌, Bool, true, false, List, [], ◌∷◌, ◌++◌, length, Option, Some, None, Result, Ok, Err, refl, sym, ap, subst, ◌∙◌, append_assoc, inl, inr}
+use Rattle.std.proofs.Common.{◌≡◌, ℕ, ◌==◌, ◌&&◌, Bool, true, false, List, [], ◌∷◌, ◌++◌, length, Option, Some, None}
+use Rattle.std.proofs.Common.{Result, Ok, Err, refl, sym, ap, subst, ◌∙◌, append_assoc, inl, inr}
 use Rattle.std.specs.Prelude.{ℤ, is_none}
 use Rattle.std.proofs.lemmas.Bool.{and_parts, cases_Bool, eqb-true}
 use Rattle.std.proofs.lemmas.List.{append-nil, flat_map_more}
@@ -30,8 +31,13 @@ use Rattle.fr_trace.specs.Answers.{fault_of, made_by, is_answered, is_refused}
 use Rattle.fr_trace.specs.declared.error.TraceError.{TraceError}
 use Rattle.fr_slots.specs.Faults.{plan_fault}
 use Rattle.fr_lines.specs.Spelling.{line_feed, line_text}
-use Rattle.fr_trace.specs.TraceText.{own_line, buffer_line, queue_lines, entry_line, head_text, params_text, plan_text, begin_text, body_text, trace_text}
-use Rattle.fr_trace.specs.Stream.{Phase, magic, params, node, lines, body, finished, Progress, reading, failed, after_parameters, after_numbers, after_node, after_queue, after_buffer, has_owned_alone, after_own, after_plan_line, after_begin, line_number, after_fault, after_entry, take_line, after_line, take_open, take_in, take_byte, take_bytes, fresh, longest_line}
+use Rattle.fr_trace.specs.TraceText.{own_line, buffer_line, queue_lines, entry_line, head_text, params_text, plan_text}
+use Rattle.fr_trace.specs.TraceText.{begin_text, body_text, trace_text}
+use Rattle.fr_trace.specs.Stream.{Phase, magic, params, node, lines, body, finished, Progress, reading, failed}
+use Rattle.fr_trace.specs.Stream.{after_parameters, after_numbers, after_node, after_queue, after_buffer}
+use Rattle.fr_trace.specs.Stream.{has_owned_alone, after_own, after_plan_line, after_begin, line_number, after_fault}
+use Rattle.fr_trace.specs.Stream.{after_entry, take_line, after_line, take_open, take_in, take_byte, take_bytes, fresh}
+use Rattle.fr_trace.specs.Stream.{longest_line}
 use Rattle.fr_trace.proofs.AnswerLemmas.{made-answered}
 use Rattle.fr_trace.proofs.PlanLemmas.{nil_is, none_is, no_queue_yet}
 

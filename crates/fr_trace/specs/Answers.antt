@@ -5,7 +5,8 @@ use Rattle.fr_journal.specs.declared.entry.Entry.TheVariants.{Commit, Read, Pop,
 use Rattle.fr_journal.specs.declared.entry.Offered.{Offered}
 use Rattle.fr_journal.specs.declared.entry.Offered.TheVariants.{Nothing, Null, Data}
 use Rattle.fr_journal.specs.declared.entry.Origin.{Origin}
-use Rattle.fr_interface.specs.State.{State, read_entry, pop_entry, fetch_entry, commit_refusal, read_refusal, pop_refusal, fetch_refusal, observe_refusal}
+use Rattle.fr_interface.specs.State.{State, read_entry, pop_entry, fetch_entry, commit_refusal, read_refusal}
+use Rattle.fr_interface.specs.State.{pop_refusal, fetch_refusal, observe_refusal}
 use Rattle.fr_slots.specs.declared.channel.Channel.{Channel}
 use Rattle.fr_slots.specs.declared.channel.Channel.TheVariants as channel
 use Rattle.fr_trace.specs.declared.error.TraceError.{TraceError}

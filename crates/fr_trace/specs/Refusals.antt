@@ -1,5 +1,6 @@
 -- What a refusal of a trace tells: the line at fault, and that no bytes that come after it could help.
-use Rattle.std.specs.Prelude.{◌≡◌, ℕ, ◌+◌, ◌*◌, ◌≤◌, ◌==◌, List, [], ◌∷◌, ◌++◌, length, Option, Some, None, Result, Ok, Err, count_by, IfSome}
+use Rattle.std.specs.Prelude.{◌≡◌, ℕ, ◌+◌, ◌*◌, ◌≤◌, ◌==◌, List, [], ◌∷◌, ◌++◌, length, Option, Some, None, Result, Ok}
+use Rattle.std.specs.Prelude.{Err, count_by, IfSome}
 use Rattle.fr_interface.specs.State.{State, IsLegalInterface}
 use Rattle.fr_slots.specs.Numbers.{most_lines, most_entries}
 use Rattle.fr_trace.specs.Audit.{IsOfText, HasNoFault}

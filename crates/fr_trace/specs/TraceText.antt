@@ -3,7 +3,8 @@ use Rattle.std.specs.Prelude.{ℕ, List, [], ◌++◌, Option, Some, None}
 use Rattle.std.specs.List.{flat_map}
 use Rattle.fr_journal.specs.declared.entry.Entry.{Entry}
 use Rattle.fr_interface.specs.State.{State}
-use Rattle.fr_lines.specs.Spelling.{line_feed, line_text, first_line, begin_line, end_line, params_words, node_words, own_words, buffer_words, queue_words, entry_words}
+use Rattle.fr_lines.specs.Spelling.{line_feed, line_text, first_line, begin_line, end_line, params_words, node_words}
+use Rattle.fr_lines.specs.Spelling.{own_words, buffer_words, queue_words, entry_words}
 use Rattle.fr_slots.specs.declared.plan.Buffer.{Buffer}
 use Rattle.fr_slots.specs.declared.plan.Own.{Own}
 use Rattle.fr_slots.specs.declared.plan.Queue.{Queue}

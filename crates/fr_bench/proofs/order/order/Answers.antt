@@ -1,6 +1,7 @@
 use Rattle.std.proofs.Common.{rules, ap, sym, subst, ◌≡◌, ◌∙◌, [], map, true, List}
 use Rattle.std.specs.Prelude.{IfSome, IsSome}
-use Rattle.clap.specs.Words.{HasKind, Text, app_of, fault_of, is_simple, is_simple_and_free, subcommand_of, subcommand_rows_of}
+use Rattle.clap.specs.Words.{HasKind, Text, app_of, fault_of, is_simple, is_simple_and_free, subcommand_of}
+use Rattle.clap.specs.Words.{subcommand_rows_of}
 use Rattle.fr_bench.specs.Orders.{IsAnswer, IsOrder, IsWhole, the_commands}
 use Rattle.fr_bench.proofs.OrderLemmas.{are_free, are_simple, refused_for, taken_for}
 use Rattle.fr_bench.proofs.order.order.Goals as goal

@@ -1,5 +1,7 @@
 use Rattle.std.proofs.Common.{arith, sym, ◌∙◌}
-use Rattle.fr_frame.proofs.ReadingLemmas.{refused_length, refused_header, refused_frame, not_refused, long_enough, header_read, length_test, length_test_fails, header_test, header_test_fails, frame_test, frame_test_fails, last_part, fields_read}
+use Rattle.fr_frame.proofs.ReadingLemmas.{refused_length, refused_header, refused_frame, not_refused, long_enough}
+use Rattle.fr_frame.proofs.ReadingLemmas.{header_read, length_test, length_test_fails, header_test, header_test_fails}
+use Rattle.fr_frame.proofs.ReadingLemmas.{frame_test, frame_test_fails, last_part, fields_read}
 use Rattle.fr_frame.proofs.decode.frame_from.Goals as goal
 
 pub returns-then-bytes-words-clause-refused : goal.returns-then-bytes-words-clause-refused

@@ -1,6 +1,7 @@
 use Rattle.std.proofs.Common.{◌≡◌, ◌≤◌, length, map, Some, None, Result, Ok, Err, rules, sym, ap, subst, ◌∙◌}
 use Rattle.std.proofs.lemmas.List.{length-map}
-use Rattle.fr_schedule.proofs.FileLemmas.{params_refused, guard_refused, nodes_refused, plans_refused, plans_read, each_of-length, read_cluster}
+use Rattle.fr_schedule.proofs.FileLemmas.{params_refused, guard_refused, nodes_refused, plans_refused, plans_read}
+use Rattle.fr_schedule.proofs.FileLemmas.{each_of-length, read_cluster}
 use Rattle.fr_schedule.specs.Descriptions.{Description}
 use Rattle.fr_schedule.specs.declared.error.ConfigError.{ConfigError}
 use Rattle.fr_schedule.specs.FileFaults.{file_fault}

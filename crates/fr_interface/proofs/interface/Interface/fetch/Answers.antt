@@ -17,7 +17,8 @@ use Rattle.fr_interface.proofs.CounterLemmas.{counters-other}
 use Rattle.fr_interface.proofs.KeptLemmas.{written, queue-other}
 use Rattle.fr_interface.proofs.OpeningLemmas.{opening-fetch}
 use Rattle.fr_interface.proofs.ReceiveLemmas.{held-other}
-use Rattle.fr_interface.proofs.SenderLemmas.{IsSender, IsFetched, sends_by, offered-place, frame-place, sender-is, sent-by, transmitters-fetch}
+use Rattle.fr_interface.proofs.SenderLemmas.{IsSender, IsFetched, sends_by, offered-place, frame-place, sender-is}
+use Rattle.fr_interface.proofs.SenderLemmas.{sent-by, transmitters-fetch}
 use Rattle.fr_interface.proofs.TestLemmas.{none_from_test, later_from_test}
 use Rattle.fr_slots.specs.declared.channel.Channel.TheVariants.{A, B}
 use Rattle.fr_slots.specs.Windows.{Opportunity, IsInRange, window_fits}

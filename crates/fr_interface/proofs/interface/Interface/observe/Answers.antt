@@ -1,4 +1,5 @@
-use Rattle.std.proofs.Common.{◌≡◌, ◌+◌, ◌<◌, ◌≤◌, ◌^◌, length, map, Option, Some, None, ap, arith, refl, sym, subst, ◌∙◌, rules}
+use Rattle.std.proofs.Common.{◌≡◌, ◌+◌, ◌<◌, ◌≤◌, ◌^◌, length, map, Option, Some, None, ap, arith, refl, sym, subst}
+use Rattle.std.proofs.Common.{◌∙◌, rules}
 use Rattle.std.specs.Prelude.{IfSome, IsSomeAnd}
 use Rattle.fr_buffers.specs.Waiting.{Waiting}
 use Rattle.fr_interface.specs.declared.opening.Opening.{Opening}
