@@ -1,0 +1,4 @@
+pub mod AccountLemmas
+pub mod CommitLemmas
+pub mod RunLemmas
+pub mod WorldLemmas
