@@ -224,9 +224,14 @@ impl Machine {
             return Err(StepError::WrongTurn);
         };
         let window = *window;
-        let offer = self.interfaces[place].fetch(&window)?;
-        self.carried[place] = Carried::Offers(window, offer);
-        Ok(Reply::Done)
+        let interface = &mut self.interfaces[place];
+        match interface.fetch(&window) {
+            Ok(offer) => {
+                self.carried[place] = Carried::Offers(window, offer);
+                Ok(Reply::Done)
+            }
+            Err(error) => Err(StepError::Slot(error)),
+        }
     }
 
     /// A controller puts on the bus what its interface handed out.

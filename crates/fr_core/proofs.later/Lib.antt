@@ -1,4 +1,0 @@
-pub mod AccountLemmas
-pub mod CommitLemmas
-pub mod RunLemmas
-pub mod WorldLemmas
