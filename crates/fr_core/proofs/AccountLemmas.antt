@@ -6,14 +6,14 @@ use Rattle.std.specs.Prelude.{count_by, IsSomeAnd, slice_get}
 use Rattle.std.specs.List.{sum_by, range_with_len, All}
 use Rattle.std.proofs.lemmas.List.Sums.{sum_by-cons}
 use Rattle.std.proofs.lemmas.Option.{slice_get_within}
-use Rattle.fr_core.specs.Commits.{is_commit, commits_of, met_on, met_of, AreAccounted}
+use Rattle.fr_core.specs.Commits.{is_commit, met_on, AreAccounted}
 use Rattle.fr_interface.specs.State.{State, IsLegalInterface}
 use Rattle.fr_journal.proofs.TallyLemmas.{fates_fill}
 use Rattle.fr_journal.specs.declared.entry.Entry.{Entry}
 use Rattle.fr_journal.specs.declared.entry.Entry.TheVariants.{Commit, Read, Pop, Fetch, Observe}
 use Rattle.fr_journal.specs.declared.fate.Fate.{Fate}
 use Rattle.fr_journal.specs.Fate.{is_commit_on, fate_of, fates_from, fates}
-use Rattle.fr_journal.specs.Legal.{IsLegal, IsLegalJournal}
+use Rattle.fr_journal.specs.Legal.{IsLegal}
 use Rattle.fr_slots.specs.declared.plan.Buffer.{Buffer}
 use Rattle.fr_slots.specs.History.{AllAfter}
 use Rattle.fr_slots.specs.Parameters.{Parameters}
@@ -61,8 +61,8 @@ one_past k a (suc n) past =
 one_in : (k a n : ℕ) → a ≤ k → k < a + n → sum_by (λ m. digit (eqb k m)) (range_with_len a n) ≡ 1
 one_in k a zero from to = absurd (omega (arith, from, to))
 one_in k a (suc n) from to = elim (eqb_tells k a) [
-  inl same ↦ omega (arith, sum_by-cons (λ m. digit (eqb k m)) a (range_with_len (a + 1) n), one_past k (a + 1) n (omega (arith, same.1)), ap digit same.0)
-| inr other ↦ omega (arith, sum_by-cons (λ m. digit (eqb k m)) a (range_with_len (a + 1) n), one_in k (a + 1) n (above k a from other.1) (omega (arith, to)), ap digit other.0)
+  | inl same ↦ omega (arith, sum_by-cons (λ m. digit (eqb k m)) a (range_with_len (a + 1) n), one_past k (a + 1) n (omega (arith, same.1)), ap digit same.0)
+  | inr other ↦ omega (arith, sum_by-cons (λ m. digit (eqb k m)) a (range_with_len (a + 1) n), one_in k (a + 1) n (above k a from other.1) (omega (arith, to)), ap digit other.0)
 ]
   where
     above : (k a : ℕ) → a ≤ k → k ≢ a → a + 1 ≤ k
@@ -90,9 +90,13 @@ commits_on_buffers : (most : ℕ) (xs : List Entry) → Each (IsBelow most) xs
     → sum_by (λ b. count_by (is_commit_on b) xs) (range_with_len 0 most) ≡ count_by is_commit xs
 commits_on_buffers most [] below = sum_by-none (λ b. 0) (λ b. refl) (range_with_len 0 most)
 commits_on_buffers most (x ∷ xs) below =
-    omega (arith,
+    omega (
+      arith,
       sum_by-both (λ b. digit (is_commit_on b x)) (λ b. count_by (is_commit_on b) xs) (λ b. count_by (is_commit_on b) (x ∷ xs)) (λ b. sum_by-cons (λ e. digit (is_commit_on b e)) x xs) (range_with_len 0 most),
-      on_one most x below.0, commits_on_buffers most xs below.1, sum_by-cons (λ e. digit (is_commit e)) x xs)
+      on_one most x below.0,
+      commits_on_buffers most xs below.1,
+      sum_by-cons (λ e. digit (is_commit e)) x xs,
+    )
 
 -- a legal commit is on a buffer of the plan
 place_of : (P : Buffer → Type 0) (bs : List Buffer) (k : ℕ) (found : Option Buffer) → found ≡ slice_get bs k → IsSomeAnd found P → k < length bs
@@ -101,14 +105,14 @@ place_of P bs k (Some b) is some = slice_get_within bs k b (sym is)
 
 legal_below : (params : Parameters) (plan : Plan) (before : List Entry) (e : Entry) → IsLegal params plan before e → IsBelow (length plan.buffers) e
 legal_below params plan before (Commit task buffer payload) legal = place_of _ plan.buffers buffer (buffer_at plan buffer) refl legal.transmits
-legal_below params plan before (Read task buffer from) legal = ()
-legal_below params plan before (Pop task from) legal = ()
-legal_below params plan before (Fetch window a b) legal = ()
-legal_below params plan before (Observe window a b) legal = ()
+legal_below params plan before (Read task buffer from) legal = tt
+legal_below params plan before (Pop task from) legal = tt
+legal_below params plan before (Fetch window a b) legal = tt
+legal_below params plan before (Observe window a b) legal = tt
 
 all_below : (params : Parameters) (plan : Plan) (before xs : List Entry) → AllAfter (IsLegal params plan) before xs → Each (IsBelow (length plan.buffers)) xs
 unfolding AllAfter
-all_below params plan before [] legal = ()
+all_below params plan before [] legal = tt
 all_below params plan before (x ∷ xs) legal = (legal_below params plan before x legal.0, all_below params plan (before ++ x ∷ []) xs legal.1)
 
 -- ---- interfaces
@@ -116,7 +120,7 @@ all_below params plan before (x ∷ xs) legal = (legal_below params plan before 
 pub accounted : (s : State) → IsLegalInterface s → AreAccounted s
 accounted s legal =
     sym (sum_by-same (met_on s) (λ b. count_by (is_commit_on b) s.entries) (met_is s) (range_with_len 0 (length s.plan.buffers))
-      ∙ commits_on_buffers (length s.plan.buffers) s.entries (all_below s.params s.plan [] s.entries legal.legal))
+    ∙ commits_on_buffers (length s.plan.buffers) s.entries (all_below s.params s.plan [] s.entries legal.legal))
 
 pub all_accounted : (xs : List State) → All IsLegalInterface xs → All AreAccounted xs
 all_accounted xs legal k d within = accounted (get_or xs k d) (legal k d within)

@@ -1,2 +1,4 @@
 pub mod AccountLemmas
+pub mod CommitLemmas
 pub mod WorldLemmas
+pub mod RunLemmas

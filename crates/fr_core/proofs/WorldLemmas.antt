@@ -1,16 +1,15 @@
 -- What every world keeps is kept by each event.
-use Rattle.std.proofs.Common.{◌≡◌, ℕ, List, [], ◌∷◌, length, map, replicate, refl, sym, ap, ◌∙◌, Option, Some, None, get_or, set}
+use Rattle.std.proofs.Common.{◌≡◌, ℕ, List, [], ◌∷◌, length, map, refl, sym, ap, ◌∙◌, Option, Some, None}
 use Rattle.std.proofs.Common.{length-set}
 use Rattle.std.specs.Prelude.{Result, Ok, Err}
+use Rattle.std.proofs.lemmas.List.{length-map, length-replicate}
 use Rattle.std.proofs.Math.Seq.{map-set_same}
-use Rattle.fr_bus.specs.declared.error.BusError.TheVariants.{Memory}
 use Rattle.fr_bus.specs.declared.fault.Fault.{Fault}
 use Rattle.fr_bus.specs.declared.fault.Fault.TheVariants.{Babble, Mute, Corrupt}
-use Rattle.fr_bus.specs.States.{BusState, inject_done, sealed_with, sealed_now, collecting_of, new_bus}
+use Rattle.fr_bus.specs.States.{BusState, inject_done, sealed_with, collecting_of}
 use Rattle.fr_core.specs.declared.carried.Carried.{Carried}
 use Rattle.fr_core.specs.declared.carried.Carried.TheVariants.{Idle, Knows, Offers, Waits, Took}
 use Rattle.fr_core.specs.declared.error.StepError.{StepError}
-use Rattle.fr_core.specs.declared.error.StepError.TheVariants.{Bus}
 use Rattle.fr_core.specs.declared.event.Event.{Event}
 use Rattle.fr_core.specs.declared.event.Event.TheVariants.{Commit, Read, Pop, Look, Fetch, Put, Take, Observe, Inject}
 use Rattle.fr_core.specs.declared.event.Event.TheVariants.{Seal, Advance}
@@ -120,5 +119,5 @@ opening_configured params (plan ∷ plans) = ap (λ l. new_interface params plan
 pub kept_opening : (d : Description) (cycles : ℕ) → IsWorld (opening_world d cycles)
 kept_opening d cycles = record {
   configured = opening_configured d.params d.plans;
-  a_controller_each = length-map (new_interface d.params) d.plans ∙ sym (length-replicate (length d.plans) Idle);
+  a_controller_each = length-map d.plans (new_interface d.params) ∙ sym (length-replicate (length d.plans) Idle);
 }

@@ -4,7 +4,6 @@ use Rattle.std.specs.List.{sum_by, range_with_len}
 use Rattle.fr_interface.specs.State.{State}
 use Rattle.fr_journal.specs.declared.entry.Entry.{Entry}
 use Rattle.fr_journal.specs.declared.entry.Entry.TheVariants.{Commit, Read, Pop, Fetch, Observe}
-use Rattle.fr_journal.specs.declared.fate.Tally.{Tally}
 use Rattle.fr_journal.specs.Fate.{tally_of}
 
 abbrev pub is_commit : Entry → Bool

@@ -1,6 +1,7 @@
 -- Lists of events (own profile).
-use Rattle.std.specs.Prelude.{◌≡◌, ℕ, ◌+◌, ◌==◌, Bool, true, false, ◌&&◌, List, [], ◌∷◌, Result, Ok, Err, count_by}
+use Rattle.std.specs.Prelude.{◌≡◌, ℕ, ◌+◌, ◌==◌, Bool, false, ◌&&◌, List, [], ◌∷◌, Result, count_by}
 use Rattle.std.specs.Prelude.{if◌then◌else◌}
+use Rattle.std.specs.Result.{is_ok}
 use Rattle.fr_core.specs.Commits.{commits_of}
 use Rattle.fr_core.specs.declared.error.StepError.{StepError}
 use Rattle.fr_core.specs.declared.event.Event.{Event}
@@ -21,10 +22,6 @@ StepsAll old (event ∷ events) [] new = ⊥
 StepsAll old (event ∷ events) (answer ∷ answers) new =
     (between : WorldState) × Steps old event answer between × StepsAll between events answers new
 
-abbrev pub is_accepted : Answer → Bool
-is_accepted (Ok reply) = true
-is_accepted (Err e) = false
-
 abbrev pub is_commit_at : ℕ → Event → Bool
 is_commit_at n (Commit node task buffer payload) = node == n
 is_commit_at n (Read node task buffer) = false
@@ -40,7 +37,7 @@ is_commit_at n Advance = false
 
 -- 1 for an accepted commit at the node
 abbrev pub commits_by : ℕ → Event → Answer → ℕ
-commits_by n event answer = if is_commit_at n event && is_accepted answer then 1 else 0
+commits_by n event answer = if is_commit_at n event && is_ok answer then 1 else 0
 
 -- how many of the events are commits at the node, and were accepted
 unfoldable pub commits_accepted : ℕ → List Event → List Answer → ℕ
@@ -53,5 +50,5 @@ commits_accepted n (event ∷ events) (answer ∷ answers) = commits_by n event 
 pub record IsRunOf (old : WorldState) (events : List Event) (accepted : ℕ) (new : WorldState) : Type 0 where
   pub answers : List Answer
   pub steps : StepsAll old events answers new
-  pub accepted_is : accepted ≡ count_by is_accepted answers
+  pub accepted_is : accepted ≡ count_by is_ok answers
   pub commits : (n : ℕ) → commits_of (interface_at new n) ≡ commits_of (interface_at old n) + commits_accepted n events answers

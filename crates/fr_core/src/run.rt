@@ -24,9 +24,7 @@ pub fn run_events(world: &mut World, events: &[Event]) -> u64
 {
     let mut accepted = 0;
     for event in events {
-        if world.step(event).is_ok() {
-            accepted += 1;
-        }
+        accepted += u64::from(world.step(event).is_ok());
     }
     world.known();
     accepted
