@@ -19,7 +19,10 @@ commits_of s = count_by is_commit s.entries
 
 -- how many commits on the buffer are sent, overwritten or pending
 abbrev pub met_on : State → ℕ → ℕ
-met_on s buffer = (tally_of buffer s.entries).sent + (tally_of buffer s.entries).overwritten + (tally_of buffer s.entries).pending
+met_on s buffer =
+    (tally_of buffer s.entries).sent
+    + (tally_of buffer s.entries).overwritten
+    + (tally_of buffer s.entries).pending
 
 -- the same of all buffers of the plan
 abbrev pub met_of : State → ℕ

@@ -51,4 +51,5 @@ pub record IsRunOf (old : WorldState) (events : List Event) (accepted : ℕ) (ne
   pub answers : List Answer
   pub steps : StepsAll old events answers new
   pub accepted_is : accepted ≡ count_by is_ok answers
-  pub commits : (n : ℕ) → commits_of (interface_at new n) ≡ commits_of (interface_at old n) + commits_accepted n events answers
+  pub commits : (n : ℕ)
+      → commits_of (interface_at new n) ≡ commits_of (interface_at old n) + commits_accepted n events answers

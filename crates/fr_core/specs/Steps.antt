@@ -133,7 +133,8 @@ abbrev pub if_node : WorldState → ℕ → Option StepError → Option StepErro
 if_node w n refusal = if has_node w n then refusal else Some UnknownNode
 
 abbrev pub step_refusal : WorldState → Event → Option StepError
-step_refusal w (Commit n task buffer payload) = if_node w n (option_map Host (commit_refusal (interface_at w n) task buffer payload))
+step_refusal w (Commit n task buffer payload) =
+    if_node w n (option_map Host (commit_refusal (interface_at w n) task buffer payload))
 step_refusal w (Read n task buffer) = if_node w n (option_map Host (read_refusal (interface_at w n) task buffer))
 step_refusal w (Pop n task) = if_node w n (option_map Host (pop_refusal (interface_at w n) task))
 step_refusal w (Look n) = if_node w n (look_in_turn w (carried_at w n))
@@ -150,7 +151,8 @@ window_shown None = Done
 window_shown (Some window) = Window window
 
 abbrev pub step_reply : WorldState → Event → Reply
-step_reply w (Commit n task buffer payload) = Committed (record { task = task; entry = length (interface_at w n).entries })
+step_reply w (Commit n task buffer payload) =
+    Committed (record { task = task; entry = length (interface_at w n).entries })
 step_reply w (Read n task buffer) = Frame (option_map frame_of (received_by (interface_at w n) buffer))
 step_reply w (Pop n task) = Frame (option_map frame_of (oldest_of (interface_at w n)))
 step_reply w (Look n) = window_shown (collecting_of w.bus)
@@ -164,8 +166,10 @@ step_reply w Advance = Done
 
 -- one call, that controller's carried state, and nothing else
 abbrev pub step_done : WorldState → Event → WorldState
-step_done w (Commit n task buffer payload) = with_interface w n (with_entry (interface_at w n) (entries.Commit task buffer payload))
-step_done w (Read n task buffer) = with_interface w n (with_entry (interface_at w n) (read_entry (interface_at w n) task buffer))
+step_done w (Commit n task buffer payload) =
+    with_interface w n (with_entry (interface_at w n) (entries.Commit task buffer payload))
+step_done w (Read n task buffer) =
+    with_interface w n (with_entry (interface_at w n) (read_entry (interface_at w n) task buffer))
 step_done w (Pop n task) = with_interface w n (with_entry (interface_at w n) (pop_entry (interface_at w n) task))
 step_done w (Look n) = looked w n (collecting_of w.bus)
 step_done w (Fetch n) = fetched w n (carried_at w n)
@@ -181,8 +185,9 @@ abbrev pub Refuses : Event → StepError → Option StepError → Type 0
 Refuses Seal (Bus Memory) found = found ≡ None
 Refuses event e found = found ≡ Some e
 
--- An event is accepted where nothing refuses it, is then answered its reply and does its one step; a refused one changes
--- nothing.
+-- An event is accepted where nothing refuses it, is then answered its reply and does its one step; a refused one
+-- changes nothing.
 abbrev pub Steps : WorldState → Event → Result Reply StepError → WorldState → Type 0
-Steps old event (Ok reply) new = (step_refusal old event ≡ None) × (reply ≡ step_reply old event) × (new ≡ step_done old event)
+Steps old event (Ok reply) new =
+    (step_refusal old event ≡ None) × (reply ≡ step_reply old event) × (new ≡ step_done old event)
 Steps old event (Err e) new = Refuses event e (step_refusal old event) × (new ≡ old)

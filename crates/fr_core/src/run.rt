@@ -13,8 +13,8 @@ use crate::world::World;
 /// after it are done all the same.
 ///
 /// Whatever the events: each interface is then legal, and took as many further commits as there are accepted commits at
-/// its node. Each of its commits is sent, overwritten or pending. The record is that of a run, and in each static slot of
-/// a guarded channel all that passed is of one sender.
+/// its node. Each of its commits is sent, overwritten or pending. The record is that of a run, and in each static slot
+/// of a guarded channel all that passed is of one sender.
 pub fn run_events(world: &mut World, events: &[Event]) -> u64
     ensures run { IsRunOf world.old events.now result world.new }
     ensures legal { All IsLegalInterface world.new.interfaces }

@@ -60,9 +60,9 @@ impl World {
     ///
     /// Refused, in this order, with `UnknownNode` where the event's node isn't one of the cluster's, with `WrongTurn`
     /// where another step of its controller is due, and with what the one call refuses: `Host` for that of a task,
-    /// `Slot` for that of a controller at its interface, and `Bus` for one at the bus. A look is refused by the bus with
-    /// `NotCollecting` where no window is open for offers, and a fault of an unknown node with the bus's `UnknownNode`.
-    /// A seal alone may be refused for want of memory. The world is then unchanged.
+    /// `Slot` for that of a controller at its interface, and `Bus` for one at the bus. A look is refused by the bus
+    /// with `NotCollecting` where no window is open for offers, and a fault of an unknown node with the bus's
+    /// `UnknownNode`. A seal alone may be refused for want of memory. The world is then unchanged.
     pub fn step(&mut self, event: &Event) -> Result<Reply, StepError>
         ensures { Steps self.old event.now result self.new }
     {
@@ -80,7 +80,8 @@ impl World {
         self.machine.interfaces()
     }
 
-    /// The bus. Its record is that of a run, and in a static slot of a guarded channel all that passed is of one sender.
+    /// The bus. Its record is that of a run, and in a static slot of a guarded channel all that passed is of one
+    /// sender.
     pub fn bus(&self) -> &Bus
         ensures value { result.now ≡ self.now.bus }
         ensures run { IsRun self.now.bus }
