@@ -2,3 +2,4 @@ pub mod AccountLemmas
 pub mod CommitLemmas
 pub mod WorldLemmas
 pub mod RunLemmas
+pub mod WorkedLemmas
