@@ -6,12 +6,13 @@ use Rattle.fr_bus.specs.declared.fault.Fault.TheVariants.{Mute}
 use Rattle.fr_core.specs.declared.error.StepError.{StepError}
 use Rattle.fr_core.specs.declared.error.StepError.TheVariants.{UnknownNode, WrongTurn, Bus}
 use Rattle.fr_core.specs.declared.event.Event.{Event}
-use Rattle.fr_core.specs.declared.event.Event.TheVariants.{Look, Fetch, Put, Take, Observe, Inject, Seal, Advance}
+use Rattle.fr_core.specs.declared.event.Event.TheVariants.{Look, Fetch, Put, Take, Observe, Inject, Seal}
 use Rattle.fr_core.specs.Steps.{step_refusal, step_done}
 use Rattle.fr_core.specs.Worlds.{WorldState, opening_world, is_between}
 use Rattle.fr_schedule.specs.Descriptions.{Description}
-use Rattle.fr_slots.specs.declared.channel.Channel.TheVariants.{A, B}
+use Rattle.fr_slots.specs.declared.channel.Channel.TheVariants.{A}
 use Rattle.fr_slots.specs.declared.channel.Channels.TheVariants as channels
+use Rattle.fr_slots.specs.History.{last_after}
 use Rattle.fr_slots.specs.Parameters.{Parameters}
 use Rattle.fr_slots.specs.Plans.{Plan, empty_plan}
 
@@ -54,6 +55,7 @@ three = None ∷ None ∷ None ∷ []
 pub steps_come_in_their_order :
     refusals opening (Put 0 ∷ first_half 0 ++ Seal ∷ Look 0 ∷ first_half 1 ++ first_half 2 ++ Seal ∷ Look 0 ∷ [])
     ≡ Some WrongTurn ∷ three ++ Some (Bus NotAllPut) ∷ Some WrongTurn ∷ three ++ three ++ None ∷ Some WrongTurn ∷ []
+unfolding last_after
 steps_come_in_their_order = refl
 
 abbrev sealed : WorldState
@@ -63,10 +65,12 @@ sealed = led opening (first_half 0 ++ first_half 1 ++ first_half 2 ++ Seal ∷ [
 pub a_look_after_the_seal_is_refused_by_the_bus :
     refusals sealed (second_half 0 ++ Look 0 ∷ Look 3 ∷ Inject (Mute 3 A) ∷ [])
     ≡ None ∷ None ∷ Some (Bus NotCollecting) ∷ Some UnknownNode ∷ Some (Bus NoNode) ∷ []
+unfolding last_after
 a_look_after_the_seal_is_refused_by_the_bus = refl
 
 -- all are between two windows once all have observed
 pub all_have_observed :
     (list_all is_between (led sealed (second_half 0 ++ second_half 1)).carried ≡ false)
     × (list_all is_between (led sealed (second_half 0 ++ second_half 1 ++ second_half 2)).carried ≡ true)
+unfolding last_after
 all_have_observed = (refl, refl)
