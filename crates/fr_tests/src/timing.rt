@@ -2,9 +2,9 @@
 
 ghost use Rattle.std.specs.Prelude.{◌≡◌, ◌<◌};
 
-use crate::support::SMALL_CYCLE;
 use fr_slots::numbers::SlotId;
 use fr_slots::params::Params;
+use fr_testing::SMALL_CYCLE;
 use fr_timing::cycle::{locate, start_of};
 use fr_timing::place::Place;
 use std::test::Fail;

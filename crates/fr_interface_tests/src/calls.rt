@@ -1,6 +1,5 @@
 //! A receive buffer on both channels, in a cluster of three static slots of one word.
 
-use crate::support::{DATA_ON_A, DATA_ON_B};
 use fr_frame::frame::Bytes;
 use fr_interface::errors::{HostError, SlotError};
 use fr_interface::interface::{Interface, Offer};
@@ -14,6 +13,7 @@ use fr_slots::params::Params;
 use fr_slots::plan::{Buffer, Mode, NodePlan};
 use fr_slots::window::Window;
 use fr_status::seen::Seen;
+use fr_testing::{DATA_ON_A, DATA_ON_B};
 use std::alloc::Global;
 use std::test::Fail;
 

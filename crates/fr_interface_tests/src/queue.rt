@@ -1,6 +1,5 @@
 //! The receive queue and the status counters, in a cluster of three static slots of one word.
 
-use crate::support::{slot, task};
 use fr_frame::frame::{Bytes, Frame};
 use fr_interface::errors::HostError;
 use fr_interface::interface::Interface;
@@ -13,6 +12,7 @@ use fr_slots::plan::{Buffer, Mode, NodePlan, Queue};
 use fr_slots::window::Window;
 use fr_status::counters::Counters;
 use fr_status::seen::Seen;
+use fr_testing::{slot, task};
 use std::alloc::Global;
 use std::test::Fail;
 

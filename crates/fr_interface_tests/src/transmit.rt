@@ -1,6 +1,5 @@
 //! Transmit buffers: what is offered, and what becomes of the commits.
 
-use crate::support::{DATA_ON_A, DATA_ON_B, ONE_WORD_CYCLE, SMALL_CYCLE, slot, task};
 use fr_frame::frame::Bytes;
 use fr_frame::payload::Payload;
 use fr_interface::errors::{HostError, SlotError};
@@ -15,6 +14,7 @@ use fr_slots::params::Params;
 use fr_slots::plan::{Buffer, Mode, NodePlan, Own};
 use fr_slots::window::Window;
 use fr_status::seen::Seen;
+use fr_testing::{DATA_ON_A, DATA_ON_B, ONE_WORD_CYCLE, SMALL_CYCLE, slot, task};
 use std::alloc::Global;
 use std::test::Fail;
 

@@ -1,0 +1,9 @@
+//! The tests of the host interface.
+#![tactic(auto)]
+
+#[cfg(test)]
+mod calls;
+#[cfg(test)]
+mod queue;
+#[cfg(test)]
+mod transmit;
