@@ -4,6 +4,8 @@
 #[cfg(test)]
 mod calls;
 #[cfg(test)]
+mod parts;
+#[cfg(test)]
 mod queue;
 #[cfg(test)]
 mod transmit;
