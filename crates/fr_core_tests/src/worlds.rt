@@ -7,7 +7,7 @@ use fr_core::event::{Event, Reply};
 use fr_core::world::World;
 use fr_frame::payload::Payload;
 use fr_schedule::cluster::Cluster;
-use fr_slots::numbers::{NodeId, TaskId};
+use fr_testing::{node, task};
 use std::alloc::Global;
 use std::test::Fail;
 
@@ -37,7 +37,7 @@ tasks = 2
 ";
 
 /// The number of the cluster's nodes.
-const NODES: u8 = 3;
+pub(crate) const NODES: u8 = 3;
 
 /// The opening world of the three nodes, for a run of one cycle.
 pub(crate) fn three_nodes(alloc: Global) -> Result<World, Fail> {
@@ -45,16 +45,11 @@ pub(crate) fn three_nodes(alloc: Global) -> Result<World, Fail> {
     Ok(World::new(alloc, &cluster, 1)?)
 }
 
-/// The node of this number; no node fails the test.
-pub(crate) fn node(number: u8) -> Result<NodeId, Fail> {
-    Ok(NodeId::new(number).ok_or("no node")?)
-}
-
 /// The first task of the node gives this to its buffer 0.
 pub(crate) fn commit(number: u8, list: &[u8]) -> Result<Event, Fail> {
     Ok(Event::Commit {
         node: node(number)?,
-        task: TaskId::new(0).ok_or("no task")?,
+        task: task(0)?,
         buffer: 0,
         payload: Payload::from_slice(list)?,
     })
@@ -64,7 +59,7 @@ pub(crate) fn commit(number: u8, list: &[u8]) -> Result<Event, Fail> {
 pub(crate) fn read(number: u8) -> Result<Event, Fail> {
     Ok(Event::Read {
         node: node(number)?,
-        task: TaskId::new(0).ok_or("no task")?,
+        task: task(0)?,
         buffer: 0,
     })
 }
@@ -86,23 +81,35 @@ pub(crate) fn window(alloc: Global) -> Result<Vec<Event>, Fail> {
     Ok(events)
 }
 
-/// What the accepted event is answered; a refused one fails the test.
-pub(crate) fn answered(world: &mut World, event: &Event) -> Result<Reply, Fail> {
-    Ok(world.step(event)?)
+/// Why the event is refused, or nothing where it is accepted.
+pub(crate) fn refusal(world: &mut World, event: &Event) -> Option<StepError> {
+    world.step(event).err()
 }
 
-/// Why the event is refused; an accepted one fails the test.
-pub(crate) fn refused(world: &mut World, event: &Event) -> Result<StepError, Fail> {
-    match world.step(event) {
-        Ok(_) => Err(Fail::from("accepted")),
-        Err(error) => Ok(error),
-    }
+/// The controller looks, fetches and puts.
+pub(crate) fn offer(world: &mut World, number: u8) -> Result<(), Fail> {
+    world.step(&Event::Look(node(number)?))?;
+    world.step(&Event::Fetch(node(number)?))?;
+    world.step(&Event::Put(node(number)?))?;
+    Ok(())
 }
 
-/// The bytes of the frame that was read; no frame fails the test.
-pub(crate) fn payload_read(reply: Reply) -> Result<Payload, Fail> {
-    match reply {
+/// The controller takes and observes, and then this is whether all are between two windows.
+pub(crate) fn observed(world: &mut World, number: u8) -> Result<bool, Fail> {
+    world.step(&Event::Take(node(number)?))?;
+    world.step(&Event::Observe(node(number)?))?;
+    Ok(world.between_windows())
+}
+
+/// The payload that the event reads; no frame fails the test.
+pub(crate) fn payload_read(world: &mut World, event: &Event) -> Result<Payload, Fail> {
+    match world.step(event)? {
         Reply::Frame(Some(frame)) => Ok(frame.payload),
         _ => Err(Fail::from("no frame")),
     }
+}
+
+/// How many windows the record has.
+pub(crate) fn windows(world: &World) -> usize {
+    world.bus().record().len()
 }
