@@ -1,10 +1,12 @@
 //! The intervals of a cycle in which a channel is open to a node.
 
-ghost use Rattle.std.specs.Prelude.{◌≡◌, ◌≤◌, ◌+◌, ◌*◌, ◌^◌, ◌<◌, ◌++◌, ◌||◌, not, length, IfOk, OnOk};
+ghost use Rattle.std.specs.Prelude.{◌≡◌, ◌≤◌, ◌+◌, ◌*◌, ◌^◌, ◌<◌, ◌++◌, ◌||◌, ◌↔◌, IsTrue, not, length, IfOk, OnOk};
+ghost use Rattle.std.specs.List.{All, AllPairs};
 ghost use Rattle.fr_slots.specs.Numbers.{IsSlot};
 ghost use Rattle.fr_timing.specs.Layout.{static_slot};
 ghost use Rattle.fr_guardian.specs.Guarding.{is_open, IsOpenTo};
-ghost use Rattle.fr_guardian.specs.Intervals.{AreMaximalIntervals, run};
+ghost use Rattle.fr_guardian.specs.GuardianFields.{IsSlotWithin};
+ghost use Rattle.fr_guardian.specs.Intervals.{AreMaximalIntervals, IsCovered, run};
 
 use fr_slots::channel::Channel;
 use fr_slots::fault::is_owned;
@@ -32,6 +34,26 @@ fn add(intervals: &mut Vec<(u32, u32)>, start: u32, end: u32) -> Result<(), Allo
         intervals.push((start, end))?;
     }
     Ok(())
+}
+
+/// Whether the macrotick lies in one of the intervals, which are found by halves.
+fn is_covered(spans: &[(u32, u32)], macrotick: u32) -> bool
+    requires not_empty { All (λ span. span.0 < span.1) spans.now }
+    requires apart { AllPairs (λ span later. span.1 < later.0) spans.now }
+    ensures { IsTrue result ↔ IsCovered spans.now macrotick }
+{
+    let started = spans.partition_point(|span| span.0 <= macrotick);
+    0 < started && macrotick < spans[started - 1].1
+}
+
+/// Whether the slot is a static one whose first macrotick lies in one of the intervals.
+pub fn is_slot_within(params: &Params, spans: &[(u32, u32)], slot: SlotId) -> bool
+    requires not_empty { All (λ span. span.0 < span.1) spans.now }
+    requires apart { AllPairs (λ span later. span.1 < later.0) spans.now }
+    ensures { IsSlotWithin params.now spans.now slot result }
+{
+    let start = (u32::from(slot.number()) - 1) * u32::from(params.static_mt);
+    params.is_static(slot) && is_covered(spans, start)
 }
 
 /// The macroticks of a cycle in which a channel is open to a node, as half-open intervals: the static slots that it
