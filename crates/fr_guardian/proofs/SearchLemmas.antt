@@ -100,6 +100,7 @@ within_if_owned p lawful owned channel slot spans answer only_static maximal h =
   where
     slot_is : slot - 1 + 1 ≡ slot
     slot_is = omega (arith, h.slot_is.from_one)
+
     below : is_static_slot p slot ≡ true → slot - 1 < p.static_slots
     below static = let le = leb-true slot p.static_slots static in omega (arith, le, h.slot_is.from_one)
 
@@ -118,10 +119,12 @@ passes_found d lawful node w channel plan slot spans answer at opened watched ma
   where
     guarded : is_guarded d.guard channel ≡ true
     guarded = (and_parts (is_static w) (is_guarded d.guard channel) watched).1
+
     there : (n : ℕ) → IsOpenMacrotick d node channel n → IsOpenTo d.params true plan.owned channel n
     there n opens =
         let same : opens.plan ≡ plan = (let a = opens.of_node in cc) in
         subst (λ (b : Bool). IsOpenTo d.params b plan.owned channel n) guarded
         (subst (λ (x : Plan). IsOpenTo d.params (is_guarded d.guard channel) x.owned channel n) same opens.open_to)
+
     back : (n : ℕ) → IsOpenTo d.params true plan.owned channel n → IsOpenMacrotick d node channel n
     back n opens = record { plan = plan; of_node = at; open_to = subst (λ (b : Bool). IsOpenTo d.params b plan.owned channel n) (sym guarded) opens }

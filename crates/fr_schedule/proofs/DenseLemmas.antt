@@ -165,6 +165,7 @@ retaken_both old mid f node on_a on_b is_slot first_a entered first_b =
         → is_taken mid slot channel cycle ≡ is_taken old slot channel cycle
     untouched slot A cycle in_cycles is lawful = cc is
     untouched slot B cycle in_cycles is lawful = ap (λ (n : ℕ). not (n == nobody)) (entered.each slot B cycle in_cycles lawful)
+
     same : (slot : ℕ) (channel : Channel) (cycle : ℕ) → cycle < 64 → is_retaken_on mid f B slot channel cycle ≡ is_retaken_on old f B slot channel cycle
     same slot channel cycle in_cycles =
         narrowed (is_channel B channel) (is_taken mid slot channel cycle) (is_taken old slot channel cycle) (admits_at slot channel cycle f)

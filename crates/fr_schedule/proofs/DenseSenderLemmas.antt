@@ -82,15 +82,15 @@ first_sent plans o is =
 
 -- ---- the faults that these occasions are
 
-pub taken_told : (plans : List Plan) (o : Option Occasion) → IsFirst (is_shared (own_filters (all_owned plans))) o
+pub taken_is : (plans : List Plan) (o : Option Occasion) → IsFirst (is_shared (own_filters (all_owned plans))) o
     → option_map taken_fault o ≡ first_taken plans
-taken_told plans None is = sym (no_slot_taken plans is)
-taken_told plans (Some o) is = sym (slot_taken plans o is)
+taken_is plans None is = sym (no_slot_taken plans is)
+taken_is plans (Some o) is = sym (slot_taken plans o is)
 
-pub overlap_told : (plans : List Plan) (o : Option Occasion) → IsFirst (is_shared (transmit_filters (all_buffers plans))) o
+pub overlap_is : (plans : List Plan) (o : Option Occasion) → IsFirst (is_shared (transmit_filters (all_buffers plans))) o
     → option_map overlap_fault o ≡ first_overlap plans
-overlap_told plans None is = sym (no_overlap plans is)
-overlap_told plans (Some o) is = sym (an_overlap plans o is)
+overlap_is plans None is = sym (no_overlap plans is)
+overlap_is plans (Some o) is = sym (an_overlap plans o is)
 
 -- ---- the free table
 
@@ -259,6 +259,7 @@ sender_stands d lawful nodes h slot channel cycle in_cycles is taken =
         (buffer_sends d lawful slot channel cycle m plan at (sym (any_sent plan.buffers slot channel cycle) ∙ any))
     by_buffer node some (of_before node_is) =
         absurd (both_ways (not (node == nobody)) (ap (λ (n : ℕ). not (n == nobody)) (node_is ∙ nobody_at slot channel cycle in_cycles is)) some)
+
     by_owner : Stands (filters_by Owned) 0 d.plans (node_at h.sending slot channel cycle) slot channel cycle (node_at nodes slot channel cycle)
         → IsSender d cycle slot channel (node_at nodes slot channel cycle)
     by_owner (of_node m plan at any node_is) =

@@ -1,6 +1,6 @@
 -- The sender table as the code keeps it: one number for each occasion, in the order of slots, then of channels, then of
 -- cycles. It serves the code alone: who sends is said by `SenderTable`.
-use Rattle.std.specs.Prelude.{◌≡◌, ℕ, ◌+◌, ◌-◌, ◌*◌, ◌<◌, ◌≤◌, ◌==◌, ◌⊎◌, not, Bool, true, ◌&&◌, List, [], ◌∷◌}
+use Rattle.std.specs.Prelude.{◌≡◌, ℕ, ◌+◌, ◌-◌, ◌*◌, ◌<◌, ◌≤◌, ◌==◌, ◌⊎◌, not, Bool, true, false, ◌&&◌, List, [], ◌∷◌}
 use Rattle.std.specs.Prelude.{length, replicate, Option, Some, None, slice_index_or, if◌then◌else◌}
 use Rattle.fr_slots.specs.declared.channel.Channel.{Channel}
 use Rattle.fr_slots.specs.declared.filter.Filter.{Filter}
@@ -43,7 +43,8 @@ first_taken_in nodes start c = first_of (taken_in nodes start c) cycles
 -- up to a cycle of the row the node stands at these cycles, and all else is as it was
 pub record IsRowEntered (upto start : ℕ) (c : CycleClass) (node : ℕ) (old new : List ℕ) : Type 0 where
   pub size : length new ≡ length old
-  pub within : (cycle : ℕ) → cycle < upto → at_place new (start + cycle) ≡ (if cycle_admitted c cycle then node else at_place old (start + cycle))
+  pub within : (cycle : ℕ) → cycle < upto
+      → at_place new (start + cycle) ≡ (if cycle_admitted c cycle then node else at_place old (start + cycle))
   pub outside : (place : ℕ) → (place < start) ⊎ (start + upto ≤ place) → at_place new place ≡ at_place old place
 
 -- ---- the whole table
@@ -56,11 +57,14 @@ abbrev pub is_taken : List ℕ → ℕ → Channel → ℕ → Bool
 is_taken nodes slot channel cycle = not (node_at nodes slot channel cycle == nobody)
 
 abbrev pub IsFree : List ℕ → Type 0
-IsFree nodes = (slot : ℕ) (channel : Channel) (cycle : ℕ) → cycle < cycle_count → IsSlot slot → is_taken nodes slot channel cycle ≡ not true
+IsFree nodes =
+    (slot : ℕ) (channel : Channel) (cycle : ℕ) → cycle < cycle_count → IsSlot slot
+    → is_taken nodes slot channel cycle ≡ false
 
 -- an occasion of the filter, on this channel or on both, that is taken
 abbrev pub is_retaken_on : List ℕ → Filter → Channel → ℕ → Channel → ℕ → Bool
-is_retaken_on nodes f on slot channel cycle = is_channel on channel && (is_taken nodes slot channel cycle && admits_at slot channel cycle f)
+is_retaken_on nodes f on slot channel cycle =
+    is_channel on channel && (is_taken nodes slot channel cycle && admits_at slot channel cycle f)
 
 abbrev pub is_retaken : List ℕ → Filter → ℕ → Channel → ℕ → Bool
 is_retaken nodes f slot channel cycle = is_taken nodes slot channel cycle && admits_at slot channel cycle f
@@ -104,7 +108,9 @@ pub record HasClaims (plans : List Plan) (nodes : List ℕ) : Type 0 where
 
 pub record IsDenseTable (d : Description) (nodes : List ℕ) : Type 0 where
   pub size : length nodes ≡ occasions
-  pub senders : (slot : ℕ) (channel : Channel) (cycle : ℕ) → cycle < cycle_count → IsSlot slot → (is_taken nodes slot channel cycle ≡ true)
+  pub senders : (slot : ℕ) (channel : Channel) (cycle : ℕ) → cycle < cycle_count → IsSlot slot
+      → is_taken nodes slot channel cycle ≡ true
       → IsSender d cycle slot channel (node_at nodes slot channel cycle)
-  pub all : (slot : ℕ) (channel : Channel) (cycle node : ℕ) → cycle < cycle_count → IsSlot slot → IsSender d cycle slot channel node
+  pub all : (slot : ℕ) (channel : Channel) (cycle node : ℕ) → cycle < cycle_count → IsSlot slot
+      → IsSender d cycle slot channel node
       → is_taken nodes slot channel cycle ≡ true

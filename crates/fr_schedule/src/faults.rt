@@ -90,7 +90,7 @@ fn first_by(rule: Rule, params: &Params, plans: &[NodePlan]) -> Option<ConfigErr
 }
 
 /// The first fault of the ownership lines, of which two are for this slot and channel.
-#[tactic(auto, using(crate::proofs::DenseSenderLemmas::taken_told), unfolding(crate::specs::FileFaults::owner_fault))]
+#[tactic(auto, using(crate::proofs::DenseSenderLemmas::taken_is), unfolding(crate::specs::FileFaults::owner_fault))]
 fn owner_fault(params: &Params, plans: &[NodePlan], taken: Option<Occasion>) -> Option<ConfigError>
     requires few { length plans.now ≤ 16 }
     requires first { IsFirst (is_shared (own_filters (all_owned plans.now))) taken }
@@ -100,7 +100,7 @@ fn owner_fault(params: &Params, plans: &[NodePlan], taken: Option<Occasion>) -> 
 }
 
 /// The first fault of the transmit buffers, of which two admit this slot, channel and cycle.
-#[tactic(auto, using(crate::proofs::DenseSenderLemmas::overlap_told), unfolding(crate::specs::FileFaults::sender_fault))]
+#[tactic(auto, using(crate::proofs::DenseSenderLemmas::overlap_is), unfolding(crate::specs::FileFaults::sender_fault))]
 fn sender_fault(
     params: &Params,
     plans: &[NodePlan],

@@ -27,6 +27,8 @@ mod params;
 #[cfg(test)]
 mod schedule;
 #[cfg(test)]
+mod schedule_full;
+#[cfg(test)]
 mod slots;
 #[cfg(test)]
 mod slots_fault;
