@@ -51,12 +51,7 @@ fn write_owner_line<W: Write>(
 ) -> io::Result<()>
     ensures { OnOk result (Appends (W.contents writer.old) (W.contents writer.new) (slot_line slot channel node)) }
 {
-    writeln!(
-        writer,
-        "slot {} {channel} {}",
-        slot.number(),
-        node.number()
-    )
+    writeln!(writer, "slot {} {channel} {}", slot.number(), node.number())
 }
 
 /// Writes the lines of a static slot.
