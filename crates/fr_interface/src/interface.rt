@@ -424,7 +424,8 @@ fn slot_number(slot: Option<SlotId>) -> Option<u16>
     }
 }
 
-/// The window once more, in the ranges of its type.
+/// A copy of the window. Its numbers are read because only a call of theirs tells their ranges, which the journal asks
+/// of an entry.
 fn kept_window(window: &Window) -> Window
     ensures value { result ≡ window.now }
     ensures fits { IsInRange window.now }
@@ -443,7 +444,7 @@ fn has_words(params: &Params, buffer: &Buffer, payload: &Payload) -> bool
     payload.as_slice().len() == 2 * usize::from(buffer.words(params))
 }
 
-/// The payload once more, in the ranges of its type.
+/// A copy of the payload, whose bytes are counted for the same reason as a window's numbers are read.
 fn kept_payload(payload: &Payload) -> Payload
     ensures value { result ≡ payload.now }
     ensures is_payload { IsPayload payload.now }
@@ -453,14 +454,14 @@ fn kept_payload(payload: &Payload) -> Payload
     payload.duplicate()
 }
 
-/// The number of bytes, each of which is a byte.
+/// The number of bytes; a slice of bytes tells that each is below 256 only to a function that takes it.
 fn count_of(bytes: &[u8]) -> usize
     ensures { AreBytes bytes.now }
 {
     bytes.len()
 }
 
-/// What was seen, once more, in the ranges of its type.
+/// A copy of what was seen, with its bytes counted, as a payload's are.
 fn kept(seen: &Seen) -> Seen
     ensures value { result ≡ seen.now }
     ensures fits { IsSeen seen.now }

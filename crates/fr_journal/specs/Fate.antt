@@ -32,7 +32,7 @@ commit_on buffer before e = commit_at buffer (length before) e
 abbrev pub last_commit : ℕ → List Entry → Option ℕ
 last_commit buffer entries = last_after (commit_on buffer) [] entries
 
--- ---- what became of a commit, by the entries behind it
+-- ---- what became of a commit, by the entries after it
 
 abbrev pub is_data_of : ℕ → Offered → Bool
 is_data_of commit Nothing = false

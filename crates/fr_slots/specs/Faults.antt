@@ -89,7 +89,7 @@ abbrev pub latest_on : Plan → Channel → ℕ
 latest_on plan A = plan.latest_a
 latest_on plan B = plan.latest_b
 
--- the minislots that a frame of so many words fills, those that stay idle behind it aside: its bytes are eight more than
+-- the minislots that a frame of so many words fills, those that stay idle after it aside: its bytes are eight more than
 -- those of its payload, so its words four more
 abbrev pub minislots_filled : Parameters → ℕ → ℕ
 minislots_filled p words = div_ceil (words + 4) p.words_per_minislot

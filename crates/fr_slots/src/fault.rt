@@ -35,8 +35,8 @@ pub enum PlanFault {
     /// Two transmit buffers admit the slot on the channel in the cycle (chapter 5).
     #[error("Overlap {0} {1} {2}")]
     Overlap(SlotId, Channel, Cycle),
-    /// A frame of the dynamic transmit buffer that begins at its channel's latest minislot would end behind
-    /// the dynamic segment, where the minislots that stay idle behind it don't count (own profile).
+    /// A frame of the dynamic transmit buffer that begins at its channel's latest minislot would end after
+    /// the dynamic segment, where the minislots that stay idle after it don't count (own profile).
     #[error("TooLong {0}")]
     TooLong(u8),
     /// The plan isn't one for these parameters: an owned slot isn't static, a latest minislot isn't there, or
@@ -93,7 +93,7 @@ fn is_owned_beyond(params: &Params, own: &Own) -> bool
     !params.is_static(own.slot)
 }
 
-/// Whether a channel's latest minislot is behind the last one.
+/// Whether a channel's latest minislot is after the last one.
 fn has_late_latest(params: &Params, plan: &NodePlan) -> bool
     ensures { result ≡ has_late_latest params.now plan.now }
 {
@@ -233,7 +233,7 @@ pub(crate) fn too_long_place(params: &Params, plan: &NodePlan, buffers: &[Buffer
         .position(|buffer| too_long(params, plan, buffer))
 }
 
-/// Whether a frame of a dynamic transmit buffer would end behind the dynamic segment on one of its channels.
+/// Whether a frame of a dynamic transmit buffer would end after the dynamic segment on one of its channels.
 fn too_long(params: &Params, plan: &NodePlan, buffer: &Buffer) -> bool
     ensures { result ≡ too_long params.now plan.now buffer.now }
 {
@@ -243,7 +243,7 @@ fn too_long(params: &Params, plan: &NodePlan, buffer: &Buffer) -> bool
 }
 
 /// Whether the channel is among the buffer's, and a frame of the buffer that begins at the channel's latest
-/// minislot would end behind the dynamic segment.
+/// minislot would end after the dynamic segment.
 fn ends_late_on(params: &Params, plan: &NodePlan, buffer: &Buffer, channel: Channel) -> bool
     ensures { result ≡ ends_late_on params.now plan.now buffer.now channel }
 {
@@ -251,7 +251,7 @@ fn ends_late_on(params: &Params, plan: &NodePlan, buffer: &Buffer, channel: Chan
         && ends_late(params, plan, buffer.words(params), channel)
 }
 
-/// Whether a frame of so many words that begins at the channel's latest minislot would end behind the dynamic
+/// Whether a frame of so many words that begins at the channel's latest minislot would end after the dynamic
 /// segment.
 fn ends_late(params: &Params, plan: &NodePlan, words: u16, channel: Channel) -> bool
     requires { words < 256 }

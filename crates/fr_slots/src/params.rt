@@ -130,7 +130,7 @@ pub struct Params {
     pub nit_mt: u16,
     /// The length of the cycle, in macroticks.
     pub cycle_mt: u16,
-    /// The minislots that stay idle behind a dynamic transmission.
+    /// The minislots that stay idle after a dynamic transmission.
     pub idle: u16,
     /// How many words of two bytes a minislot carries.
     pub words_per_minislot: u16,
@@ -233,7 +233,7 @@ impl Params {
         })
     }
 
-    /// The same parameters once more.
+    /// A copy of the parameters.
     pub fn duplicate(&self) -> Params
         ensures value { result ≡ self.now }
         ensures lawful { IsParameters self.now }
@@ -250,7 +250,7 @@ impl Params {
     }
 
     /// Whether the window is one of the cluster's (own profile): in a static window a static slot, and in a dynamic one
-    /// a minislot that there is, and slots behind the static ones.
+    /// a minislot that there is, and slots after the static ones.
     pub fn has_window(&self, window: &Window) -> bool
         ensures { result ≡ window_fits self.now window.now }
     {

@@ -236,7 +236,7 @@ impl NodePlan {
         })
     }
 
-    /// Adds an ownership line behind those that are there.
+    /// Appends an ownership line.
     ///
     /// Refused with `OutOfRange` for a slot above 1023 and for startup without sync, and then with `TooMany`
     /// for the 65th line; the plan is then unchanged.
@@ -255,7 +255,7 @@ impl NodePlan {
         Ok(())
     }
 
-    /// Adds a buffer behind those that are there; buffers are numbered from 0 in this order.
+    /// Appends a buffer; buffers are numbered from 0 in this order.
     ///
     /// Refused with `OutOfRange` for more than 127 words and for a receive buffer with words or with the
     /// preamble, and then with `TooMany` for the 65th buffer; the plan is then unchanged.

@@ -22,7 +22,7 @@ pub enum Seen {
 }
 
 impl Seen {
-    /// The same seen once more.
+    /// A copy of what was seen.
     pub fn duplicate(&self) -> Seen
         ensures { result ≡ self.now }
     {
@@ -37,7 +37,7 @@ impl Seen {
     }
 }
 
-/// The same bytes once more.
+/// A copy of the bytes.
 fn duplicate_bytes(bytes: &Bytes) -> Bytes
     ensures { result ≡ bytes.now }
 {

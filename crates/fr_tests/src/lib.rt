@@ -1,23 +1,13 @@
-//! The tests of all libraries: worked rows, outside vectors, printed texts, and each public function once on its happy
-//! path. They stand in one crate above the others, since a crate with tests of its own is proved twice.
+//! The tests of the crates at the bottom: worked rows, outside vectors, printed texts, and each public function once
+//! on its happy path. They stand apart from what they test, since a crate with tests is proved twice.
 #![tactic(auto)]
 
 #[cfg(test)]
 mod buffers;
 #[cfg(test)]
-mod bus;
-#[cfg(test)]
 mod frame;
 #[cfg(test)]
-mod interface;
-#[cfg(test)]
-mod interface_queue;
-#[cfg(test)]
-mod interface_transmit;
-#[cfg(test)]
 mod journal;
-#[cfg(test)]
-mod lines;
 #[cfg(test)]
 mod midpoint;
 #[cfg(test)]
@@ -25,18 +15,12 @@ mod minislot;
 #[cfg(test)]
 mod params;
 #[cfg(test)]
-mod schedule;
-#[cfg(test)]
 mod slots;
 #[cfg(test)]
 mod slots_fault;
 #[cfg(test)]
 mod status;
 #[cfg(test)]
-mod support;
-#[cfg(test)]
 mod text;
 #[cfg(test)]
 mod timing;
-#[cfg(test)]
-mod trace;

@@ -1,27 +1,36 @@
 //! Worked numbers, filters, windows, parameters and plans, and printed names.
 
-use crate::support::{ONE_WORD_CYCLE, SMALL_CYCLE, cycle, slot};
 use fr_slots::channel::{Channel, Channels};
 use fr_slots::filter::{CycleFilter, Filter, FilterError};
 use fr_slots::numbers::{Cycle, NodeId, SlotId, TaskId};
 use fr_slots::params::{Key, Params, RangeError};
 use fr_slots::plan::{Buffer, LINES, NodePlan, Own, PlanError, Queue};
 use fr_slots::window::Window;
+use fr_testing::{ONE_WORD_CYCLE, SMALL_CYCLE, cycle, slot};
 use std::test::Fail;
 
 #[test]
 fn numbers_end_at_their_bounds(rt: HostRuntime) -> Result<(), Fail> {
-    assert_eq!(rt; SlotId::new(0), None);
-    assert_eq!(rt; slot(1)?.number(), 1);
-    assert_eq!(rt; slot(2047)?.number(), 2047);
-    assert_eq!(rt; SlotId::new(2048), None);
-    assert_eq!(rt; cycle(63)?.number(), 63);
-    assert_eq!(rt; Cycle::new(64), None);
-    assert_eq!(rt; Cycle::from_bits(63), cycle(63)?);
-    assert_eq!(rt; NodeId::new(15).map(|node| node.number()), Some(15));
-    assert_eq!(rt; NodeId::new(16), None);
-    assert_eq!(rt; TaskId::new(7).map(|task| task.number()), Some(7));
-    assert_eq!(rt; TaskId::new(8), None);
+    assert_eq!(rt;
+        [0, 1, 2047, 2048].map(|n| SlotId::new(n).is_some()),
+        [false, true, true, false]
+    );
+    assert_eq!(rt;
+        [0, 63, 64].map(|n| Cycle::new(n).is_some()),
+        [true, true, false]
+    );
+    assert_eq!(rt;
+        [0, 15, 16].map(|n| NodeId::new(n).is_some()),
+        [true, true, false]
+    );
+    assert_eq!(rt;
+        [0, 7, 8].map(|n| TaskId::new(n).is_some()),
+        [true, true, false]
+    );
+    assert_eq!(rt;
+        (slot(2047)?.number(), Cycle::from_bits(63).number()),
+        (2047, 63)
+    );
     Ok(())
 }
 
@@ -36,18 +45,21 @@ fn after_the_last_cycle_comes_the_first(rt: HostRuntime) -> Result<(), Fail> {
 fn cycle_filters_that_meet(rt: HostRuntime) -> Result<(), Fail> {
     let every_second = CycleFilter::new(1, 2)?;
     let every_fourth = CycleFilter::new(3, 4)?;
-    assert_eq!(rt; every_second.admits(cycle(1)?), true);
-    assert_eq!(rt; every_fourth.admits(cycle(1)?), false);
-    assert_eq!(rt; every_second.admits(cycle(2)?), false);
-    assert_eq!(rt; every_second.admits(cycle(3)?), true);
-    assert_eq!(rt; every_fourth.admits(cycle(3)?), true);
-    assert_eq!(rt; every_fourth.base(), 3);
-    assert_eq!(rt; every_fourth.repetition(), 4);
-    assert_eq!(rt; every_second.first_common(&every_fourth), Some(cycle(3)?));
-    let even = CycleFilter::new(0, 2)?;
-    assert_eq!(rt; even.first_common(&every_fourth), None);
-    let last = CycleFilter::new(63, 64)?;
-    assert_eq!(rt; every_fourth.first_common(&last), Some(cycle(63)?));
+    let [first, second, third] = [1, 2, 3].map(Cycle::from_bits);
+    assert_eq!(rt;
+        [first, second, third].map(|cycle| every_second.admits(cycle)),
+        [true, false, true]
+    );
+    assert_eq!(rt;
+        [first, third].map(|cycle| every_fourth.admits(cycle)),
+        [false, true]
+    );
+    assert_eq!(rt; (every_fourth.base(), every_fourth.repetition()), (3, 4));
+    let (even, last) = (CycleFilter::new(0, 2)?, CycleFilter::new(63, 64)?);
+    assert_eq!(rt;
+        [every_second, even, last].map(|other| every_fourth.first_common(&other)),
+        [Some(third), None, Some(Cycle::from_bits(63))]
+    );
     Ok(())
 }
 

@@ -1,12 +1,12 @@
 //! Plans with each fault and with several, and printed faults.
 
-use crate::support::{ONE_WORD_CYCLE, SMALL_CYCLE, cycle, slot};
 use fr_slots::channel::{Channel, Channels};
 use fr_slots::fault::PlanFault;
 use fr_slots::filter::{CycleFilter, Filter};
 use fr_slots::params::Params;
 use fr_slots::plan::{Buffer, Mode, NodePlan, Own};
 use fr_slots::sharing::{Occasion, first_shared};
+use fr_testing::{ONE_WORD_CYCLE, SMALL_CYCLE, cycle, slot};
 use std::test::Fail;
 
 fn filter(number: u16, channels: Channels, base: u8, repetition: u8) -> Result<Filter, Fail> {

@@ -2,9 +2,9 @@
 
 ghost use Rattle.std.specs.Prelude.{◌≡◌, ◌<◌};
 
-use crate::support::SMALL_CYCLE;
 use fr_slots::numbers::SlotId;
 use fr_slots::params::Params;
+use fr_testing::SMALL_CYCLE;
 use fr_timing::cycle::{locate, start_of};
 use fr_timing::place::Place;
 use std::test::Fail;
@@ -68,11 +68,11 @@ fn places_that_the_small_cycle_has_not(rt: HostRuntime) -> Result<(), Fail> {
         offset: 0,
     };
     assert_eq!(rt; start_of(&params, no_minislot), None);
-    let behind_the_last = Place::Minislot {
+    let after_the_last = Place::Minislot {
         number: 11,
         offset: 0,
     };
-    assert_eq!(rt; start_of(&params, behind_the_last), None);
+    assert_eq!(rt; start_of(&params, after_the_last), None);
     assert_eq!(rt; start_of(&params, Place::Idle { offset: u32::MAX }), None);
     Ok(())
 }

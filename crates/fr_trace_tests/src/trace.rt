@@ -266,7 +266,7 @@ fn a_trace_that_is_cut_is_truncated(rt: HostRuntime) {
 }
 
 #[test]
-fn a_byte_behind_the_end_is_a_line(rt: HostRuntime) {
+fn a_byte_after_the_end_is_a_line(rt: HostRuntime) {
     let mut lines = LINES;
     lines[12] = b"end\nx";
     assert_eq!(rt; refusals(rt.alloc(), &lines), all(TraceError::BadLine(14)));
@@ -610,7 +610,7 @@ fn an_interrupted_reader_is_read_at_once(rt: HostRuntime) -> Result<(), Fail> {
 }
 
 #[test]
-fn nothing_is_read_behind_a_fault(rt: HostRuntime) -> Result<(), Fail> {
+fn nothing_is_read_after_a_fault(rt: HostRuntime) -> Result<(), Fail> {
     let mut report = Vec::with_capacity(rt.alloc(), 64)?;
     let mut reader = failing(&[b"frtrace 2\n"], 1, io::ErrorKind::Other);
     let answer = audit(rt.alloc(), &mut reader, &mut report);

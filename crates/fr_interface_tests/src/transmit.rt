@@ -1,6 +1,6 @@
 //! Transmit buffers: what is offered, and what becomes of the commits.
 
-use crate::support::{DATA_ON_A, DATA_ON_B, ONE_WORD_CYCLE, SMALL_CYCLE, slot, task};
+use crate::parts::interface;
 use fr_frame::frame::Bytes;
 use fr_frame::payload::Payload;
 use fr_interface::errors::{HostError, SlotError};
@@ -10,11 +10,11 @@ use fr_journal::entry::{Entry, Offered};
 use fr_journal::fate::Tally;
 use fr_slots::channel::Channels;
 use fr_slots::filter::{CycleFilter, Filter};
-use fr_slots::numbers::Cycle;
-use fr_slots::params::Params;
+use fr_slots::numbers::{Cycle, TaskId};
 use fr_slots::plan::{Buffer, Mode, NodePlan, Own};
 use fr_slots::window::Window;
 use fr_status::seen::Seen;
+use fr_testing::{DATA_ON_A, DATA_ON_B, ONE_WORD_CYCLE, SMALL_CYCLE, frame_bytes, slot, task};
 use std::alloc::Global;
 use std::test::Fail;
 
@@ -26,17 +26,7 @@ fn payload(bytes: &[u8]) -> Result<Payload, Fail> {
 }
 
 fn sent(bytes: &[u8]) -> Result<Option<Bytes>, Fail> {
-    let mut kept = Bytes::new();
-    kept.try_extend_from_slice(bytes)?;
-    Ok(Some(kept))
-}
-
-fn interface(alloc: Global, params: [i64; 10], plan: &NodePlan) -> Result<Interface, Fail> {
-    let params = Params::new(params)?;
-    if plan.fault(&params).is_some() {
-        return Err(Fail::from("the plan has a fault"));
-    }
-    Ok(Interface::new(alloc, &params, plan)?)
+    Ok(Some(frame_bytes(bytes)?))
 }
 
 /// A plan that owns slot 2 on both channels, with a transmit buffer for it.
@@ -65,6 +55,13 @@ fn sender(mode: Mode, host_entries: u16) -> Result<NodePlan, Fail> {
 fn slot_two(number: u8) -> Result<Window, Fail> {
     let cycle = Cycle::new(number).ok_or("no cycle")?;
     Ok(Window::fixed(u32::from(number), cycle, slot(2)?))
+}
+
+/// Fetches and observes static slot 2 in the cycle of this number.
+fn observed(interface: &mut Interface, number: u8) -> Result<(), Fail> {
+    interface.fetch(&slot_two(number)?)?;
+    interface.observe(u32::from(number), &Seen::Own, &Seen::Own)?;
+    Ok(())
 }
 
 /// What the fetch at this entry handed out on channel A.
@@ -98,57 +95,67 @@ fn three_commits(alloc: Global, mode: Mode) -> Result<Interface, Fail> {
 fn three_windows(alloc: Global, mode: Mode) -> Result<Interface, Fail> {
     let mut interface = three_commits(alloc, mode)?;
     interface.observe(0, &Seen::Own, &Seen::Own)?;
-    interface.fetch(&slot_two(1)?)?;
-    interface.observe(1, &Seen::Own, &Seen::Own)?;
+    observed(&mut interface, 1)?;
     interface.fetch(&slot_two(2)?)?;
     Ok(interface)
 }
 
+/// What the fetches of the three windows handed out, and what became of the commits.
+fn outcome(alloc: Global, mode: Mode) -> Result<([Offered; 3], Option<Tally>), Fail> {
+    let interface = three_windows(alloc, mode)?;
+    let offered = [
+        fetched(&interface, 2)?,
+        fetched(&interface, 5)?,
+        fetched(&interface, 7)?,
+    ];
+    Ok((offered, interface.tally(0)))
+}
+
 #[test]
 fn an_event_commit_is_sent_once(rt: HostRuntime) -> Result<(), Fail> {
+    let offered = [Offered::Data(1), Offered::Data(3), Offered::Null];
+    assert_eq!(rt;
+        outcome(rt.alloc(), Mode::Event)?,
+        (offered, tally(3, 2, 1, 0))
+    );
+    Ok(())
+}
+
+#[test]
+fn a_commit_after_a_sent_one_is_pending(rt: HostRuntime) -> Result<(), Fail> {
     let interface = three_commits(rt.alloc(), Mode::Event)?;
-    assert_eq!(rt; fetched(&interface, 2)?, Offered::Data(1));
-    assert_eq!(rt; interface.tally(0), tally(3, 1, 1, 1));
-    assert_eq!(rt; interface.held(0), Some(Source::Commit(3)));
-    let interface = three_windows(rt.alloc(), Mode::Event)?;
-    assert_eq!(rt; fetched(&interface, 5)?, Offered::Data(3));
-    assert_eq!(rt; fetched(&interface, 7)?, Offered::Null);
-    assert_eq!(rt; interface.tally(0), tally(3, 2, 1, 0));
+    let seen = (interface.tally(0), interface.held(0));
+    assert_eq!(rt; seen, (tally(3, 1, 1, 1), Some(Source::Commit(3))));
     Ok(())
 }
 
 #[test]
 fn a_state_commit_is_sent_again(rt: HostRuntime) -> Result<(), Fail> {
-    let interface = three_windows(rt.alloc(), Mode::State)?;
-    assert_eq!(rt; fetched(&interface, 2)?, Offered::Data(1));
-    assert_eq!(rt; fetched(&interface, 5)?, Offered::Data(3));
-    assert_eq!(rt; fetched(&interface, 7)?, Offered::Data(3));
-    assert_eq!(rt; interface.tally(0), tally(3, 2, 1, 0));
+    let offered = [Offered::Data(1), Offered::Data(3), Offered::Data(3)];
+    assert_eq!(rt;
+        outcome(rt.alloc(), Mode::State)?,
+        (offered, tally(3, 2, 1, 0))
+    );
     Ok(())
+}
+
+/// A commit, the offers of two windows, and the receipt.
+fn two_offers(alloc: Global) -> Result<(Receipt, Offer, Offer), Fail> {
+    let mut interface = interface(alloc, ONE_WORD_CYCLE, &sender(Mode::Event, 8)?)?;
+    let receipt = interface.commit(task(0)?, 0, &payload(&[0x0a, 0x0b])?)?;
+    let first = interface.fetch(&slot_two(0)?)?;
+    interface.observe(0, &Seen::Own, &Seen::Own)?;
+    Ok((receipt, first, interface.fetch(&slot_two(1)?)?))
 }
 
 #[test]
 fn an_offer_is_the_spelled_frame(rt: HostRuntime) -> Result<(), Fail> {
-    let mut interface = interface(rt.alloc(), ONE_WORD_CYCLE, &sender(Mode::Event, 8)?)?;
-    let receipt = interface.commit(task(0)?, 0, &payload(&[0x0a, 0x0b])?)?;
+    let (receipt, first, second) = two_offers(rt.alloc())?;
+    assert_eq!(rt; (receipt.task.number(), receipt.entry), (0, 0));
     assert_eq!(rt;
-        receipt,
-        Receipt {
-            task: task(0)?,
-            entry: 0
-        }
+        [first.a, first.b, second.a],
+        [sent(&DATA_ON_A)?, sent(&DATA_ON_B)?, sent(&NULL_ON_A)?]
     );
-    let offer = interface.fetch(&slot_two(0)?)?;
-    assert_eq!(rt;
-        offer,
-        Offer {
-            a: sent(&DATA_ON_A)?,
-            b: sent(&DATA_ON_B)?
-        }
-    );
-    interface.observe(0, &Seen::Own, &Seen::Own)?;
-    let offer = interface.fetch(&slot_two(1)?)?;
-    assert_eq!(rt; offer.a, sent(&NULL_ON_A)?);
     Ok(())
 }
 
@@ -176,24 +183,36 @@ fn offered_at_five(alloc: Global, latest: u16) -> Result<(Offered, Option<Tally>
 fn a_transmission_begins_at_the_latest_minislot(rt: HostRuntime) -> Result<(), Fail> {
     let sent = (Offered::Data(0), tally(1, 1, 0, 0));
     let pending = (Offered::Nothing, tally(1, 0, 0, 1));
-    assert_eq!(rt; offered_at_five(rt.alloc(), 5)?, sent);
-    assert_eq!(rt; offered_at_five(rt.alloc(), 4)?, pending);
-    assert_eq!(rt; offered_at_five(rt.alloc(), 0)?, pending);
+    for (latest, wanted) in [(5, sent), (4, pending), (0, pending)] {
+        assert_eq!(rt; offered_at_five(rt.alloc(), latest)?, wanted);
+    }
     Ok(())
+}
+
+/// What a commit to a buffer is refused for.
+fn commit_refusal(
+    interface: &mut Interface,
+    number: u8,
+    buffer: u8,
+    word: &Payload,
+) -> Option<HostError> {
+    let Some(task) = TaskId::new(number) else {
+        return Some(HostError::UnknownTask);
+    };
+    interface.commit(task, buffer, word).err()
 }
 
 #[test]
 fn full_host_entries_stop_the_host_alone(rt: HostRuntime) -> Result<(), Fail> {
     let mut interface = interface(rt.alloc(), ONE_WORD_CYCLE, &sender(Mode::Event, 2)?)?;
     let word = payload(&[0, 1])?;
-    interface.commit(task(0)?, 0, &word)?;
-    interface.commit(task(0)?, 0, &word)?;
-    assert_eq!(rt;
-        interface.commit(task(0)?, 0, &word),
-        Err(HostError::HostFull)
-    );
-    interface.fetch(&slot_two(0)?)?;
-    interface.observe(0, &Seen::Own, &Seen::Own)?;
+    let answers = [
+        commit_refusal(&mut interface, 0, 0, &word),
+        commit_refusal(&mut interface, 0, 0, &word),
+        commit_refusal(&mut interface, 0, 0, &word),
+    ];
+    assert_eq!(rt; answers, [None, None, Some(HostError::HostFull)]);
+    observed(&mut interface, 0)?;
     assert_eq!(rt; interface.journal().len(), 4);
     Ok(())
 }
@@ -204,26 +223,27 @@ fn commits_that_are_refused(rt: HostRuntime) -> Result<(), Fail> {
     plan.add_buffer(Buffer::default())?;
     let mut interface = interface(rt.alloc(), ONE_WORD_CYCLE, &plan)?;
     let two_words = payload(&[0, 1, 0, 2])?;
-    assert_eq!(rt;
-        interface.commit(task(1)?, 2, &two_words),
-        Err(HostError::UnknownTask)
+    let answers = [
+        commit_refusal(&mut interface, 1, 2, &two_words),
+        commit_refusal(&mut interface, 0, 2, &two_words),
+        commit_refusal(&mut interface, 0, 1, &two_words),
+        commit_refusal(&mut interface, 0, 0, &two_words),
+        interface.read(task(0)?, 0).err(),
+    ];
+    let wanted = [
+        HostError::UnknownTask,
+        HostError::UnknownBuffer,
+        HostError::NotTransmit,
+        HostError::WrongLength,
+        HostError::NotReceive,
+    ];
+    assert_eq!(rt; answers, wanted.map(Some));
+    let left = (
+        interface.tally(1),
+        interface.tally(2),
+        interface.journal().len(),
     );
-    assert_eq!(rt;
-        interface.commit(task(0)?, 2, &two_words),
-        Err(HostError::UnknownBuffer)
-    );
-    assert_eq!(rt;
-        interface.commit(task(0)?, 1, &two_words),
-        Err(HostError::NotTransmit)
-    );
-    assert_eq!(rt;
-        interface.commit(task(0)?, 0, &two_words),
-        Err(HostError::WrongLength)
-    );
-    assert_eq!(rt; interface.read(task(0)?, 0), Err(HostError::NotReceive));
-    assert_eq!(rt; interface.tally(1), None);
-    assert_eq!(rt; interface.tally(2), None);
-    assert_eq!(rt; interface.journal().len(), 0);
+    assert_eq!(rt; left, (None, None, 0));
     Ok(())
 }
 

@@ -1,12 +1,11 @@
 //! The three-node cluster, files with each fault, and printed faults.
 
-use crate::support::{cycle, slot};
 use fr_params::error::ParamError;
 use fr_schedule::cluster::Cluster;
 use fr_schedule::error::ConfigError;
 use fr_slots::channel::Channel;
-use fr_slots::numbers::NodeId;
 use fr_slots::params::Key;
+use fr_testing::{cycle, node, slot};
 use std::alloc::Global;
 use std::test::Fail;
 
@@ -24,7 +23,7 @@ idle = 0
 words_per_minislot = 5
 ";
 
-/// A cycle of ten minislots, of four words each, one of which stays idle behind a transmission.
+/// A cycle of ten minislots, of four words each, one of which stays idle after a transmission.
 const SMALL_CYCLE: &str = "[params]
 static_slots = 3
 minislots = 10
@@ -94,10 +93,6 @@ fn refusal(alloc: Global, text: &str) -> Option<ConfigError> {
 fn node_refusal(alloc: Global, node: &str) -> Result<Option<ConfigError>, Fail> {
     let text = one_node(alloc, node)?;
     Ok(refusal(alloc, text.as_str()))
-}
-
-fn node(number: u8) -> Result<NodeId, Fail> {
-    Ok(NodeId::new(number).ok_or("no node")?)
 }
 
 /// The three-node cluster.

@@ -1,18 +1,18 @@
 //! The receive queue and the status counters, in a cluster of three static slots of one word.
 
-use crate::support::{slot, task};
-use fr_frame::frame::{Bytes, Frame};
+use crate::parts::{came, interface};
+use fr_frame::frame::Frame;
 use fr_interface::errors::HostError;
 use fr_interface::interface::Interface;
 use fr_journal::entry::{Entry, Origin};
 use fr_slots::channel::{Channel, Channels};
 use fr_slots::filter::{CycleFilter, Filter};
 use fr_slots::numbers::Cycle;
-use fr_slots::params::Params;
 use fr_slots::plan::{Buffer, Mode, NodePlan, Queue};
 use fr_slots::window::Window;
 use fr_status::counters::Counters;
 use fr_status::seen::Seen;
+use fr_testing::{ONE_WORD_CYCLE, slot, task};
 use std::alloc::Global;
 use std::test::Fail;
 
@@ -28,12 +28,6 @@ const FIRST_ON_B: [u8; 10] = [0x20, 0x02, 0x03, 0xc1, 0x40, 0x00, 0x01, 0xf4, 0x
 
 /// The null frame of slot 2 in cycle 1, on channel A.
 const NULL_FRAME: [u8; 10] = [0x00, 0x02, 0x03, 0xc1, 0x41, 0x00, 0x00, 0xd1, 0x4f, 0x6c];
-
-fn came(bytes: &[u8]) -> Result<Seen, Fail> {
-    let mut kept = Bytes::new();
-    kept.try_extend_from_slice(bytes)?;
-    Ok(Seen::Bytes(kept))
-}
 
 /// A plan of one task with a queue of two frames, for slots 1 to 3 on both channels in every cycle.
 fn queue_plan(host_entries: u16) -> Result<NodePlan, Fail> {
@@ -62,14 +56,6 @@ fn receive_buffer() -> Result<Buffer, Fail> {
     })
 }
 
-fn interface(alloc: Global, plan: &NodePlan) -> Result<Interface, Fail> {
-    let params = Params::new([3, 4, 1, 20, 5, 0, 10, 90, 0, 5])?;
-    if plan.fault(&params).is_some() {
-        return Err(Fail::from("the plan has a fault"));
-    }
-    Ok(Interface::new(alloc, &params, plan)?)
-}
-
 /// Fetches and observes static slot 2 in the cycle of this number.
 fn observed(interface: &mut Interface, number: u8, a: &Seen, b: &Seen) -> Result<(), Fail> {
     let cycle = Cycle::new(number).ok_or("no cycle")?;
@@ -80,7 +66,7 @@ fn observed(interface: &mut Interface, number: u8, a: &Seen, b: &Seen) -> Result
 
 /// The three frames have arrived on channel A.
 fn three_arrived(alloc: Global) -> Result<Interface, Fail> {
-    let mut interface = interface(alloc, &queue_plan(8)?)?;
+    let mut interface = interface(alloc, ONE_WORD_CYCLE, &queue_plan(8)?)?;
     observed(&mut interface, 0, &came(&FIRST)?, &Seen::Silence)?;
     observed(&mut interface, 1, &came(&SECOND)?, &Seen::Silence)?;
     observed(&mut interface, 2, &came(&THIRD)?, &Seen::Silence)?;
@@ -92,18 +78,28 @@ fn mark(frame: &Frame) -> Option<u8> {
     frame.payload.as_slice().last().copied()
 }
 
+/// The last byte of the frame that is popped, if any.
+fn popped(interface: &mut Interface) -> Result<Option<u8>, Fail> {
+    Ok(interface.pop(task(0)?)?.and_then(|frame| mark(&frame)))
+}
+
 #[test]
 fn queue_overwrites_the_oldest(rt: HostRuntime) -> Result<(), Fail> {
     let mut interface = three_arrived(rt.alloc())?;
-    assert_eq!(rt; interface.queue_len(), Some(2));
-    assert_eq!(rt; interface.queue_lost(), Some(1));
-    let first = interface.pop(task(0)?)?.ok_or("nothing popped")?;
-    assert_eq!(rt; mark(&first), Some(2));
-    let second = interface.pop(task(0)?)?.ok_or("nothing popped")?;
-    assert_eq!(rt; mark(&second), Some(3));
-    assert_eq!(rt; interface.pop(task(0)?)?, None);
-    assert_eq!(rt; interface.queue_len(), Some(0));
-    assert_eq!(rt; interface.queue_lost(), Some(1));
+    assert_eq!(rt;
+        (interface.queue_len(), interface.queue_lost()),
+        (Some(2), Some(1))
+    );
+    let marks = [
+        popped(&mut interface)?,
+        popped(&mut interface)?,
+        popped(&mut interface)?,
+    ];
+    assert_eq!(rt; marks, [Some(2), Some(3), None]);
+    assert_eq!(rt;
+        (interface.queue_len(), interface.queue_lost()),
+        (Some(0), Some(1))
+    );
     Ok(())
 }
 
@@ -124,15 +120,15 @@ fn each_pop_is_an_entry(rt: HostRuntime) -> Result<(), Fail> {
         task: task(0)?,
         from: None,
     };
-    assert_eq!(rt; interface.journal().len(), 9);
-    assert_eq!(rt; interface.journal().get(6), Some(&answered));
-    assert_eq!(rt; interface.journal().get(8), Some(&unanswered));
+    let journal = interface.journal();
+    let entries = [journal.get(6), journal.get(8), journal.get(9)];
+    assert_eq!(rt; entries, [Some(&answered), Some(&unanswered), None]);
     Ok(())
 }
 
 #[test]
 fn the_queue_takes_both_channels(rt: HostRuntime) -> Result<(), Fail> {
-    let mut interface = interface(rt.alloc(), &queue_plan(8)?)?;
+    let mut interface = interface(rt.alloc(), ONE_WORD_CYCLE, &queue_plan(8)?)?;
     observed(&mut interface, 0, &came(&FIRST)?, &came(&FIRST_ON_B)?)?;
     observed(&mut interface, 1, &came(&NULL_FRAME)?, &Seen::Noise)?;
     assert_eq!(rt; interface.queue_len(), Some(2));
@@ -153,7 +149,7 @@ fn the_queue_takes_both_channels(rt: HostRuntime) -> Result<(), Fail> {
 fn the_queue_leaves_a_buffer_its_frames(rt: HostRuntime) -> Result<(), Fail> {
     let mut plan = queue_plan(8)?;
     plan.add_buffer(receive_buffer()?)?;
-    let mut interface = interface(rt.alloc(), &plan)?;
+    let mut interface = interface(rt.alloc(), ONE_WORD_CYCLE, &plan)?;
     observed(&mut interface, 0, &came(&FIRST)?, &came(&FIRST_ON_B)?)?;
     assert_eq!(rt; interface.queue_len(), Some(1));
     interface.pop(task(0)?)?;
@@ -170,21 +166,30 @@ fn the_queue_leaves_a_buffer_its_frames(rt: HostRuntime) -> Result<(), Fail> {
 
 #[test]
 fn pops_that_are_refused(rt: HostRuntime) -> Result<(), Fail> {
-    let mut full = interface(rt.alloc(), &queue_plan(1)?)?;
-    assert_eq!(rt; full.pop(task(0)?)?, None);
-    assert_eq!(rt; full.pop(task(1)?), Err(HostError::UnknownTask));
-    assert_eq!(rt; full.pop(task(0)?), Err(HostError::HostFull));
-    let mut without = interface(rt.alloc(), &NodePlan::new(1, [0, 0], 1, 2)?)?;
-    assert_eq!(rt; without.pop(task(1)?), Err(HostError::UnknownTask));
-    assert_eq!(rt; without.pop(task(0)?), Err(HostError::NoQueue));
-    assert_eq!(rt; without.queue_len(), None);
-    assert_eq!(rt; without.queue_lost(), None);
+    let mut full = interface(rt.alloc(), ONE_WORD_CYCLE, &queue_plan(1)?)?;
+    let mut without = interface(rt.alloc(), ONE_WORD_CYCLE, &NodePlan::new(1, [0, 0], 1, 2)?)?;
+    let answers = [
+        full.pop(task(0)?),
+        full.pop(task(1)?),
+        full.pop(task(0)?),
+        without.pop(task(1)?),
+        without.pop(task(0)?),
+    ];
+    let wanted = [
+        Ok(None),
+        Err(HostError::UnknownTask),
+        Err(HostError::HostFull),
+        Err(HostError::UnknownTask),
+        Err(HostError::NoQueue),
+    ];
+    assert_eq!(rt; answers, wanted);
+    assert_eq!(rt; (without.queue_len(), without.queue_lost()), (None, None));
     Ok(())
 }
 
 #[test]
 fn counters_count_each_channel(rt: HostRuntime) -> Result<(), Fail> {
-    let mut interface = interface(rt.alloc(), &queue_plan(8)?)?;
+    let mut interface = interface(rt.alloc(), ONE_WORD_CYCLE, &queue_plan(8)?)?;
     observed(&mut interface, 0, &came(&FIRST)?, &came(&FIRST_ON_B)?)?;
     observed(&mut interface, 1, &came(&NULL_FRAME)?, &Seen::Overrun)?;
     let counted = Counters {
@@ -197,7 +202,7 @@ fn counters_count_each_channel(rt: HostRuntime) -> Result<(), Fail> {
 
 #[test]
 fn a_channel_without_a_slot_counts_nothing(rt: HostRuntime) -> Result<(), Fail> {
-    let mut interface = interface(rt.alloc(), &queue_plan(8)?)?;
+    let mut interface = interface(rt.alloc(), ONE_WORD_CYCLE, &queue_plan(8)?)?;
     let window = Window::dynamic(0, Cycle::from_bits(0), 1, Some(slot(4)?), None);
     interface.fetch(&window.ok_or("no window")?)?;
     interface.observe(0, &Seen::Conflict, &Seen::Noise)?;

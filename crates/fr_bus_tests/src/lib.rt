@@ -1,0 +1,11 @@
+//! The tests of the cluster file and of the bus.
+#![tactic(auto)]
+
+#[cfg(test)]
+mod faults;
+#[cfg(test)]
+mod runs;
+#[cfg(test)]
+mod schedule;
+#[cfg(test)]
+mod steps;
