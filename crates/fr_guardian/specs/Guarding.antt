@@ -44,7 +44,8 @@ is_open guarded owned channel symbol_window = false
 is_open guarded owned channel idle_time = false
 
 -- the macrotick lies in an open part
-pub record IsOpenTo (p : Parameters) (guarded : Bool) (owned : List Own) (channel : Channel) (macrotick : ℕ) : Type 0 where
+pub record IsOpenTo (p : Parameters) (guarded : Bool) (owned : List Own) (channel : Channel)
+    (macrotick : ℕ) : Type 0 where
   pub place : Place
   pub at : IsAt p macrotick place
   pub opens : is_open guarded owned channel (part_of place) ≡ true

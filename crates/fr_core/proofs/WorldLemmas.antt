@@ -1,0 +1,123 @@
+-- What every world keeps is kept by each event.
+use Rattle.std.proofs.Common.{◌≡◌, ℕ, List, [], ◌∷◌, length, map, refl, sym, ap, ◌∙◌, Option, Some, None}
+use Rattle.std.proofs.Common.{length-set}
+use Rattle.std.specs.Prelude.{Result, Ok, Err}
+use Rattle.std.proofs.lemmas.List.{length-map, length-replicate}
+use Rattle.std.proofs.Math.Seq.{map-set_same}
+use Rattle.fr_bus.specs.declared.fault.Fault.{Fault}
+use Rattle.fr_bus.specs.declared.fault.Fault.TheVariants.{Babble, Mute, Corrupt}
+use Rattle.fr_bus.specs.States.{BusState, inject_done, sealed_with, collecting_of}
+use Rattle.fr_core.specs.declared.carried.Carried.{Carried}
+use Rattle.fr_core.specs.declared.carried.Carried.TheVariants.{Idle, Knows, Offers, Waits, Took}
+use Rattle.fr_core.specs.declared.error.StepError.{StepError}
+use Rattle.fr_core.specs.declared.event.Event.{Event}
+use Rattle.fr_core.specs.declared.event.Event.TheVariants.{Commit, Read, Pop, Look, Fetch, Put, Take, Observe, Inject}
+use Rattle.fr_core.specs.declared.event.Event.TheVariants.{Seal, Advance}
+use Rattle.fr_core.specs.declared.event.Reply.{Reply}
+use Rattle.fr_core.specs.Steps.{Steps, step_done, with_interface, with_carried, with_bus, looked, fetched, put_on_bus, taken}
+use Rattle.fr_core.specs.Steps.{observed}
+use Rattle.fr_core.specs.Worlds.{WorldState, IsWorld, interface_at, carried_at, no_interface, new_interface, opening_world}
+use Rattle.fr_core.specs.Worlds.{without_entries}
+use Rattle.fr_interface.specs.State.{State}
+use Rattle.fr_schedule.specs.Descriptions.{Description}
+use Rattle.fr_slots.specs.declared.channel.Channel.TheVariants.{A, B}
+use Rattle.fr_slots.specs.Parameters.{Parameters}
+use Rattle.fr_slots.specs.Plans.{Plan}
+use Rattle.fr_slots.specs.Windows.{Opportunity}
+
+-- ---- one change
+
+-- an interface with another journal
+kept_interface : (w : WorldState) (n : ℕ) (i : State) → without_entries i ≡ without_entries (interface_at w n) → IsWorld w → IsWorld (with_interface w n i)
+kept_interface w n i same kept = record {
+  configured = map-set_same without_entries w.interfaces n i no_interface same ∙ kept.configured;
+  a_controller_each = length-set w.interfaces n i ∙ kept.a_controller_each;
+}
+
+kept_carried : (w : WorldState) (n : ℕ) (c : Carried) → IsWorld w → IsWorld (with_carried w n c)
+kept_carried w n c kept = record {
+  configured = kept.configured;
+  a_controller_each = kept.a_controller_each ∙ sym (length-set w.carried n c);
+}
+
+-- a bus of the same cluster
+kept_bus : (w : WorldState) (b : BusState) → b.cluster ≡ w.bus.cluster → IsWorld w → IsWorld (with_bus w b)
+kept_bus w b same kept = record {
+  configured = kept.configured ∙ ap (λ (d : Description). map (new_interface d.params) d.plans) (sym same);
+  a_controller_each = kept.a_controller_each;
+}
+
+inject_cluster : (b : BusState) (fault : Fault) → (inject_done b fault).cluster ≡ b.cluster
+inject_cluster b (Babble node channel bytes) = refl
+inject_cluster b (Mute node channel) = refl
+inject_cluster b (Corrupt A bit) = refl
+inject_cluster b (Corrupt B bit) = refl
+
+seal_cluster : (b : BusState) (opened : Option Opportunity) → (sealed_with b opened).cluster ≡ b.cluster
+seal_cluster b None = refl
+seal_cluster b (Some window) = refl
+
+-- ---- the steps of a controller
+
+kept_looked : (w : WorldState) (n : ℕ) (opened : Option Opportunity) → IsWorld w → IsWorld (looked w n opened)
+kept_looked w n None kept = kept
+kept_looked w n (Some window) kept = kept_carried w n (Knows window) kept
+
+kept_fetched : (w : WorldState) (n : ℕ) (c : Carried) → IsWorld w → IsWorld (fetched w n c)
+kept_fetched w n Idle kept = kept
+kept_fetched w n (Knows window) kept = kept_carried _ n _ (kept_interface w n _ refl kept)
+kept_fetched w n (Offers window offer) kept = kept
+kept_fetched w n (Waits window) kept = kept
+kept_fetched w n (Took window a b) kept = kept
+
+kept_put : (w : WorldState) (n : ℕ) (c : Carried) → IsWorld w → IsWorld (put_on_bus w n c)
+kept_put w n Idle kept = kept
+kept_put w n (Knows window) kept = kept
+kept_put w n (Offers window offer) kept = kept_carried _ n _ (kept_bus w _ refl kept)
+kept_put w n (Waits window) kept = kept
+kept_put w n (Took window a b) kept = kept
+
+kept_taken : (w : WorldState) (n : ℕ) (c : Carried) → IsWorld w → IsWorld (taken w n c)
+kept_taken w n Idle kept = kept
+kept_taken w n (Knows window) kept = kept
+kept_taken w n (Offers window offer) kept = kept
+kept_taken w n (Waits window) kept = kept_carried _ n _ (kept_bus w _ refl kept)
+kept_taken w n (Took window a b) kept = kept
+
+kept_observed : (w : WorldState) (n : ℕ) (c : Carried) → IsWorld w → IsWorld (observed w n c)
+kept_observed w n Idle kept = kept
+kept_observed w n (Knows window) kept = kept
+kept_observed w n (Offers window offer) kept = kept
+kept_observed w n (Waits window) kept = kept
+kept_observed w n (Took window a b) kept = kept_carried _ n _ (kept_interface w n _ refl kept)
+
+-- ---- events
+
+kept_done : (w : WorldState) (event : Event) → IsWorld w → IsWorld (step_done w event)
+kept_done w (Commit n task buffer payload) kept = kept_interface w n _ refl kept
+kept_done w (Read n task buffer) kept = kept_interface w n _ refl kept
+kept_done w (Pop n task) kept = kept_interface w n _ refl kept
+kept_done w (Look n) kept = kept_looked w n (collecting_of w.bus) kept
+kept_done w (Fetch n) kept = kept_fetched w n (carried_at w n) kept
+kept_done w (Put n) kept = kept_put w n (carried_at w n) kept
+kept_done w (Take n) kept = kept_taken w n (carried_at w n) kept
+kept_done w (Observe n) kept = kept_observed w n (carried_at w n) kept
+kept_done w (Inject fault) kept = kept_bus w _ (inject_cluster w.bus fault) kept
+kept_done w Seal kept = kept_bus w _ (seal_cluster w.bus w.bus.opened) kept
+kept_done w Advance kept = kept_bus w _ refl kept
+
+pub kept_step : (old : WorldState) (event : Event) (answer : Result Reply StepError) (new : WorldState) → Steps old event answer new → IsWorld old → IsWorld new
+kept_step old event (Ok reply) new step kept = rw step.2 (kept_done old event kept)
+kept_step old event (Err e) new step kept = rw step.1 kept
+
+-- ---- the opening world
+
+opening_configured : (params : Parameters) (plans : List Plan) → map without_entries (map (new_interface params) plans) ≡ map (new_interface params) plans
+opening_configured params [] = refl
+opening_configured params (plan ∷ plans) = ap (λ l. new_interface params plan ∷ l) (opening_configured params plans)
+
+pub kept_opening : (d : Description) (cycles : ℕ) → IsWorld (opening_world d cycles)
+kept_opening d cycles = record {
+  configured = opening_configured d.params d.plans;
+  a_controller_each = length-map d.plans (new_interface d.params) ∙ sym (length-replicate (length d.plans) Idle);
+}

@@ -1,0 +1,7 @@
+use Rattle.std.proofs.Common.{◌≡◌, replicate}
+use Rattle.fr_core.specs.declared.carried.Carried.TheVariants.{Idle}
+use Rattle.fr_core.proofs.machine.idle_controllers.Given as goal
+
+-- so many are there
+abbrev pub invariant-loop-place : goal.invariant-loop-place
+invariant-loop-place l = l.list.items ≡ replicate l._place Idle

@@ -1,0 +1,4 @@
+pub mod Worlds
+pub mod Steps
+pub mod Commits
+pub mod Runs

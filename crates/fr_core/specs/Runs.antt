@@ -1,0 +1,55 @@
+-- Lists of events (own profile).
+use Rattle.std.specs.Prelude.{◌≡◌, ℕ, ◌+◌, ◌==◌, Bool, false, ◌&&◌, List, [], ◌∷◌, Result, count_by}
+use Rattle.std.specs.Prelude.{if◌then◌else◌}
+use Rattle.std.specs.Result.{is_ok}
+use Rattle.fr_core.specs.Commits.{commits_of}
+use Rattle.fr_core.specs.declared.error.StepError.{StepError}
+use Rattle.fr_core.specs.declared.event.Event.{Event}
+use Rattle.fr_core.specs.declared.event.Event.TheVariants.{Commit, Read, Pop, Look, Fetch, Put, Take, Observe, Inject}
+use Rattle.fr_core.specs.declared.event.Event.TheVariants.{Seal, Advance}
+use Rattle.fr_core.specs.declared.event.Reply.{Reply}
+use Rattle.fr_core.specs.Steps.{Steps}
+use Rattle.fr_core.specs.Worlds.{WorldState, interface_at}
+
+abbrev pub Answer : Type 0
+Answer = Result Reply StepError
+
+-- the events, with these answers, lead from `old` to `new`
+unfoldable pub StepsAll : WorldState → List Event → List Answer → WorldState → Type 0
+StepsAll old [] [] new = new ≡ old
+StepsAll old [] (answer ∷ answers) new = ⊥
+StepsAll old (event ∷ events) [] new = ⊥
+StepsAll old (event ∷ events) (answer ∷ answers) new =
+    (between : WorldState) × Steps old event answer between × StepsAll between events answers new
+
+abbrev pub is_commit_at : ℕ → Event → Bool
+is_commit_at n (Commit node task buffer payload) = node == n
+is_commit_at n (Read node task buffer) = false
+is_commit_at n (Pop node task) = false
+is_commit_at n (Look node) = false
+is_commit_at n (Fetch node) = false
+is_commit_at n (Put node) = false
+is_commit_at n (Take node) = false
+is_commit_at n (Observe node) = false
+is_commit_at n (Inject fault) = false
+is_commit_at n Seal = false
+is_commit_at n Advance = false
+
+-- 1 for an accepted commit at the node
+abbrev pub commits_by : ℕ → Event → Answer → ℕ
+commits_by n event answer = if is_commit_at n event && is_ok answer then 1 else 0
+
+-- how many of the events are commits at the node, and were accepted
+unfoldable pub commits_accepted : ℕ → List Event → List Answer → ℕ
+commits_accepted n [] answers = 0
+commits_accepted n (event ∷ events) [] = 0
+commits_accepted n (event ∷ events) (answer ∷ answers) = commits_by n event answer + commits_accepted n events answers
+
+-- The events lead from `old` to `new`, so many of them are accepted, and each interface took as many commits as there
+-- are accepted commits at its node.
+pub record IsRunOf (old : WorldState) (events : List Event) (accepted : ℕ) (new : WorldState) : Type 0 where
+  pub answers : List Answer
+  pub steps : StepsAll old events answers new
+  pub accepted_is : accepted ≡ count_by is_ok answers
+  pub commits : (n : ℕ)
+      → commits_of (interface_at new n) ≡ commits_of (interface_at old n) + commits_accepted n events answers

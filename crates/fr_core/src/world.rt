@@ -1,0 +1,114 @@
+//! The world of a cluster.
+
+use crate::carried::Carried;
+use crate::error::StepError;
+use crate::event::{Event, Reply};
+use crate::legal;
+use crate::machine::Machine;
+use fr_bus::bus::Bus;
+use fr_bus::error::BusError;
+use fr_interface::interface::Interface;
+use fr_schedule::cluster::Cluster;
+use std::alloc::Global;
+use std::marker::Model;
+
+/// The world of a cluster in a run: an interface for each node, the bus, and what each node's controller carries from
+/// one of its steps to the next (own profile).
+///
+/// In each window a controller looks at the bus for the open window, fetches it at its interface, puts what that hands
+/// out on the bus, takes what it sees once the window is sealed, and observes it at its interface. Tasks commit, read
+/// and pop at any moment.
+#[derive(Drop)]
+pub struct World {
+    machine: Machine,
+}
+
+impl Model for World {
+    ghost use Rattle.fr_core.specs.Worlds.{WorldState, IsWorld};
+
+    ghost Value = { WorldState };
+
+    ghost view = { λ w. w.machine };
+
+    ghost invariant = { λ w. IsWorld w.machine };
+}
+
+impl World {
+    ghost use Rattle.std.specs.Prelude.{◌≡◌};
+    ghost use Rattle.std.specs.List.{All, list_all};
+    ghost use Rattle.fr_bus.specs.States.{IsRun, OneSenderEach};
+    ghost use Rattle.fr_core.specs.Commits.{AreAccounted};
+    ghost use Rattle.fr_core.specs.Steps.{Steps};
+    ghost use Rattle.fr_core.specs.Worlds.{OpensWorld, IsWorld, is_between};
+    ghost use Rattle.fr_interface.specs.State.{IsLegalInterface};
+
+    /// The opening world of a cluster for a run of so many cycles, 1 to 1024: all journals are empty, the bus is at
+    /// cycle 0, slot 1, and no controller carries anything.
+    ///
+    /// Refused with `BadCycles` for 0 cycles or more than 1024, and then with `Memory` where memory is refused.
+    pub fn new(alloc: Global, cluster: &Cluster, cycles: u16) -> Result<World, BusError>
+        ensures { OpensWorld cluster.now cycles result }
+    {
+        match Machine::new(alloc, cluster, cycles) {
+            Ok(machine) => Ok(World { machine }),
+            Err(error) => Err(error),
+        }
+    }
+
+    /// Does one event. A look is answered with the open window, a commit with its receipt, a read or a pop with its
+    /// frame, and all others with `Done`.
+    ///
+    /// Refused, in this order, with `UnknownNode` where the event's node isn't one of the cluster's, with `WrongTurn`
+    /// where another step of its controller is due, and with what the one call refuses: `Host` for that of a task,
+    /// `Slot` for that of a controller at its interface, and `Bus` for one at the bus. A look is refused by the bus
+    /// with `NotCollecting` where no window is open for offers, and a fault of an unknown node with the bus's
+    /// `UnknownNode`. A seal alone may be refused for want of memory. The world is then unchanged.
+    pub fn step(&mut self, event: &Event) -> Result<Reply, StepError>
+        ensures { Steps self.old event.now result self.new }
+    {
+        self.machine.step(event)
+    }
+
+    /// The interfaces, in the order of the nodes. Each is legal, and each of its commits is sent, overwritten or
+    /// pending.
+    pub fn interfaces(&self) -> &[Interface]
+        ensures value { result.now ≡ self.now.interfaces }
+        ensures legal { All IsLegalInterface self.now.interfaces }
+        ensures accounted { All AreAccounted self.now.interfaces }
+    {
+        self.known();
+        self.machine.interfaces()
+    }
+
+    /// The bus. Its record is that of a run, and in a static slot of a guarded channel all that passed is of one
+    /// sender.
+    pub fn bus(&self) -> &Bus
+        ensures value { result.now ≡ self.now.bus }
+        ensures run { IsRun self.now.bus }
+        ensures one_sender { OneSenderEach self.now.bus.cluster self.now.bus.sealed }
+    {
+        self.known();
+        self.machine.bus()
+    }
+
+    /// Whether each controller is between two windows: none has fetched one that it hasn't observed.
+    pub fn between_windows(&self) -> bool
+        ensures { result ≡ list_all is_between self.now.carried }
+    {
+        self.machine.between_windows()
+    }
+
+    /// What every world keeps: its interfaces are those of its cluster's nodes, each is legal, each of its commits is
+    /// sent, overwritten or pending, the record is that of a run, and no static slot of a guarded channel carries two
+    /// senders. It does nothing but tell so.
+    pub fn known(&self)
+        ensures configured { IsWorld self.now }
+        ensures legal { All IsLegalInterface self.now.interfaces }
+        ensures accounted { All AreAccounted self.now.interfaces }
+        ensures run { IsRun self.now.bus }
+        ensures one_sender { OneSenderEach self.now.bus.cluster self.now.bus.sealed }
+    {
+        legal::known(self.machine.interfaces());
+        self.machine.bus().known();
+    }
+}

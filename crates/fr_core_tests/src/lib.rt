@@ -1,0 +1,7 @@
+//! The tests of the world over events.
+#![tactic(auto)]
+
+#[cfg(test)]
+mod turns;
+#[cfg(test)]
+mod worlds;
