@@ -20,8 +20,13 @@ abbrev pub with_commit : Transmitter → HeldCommit → Transmitter
 with_commit b c = record {
   mode = b.mode;
   last = Some c;
-  tally = record { committed = b.tally.committed + 1; sent = b.tally.sent; overwritten = b.tally.overwritten
-      + b.tally.pending; pending = 1 };
+  tally = record {
+    committed = b.tally.committed + 1;
+    sent = b.tally.sent;
+    overwritten = b.tally.overwritten
+        + b.tally.pending;
+    pending = 1;
+  };
 }
 
 -- the entry of the last commit, and its payload
@@ -45,6 +50,10 @@ abbrev pub after_send : Transmitter → Transmitter
 after_send b = record {
   mode = b.mode;
   last = b.last;
-  tally = record { committed = b.tally.committed; sent = b.tally.sent + b.tally.pending;
-      overwritten = b.tally.overwritten; pending = 0 };
+  tally = record {
+    committed = b.tally.committed;
+    sent = b.tally.sent + b.tally.pending;
+    overwritten = b.tally.overwritten;
+    pending = 0;
+  };
 }

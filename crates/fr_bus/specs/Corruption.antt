@@ -12,7 +12,7 @@ turned byte bit = bit_xor byte (2 ^ (7 - bit))
 abbrev pub with_bit_turned : List ℕ → ℕ → List ℕ
 with_bit_turned bytes bit =
     if nat_lt (bit / 8) (length bytes) then slice_set bytes (bit / 8) (turned (slice_index bytes (bit / 8)) (bit % 8))
-        else bytes
+    else bytes
 
 abbrev pub corrupted : ArrayVec ℕ → Option ℕ → ArrayVec ℕ
 corrupted bytes None = bytes

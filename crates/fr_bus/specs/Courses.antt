@@ -43,8 +43,13 @@ course_of p cycles rs = record {
 
 -- the first window of a cycle begins its lanes
 abbrev pub first_passed : Standpoint → Standpoint
-first_passed c = record c { windows = c.windows + 1; begun = c.begun + 1; statics = 1; a = standing_after c.params [];
-    b = standing_after c.params [] }
+first_passed c = record c {
+  windows = c.windows + 1;
+  begun = c.begun + 1;
+  statics = 1;
+  a = standing_after c.params [];
+  b = standing_after c.params [];
+}
 
 -- a dynamic window ends the slot that it has on the channel, in which the longest transmission has so many bytes
 abbrev pub ended : Channel → Standing → Opportunity → ℕ → Standing
@@ -74,8 +79,13 @@ cycle_of c = (c.begun - 1) % 64
 
 abbrev pub opening : Standpoint → ℕ → Opportunity
 opening c minislot =
-    record { number = c.windows; cycle = cycle_of c; minislot = minislot; a = opened_in c.a minislot;
-    b = opened_in c.b minislot }
+    record {
+      number = c.windows;
+      cycle = cycle_of c;
+      minislot = minislot;
+      a = opened_in c.a minislot;
+      b = opened_in c.b minislot;
+    }
 
 abbrev pub dynamic_next : Standpoint → Option Opportunity
 dynamic_next c = option_map (opening c) (least_of (next_in c.a) (next_in c.b))

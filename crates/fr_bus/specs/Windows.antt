@@ -58,8 +58,13 @@ opens_any p cycle minislot = is_some (opened_on p A cycle minislot) || is_some (
 
 abbrev pub window_at : Parameters → ℕ → ℕ → List Recorded → ℕ → Opportunity
 window_at p number cycle rows minislot =
-    record { number = number; cycle = cycle; minislot = minislot; a = opened_on p A rows minislot;
-        b = opened_on p B rows minislot }
+    record {
+      number = number;
+      cycle = cycle;
+      minislot = minislot;
+      a = opened_on p A rows minislot;
+      b = opened_on p B rows minislot;
+    }
 
 -- at the first minislot at which a channel opens a slot
 abbrev pub next_dynamic : Parameters → ℕ → ℕ → List Recorded → Option Opportunity
@@ -77,7 +82,7 @@ statics_of done = count_by is_static_one done
 abbrev pub next_in_cycle : Parameters → ℕ → ℕ → List Recorded → Option Opportunity
 next_in_cycle p number cycle done =
     if nat_lt (statics_of done) p.static_slots then Some (static_window number cycle (statics_of done + 1))
-        else next_dynamic p number cycle done
+    else next_dynamic p number cycle done
 
 abbrev pub first_of_cycle : ℕ → ℕ → ℕ → Option Opportunity
 first_of_cycle cycles number begun = if nat_lt begun cycles then Some (static_window number (begun % 64) 1) else None

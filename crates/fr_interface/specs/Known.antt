@@ -38,8 +38,11 @@ commit_of entries entry = record { entry = entry; payload = payload_of entries e
 -- what a journal gives of the transmit buffer of this number and mode
 abbrev pub transmitter_of : List Entry → ℕ → Mode → Transmitter
 transmitter_of entries number mode =
-    record { mode = mode; last = option_map (commit_of entries) (last_commit number entries);
-        tally = tally_of number entries }
+    record {
+      mode = mode;
+      last = option_map (commit_of entries) (last_commit number entries);
+      tally = tally_of number entries;
+    }
 
 -- one for each buffer, the first of which has this number
 abbrev pub each_buffer : (ℕ → Mode → Transmitter) → ℕ → List Buffer → List Transmitter
@@ -82,8 +85,11 @@ stored_all number window a b (line ∷ lines) (h ∷ held) =
 -- what a journal gives of a queue
 abbrev pub waiting_of : Parameters → Plan → List Entry → Queue → Waiting
 waiting_of params plan entries q =
-    record { capacity = q.capacity; frames = queue_content q.capacity (moves params plan q entries);
-        lost = queue_lost params plan q entries }
+    record {
+      capacity = q.capacity;
+      frames = queue_content q.capacity (moves params plan q entries);
+      lost = queue_lost params plan q entries;
+    }
 
 abbrev pub queued_on : Plan → Queue → ℕ → Opportunity → Channel → Option Fields → Option Arrival
 queued_on plan q number window channel frame = if is_for_queue plan q window channel
@@ -99,7 +105,7 @@ abbrev pub with_arrivals : Plan → ℕ → Opportunity → Option Fields → Op
 with_arrivals plan number window a b None waiting = waiting
 with_arrivals plan number window a b (Some q) waiting =
     option_map (λ w. with_arrival (with_arrival w (queued_on plan q number window A a))
-        (queued_on plan q number window B b)) waiting
+    (queued_on plan q number window B b)) waiting
 
 abbrev pub empty_queue : Queue → Waiting
 empty_queue q = record { capacity = q.capacity; frames = []; lost = 0 }

@@ -30,7 +30,7 @@ abbrev pub sender_in : Plan → List Transmitter → Opportunity → Channel →
 sender_in plan buffers window channel None = None
 sender_in plan buffers window channel (Some slot) =
     if may_begin plan window channel then option_and_then (sender_at buffers) (transmitter plan window channel)
-        else None
+    else None
 
 -- what offers a commit in the window on the channel
 abbrev pub sender_on : Plan → List Transmitter → Opportunity → Channel → Option Sender

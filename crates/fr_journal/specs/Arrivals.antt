@@ -30,13 +30,13 @@ queue_admits_slot q cycle channel (Some slot) = queue_admits q cycle slot channe
 abbrev pub is_for_queue : Plan → Queue → Opportunity → Channel → Bool
 is_for_queue plan q window channel =
     queue_admits_slot q window.cycle channel (slot_of window channel)
-        && not (list_any (takes_window window channel) plan.buffers)
+    && not (list_any (takes_window window channel) plan.buffers)
 
 abbrev pub queue_arrival_on : Parameters → Plan → Queue → ℕ → Opportunity → Channel → Seen → List Arrival
 queue_arrival_on params plan q number window channel seen =
     if is_for_queue plan q window channel
-        then option_to_list (option_map (arrival_of number channel) (data_frame_seen params window channel seen))
-        else []
+    then option_to_list (option_map (arrival_of number channel) (data_frame_seen params window channel seen))
+    else []
 
 abbrev pub queue_arrivals_in : Parameters → Plan → Queue → ℕ → Seen → Seen → Option Opportunity → List Arrival
 queue_arrivals_in params plan q number a b None = []
@@ -100,4 +100,4 @@ is_answered_pop (Observe window a b) = false
 abbrev pub queue_lost : Parameters → Plan → Queue → List Entry → ℕ
 queue_lost params plan q entries =
     length (arrived (moves params plan q entries)) - count_by is_answered_pop entries
-        - queue_length q.capacity (moves params plan q entries)
+    - queue_length q.capacity (moves params plan q entries)

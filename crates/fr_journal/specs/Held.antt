@@ -29,7 +29,7 @@ with_data f = if f.has_data then Some f else None
 abbrev pub data_frame_seen : Parameters → Opportunity → Channel → Seen → Option Fields
 data_frame_seen params window channel seen =
     option_and_then with_data
-        (option_and_then (λ slot. frame_in params window.cycle slot channel seen) (slot_of window channel))
+    (option_and_then (λ slot. frame_in params window.cycle slot channel seen) (slot_of window channel))
 
 abbrev pub arrival_of : ℕ → Channel → Fields → Arrival
 arrival_of number channel frame = record { origin = record { entry = number; channel = channel }; frame = frame }
@@ -38,7 +38,7 @@ arrival_of number channel frame = record { origin = record { entry = number; cha
 abbrev pub arrival_on : Parameters → Filter → ℕ → Opportunity → Channel → Seen → Option Arrival
 arrival_on params filter number window channel seen =
     if admits_window filter window channel
-        then option_map (arrival_of number channel) (data_frame_seen params window channel seen) else None
+    then option_map (arrival_of number channel) (data_frame_seen params window channel seen) else None
 
 -- what it brings on both: A's frame where A has one
 abbrev pub arrival_in : Parameters → Filter → ℕ → Seen → Seen → Opportunity → Option Arrival
@@ -85,4 +85,4 @@ frame_in_entry params channel window (Observe number a b) =
 abbrev pub frame_named : Parameters → List Entry → Origin → Option Fields
 frame_named params entries origin =
     option_and_then (frame_in_entry params origin.channel (open_window (take origin.entry entries)))
-        (slice_get entries origin.entry)
+    (slice_get entries origin.entry)

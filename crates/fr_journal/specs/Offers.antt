@@ -51,7 +51,7 @@ ready_in plan entries buffer = option_and_then (λ b. ready b.mode buffer entrie
 abbrev pub commit_offered : Plan → List Entry → Opportunity → Channel → Option ℕ
 commit_offered plan entries window channel =
     if may_begin plan window channel then option_and_then (ready_in plan entries) (transmitter plan window channel)
-        else None
+    else None
 
 -- ---- the offer
 

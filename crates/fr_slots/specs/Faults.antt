@@ -169,7 +169,7 @@ too_long p plan b = transmits_dynamic p b && list_any (ends_late_on p plan b) ch
 unfoldable pub ownership_fault : Parameters → Plan → Option PlanFault
 ownership_fault p plan =
     option_or (out_of_params p plan)
-        (option_or (first_taken plan.owned) (first_buffer NotOwned (not_owned p plan.owned) plan.buffers))
+    (option_or (first_taken plan.owned) (first_buffer NotOwned (not_owned p plan.owned) plan.buffers))
 
 unfoldable pub buffer_fault : Parameters → Plan → Option PlanFault
 buffer_fault p plan =
@@ -197,7 +197,7 @@ HasOneSender plan = (slot : ℕ) (channel : Channel) (cycle m n : ℕ) (b c : Bu
 abbrev pub HasOneOwner : Plan → Type 0
 HasOneOwner plan = (slot : ℕ) (channel : Channel) (m n : ℕ) (o p : Own) → IsSlot slot
     → slice_get plan.owned m ≡ Some o → slice_get plan.owned n ≡ Some p → claims slot channel o ≡ true
-        → claims slot channel p ≡ true → m ≡ n
+    → claims slot channel p ≡ true → m ≡ n
 
 -- a static transmit buffer has the cluster's words, and its slot is owned on each of its channels
 pub record FitsStatic (p : Parameters) (plan : Plan) (b : Buffer) : Type 0 where

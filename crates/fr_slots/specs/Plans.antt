@@ -126,18 +126,26 @@ pub record IsPlan (p : Plan) : Type 0 where
 abbrev pub limits_fit : ℕ → ℕ → ℕ → ℕ → ℕ → Bool
 limits_fit tasks latest_a latest_b host slot =
     nat_le tasks most_tasks && nat_le latest_a last_minislot && nat_le latest_b last_minislot && nat_le 1 host
-        && nat_le host most_host_entries && nat_le 2 slot && nat_le slot most_slot_entries
+    && nat_le host most_host_entries && nat_le 2 slot && nat_le slot most_slot_entries
 
 -- a plan with no lines yet
 abbrev pub empty_plan : ℕ → ℕ → ℕ → ℕ → ℕ → Plan
 empty_plan tasks latest_a latest_b host slot =
-    record { tasks = tasks; latest_a = latest_a; latest_b = latest_b; host_entries = host; slot_entries = slot;
-        owned = []; buffers = []; queue = None }
+    record {
+      tasks = tasks;
+      latest_a = latest_a;
+      latest_b = latest_b;
+      host_entries = host;
+      slot_entries = slot;
+      owned = [];
+      buffers = [];
+      queue = None;
+    }
 
 abbrev pub plan_of : ℕ → ℕ → ℕ → ℕ → ℕ → Result Plan PlanError
 plan_of tasks latest_a latest_b host slot =
     if limits_fit tasks latest_a latest_b host slot then Ok (empty_plan tasks latest_a latest_b host slot)
-        else Err OutOfRange
+    else Err OutOfRange
 
 abbrev pub own_refusal : Plan → Own → Option PlanError
 own_refusal p o =

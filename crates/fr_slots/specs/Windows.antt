@@ -65,4 +65,4 @@ abbrev pub window_fits : Parameters → Opportunity → Bool
 window_fits params window =
     if is_static window then static_slot_fits params window.a && static_slot_fits params window.b
     else nat_le window.minislot params.minislots && dynamic_slot_fits params window.a
-        && dynamic_slot_fits params window.b
+    && dynamic_slot_fits params window.b
