@@ -55,6 +55,9 @@ fn a_list_of_events_runs_a_window(rt: HostRuntime) -> Result<(), Fail> {
     let accepted = run_events(&mut world, &events);
     let payload = payload_read(&mut world, &read(1)?)?;
     assert_eq!(rt; payload, Payload::from_slice(&[0x0a, 0x0b])?);
-    assert_eq!(rt; (accepted, windows(&world), world.interfaces().len()), (17, 1, usize::from(NODES)));
+    assert_eq!(rt;
+        (accepted, windows(&world), world.interfaces().len()),
+        (17, 1, usize::from(NODES))
+    );
     Ok(())
 }
