@@ -41,7 +41,7 @@ parsed digits r parses are some few =
 pub is_magnitude : (digits : List ℕ) → list_all is_ascii_digit digits ≡ true → 0 < length digits → length digits ≤ 10 → magnitude_in digits ≡ Some (digits_value 10 digits)
 is_magnitude digits are some few = rw (lt-ltb 0 (length digits) some, le-leb (length digits) 10 few, are) refl
 
--- one more number behind those so far
+-- one more number after those so far
 pub one_more : (numbers : List ℤ) (z : ℤ) (rest : Option (List ℤ)) → joined (numbers ++ z ∷ []) rest ≡ joined numbers (before (Some z) rest)
 one_more numbers z None = refl
 one_more numbers z (Some rest) = ap Some (append_assoc numbers (z ∷ []) rest)

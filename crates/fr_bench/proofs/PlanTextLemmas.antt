@@ -1,5 +1,5 @@
 -- The text of a plan, one node, one slot or one interval more.
-use Rattle.std.proofs.Common.{◌≡◌, ℕ, zero, suc, ◌+◌, List, [], ◌∷◌, ◌++◌, length, take, Option, Some, Result, Ok, Err}
+use Rattle.std.proofs.Common.{◌≡◌, ℕ, zero, suc, ◌+◌, true, List, [], ◌∷◌, ◌++◌, length, take, Option, Some, Result, Ok, Err}
 use Rattle.std.proofs.Common.{refl, sym, ap, subst, ◌∙◌, append_assoc, append-nil, add-one, arith}
 use Rattle.std.specs.Io.KnownBytes.{Appends}
 use Rattle.std.specs.List.{flat_map, range_with_len}
@@ -7,10 +7,17 @@ use Rattle.std.specs.Prelude.{slice_get, OnOk}
 use Rattle.std.proofs.KnownBytes.{Appends-nil, Appends-trans}
 use Rattle.std.proofs.lemmas.Grind.{flat_map-append}
 use Rattle.std.proofs.lemmas.List.{take_all}
+use Rattle.std.specs.List.{list_any}
+use Rattle.std.proofs.lemmas.Bool.{cond-true, cond-false, false_from_ne_true}
+use Rattle.fr_schedule.specs.Clusters.{IsCluster}
 use Rattle.fr_schedule.specs.Descriptions.{Description}
+use Rattle.fr_schedule.specs.SenderTable.{IsSender}
+use Rattle.fr_slots.specs.declared.channel.Channel.{Channel}
+use Rattle.fr_slots.specs.Faults.{is_owned, sends_at}
+use Rattle.fr_slots.specs.Parameters.{is_static_slot}
 use Rattle.fr_slots.specs.declared.channel.Channel.TheVariants.{A, B}
 use Rattle.fr_slots.specs.Plans.{Plan}
-use Rattle.fr_bench.specs.PlanText.{of_nodes, static_text, dynamic_text, IsGuardText, AreGuardTexts, IsPlanText, Adds}
+use Rattle.fr_bench.specs.PlanText.{of_nodes, owner_text, owners_text, slot_line, static_text, dynamic_text, IsGuardText, AreGuardTexts, IsPlanText, Adds}
 
 -- ---- nodes
 
@@ -50,6 +57,78 @@ one_node text plans count plan old mid new is h more =
 pub all_nodes : (text : ℕ → Plan → List ℕ) (plans : List Plan) (count : ℕ) (old new : Option (List ℕ)) → AreNodes text plans count old new → count ≡ length plans
     → Appends old new (of_nodes text 0 plans)
 all_nodes text plans count old new h all = subst (λ (xs : List Plan). Appends old new (of_nodes text 0 xs)) (take_all count plans (omega arith)) h.added
+
+-- ---- the owner of a static slot
+
+of_nodes-none : (text : ℕ → Plan → List ℕ) (node : ℕ) (plans : List Plan)
+    → ((place : ℕ) (plan : Plan) → slice_get plans place ≡ Some plan → text (node + place) plan ≡ []) → of_nodes text node plans ≡ []
+unfolding of_nodes
+of_nodes-none text node [] none = refl
+of_nodes-none text node (x ∷ plans) none =
+    let here : node ≡ node + 0 = omega arith in
+    ap (λ (t : List ℕ). t ++ of_nodes text (node + 1) plans) (ap (λ (n : ℕ). text n x) here ∙ none 0 x refl)
+    ∙ of_nodes-none text (node + 1) plans
+    (λ place plan at.
+    let next : node + 1 + place ≡ node + suc place = omega arith in
+    ap (λ (n : ℕ). text n plan) next ∙ none (suc place) plan at)
+
+of_nodes-one : (text : ℕ → Plan → List ℕ) (node : ℕ) (plans : List Plan) (m : ℕ) (plan : Plan) → slice_get plans m ≡ Some plan
+    → ((place : ℕ) (other : Plan) → slice_get plans place ≡ Some other → (place ≡ m → ⊥) → text (node + place) other ≡ [])
+    → of_nodes text node plans ≡ text (node + m) plan
+unfolding of_nodes
+of_nodes-one text node [] m plan at others = cc at
+of_nodes-one text node (x ∷ plans) zero plan at others =
+    let same : x ≡ plan = cc at in
+    let here : node ≡ node + 0 = omega arith in
+    ap (λ (t : List ℕ). text node x ++ t)
+    (of_nodes-none text (node + 1) plans
+    (λ place other there.
+    let next : node + 1 + place ≡ node + suc place = omega arith in
+    ap (λ (n : ℕ). text n other) next ∙ others (suc place) other there (λ zero_is. let none : ⊥ = omega (arith, zero_is) in none)))
+    ∙ append-nil (text node x) ∙ ap (text node) same ∙ ap (λ (n : ℕ). text n plan) here
+of_nodes-one text node (x ∷ plans) (suc m) plan at others =
+    let here : node ≡ node + 0 = omega arith in
+    let next : node + 1 + m ≡ node + suc m = omega arith in
+    ap (λ (t : List ℕ). t ++ of_nodes text (node + 1) plans)
+    (ap (λ (n : ℕ). text n x) here ∙ others 0 x refl (λ is. let none : ⊥ = omega (arith, is) in none))
+    ∙ of_nodes-one text (node + 1) plans m plan at
+    (λ place other there differ.
+    let after : node + 1 + place ≡ node + suc place = omega arith in
+    ap (λ (n : ℕ). text n other) after ∙ others (suc place) other there (λ same. differ (omega (arith, same))))
+    ∙ ap (λ (n : ℕ). text n plan) next
+
+module _ (d : Description) (slot : ℕ) (channel : Channel) (static : is_static_slot d.params slot ≡ true) where
+  sender_owns : (n : ℕ) → (sender : IsSender d 0 slot channel n) → is_owned sender.plan.owned slot channel ≡ true
+  sender_owns n sender =
+      sym (cond-true (is_static_slot d.params slot) (is_owned sender.plan.owned slot channel) (list_any (sends_at slot channel 0) sender.plan.buffers) static) ∙ sender.sends
+
+  owner_is : (n : ℕ) (plan : Plan) → slice_get d.plans n ≡ Some plan → is_owned plan.owned slot channel ≡ true → IsSender d 0 slot channel n
+  owner_is n plan at owns = record {
+    plan = plan;
+    at = at;
+    sends = cond-true (is_static_slot d.params slot) (is_owned plan.owned slot channel) (list_any (sends_at slot channel 0) plan.buffers) static ∙ owns;
+  }
+
+  no_line : (n : ℕ) (plan : Plan) → slice_get d.plans n ≡ Some plan → (IsSender d 0 slot channel n → ⊥) → owner_text slot channel n plan ≡ []
+  no_line n plan at never =
+      cond-false (is_owned plan.owned slot channel) (slot_line slot channel n) [] (false_from_ne_true _ (λ owns. never (owner_is n plan at owns)))
+
+  from_zero : (n : ℕ) → 0 + n ≡ n
+  from_zero n = omega arith
+
+  pub owner_line : IsCluster d → (n : ℕ) → IsSender d 0 slot channel n → owners_text d.plans slot channel ≡ slot_line slot channel n
+  owner_line lawful n sender =
+      of_nodes-one (owner_text slot channel) 0 d.plans n sender.plan sender.at
+      (λ place other at differ.
+      ap (λ (k : ℕ). owner_text slot channel k other) (from_zero place)
+      ∙ no_line place other at (λ sends. differ (lawful.one_sender 0 slot channel place n (omega arith) sends sender)))
+      ∙ ap (λ (k : ℕ). owner_text slot channel k sender.plan) (from_zero n)
+      ∙ cond-true (is_owned sender.plan.owned slot channel) (slot_line slot channel n) [] (sender_owns n sender)
+
+  pub no_owner : ((n : ℕ) → IsSender d 0 slot channel n → ⊥) → owners_text d.plans slot channel ≡ []
+  no_owner never =
+      of_nodes-none (owner_text slot channel) 0 d.plans
+      (λ place plan at. ap (λ (k : ℕ). owner_text slot channel k plan) (from_zero place) ∙ no_line place plan at (never place))
 
 -- ---- slots
 

@@ -9,7 +9,7 @@ use Rattle.fr_trace.specs.declared.error.TraceError.TheVariants.{Memory}
 abbrev pub IsAccepted : List ℕ → Type 0
 IsAccepted text = (s : State) × IsTextOf s (Some text) × IsLegalInterface s
 
--- As an audit of the text alone. Memory may also be refused for the report, which is written once all has been accepted.
+-- As an audit of the text alone. Memory may also be refused for the report, which is written once all is accepted.
 abbrev pub EndsAt : List ℕ → List ℕ → Result (Unit {0}) TraceError → Type 0
 EndsAt text rest (Err Memory) = StopsAt text rest (Err Memory) ⊎ (StopsAtEnd text rest × IsAccepted text)
 EndsAt text rest r = StopsAt text rest r

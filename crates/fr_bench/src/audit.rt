@@ -23,7 +23,7 @@ pub fn audit<R: Read, W: Write>(
 ) -> Result<(), TraceError>
     // What is accepted is the text of a legal interface, whose report is written, and nothing else.
     ensures found { Audits (R.remaining reader.old) (W.contents writer.old) (W.contents writer.new) result }
-    // It reads in pieces of at most 4096 bytes, and none behind the one that has the fault.
+    // It reads in pieces of at most 4096 bytes, and none after the one that has the fault.
     ensures read { Ends (R.remaining reader.old) (R.remaining reader.new) result }
     // The text of a legal interface is not refused.
     ensures only { (s : State) → IsLegalInterface s → R.remaining reader.old ≡ Some (trace_text s)

@@ -4,6 +4,16 @@
 //!
 //! What it prints on standard output comes from one command and only once that command has accepted
 //! all its input. A refusal is one line on standard error.
+//!
+//! ```text
+//! fr_bench audit < node.trace      the report of a trace, or the first line at fault
+//! fr_bench check cluster.toml      the parameters of a cluster, or the first fault of its file
+//! fr_bench plan cluster.toml       who sends where, and when each channel is open to each node
+//! fr_bench midpoint < numbers      the fault-tolerant midpoint of numbers
+//! ```
+//!
+//! A chapter in parentheses is one of the FlexRay Protocol Specification 2.1, revision A, whose rule it is.
+//! *(own profile)* marks a rule of this project's own, which says nothing of the standard.
 #![tactic(auto)]
 
 mod audit;

@@ -1,10 +1,11 @@
 //! `fr_bench plan`.
-ghost use Rattle.std.specs.Prelude.{◌≡◌, ◌≤◌, OnOk, IfSome};
+ghost use Rattle.std.specs.Prelude.{◌≡◌, ◌≤◌, true, OnOk, IfSome};
 ghost use Rattle.fr_bench.specs.Checks.{Plans};
 ghost use Rattle.std.specs.Io.KnownBytes.{Appends};
 ghost use Rattle.std.specs.List.{flat_map};
-ghost use Rattle.fr_bench.specs.PlanText.{owner_text, owners_text, slot_text, static_text};
+ghost use Rattle.fr_bench.specs.PlanText.{slot_line, owners_text, slot_text, static_text};
 ghost use Rattle.fr_bench.specs.PlanText.{dynamic_line, buffer_text, node_text, dynamic_text};
+ghost use Rattle.fr_slots.specs.Parameters.{is_static_slot};
 ghost use Rattle.fr_bench.specs.PlanText.{guard_line, IsGuardText, AreGuardTexts, IsPlanText, Adds};
 
 use crate::cluster_file::cluster_of;
@@ -14,8 +15,7 @@ use fr_guardian::guardian::Guardian;
 use fr_lines::writing::channels_word;
 use fr_schedule::cluster::Cluster;
 use fr_slots::channel::Channel;
-use fr_slots::fault::is_owned;
-use fr_slots::numbers::{NodeId, SlotId};
+use fr_slots::numbers::{Cycle, NodeId, SlotId};
 use fr_slots::params::Params;
 use fr_slots::plan::{Buffer, NodePlan};
 use std::alloc::Global;
@@ -24,46 +24,43 @@ use std::io::{self, Read, Write};
 #[cfg(test)]
 mod tests;
 
-/// Writes the line of a static slot, where the node owns it on the channel.
+/// Writes the line of a static slot on the channel, where it has an owner.
 fn write_owner<W: Write>(
-    writer: &mut W,
-    slot: SlotId,
-    channel: Channel,
-    number: usize,
-    plan: &NodePlan,
-) -> io::Result<()>
-    ensures { OnOk result
-        (Appends (W.contents writer.old) (W.contents writer.new) (owner_text slot channel number plan.now)) }
-{
-    if is_owned(plan.owned(), slot, channel) {
-        writeln!(writer, "slot {} {channel} {number}", slot.number())
-    } else {
-        Ok(())
-    }
-}
-
-/// Writes the lines of the owners of a static slot on the channel.
-fn write_owners<W: Write>(
     writer: &mut W,
     cluster: &Cluster,
     slot: SlotId,
     channel: Channel,
 ) -> io::Result<()>
+    requires { is_static_slot cluster.now.params slot ≡ true }
     ensures { OnOk result
         (Appends (W.contents writer.old) (W.contents writer.new) (owners_text cluster.now.plans slot channel)) }
 {
-    for (number, plan) in cluster.plans().iter().enumerate() {
-        write_owner(writer, slot, channel, number, plan)?;
+    // It sends in every cycle.
+    match cluster.sender(Cycle::from_bits(0), slot, channel) {
+        Some(node) => write_owner_line(writer, slot, channel, node),
+        None => Ok(()),
     }
-    Ok(())
+}
+
+/// Writes the line of a static slot on the channel that the node owns.
+fn write_owner_line<W: Write>(
+    writer: &mut W,
+    slot: SlotId,
+    channel: Channel,
+    node: NodeId,
+) -> io::Result<()>
+    ensures { OnOk result (Appends (W.contents writer.old) (W.contents writer.new) (slot_line slot channel node)) }
+{
+    writeln!(writer, "slot {} {channel} {}", slot.number(), node.number())
 }
 
 /// Writes the lines of a static slot.
 fn write_slot<W: Write>(writer: &mut W, cluster: &Cluster, slot: SlotId) -> io::Result<()>
+    requires { is_static_slot cluster.now.params slot ≡ true }
     ensures { OnOk result (Appends (W.contents writer.old) (W.contents writer.new) (slot_text cluster.now.plans slot)) }
 {
-    write_owners(writer, cluster, slot, Channel::A)?;
-    write_owners(writer, cluster, slot, Channel::B)
+    write_owner(writer, cluster, slot, Channel::A)?;
+    write_owner(writer, cluster, slot, Channel::B)
 }
 
 /// Writes the lines of the static slots.

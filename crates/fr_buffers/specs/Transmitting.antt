@@ -12,14 +12,16 @@ pub record Transmitter : Type 0 where
   pub tally : Tally
 
 abbrev pub new_transmitter : Mode → Transmitter
-new_transmitter mode = record { mode = mode; last = None; tally = record { committed = 0; sent = 0; overwritten = 0; pending = 0 } }
+new_transmitter mode =
+    record { mode = mode; last = None; tally = record { committed = 0; sent = 0; overwritten = 0; pending = 0 } }
 
 -- one commit more; what was pending is overwritten
 abbrev pub with_commit : Transmitter → HeldCommit → Transmitter
 with_commit b c = record {
   mode = b.mode;
   last = Some c;
-  tally = record { committed = b.tally.committed + 1; sent = b.tally.sent; overwritten = b.tally.overwritten + b.tally.pending; pending = 1 };
+  tally = record { committed = b.tally.committed + 1; sent = b.tally.sent; overwritten = b.tally.overwritten
+      + b.tally.pending; pending = 1 };
 }
 
 -- the entry of the last commit, and its payload
@@ -43,5 +45,6 @@ abbrev pub after_send : Transmitter → Transmitter
 after_send b = record {
   mode = b.mode;
   last = b.last;
-  tally = record { committed = b.tally.committed; sent = b.tally.sent + b.tally.pending; overwritten = b.tally.overwritten; pending = 0 };
+  tally = record { committed = b.tally.committed; sent = b.tally.sent + b.tally.pending;
+      overwritten = b.tally.overwritten; pending = 0 };
 }

@@ -7,11 +7,12 @@ use Rattle.arrayvec.specs.ArrayVec.{ArrayVec}
 abbrev pub turned : ℕ → ℕ → ℕ
 turned byte bit = bit_xor byte (2 ^ (7 - bit))
 
--- the bytes with one bit turned, counted from the most significant bit of the first byte; a bit after the last byte is none of
--- them
+-- the bytes with one bit turned, counted from the most significant bit of the first byte; a bit after the last byte is
+-- none of them
 abbrev pub with_bit_turned : List ℕ → ℕ → List ℕ
 with_bit_turned bytes bit =
-    if nat_lt (bit / 8) (length bytes) then slice_set bytes (bit / 8) (turned (slice_index bytes (bit / 8)) (bit % 8)) else bytes
+    if nat_lt (bit / 8) (length bytes) then slice_set bytes (bit / 8) (turned (slice_index bytes (bit / 8)) (bit % 8))
+        else bytes
 
 abbrev pub corrupted : ArrayVec ℕ → Option ℕ → ArrayVec ℕ
 corrupted bytes None = bytes

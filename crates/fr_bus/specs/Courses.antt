@@ -43,7 +43,8 @@ course_of p cycles rs = record {
 
 -- the first window of a cycle begins its lanes
 abbrev pub first_passed : Standpoint → Standpoint
-first_passed c = record c { windows = c.windows + 1; begun = c.begun + 1; statics = 1; a = standing_after c.params []; b = standing_after c.params [] }
+first_passed c = record c { windows = c.windows + 1; begun = c.begun + 1; statics = 1; a = standing_after c.params [];
+    b = standing_after c.params [] }
 
 -- a dynamic window ends the slot that it has on the channel, in which the longest transmission has so many bytes
 abbrev pub ended : Channel → Standing → Opportunity → ℕ → Standing
@@ -72,13 +73,16 @@ abbrev pub cycle_of : Standpoint → ℕ
 cycle_of c = (c.begun - 1) % 64
 
 abbrev pub opening : Standpoint → ℕ → Opportunity
-opening c minislot = record { number = c.windows; cycle = cycle_of c; minislot = minislot; a = opened_in c.a minislot; b = opened_in c.b minislot }
+opening c minislot =
+    record { number = c.windows; cycle = cycle_of c; minislot = minislot; a = opened_in c.a minislot;
+    b = opened_in c.b minislot }
 
 abbrev pub dynamic_next : Standpoint → Option Opportunity
 dynamic_next c = option_map (opening c) (least_of (next_in c.a) (next_in c.b))
 
 abbrev pub inner_next : Standpoint → Option Opportunity
-inner_next c = if nat_lt c.statics c.params.static_slots then Some (static_window c.windows (cycle_of c) (c.statics + 1)) else dynamic_next c
+inner_next c = if nat_lt c.statics c.params.static_slots
+    then Some (static_window c.windows (cycle_of c) (c.statics + 1)) else dynamic_next c
 
 abbrev pub next_of : Standpoint → Option Opportunity
 next_of c = if c.windows == 0 then first_next c else option_or (inner_next c) (first_next c)
@@ -103,4 +107,5 @@ pub record IsCourse (c : Standpoint) : Type 0 where
   pub begun_fit : c.begun ≤ c.cycles
   pub statics_fit : c.statics ≤ c.params.static_slots
   pub used_fit : used ≤ c.params.minislots
-  pub under_way : 1 ≤ c.windows → (1 ≤ c.begun) × (1 ≤ c.statics) × (c.windows + opportunities c.params ≤ c.begun * opportunities c.params + c.statics + used)
+  pub under_way : 1 ≤ c.windows → (1 ≤ c.begun) × (1 ≤ c.statics)
+      × (c.windows + opportunities c.params ≤ c.begun * opportunities c.params + c.statics + used)

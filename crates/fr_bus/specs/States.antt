@@ -206,7 +206,8 @@ inject_done b (Corrupt B bit) = record b { corrupt_b = Some bit }
 -- ---- the end of a window
 
 abbrev pub outcome_of : BusState → Opportunity → Recorded
-outcome_of b w = record { window = w; sent = sent_from b.cluster w 0 b.stations; corrupt_a = b.corrupt_a; corrupt_b = b.corrupt_b }
+outcome_of b w = record { window = w; sent = sent_from b.cluster w 0 b.stations; corrupt_a = b.corrupt_a;
+    corrupt_b = b.corrupt_b }
 
 abbrev pub seal_refusal : BusState → Option BusError
 seal_refusal b =

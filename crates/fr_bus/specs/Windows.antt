@@ -1,4 +1,5 @@
--- The windows of a run, each by what passed before it (chapter 5; what a window is, and their numbers, are own profile).
+-- The windows of a run, each by what passed before it (chapter 5; what a window is, and their numbers, are own
+-- profile).
 use Rattle.std.specs.Prelude.{ℕ, ◌+◌, ◌-◌, ◌%◌, ◌==◌, nat_lt, not, min, Bool, false, ◌&&◌, ◌||◌, List, [], ◌∷◌, ◌++◌}
 use Rattle.std.specs.Prelude.{length, map, count_by, Option, Some, None, is_some, option_map, if◌then◌else◌}
 use Rattle.std.specs.List.{filter, find, fold, range_with_len}
@@ -57,11 +58,13 @@ opens_any p cycle minislot = is_some (opened_on p A cycle minislot) || is_some (
 
 abbrev pub window_at : Parameters → ℕ → ℕ → List Recorded → ℕ → Opportunity
 window_at p number cycle rows minislot =
-    record { number = number; cycle = cycle; minislot = minislot; a = opened_on p A rows minislot; b = opened_on p B rows minislot }
+    record { number = number; cycle = cycle; minislot = minislot; a = opened_on p A rows minislot;
+        b = opened_on p B rows minislot }
 
 -- at the first minislot at which a channel opens a slot
 abbrev pub next_dynamic : Parameters → ℕ → ℕ → List Recorded → Option Opportunity
-next_dynamic p number cycle rows = option_map (window_at p number cycle rows) (find (opens_any p rows) (range_with_len 1 p.minislots))
+next_dynamic p number cycle rows =
+    option_map (window_at p number cycle rows) (find (opens_any p rows) (range_with_len 1 p.minislots))
 
 abbrev pub is_static_one : Recorded → Bool
 is_static_one r = is_static r.window
@@ -73,7 +76,8 @@ statics_of done = count_by is_static_one done
 -- the static slots in their order, and then the minislots
 abbrev pub next_in_cycle : Parameters → ℕ → ℕ → List Recorded → Option Opportunity
 next_in_cycle p number cycle done =
-    if nat_lt (statics_of done) p.static_slots then Some (static_window number cycle (statics_of done + 1)) else next_dynamic p number cycle done
+    if nat_lt (statics_of done) p.static_slots then Some (static_window number cycle (statics_of done + 1))
+        else next_dynamic p number cycle done
 
 abbrev pub first_of_cycle : ℕ → ℕ → ℕ → Option Opportunity
 first_of_cycle cycles number begun = if nat_lt begun cycles then Some (static_window number (begun % 64) 1) else None

@@ -8,4 +8,6 @@ mod runs;
 #[cfg(test)]
 mod schedule;
 #[cfg(test)]
+mod schedule_full;
+#[cfg(test)]
 mod steps;

@@ -5,7 +5,7 @@ use Rattle.std.proofs.lemmas.List.{length-replicate}
 use Rattle.fr_frame.specs.Crc.{differ, xor_front, divide_once, divide}
 use Rattle.fr_frame.specs.Register.{xor_bits, stepped, divided}
 
-differ_assoc : (x y z : Bool) → differ x (differ y z) ≡ differ (differ x y) z
+pub differ_assoc : (x y z : Bool) → differ x (differ y z) ≡ differ (differ x y) z
 differ_assoc true true true = refl
 differ_assoc true true false = refl
 differ_assoc true false true = refl
@@ -15,11 +15,11 @@ differ_assoc false true false = refl
 differ_assoc false false true = refl
 differ_assoc false false false = refl
 
-differ-false_l : (x : Bool) → differ false x ≡ x
+pub differ-false_l : (x : Bool) → differ false x ≡ x
 differ-false_l true = refl
 differ-false_l false = refl
 
-differ-false_r : (x : Bool) → differ x false ≡ x
+pub differ-false_r : (x : Bool) → differ x false ≡ x
 differ-false_r true = refl
 differ-false_r false = refl
 

@@ -35,7 +35,7 @@ length-bytes_high_first : (k n : ℕ) → length (bytes_high_first k n) ≡ k
 length-bytes_high_first zero n = refl
 length-bytes_high_first (suc k) n = omega (arith, length-bytes_high_first k n)
 
-bits_of_bytes-high_first : (k n : ℕ) → bits_of_bytes (bytes_high_first k n) ≡ bits_of (8 * k) n
+pub bits_of_bytes-high_first : (k n : ℕ) → bits_of_bytes (bytes_high_first k n) ≡ bits_of (8 * k) n
 bits_of_bytes-high_first zero n = sym (bits_of-none n)
 bits_of_bytes-high_first (suc k) n =
     let wide : 8 + 8 * k ≡ 8 * suc k = omega arith in

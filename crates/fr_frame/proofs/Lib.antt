@@ -8,3 +8,5 @@ pub mod LoopLemmas
 pub mod NumberLemmas
 pub mod ReadingLemmas
 pub mod SpellingLemmas
+pub mod SumLemmas
+pub mod TableLemmas

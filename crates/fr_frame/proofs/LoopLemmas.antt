@@ -1,39 +1,13 @@
 -- One turn of the loops over bits and bytes, and their ends.
-use Rattle.std.proofs.Common.{◌≡◌, ℕ, zero, suc, ◌+◌, ◌-◌, ◌/◌, ◌^◌, ◌≤◌, ◌<◌, Bool, true, false, eqb, List, [], ◌∷◌}
-use Rattle.std.proofs.Common.{◌++◌, length, drop, get_or, refl, sym, ap, subst, ◌∙◌, arith, bit_and, add-one, drop-cons}
+use Rattle.std.proofs.Common.{◌≡◌, ℕ, ◌+◌, ◌^◌, ◌<◌, Bool, true, false, List, [], ◌∷◌}
+use Rattle.std.proofs.Common.{◌++◌, length, drop, get_or, refl, sym, ap, ◌∙◌, arith, add-one, drop-cons}
 use Rattle.std.proofs.Common.{append-nil}
 use Rattle.std.proofs.Math.Nat.{mod-eq_of_lt}
 use Rattle.std.proofs.lemmas.List.Concat.{flat_map-cons}
-use Rattle.std.proofs.lemmas.Nat.Bits.{shr_and_one}
 use Rattle.fr_frame.specs.Bits.{bits_of, number_of, bits_of_bytes}
 use Rattle.fr_frame.specs.Register.{stepped, stepped_all, divided}
 use Rattle.fr_frame.proofs.BitLemmas.{number_of-bits_of}
 use Rattle.fr_frame.proofs.DivisionLemmas.{divided-step, divided-none, length-stepped}
-
--- ---- the bits of a byte, from the highest place down
-
-bits_of-next : (place byte : ℕ) → bits_of (suc place) byte ≡ eqb (bit_and (byte / 2 ^ place) 1) 1 ∷ bits_of place byte
-unfolding bits_of
-bits_of-next place byte = rw (shr_and_one byte place) refl
-
-stepped_all-place : (p register next : List Bool) (byte place : ℕ) (total : List Bool) → next ≡ stepped p register (eqb (bit_and (byte / 2 ^ place) 1) 1)
-    → stepped_all p register (bits_of (suc place) byte) ≡ total → stepped_all p next (bits_of place byte) ≡ total
-unfolding stepped_all
-stepped_all-place p register next byte place total e so_far =
-    ap (λ (r : List Bool). stepped_all p r (bits_of place byte)) e
-    ∙ sym (ap (stepped_all p register) (bits_of-next place byte))
-    ∙ so_far
-
-pub stepped_all-goes_on : (p register next : List Bool) (byte place : ℕ) (total : List Bool) → 0 < place → next ≡ stepped p register (eqb (bit_and (byte / 2 ^ (place - 1)) 1) 1)
-    → stepped_all p register (bits_of place byte) ≡ total → stepped_all p next (bits_of (place - 1) byte) ≡ total
-stepped_all-goes_on p register next byte place total some e so_far =
-    let is : place ≡ suc (place - 1) = omega arith in
-    stepped_all-place p register next byte (place - 1) total e (subst (λ (k : ℕ). stepped_all p register (bits_of k byte) ≡ total) is so_far)
-
-pub stepped_all-done : (p register : List Bool) (byte place : ℕ) (total : List Bool) → place ≤ 0 → stepped_all p register (bits_of place byte) ≡ total → register ≡ total
-unfolding stepped_all bits_of
-stepped_all-done p register byte zero total none so_far = so_far
-stepped_all-done p register byte (suc place) total none so_far = absurd (omega arith)
 
 -- ---- a message, bit by bit and byte by byte
 
@@ -47,7 +21,7 @@ divided-next p register next bits i total same some lt e so_far =
     ∙ ap (divided (true ∷ p) register) (sym split)
     ∙ so_far
 
-divided-bits : (p register bits rest : List Bool) → length p ≡ length register → 0 < length register
+pub divided-bits : (p register bits rest : List Bool) → length p ≡ length register → 0 < length register
     → divided (true ∷ p) register (bits ++ rest) ≡ divided (true ∷ p) (stepped_all p register bits) rest
 unfolding stepped_all
 divided-bits p register [] rest same some = refl
@@ -71,23 +45,6 @@ pub number-divided : (divisor : List Bool) (w n : ℕ) (rest total : List Bool) 
 number-divided divisor w n rest total lt none so_far =
     let e : bits_of w n ≡ total = sym (divided-none divisor (bits_of w n)) ∙ ap (divided divisor (bits_of w n)) (sym none) ∙ so_far in
     sym (mod-eq_of_lt lt) ∙ sym (number_of-bits_of w n) ∙ ap number_of e
-
--- ---- the bits of a number, from the highest place down
-
-pub divided-place : (p register next : List Bool) (n place : ℕ) (total : List Bool) → length p ≡ length register → 0 < length register → 0 < place
-    → next ≡ stepped p register (eqb (bit_and (n / 2 ^ (place - 1)) 1) 1)
-    → divided (true ∷ p) register (bits_of place n) ≡ total → divided (true ∷ p) next (bits_of (place - 1) n) ≡ total
-divided-place p register next n place total same some lt e so_far =
-    let is : place ≡ suc (place - 1) = omega arith in
-    ap (λ (r : List Bool). divided (true ∷ p) r (bits_of (place - 1) n)) e
-    ∙ sym (divided-step p register (eqb (bit_and (n / 2 ^ (place - 1)) 1) 1) (bits_of (place - 1) n) same some)
-    ∙ ap (divided (true ∷ p) register) (sym (ap (λ (k : ℕ). bits_of k n) is ∙ bits_of-next (place - 1) n))
-    ∙ so_far
-
-pub no_bits : (n place : ℕ) → place ≤ 0 → bits_of place n ≡ []
-unfolding bits_of
-no_bits n zero h = refl
-no_bits n (suc place) h = absurd (omega arith)
 
 pub bits-divided : (divisor : List Bool) (w n : ℕ) (rest total : List Bool) → rest ≡ [] → divided divisor (bits_of w n) rest ≡ total → bits_of w n ≡ total
 bits-divided divisor w n rest total none so_far = sym (divided-none divisor (bits_of w n)) ∙ ap (divided divisor (bits_of w n)) (sym none) ∙ so_far

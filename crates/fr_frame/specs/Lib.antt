@@ -8,3 +8,4 @@ pub mod Payload
 pub mod Refusal
 pub mod Register
 pub mod Spelling
+pub mod Tables

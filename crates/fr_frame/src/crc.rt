@@ -1,12 +1,14 @@
 //! The two cyclic redundancy checks of a frame: the header CRC and the frame CRC (chapter 4).
 
-ghost use Rattle.std.specs.Prelude.{◌≡◌, ◌<◌, ◌^◌};
-ghost use Rattle.fr_frame.specs.Bits.{bits_of, number_of};
-ghost use Rattle.fr_frame.specs.Crc.{header_polynomial, header_check, frame_polynomial, frame_check};
-ghost use Rattle.fr_frame.specs.Register.{stepped, stepped_all};
+ghost use Rattle.std.specs.Prelude.{◌≡◌, ◌<◌, ◌*◌, ◌^◌, ◌++◌, false, replicate};
+ghost use Rattle.fr_frame.specs.Bits.{bits_of, bits_of_bytes, number_of};
+ghost use Rattle.fr_frame.specs.Crc.{header_divisor, header_polynomial, header_check};
+ghost use Rattle.fr_frame.specs.Crc.{frame_divisor, frame_polynomial, frame_check};
+ghost use Rattle.fr_frame.specs.Register.{stepped, stepped_all, left_by};
 ghost use Rattle.fr_frame.specs.Spelling.{covered};
 
 use crate::frame::Frame;
+use crate::tables::{FRAME_TABLES, HEADER_TABLES, entry};
 use fr_slots::channel::Channel;
 
 /// The header CRC's polynomial, without its leading 1.
@@ -14,9 +16,6 @@ const HEADER_POLYNOMIAL: u16 = 0x385;
 
 /// The header CRC's register before the first bit.
 const HEADER_INITIAL: u16 = 0x01A;
-
-/// The frame CRC's polynomial, without its leading 1.
-const FRAME_POLYNOMIAL: u32 = 0x5D_6DCB;
 
 /// The frame CRC's register before the first byte, on each channel.
 const FRAME_INITIAL_A: u32 = 0xFE_DCBA;
@@ -45,7 +44,11 @@ pub fn crc24(bytes: &[u8], channel: Channel) -> u32
         Channel::A => FRAME_INITIAL_A,
         Channel::B => FRAME_INITIAL_B,
     };
-    for byte in bytes {
+    let (blocks, rest) = bytes.as_chunks::<8>();
+    for block in blocks {
+        register = step_block(register, *block);
+    }
+    for byte in rest {
         register = step_byte(register, *byte);
     }
     register
@@ -72,15 +75,23 @@ pub(crate) fn covered_bits(frame: &Frame) -> u32
 
 /// The header CRC of 20 bits.
 pub(crate) fn crc_of_header(covered: u32) -> u16
+    requires { covered < 2 ^ 20 }
     ensures value { result ≡ number_of (header_check (bits_of 20 covered)) }
     ensures bits { bits_of 11 result ≡ header_check (bits_of 20 covered) }
     ensures fits { result < 2 ^ 11 }
 {
-    let mut register = HEADER_INITIAL;
-    for place in (0..20u32).rev() {
-        register = step_header(register, covered >> place & 1 == 1);
-    }
-    register
+    let met = covered ^ u32::from(HEADER_INITIAL) << 9;
+    let [_, first, second, third] = met.to_be_bytes();
+    (header_entry(2, first) ^ header_entry(1, second) ^ header_entry(0, third)) as u16
+}
+
+/// What a byte and so many bytes of zeros after it leave of an empty register of the header CRC.
+fn header_entry(zeros: usize, byte: u8) -> u32
+    requires { zeros < 3 }
+    ensures bits { bits_of 11 result ≡ left_by header_divisor 11 (bits_of 8 byte ++ replicate (8 * zeros) false) }
+    ensures fits { result < 2 ^ 11 }
+{
+    entry(&HEADER_TABLES, zeros, byte)
 }
 
 /// The header CRC's register after one more bit.
@@ -98,30 +109,45 @@ fn step_header(register: u16, bit: bool) -> u16
     }
 }
 
+/// What a byte and so many bytes of zeros after it leave of an empty register of the frame CRC.
+fn frame_entry(zeros: usize, byte: u8) -> u32
+    requires { zeros < 8 }
+    ensures bits { bits_of 24 result ≡ left_by frame_divisor 24 (bits_of 8 byte ++ replicate (8 * zeros) false) }
+    ensures fits { result < 2 ^ 24 }
+{
+    entry(&FRAME_TABLES, zeros, byte)
+}
+
+/// The same of four bytes.
+fn frame_entries(zeros: usize, word: [u8; 4]) -> u32
+    requires { zeros < 5 }
+    ensures bits { bits_of 24 result ≡ left_by frame_divisor 24 (bits_of_bytes word ++ replicate (8 * zeros) false) }
+    ensures fits { result < 2 ^ 24 }
+{
+    let [first, second, third, fourth] = word;
+    let front = frame_entry(zeros + 3, first) ^ frame_entry(zeros + 2, second);
+    front ^ frame_entry(zeros + 1, third) ^ frame_entry(zeros, fourth)
+}
+
+/// The frame CRC's register after eight more bytes.
+fn step_block(register: u32, block: [u8; 8]) -> u32
+    requires { register < 2 ^ 24 }
+    ensures fits { result < 2 ^ 24 }
+    ensures bits { bits_of 24 result
+        ≡ stepped_all (bits_of 24 frame_polynomial) (bits_of 24 register) (bits_of_bytes block) }
+{
+    let [a, b, c, d, e, f, g, h] = block;
+    let met = register << 8 ^ u32::from_be_bytes([a, b, c, d]);
+    frame_entries(4, met.to_be_bytes()) ^ frame_entries(0, [e, f, g, h])
+}
+
 /// The frame CRC's register after one more byte.
-fn step_byte(mut register: u32, byte: u8) -> u32
+fn step_byte(register: u32, byte: u8) -> u32
     requires { register < 2 ^ 24 }
     ensures fits { result < 2 ^ 24 }
     ensures bits { bits_of 24 result
         ≡ stepped_all (bits_of 24 frame_polynomial) (bits_of 24 register) (bits_of 8 byte) }
 {
-    for place in (0..8u32).rev() {
-        register = step_frame(register, byte >> place & 1 == 1);
-    }
-    register
-}
-
-/// The frame CRC's register after one more bit.
-fn step_frame(register: u32, bit: bool) -> u32
-    requires { register < 2 ^ 24 }
-    ensures fits { result < 2 ^ 24 }
-    ensures bits { bits_of 24 result ≡ stepped (bits_of 24 frame_polynomial) (bits_of 24 register) bit }
-{
-    let feedback = bit != (register >= 0x80_0000);
-    let shifted = (register & 0x7f_ffff) << 1;
-    if feedback {
-        shifted ^ FRAME_POLYNOMIAL
-    } else {
-        shifted
-    }
+    let met = (register >> 16) as u8 ^ byte;
+    frame_entry(0, met) ^ (register & 0xffff) << 8
 }

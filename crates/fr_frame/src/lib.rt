@@ -17,3 +17,4 @@ pub mod decode;
 pub mod encode;
 pub mod frame;
 pub mod payload;
+mod tables;

@@ -17,13 +17,13 @@ use Rattle.fr_schedule.specs.Descriptions.{Description, is_guarded}
 use Rattle.fr_schedule.specs.SenderTable.{IsSender}
 use Rattle.fr_guardian.specs.Guarding.{passes_in, passes, PassesAlone}
 
-each_at : {X : Type 0} (P : X → Type 0) (xs : List X) (k : ℕ) (x : X) → Each P xs → slice_get xs k ≡ Some x → P x
+pub each_at : {X : Type 0} (P : X → Type 0) (xs : List X) (k : ℕ) (x : X) → Each P xs → slice_get xs k ≡ Some x → P x
 each_at P [] k x each is = absurd (cc)
 each_at P (y ∷ ys) zero x each is = subst P (cc) each.0
 each_at P (y ∷ ys) (suc k) x each is = each_at P ys k x each.1 is
 
 -- what a node owns is a static slot
-static_if_owned : (p : Parameters) (plan : Plan) (slot : ℕ) (channel : Channel) → IsFaultless p plan → is_owned plan.owned slot channel ≡ true → is_static_slot p slot ≡ true
+pub static_if_owned : (p : Parameters) (plan : Plan) (slot : ℕ) (channel : Channel) → IsFaultless p plan → is_owned plan.owned slot channel ≡ true → is_static_slot p slot ≡ true
 static_if_owned p plan slot channel h owned =
     let (k, own, below, is, claimed) = Any-from_list_any (claims slot channel) plan.owned owned in
     let fits = h.owned_are_static k own (slice_get-get_or plan.owned k own below ∙ ap (λ (o : Own). Some o) is) in

@@ -3,3 +3,4 @@ pub mod SpanLemmas
 pub mod PostLemmas
 pub mod SameLemmas
 pub mod AloneLemmas
+pub mod SearchLemmas

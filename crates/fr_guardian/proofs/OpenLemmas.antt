@@ -1,8 +1,14 @@
 -- The macroticks of static slots and of the dynamic segment, and what lies behind them, open or not.
-use Rattle.std.proofs.Common.{◌≡◌, ℕ, ◌+◌, ◌-◌, ◌*◌, ◌/◌, ◌%◌, ◌<◌, ◌≤◌, Bool, true, false, List, [], ◌++◌, refl, sym}
+use Rattle.std.proofs.Common.{◌≡◌, ℕ, ◌+◌, ◌-◌, ◌*◌, ◌/◌, ◌%◌, ◌<◌, ◌≤◌, Bool, true, false, List, [], refl, sym}
 use Rattle.std.proofs.Common.{subst, arith, Option, Some, None, inl, inr}
 use Rattle.std.specs.Prelude.{IfSome}
-use Rattle.std.proofs.lemmas.Bool.{cases_lt}
+use Rattle.std.proofs.Common.{◌++◌, ◌∷◌, ◌&&◌, ◌||◌, ◌==◌, not, ap, ◌∙◌, get_or, length, replicate}
+use Rattle.std.proofs.Math.ListN.{set}
+use Rattle.std.proofs.lemmas.List.{length-replicate, get_or-replicate, length-set, get_or-set_same, get_or-set_other}
+use Rattle.fr_slots.specs.Admission.{includes}
+use Rattle.fr_slots.specs.Faults.{is_owned, claims}
+use Rattle.fr_guardian.specs.GuardianFields.{AreOwnedSlots}
+use Rattle.std.proofs.lemmas.Bool.{cases_lt, cases_eq, eq-eqb, eqb-true, false_from_ne_true}
 use Rattle.std.proofs.lemmas.Bool.Decides.{nat_tests}
 use Rattle.std.proofs.lemmas.Nat.{div-mul-add}
 use Rattle.fr_slots.specs.declared.channel.Channel.{Channel}
@@ -198,3 +204,78 @@ pub same_found : (p : Parameters) (guarded : Bool) (owned : List Own) (channel :
     → IsFound p guarded owned channel other upto ys → IsFound p guarded owned channel since upto xs
 same_found p guarded owned channel since other upto xs ys a b h =
     subst (λ n. IsFound p guarded owned channel n upto xs) (sym a) (subst (λ (zs : List Span). IsFound p guarded owned channel other upto zs) (sym b) h)
+
+-- ---- the slots that a node owns
+
+pub owned_none : (owned : List Own) (channel : Channel) (slots : List Bool) → owned ≡ [] → slots ≡ replicate 2048 false → AreOwnedSlots owned channel slots
+owned_none owned channel slots none is = record {
+  size = ap length is ∙ length-replicate 2048 false;
+  each = λ slot below.
+      ap (λ (xs : List Bool). get_or xs slot false) is ∙ get_or-replicate 2048 slot false false below
+      ∙ sym (ap (λ (os : List Own). is_owned os slot channel) none);
+}
+
+any_more : (owned : List Own) (own : Own) (slot : ℕ) (channel : Channel)
+    → is_owned (owned ++ own ∷ []) slot channel ≡ (is_owned owned slot channel || claims slot channel own)
+any_more [] own slot channel = or_none (claims slot channel own)
+  where
+    or_none : (b : Bool) → (b || false) ≡ b
+    or_none true = refl
+    or_none false = refl
+any_more (o ∷ owned) own slot channel =
+    ap (λ (b : Bool). claims slot channel o || b) (any_more owned own slot channel)
+    ∙ regroup (claims slot channel o) (is_owned owned slot channel) (claims slot channel own)
+  where
+    regroup : (a b c : Bool) → (a || (b || c)) ≡ (a || b || c)
+    regroup true b c = refl
+    regroup false b c = refl
+
+pub owned_apart : (owned : List Own) (own : Own) (channel : Channel) (slots : List Bool) → AreOwnedSlots owned channel slots → includes own.channels channel ≡ false
+    → AreOwnedSlots (owned ++ own ∷ []) channel slots
+owned_apart owned own channel slots h apart = record {
+  size = h.size;
+  each = λ slot below.
+      h.each slot below
+      ∙ sym (any_more owned own slot channel
+      ∙ ap (λ (b : Bool). is_owned owned slot channel || ((own.slot == slot) && b)) apart
+      ∙ never (is_owned owned slot channel) (own.slot == slot));
+}
+  where
+    never : (a b : Bool) → (a || (b && false)) ≡ a
+    never true b = refl
+    never false true = refl
+    never false false = refl
+
+pub owned_more : (owned : List Own) (own : Own) (channel : Channel) (slots : List Bool) → AreOwnedSlots owned channel slots → includes own.channels channel ≡ true
+    → own.slot < 2048 → AreOwnedSlots (owned ++ own ∷ []) channel (set slots own.slot true)
+owned_more owned own channel slots h includes_it within = record {
+  size = length-set slots own.slot true ∙ h.size;
+  each = λ slot below.
+      elim (cases_eq slot own.slot) [
+        | inl same ↦
+            ap (λ k. get_or (set slots own.slot true) k false) same
+            ∙ get_or-set_same slots own.slot true false (omega (arith, h.size, within))
+            ∙ sym (any_more owned own slot channel
+            ∙ ap (λ (b : Bool). is_owned owned slot channel || b) (ap (λ (b : Bool). b && includes own.channels channel) (eq-eqb own.slot slot (sym same)) ∙ includes_it)
+            ∙ or_true (is_owned owned slot channel))
+        | inr other ↦
+            get_or-set_other slots own.slot slot true false other
+            ∙ h.each slot below
+            ∙ sym (any_more owned own slot channel
+            ∙ ap (λ (b : Bool). is_owned owned slot channel || (b && includes own.channels channel)) (false_from_ne_true (own.slot == slot) (λ is. other (sym (eqb-true own.slot slot is))))
+            ∙ or_false (is_owned owned slot channel))
+      ];
+}
+  where
+    or_true : (b : Bool) → (b || true) ≡ true
+    or_true true = refl
+    or_true false = refl
+
+    or_false : (b : Bool) → (b || false) ≡ b
+    or_false true = refl
+    or_false false = refl
+
+-- whether the slot is open, by the slots that the node owns
+pub open_by_slots : (owned : List Own) (channel : Channel) (slots : List Bool) (guarded : Bool) (number : ℕ) → AreOwnedSlots owned channel slots → number < 2048
+    → (not guarded || get_or slots number false) ≡ is_open guarded owned channel (static_slot number)
+open_by_slots owned channel slots guarded number h below = ap (λ (b : Bool). not guarded || b) (h.each number below)

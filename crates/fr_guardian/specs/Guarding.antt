@@ -1,5 +1,5 @@
--- What a bus guardian lets pass, and when it is open (chapter 5; that it watches over static slots alone, and which channels
--- are guarded, are own profile).
+-- What a bus guardian lets pass, and when it is open (chapter 5; that it watches over static slots alone, and which
+-- channels are guarded, are own profile).
 use Rattle.std.specs.Prelude.{◌≡◌, ℕ, Bool, true, false, not, ◌&&◌, ◌||◌, List, Option, Some, None, slice_get}
 use Rattle.fr_slots.specs.declared.channel.Channel.{Channel}
 use Rattle.fr_slots.specs.declared.plan.Own.{Own}
@@ -30,12 +30,13 @@ passes d node w channel = passes_in d w channel (slice_get d.plans node) (slot_o
 -- in a static slot on a guarded channel no other node's transmissions pass
 abbrev pub PassesAlone : Description → ℕ → Opportunity → Channel → Type 0
 PassesAlone d node w channel =
-    is_static w ≡ true → is_guarded d.guard channel ≡ true → (other : ℕ) → passes d other w channel ≡ true → other ≡ node
+    is_static w ≡ true → is_guarded d.guard channel ≡ true → (other : ℕ) → passes d other w channel ≡ true
+    → other ≡ node
 
 -- ---- the open macroticks of a cycle
 
--- the part is open to a node that owns this, where the channel is guarded or not: its own static slots, or all of them, and
--- the dynamic segment
+-- the part is open to a node that owns this, where the channel is guarded or not: its own static slots, or all of them,
+-- and the dynamic segment
 abbrev pub is_open : Bool → List Own → Channel → Part → Bool
 is_open guarded owned channel (static_slot slot) = not guarded || is_owned owned slot channel
 is_open guarded owned channel (minislot number) = true
@@ -43,7 +44,8 @@ is_open guarded owned channel symbol_window = false
 is_open guarded owned channel idle_time = false
 
 -- the macrotick lies in an open part
-pub record IsOpenTo (p : Parameters) (guarded : Bool) (owned : List Own) (channel : Channel) (macrotick : ℕ) : Type 0 where
+pub record IsOpenTo (p : Parameters) (guarded : Bool) (owned : List Own) (channel : Channel)
+    (macrotick : ℕ) : Type 0 where
   pub place : Place
   pub at : IsAt p macrotick place
   pub opens : is_open guarded owned channel (part_of place) ≡ true

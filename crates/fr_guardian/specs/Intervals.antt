@@ -13,8 +13,8 @@ pub record IsCovered (spans : List Span) (n : ℕ) : Type 0 where
   pub from_start : span.0 ≤ n
   pub before_end : n < span.1
 
--- The intervals are those of the set, as large as can be: none is empty, each ends before a later one starts, so that no
--- two touch, and a number is in the set exactly if it lies in one of them.
+-- The intervals are those of the set, as large as can be: none is empty, each ends before a later one starts, so that
+-- no two touch, and a number is in the set exactly if it lies in one of them.
 pub record AreMaximalIntervals (In : ℕ → Type 0) (spans : List Span) : Type 0 where
   pub not_empty : All (λ span. span.0 < span.1) spans
   pub apart : AllPairs (λ span later. span.1 < later.0) spans

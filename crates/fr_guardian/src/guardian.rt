@@ -1,16 +1,16 @@
 //! The bus guardians of a cluster.
 
-ghost use Rattle.std.specs.Prelude.{◌≡◌, option_map, slice_get, length, IfOk, List, true};
+ghost use Rattle.std.specs.Prelude.{◌≡◌, option_map, slice_get, length, IfOk, List, true, ◌&&◌};
+ghost use Rattle.fr_slots.specs.Windows.{is_static};
 ghost use Rattle.fr_guardian.specs.GuardianFields.{IsPost, ArePosts};
 ghost use Rattle.fr_guardian.specs.Guarding.{passes, PassesAlone, IsOpenTo, IsOpenMacrotick};
 ghost use Rattle.fr_schedule.specs.Clusters.{IsCluster};
 ghost use Rattle.fr_schedule.specs.Descriptions.{is_guarded};
 ghost use Rattle.fr_guardian.specs.Intervals.{AreMaximalIntervals, Span};
 
-use crate::intervals::open_intervals;
+use crate::intervals::{is_slot_within, open_intervals};
 use fr_schedule::cluster::Cluster;
 use fr_slots::channel::{Channel, Channels};
-use fr_slots::fault::is_owned;
 use fr_slots::numbers::NodeId;
 use fr_slots::params::Params;
 use fr_slots::plan::{NodePlan, Own};
@@ -85,11 +85,11 @@ impl Guardian {
         ensures alone { result ≡ true → PassesAlone self.now node window.now channel }
     {
         let post = post_at(self.posts.as_slice(), node);
-        let (Some(post), Some(slot)) = (post, window.slot(channel)) else {
+        let (Some(_), Some(slot)) = (post, window.slot(channel)) else {
             return false;
         };
-        let watched = window.is_static() && is_guarded(self.guard, channel);
-        !watched || is_owned(post.plan.owned(), slot, channel)
+        !is_watched(self.guard, window, channel)
+            || is_slot_within(&self.params, self.windows(node, channel), slot)
     }
 
     /// The macroticks of a cycle in which the channel is open to the node, as half-open intervals from the first
@@ -128,6 +128,13 @@ fn is_guarded(guard: Option<Channels>, channel: Channel) -> bool
         Some(channels) => channels.includes(channel),
         None => false,
     }
+}
+
+/// Whether the window is a static one, whose channel is among the guarded ones.
+fn is_watched(guard: Option<Channels>, window: &Window, channel: Channel) -> bool
+    ensures { result ≡ (is_static window.now && is_guarded guard channel) }
+{
+    window.is_static() && is_guarded(guard, channel)
 }
 
 /// The guarded channels of the cluster.

@@ -1,27 +1,39 @@
 //! The intervals of a cycle in which a channel is open to a node.
 
-ghost use Rattle.std.specs.Prelude.{◌≡◌, ◌≤◌, ◌+◌, ◌*◌, ◌^◌, ◌<◌, ◌++◌, ◌||◌, not, length, IfOk, OnOk};
-ghost use Rattle.fr_slots.specs.Numbers.{IsSlot};
-ghost use Rattle.fr_timing.specs.Layout.{static_slot};
-ghost use Rattle.fr_guardian.specs.Guarding.{is_open, IsOpenTo};
-ghost use Rattle.fr_guardian.specs.Intervals.{AreMaximalIntervals, run};
+ghost use Rattle.std.specs.Prelude.{◌≡◌, ◌≤◌, ◌+◌, ◌*◌, ◌^◌, ◌<◌, ◌++◌, ◌||◌, ◌↔◌, IsTrue, not, false, slice_index_or, length, IfOk, OnOk};
+ghost use Rattle.std.specs.List.{All, AllPairs};
+ghost use Rattle.fr_guardian.specs.Guarding.{IsOpenTo};
+ghost use Rattle.fr_guardian.specs.GuardianFields.{IsSlotWithin, AreOwnedSlots};
+ghost use Rattle.fr_guardian.specs.Intervals.{AreMaximalIntervals, IsCovered, run};
 
 use fr_slots::channel::Channel;
-use fr_slots::fault::is_owned;
-use fr_slots::numbers::SlotId;
+use fr_slots::numbers::{LAST_SLOT, SlotId};
 use fr_slots::params::Params;
 use fr_slots::plan::Own;
 use std::alloc::{AllocError, Global};
 
-/// Whether the static slot of this number is open to a node that owns this on the channel, which is guarded or not.
-fn is_open_slot(guarded: bool, owned: &[Own], number: u16, channel: Channel) -> bool
-    requires { IsSlot number }
-    ensures { result ≡ is_open guarded owned.now channel (static_slot number) }
+/// As many numbers as reach the last slot's.
+const SLOTS: usize = LAST_SLOT as usize + 1;
+
+/// For each number whether it is a slot that the node owns on the channel.
+fn owned_slots(owned: &[Own], channel: Channel) -> [bool; SLOTS]
+    ensures { AreOwnedSlots owned.now channel result }
 {
-    match SlotId::new(number) {
-        Some(slot) => !guarded || is_owned(owned, slot, channel),
-        None => false,
+    let mut slots = [false; SLOTS];
+    for own in owned {
+        if own.channels.includes(channel) {
+            slots[usize::from(own.slot.number())] = true;
+        }
     }
+    slots
+}
+
+/// Whether the static slot of this number is open to a node that owns these on the channel, which is guarded or not.
+fn is_open_slot(guarded: bool, slots: &[bool; SLOTS], number: u16) -> bool
+    requires { number < 2048 }
+    ensures { result ≡ (not guarded || slice_index_or slots.now number false) }
+{
+    !guarded || slots[usize::from(number)]
 }
 
 /// Appends the interval, unless it is empty.
@@ -32,6 +44,26 @@ fn add(intervals: &mut Vec<(u32, u32)>, start: u32, end: u32) -> Result<(), Allo
         intervals.push((start, end))?;
     }
     Ok(())
+}
+
+/// Whether the macrotick lies in one of the intervals, which are found by halves.
+fn is_covered(spans: &[(u32, u32)], macrotick: u32) -> bool
+    requires not_empty { All (λ span. span.0 < span.1) spans.now }
+    requires apart { AllPairs (λ span later. span.1 < later.0) spans.now }
+    ensures { IsTrue result ↔ IsCovered spans.now macrotick }
+{
+    let started = spans.partition_point(|span| span.0 <= macrotick);
+    0 < started && macrotick < spans[started - 1].1
+}
+
+/// Whether the slot is a static one whose first macrotick lies in one of the intervals.
+pub fn is_slot_within(params: &Params, spans: &[(u32, u32)], slot: SlotId) -> bool
+    requires not_empty { All (λ span. span.0 < span.1) spans.now }
+    requires apart { AllPairs (λ span later. span.1 < later.0) spans.now }
+    ensures { IsSlotWithin params.now spans.now slot result }
+{
+    let start = (u32::from(slot.number()) - 1) * u32::from(params.static_mt);
+    params.is_static(slot) && is_covered(spans, start)
 }
 
 /// The macroticks of a cycle in which a channel is open to a node, as half-open intervals: the static slots that it
@@ -49,11 +81,12 @@ pub fn open_intervals(
 {
     let params = params.duplicate();
     let static_mt = u32::from(params.static_mt);
+    let slots = owned_slots(owned, channel);
     let mut intervals = Vec::new(alloc);
     // where the interval begins that goes on, or would
     let mut since = 0;
     for earlier in 0..params.static_slots {
-        if !is_open_slot(guarded, owned, earlier + 1, channel) {
+        if !is_open_slot(guarded, &slots, earlier + 1) {
             let start = u32::from(earlier) * static_mt;
             add(&mut intervals, since, start)?;
             since = start + static_mt;

@@ -8,7 +8,8 @@ use Rattle.fr_journal.specs.Counts.{counters_of}
 abbrev pub state_in : Inside → State
 state_in i = record { params = i.params; plan = i.plan; entries = i.journal.entries }
 
--- The journal has the plan's limits, the interface is legal, and what stands beside the journal is what the journal gives.
+-- The journal has the plan's limits, the interface is legal, and what stands beside the journal is what the journal
+-- gives.
 pub record IsLawful (i : Inside) : Type 0 where
   pub host_limit : i.journal.host_limit ≡ i.plan.host_entries
   pub slot_limit : i.journal.slot_limit ≡ i.plan.slot_entries

@@ -38,7 +38,8 @@ commit_of entries entry = record { entry = entry; payload = payload_of entries e
 -- what a journal gives of the transmit buffer of this number and mode
 abbrev pub transmitter_of : List Entry → ℕ → Mode → Transmitter
 transmitter_of entries number mode =
-    record { mode = mode; last = option_map (commit_of entries) (last_commit number entries); tally = tally_of number entries }
+    record { mode = mode; last = option_map (commit_of entries) (last_commit number entries);
+        tally = tally_of number entries }
 
 -- one for each buffer, the first of which has this number
 abbrev pub each_buffer : (ℕ → Mode → Transmitter) → ℕ → List Buffer → List Transmitter
@@ -61,36 +62,44 @@ abbrev pub held_in : Parameters → List Entry → Buffer → Option Arrival
 held_in params entries b = if is_receive b.mode then held params b.filter entries else None
 
 abbrev pub frame_on : ℕ → Opportunity → Channel → Option Fields → Buffer → Option Arrival
-frame_on number window channel frame b = if admits_window b.filter window channel then option_map (arrival_of number channel) frame else None
+frame_on number window channel frame b = if admits_window b.filter window channel
+    then option_map (arrival_of number channel) frame else None
 
 -- what a receive buffer takes where these data frames came, if any: A's before B's
 abbrev pub taken_by : ℕ → Opportunity → Option Fields → Option Fields → Buffer → Option Arrival
-taken_by number window a b buffer = if is_receive buffer.mode then option_or (frame_on number window A a buffer) (frame_on number window B b buffer) else None
+taken_by number window a b buffer = if is_receive buffer.mode
+    then option_or (frame_on number window A a buffer) (frame_on number window B b buffer) else None
 
-abbrev pub stored_all : ℕ → Opportunity → Option Fields → Option Fields → List Buffer → List (Option Arrival) → List (Option Arrival)
+abbrev pub stored_all : ℕ → Opportunity → Option Fields → Option Fields → List Buffer → List (Option Arrival)
+    → List (Option Arrival)
 stored_all number window a b [] held = held
 stored_all number window a b (line ∷ lines) [] = []
-stored_all number window a b (line ∷ lines) (h ∷ held) = option_or (taken_by number window a b line) h ∷ stored_all number window a b lines held
+stored_all number window a b (line ∷ lines) (h ∷ held) =
+    option_or (taken_by number window a b line) h ∷ stored_all number window a b lines held
 
 -- ---- the receive queue
 
 -- what a journal gives of a queue
 abbrev pub waiting_of : Parameters → Plan → List Entry → Queue → Waiting
 waiting_of params plan entries q =
-    record { capacity = q.capacity; frames = queue_content q.capacity (moves params plan q entries); lost = queue_lost params plan q entries }
+    record { capacity = q.capacity; frames = queue_content q.capacity (moves params plan q entries);
+        lost = queue_lost params plan q entries }
 
 abbrev pub queued_on : Plan → Queue → ℕ → Opportunity → Channel → Option Fields → Option Arrival
-queued_on plan q number window channel frame = if is_for_queue plan q window channel then option_map (arrival_of number channel) frame else None
+queued_on plan q number window channel frame = if is_for_queue plan q window channel
+    then option_map (arrival_of number channel) frame else None
 
 abbrev pub with_arrival : Waiting → Option Arrival → Waiting
 with_arrival w None = w
 with_arrival w (Some a) = with_frame w a
 
 -- what a queue holds after a window in which these data frames came, if any: A's before B's
-abbrev pub with_arrivals : Plan → ℕ → Opportunity → Option Fields → Option Fields → Option Queue → Option Waiting → Option Waiting
+abbrev pub with_arrivals : Plan → ℕ → Opportunity → Option Fields → Option Fields → Option Queue → Option Waiting
+    → Option Waiting
 with_arrivals plan number window a b None waiting = waiting
 with_arrivals plan number window a b (Some q) waiting =
-    option_map (λ w. with_arrival (with_arrival w (queued_on plan q number window A a)) (queued_on plan q number window B b)) waiting
+    option_map (λ w. with_arrival (with_arrival w (queued_on plan q number window A a))
+        (queued_on plan q number window B b)) waiting
 
 abbrev pub empty_queue : Queue → Waiting
 empty_queue q = record { capacity = q.capacity; frames = []; lost = 0 }

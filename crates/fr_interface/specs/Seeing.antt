@@ -9,4 +9,5 @@ use Rattle.fr_status.specs.Status.{status_in}
 
 -- a channel without a slot has none
 abbrev pub status_seen : Parameters → Opportunity → Channel → Seen → Option SlotStatus
-status_seen params window channel seen = option_map (λ slot. status_in params window.cycle slot channel seen) (slot_of window channel)
+status_seen params window channel seen =
+    option_map (λ slot. status_in params window.cycle slot channel seen) (slot_of window channel)

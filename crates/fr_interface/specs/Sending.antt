@@ -1,4 +1,5 @@
--- What transmit buffers that stand in place offer in a window, and what goes out (chapter 5; the modes are own profile).
+-- What transmit buffers that stand in place offer in a window, and what goes out (chapter 5; the modes are own
+-- profile).
 use Rattle.std.specs.Prelude.{ℕ, List, [], slice_get, Option, Some, None, is_some, true, if◌then◌else◌, option_map}
 use Rattle.std.specs.Prelude.{unwrap_or}
 use Rattle.std.specs.Option.{option_and_then}
@@ -28,7 +29,8 @@ sender_at buffers number = option_map (sender_of number) (ready_at buffers numbe
 abbrev pub sender_in : Plan → List Transmitter → Opportunity → Channel → Option ℕ → Option Sender
 sender_in plan buffers window channel None = None
 sender_in plan buffers window channel (Some slot) =
-    if may_begin plan window channel then option_and_then (sender_at buffers) (transmitter plan window channel) else None
+    if may_begin plan window channel then option_and_then (sender_at buffers) (transmitter plan window channel)
+        else None
 
 -- what offers a commit in the window on the channel
 abbrev pub sender_on : Plan → List Transmitter → Opportunity → Channel → Option Sender
@@ -41,7 +43,8 @@ commit_in sender = option_map (λ s. s.commit) sender
 
 abbrev pub offered_in : Plan → Opportunity → Channel → Option Sender → Option ℕ → Offered
 offered_in plan window channel sender None = Nothing
-offered_in plan window channel sender (Some slot) = data_or (if owns plan window channel slot then Null else Nothing) (commit_in sender)
+offered_in plan window channel sender (Some slot) =
+    data_or (if owns plan window channel slot then Null else Nothing) (commit_in sender)
 
 -- what the node offers on the channel where this offers a commit
 abbrev pub offered_by : Plan → Opportunity → Channel → Option Sender → Offered
@@ -66,12 +69,15 @@ data_frame_by plan buffers window channel slot sender = record {
 }
 
 abbrev pub frame_at : Parameters → Plan → List Transmitter → Opportunity → Channel → ℕ → Option Sender → Option Fields
-frame_at params plan buffers window channel slot None = if owns plan window channel slot then Some (null_frame params plan window channel slot) else None
-frame_at params plan buffers window channel slot (Some sender) = Some (data_frame_by plan buffers window channel slot sender)
+frame_at params plan buffers window channel slot None = if owns plan window channel slot
+    then Some (null_frame params plan window channel slot) else None
+frame_at params plan buffers window channel slot (Some sender) =
+    Some (data_frame_by plan buffers window channel slot sender)
 
 -- the frame that goes out where this offers a commit
 abbrev pub frame_by : Parameters → Plan → List Transmitter → Opportunity → Channel → Option Sender → Option Fields
-frame_by params plan buffers window channel sender = option_and_then (λ slot. frame_at params plan buffers window channel slot sender) (slot_of window channel)
+frame_by params plan buffers window channel sender =
+    option_and_then (λ slot. frame_at params plan buffers window channel slot sender) (slot_of window channel)
 
 -- ---- sending
 

@@ -106,7 +106,8 @@ abbrev pub pop_entry : State → ℕ → Entry
 pop_entry s task = entries.Pop task (option_map origin_of (oldest_of s))
 
 abbrev pub fetch_entry : State → Opportunity → Entry
-fetch_entry s window = entries.Fetch window (offered s.plan s.entries window channel.A) (offered s.plan s.entries window channel.B)
+fetch_entry s window =
+    entries.Fetch window (offered s.plan s.entries window channel.A) (offered s.plan s.entries window channel.B)
 
 -- ---- the refusals, in the order in which they are tested
 
@@ -125,14 +126,17 @@ unless_transmit s payload (Some b) =
     else None
 
 abbrev pub commit_refusal : State → ℕ → ℕ → List ℕ → Option HostError
-commit_refusal s task buffer payload = if nat_le s.plan.tasks task then Some UnknownTask else unless_transmit s payload (buffer_at s.plan buffer)
+commit_refusal s task buffer payload = if nat_le s.plan.tasks task then Some UnknownTask
+    else unless_transmit s payload (buffer_at s.plan buffer)
 
 abbrev pub unless_receive : State → Option Buffer → Option HostError
 unless_receive s None = Some UnknownBuffer
-unless_receive s (Some b) = if not (is_receive b.mode) then Some NotReceive else if is_host_full s then Some HostFull else None
+unless_receive s (Some b) = if not (is_receive b.mode) then Some NotReceive else if is_host_full s then Some HostFull
+    else None
 
 abbrev pub read_refusal : State → ℕ → ℕ → Option HostError
-read_refusal s task buffer = if nat_le s.plan.tasks task then Some UnknownTask else unless_receive s (buffer_at s.plan buffer)
+read_refusal s task buffer = if nat_le s.plan.tasks task then Some UnknownTask
+    else unless_receive s (buffer_at s.plan buffer)
 
 abbrev pub unless_queued : State → Option Queue → Option HostError
 unless_queued s None = Some NoQueue

@@ -29,15 +29,19 @@ queue_admits_slot q cycle channel (Some slot) = queue_admits q cycle slot channe
 -- the queue admits the window on the channel, and no receive buffer of the node does
 abbrev pub is_for_queue : Plan → Queue → Opportunity → Channel → Bool
 is_for_queue plan q window channel =
-    queue_admits_slot q window.cycle channel (slot_of window channel) && not (list_any (takes_window window channel) plan.buffers)
+    queue_admits_slot q window.cycle channel (slot_of window channel)
+        && not (list_any (takes_window window channel) plan.buffers)
 
 abbrev pub queue_arrival_on : Parameters → Plan → Queue → ℕ → Opportunity → Channel → Seen → List Arrival
 queue_arrival_on params plan q number window channel seen =
-    if is_for_queue plan q window channel then option_to_list (option_map (arrival_of number channel) (data_frame_seen params window channel seen)) else []
+    if is_for_queue plan q window channel
+        then option_to_list (option_map (arrival_of number channel) (data_frame_seen params window channel seen))
+        else []
 
 abbrev pub queue_arrivals_in : Parameters → Plan → Queue → ℕ → Seen → Seen → Option Opportunity → List Arrival
 queue_arrivals_in params plan q number a b None = []
-queue_arrivals_in params plan q number a b (Some window) = queue_arrival_on params plan q number window A a ++ queue_arrival_on params plan q number window B b
+queue_arrivals_in params plan q number a b (Some window) = queue_arrival_on params plan q number window A a
+    ++ queue_arrival_on params plan q number window B b
 
 -- what happens to a queue
 pub data Move : Type 0 where
@@ -53,7 +57,8 @@ moves_at params plan q before (Commit task buffer payload) = []
 moves_at params plan q before (Read task buffer from) = []
 moves_at params plan q before (Pop task from) = pops ∷ []
 moves_at params plan q before (Fetch window a b) = []
-moves_at params plan q before (Observe window a b) = arrive_all (queue_arrivals_in params plan q (length before) a b (open_window before))
+moves_at params plan q before (Observe window a b) =
+    arrive_all (queue_arrivals_in params plan q (length before) a b (open_window before))
 
 -- arrivals and pops, in the order of the entries, channel A's arrival before B's
 abbrev pub moves : Parameters → Plan → Queue → List Entry → List Move
@@ -94,4 +99,5 @@ is_answered_pop (Observe window a b) = false
 -- what arrived, was never popped and isn't there
 abbrev pub queue_lost : Parameters → Plan → Queue → List Entry → ℕ
 queue_lost params plan q entries =
-    length (arrived (moves params plan q entries)) - count_by is_answered_pop entries - queue_length q.capacity (moves params plan q entries)
+    length (arrived (moves params plan q entries)) - count_by is_answered_pop entries
+        - queue_length q.capacity (moves params plan q entries)

@@ -24,7 +24,8 @@ bit_at bit params window channel seen (Some slot) = bit (status_in params window
 
 abbrev pub bit_in : (SlotStatus → Bool) → Parameters → Channel → Seen → Seen → Option Opportunity → Bool
 bit_in bit params channel a b None = false
-bit_in bit params channel a b (Some window) = bit_at bit params window channel (seen_on channel a b) (slot_of window channel)
+bit_in bit params channel a b (Some window) =
+    bit_at bit params window channel (seen_on channel a b) (slot_of window channel)
 
 abbrev pub has_bit : (SlotStatus → Bool) → Parameters → Channel → List Entry → Entry → Bool
 has_bit bit params channel before (Commit task buffer payload) = false

@@ -91,7 +91,8 @@ tally_of buffer entries = record {
 -- ---- the last commit, where it is pending
 
 abbrev pub if_pending : ℕ → List Entry → ℕ → Option ℕ
-if_pending buffer entries commit = if is_pending (fate_of buffer commit (drop (commit + 1) entries)) then Some commit else None
+if_pending buffer entries commit = if is_pending (fate_of buffer commit (drop (commit + 1) entries)) then Some commit
+    else None
 
 abbrev pub pending_commit : ℕ → List Entry → Option ℕ
 pending_commit buffer entries = option_and_then (if_pending buffer entries) (last_commit buffer entries)

@@ -1,4 +1,5 @@
--- What a receive buffer holds: the last valid data frame that it admitted (chapter 9; channel A before B is own profile).
+-- What a receive buffer holds: the last valid data frame that it admitted (chapter 9; channel A before B is own
+-- profile).
 use Rattle.std.specs.Prelude.{◌≡◌, ℕ, true, List, [], length, Option, Some, None, if◌then◌else◌, option_map, take}
 use Rattle.std.specs.Prelude.{slice_get}
 use Rattle.std.specs.Option.{option_and_then, option_or}
@@ -27,7 +28,8 @@ with_data f = if f.has_data then Some f else None
 -- The valid data frame that was seen on a channel of a window. A channel without a slot has none.
 abbrev pub data_frame_seen : Parameters → Opportunity → Channel → Seen → Option Fields
 data_frame_seen params window channel seen =
-    option_and_then with_data (option_and_then (λ slot. frame_in params window.cycle slot channel seen) (slot_of window channel))
+    option_and_then with_data
+        (option_and_then (λ slot. frame_in params window.cycle slot channel seen) (slot_of window channel))
 
 abbrev pub arrival_of : ℕ → Channel → Fields → Arrival
 arrival_of number channel frame = record { origin = record { entry = number; channel = channel }; frame = frame }
@@ -35,11 +37,13 @@ arrival_of number channel frame = record { origin = record { entry = number; cha
 -- what an observe of this number brings to a filter on a channel
 abbrev pub arrival_on : Parameters → Filter → ℕ → Opportunity → Channel → Seen → Option Arrival
 arrival_on params filter number window channel seen =
-    if admits_window filter window channel then option_map (arrival_of number channel) (data_frame_seen params window channel seen) else None
+    if admits_window filter window channel
+        then option_map (arrival_of number channel) (data_frame_seen params window channel seen) else None
 
 -- what it brings on both: A's frame where A has one
 abbrev pub arrival_in : Parameters → Filter → ℕ → Seen → Seen → Opportunity → Option Arrival
-arrival_in params filter number a b window = option_or (arrival_on params filter number window A a) (arrival_on params filter number window B b)
+arrival_in params filter number a b window =
+    option_or (arrival_on params filter number window A a) (arrival_on params filter number window B b)
 
 -- what the entry of this number brings, where this window is open before it
 abbrev pub arrival_by : Parameters → Filter → ℕ → Option Opportunity → Entry → Option Arrival
@@ -74,9 +78,11 @@ frame_in_entry params channel window (Commit task buffer payload) = None
 frame_in_entry params channel window (Read task buffer from) = None
 frame_in_entry params channel window (Pop task from) = None
 frame_in_entry params channel window (Fetch w a b) = None
-frame_in_entry params channel window (Observe number a b) = option_and_then (λ w. data_frame_seen params w channel (seen_on channel a b)) window
+frame_in_entry params channel window (Observe number a b) =
+    option_and_then (λ w. data_frame_seen params w channel (seen_on channel a b)) window
 
 -- the valid data frame that the observe of this number had on this channel
 abbrev pub frame_named : Parameters → List Entry → Origin → Option Fields
 frame_named params entries origin =
-    option_and_then (frame_in_entry params origin.channel (open_window (take origin.entry entries))) (slice_get entries origin.entry)
+    option_and_then (frame_in_entry params origin.channel (open_window (take origin.entry entries)))
+        (slice_get entries origin.entry)

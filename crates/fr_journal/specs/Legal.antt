@@ -20,24 +20,30 @@ use Rattle.fr_slots.specs.Windows.{Opportunity, window_fits}
 -- ---- calls of the host
 
 -- a payload has the words that its buffer sends
-pub record IsLegalCommit (params : Parameters) (plan : Plan) (before : List Entry) (task buffer : ℕ) (payload : List ℕ) : Type 0 where
+pub record IsLegalCommit (params : Parameters) (plan : Plan) (before : List Entry) (task buffer : ℕ)
+    (payload : List ℕ) : Type 0 where
   pub task_is : task < plan.tasks
-  pub transmits : IsSomeAnd (buffer_at plan buffer) (λ b. (is_receive b.mode ≡ false) × (length payload ≡ 2 * words_of params b))
+  pub transmits : IsSomeAnd (buffer_at plan buffer) (λ b. (is_receive b.mode ≡ false)
+      × (length payload ≡ 2 * words_of params b))
   pub room : count_by is_host before < plan.host_entries
 
-pub record IsLegalRead (params : Parameters) (plan : Plan) (before : List Entry) (task buffer : ℕ) (from : Option Origin) : Type 0 where
+pub record IsLegalRead (params : Parameters) (plan : Plan) (before : List Entry) (task buffer : ℕ)
+    (from : Option Origin) : Type 0 where
   pub task_is : task < plan.tasks
-  pub receives : IsSomeAnd (buffer_at plan buffer) (λ b. (is_receive b.mode ≡ true) × (from ≡ option_map origin_of (held params b.filter before)))
+  pub receives : IsSomeAnd (buffer_at plan buffer) (λ b. (is_receive b.mode ≡ true)
+      × (from ≡ option_map origin_of (held params b.filter before)))
   pub room : count_by is_host before < plan.host_entries
 
-pub record IsLegalPop (params : Parameters) (plan : Plan) (before : List Entry) (task : ℕ) (from : Option Origin) : Type 0 where
+pub record IsLegalPop (params : Parameters) (plan : Plan) (before : List Entry) (task : ℕ)
+    (from : Option Origin) : Type 0 where
   pub task_is : task < plan.tasks
   pub queued : IsSomeAnd plan.queue (λ q. from ≡ option_map origin_of (oldest q.capacity (moves params plan q before)))
   pub room : count_by is_host before < plan.host_entries
 
 -- ---- calls of the controller
 
-pub record IsLegalFetch (params : Parameters) (plan : Plan) (before : List Entry) (window : Opportunity) (a b : Offered) : Type 0 where
+pub record IsLegalFetch (params : Parameters) (plan : Plan) (before : List Entry) (window : Opportunity)
+    (a b : Offered) : Type 0 where
   pub closed : open_window before ≡ None
   pub fits : window_fits params window ≡ true
   pub later : IfSome (last_number before) (λ n. n < window.number)

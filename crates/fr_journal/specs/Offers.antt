@@ -27,7 +27,8 @@ use Rattle.fr_slots.specs.Windows.{Opportunity, slot_of, is_static}
 abbrev pub is_admitting : Opportunity → Channel → Buffer → Bool
 is_admitting window channel b = transmits b && admits_window b.filter window channel
 
--- The number of the first transmit buffer that admits the window on the channel. A plan without fault has no second one.
+-- The number of the first transmit buffer that admits the window on the channel. A plan without fault has no second
+-- one.
 abbrev pub transmitter : Plan → Opportunity → Channel → Option ℕ
 transmitter plan window channel = position (is_admitting window channel) plan.buffers
 
@@ -49,7 +50,8 @@ ready_in plan entries buffer = option_and_then (λ b. ready b.mode buffer entrie
 
 abbrev pub commit_offered : Plan → List Entry → Opportunity → Channel → Option ℕ
 commit_offered plan entries window channel =
-    if may_begin plan window channel then option_and_then (ready_in plan entries) (transmitter plan window channel) else None
+    if may_begin plan window channel then option_and_then (ready_in plan entries) (transmitter plan window channel)
+        else None
 
 -- ---- the offer
 
@@ -103,7 +105,8 @@ preamble_of (Some b) = b.preamble
 abbrev pub preamble_in : Plan → Opportunity → Channel → Bool
 preamble_in plan window channel = preamble_of (option_and_then (buffer_at plan) (transmitter plan window channel))
 
--- Sync and startup frame indicators come from the ownership line. A null frame carries zeros, as many as a static frame has.
+-- Sync and startup frame indicators come from the ownership line. A null frame carries zeros, as many as a static frame
+-- has.
 abbrev pub null_frame : Parameters → Plan → Opportunity → Channel → ℕ → Fields
 null_frame params plan window channel slot = record {
   preamble = false;
@@ -129,14 +132,17 @@ data_frame_of plan entries window channel slot commit = record {
 abbrev pub frame_of_offer : Parameters → Plan → List Entry → Opportunity → Channel → ℕ → Offered → Option Fields
 frame_of_offer params plan entries window channel slot Nothing = None
 frame_of_offer params plan entries window channel slot Null = Some (null_frame params plan window channel slot)
-frame_of_offer params plan entries window channel slot (Data commit) = Some (data_frame_of plan entries window channel slot commit)
+frame_of_offer params plan entries window channel slot (Data commit) =
+    Some (data_frame_of plan entries window channel slot commit)
 
 abbrev pub frame_with : Parameters → Plan → List Entry → Opportunity → Channel → Offered → Option Fields
-frame_with params plan entries window channel o = option_and_then (λ slot. frame_of_offer params plan entries window channel slot o) (slot_of window channel)
+frame_with params plan entries window channel o =
+    option_and_then (λ slot. frame_of_offer params plan entries window channel slot o) (slot_of window channel)
 
 -- the frame that the node offers in the window on the channel
 abbrev pub frame_offered : Parameters → Plan → List Entry → Opportunity → Channel → Option Fields
-frame_offered params plan entries window channel = frame_with params plan entries window channel (offered plan entries window channel)
+frame_offered params plan entries window channel =
+    frame_with params plan entries window channel (offered plan entries window channel)
 
 -- these bytes, or none, are what goes to the bus for this frame, or none
 abbrev pub IsHandedOut : Channel → Option Fields → Option (ArrayVec ℕ) → Type 0

@@ -11,8 +11,8 @@ below values x = count_by (λ y. int_lt y x) values
 abbrev pub not_above : List ℤ → ℤ → ℕ
 not_above values x = count_by (λ y. int_le y x) values
 
--- The value has this rank, counted from 1: it is among the values, fewer are below it than the rank says, and at least as
--- many aren't above it. Equal values have several ranks.
+-- The value has this rank, counted from 1: it is among the values, fewer are below it than the rank says, and at least
+-- as many aren't above it. Equal values have several ranks.
 pub record HasRank (values : List ℤ) (rank : ℕ) (x : ℤ) : Type 0 where
   pub among : Contains values x
   pub few_below : below values x < rank

@@ -37,7 +37,7 @@ use Rattle.fr_slots.specs.Plans.{Plan, IsPlan, IsOwn, IsBuffer, Each, filter_adm
 -- ---- each of a list
 
 module _ {X : Type 0} where
-  each_at : (P : X → Type 0) (xs : List X) (n : ℕ) (x : X) → Each P xs → slice_get xs n ≡ Some x → P x
+  pub each_at : (P : X → Type 0) (xs : List X) (n : ℕ) (x : X) → Each P xs → slice_get xs n ≡ Some x → P x
   each_at P [] n x all at = cc at
   each_at P (y ∷ xs) zero x all at = subst P (same_Some y x at) all.0
   each_at P (y ∷ xs) (suc n) x all at = each_at P xs n x all.1 at

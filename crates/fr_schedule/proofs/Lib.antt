@@ -10,5 +10,6 @@ pub mod FilterLemmas
 pub mod TwoLemmas
 pub mod ClusterLemmas
 pub mod FitLemmas
-pub mod SenderLemmas
 pub mod FileLemmas
+pub mod DenseLemmas
+pub mod DenseSenderLemmas

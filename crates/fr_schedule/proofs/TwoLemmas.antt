@@ -40,7 +40,7 @@ module _ {X : Type 0} (t : X → Bool) where
       ]
 
   module _ {P : Type 0} (lines : P → List X) where
-    any_at : (plans : List P) (n : ℕ) (p : P) → slice_get plans n ≡ Some p → list_any t (lines p) ≡ true → list_any t (flat_map lines plans) ≡ true
+    pub any_at : (plans : List P) (n : ℕ) (p : P) → slice_get plans n ≡ Some p → list_any t (lines p) ≡ true → list_any t (flat_map lines plans) ≡ true
     any_at [] n p at any = cc at
     any_at (q ∷ plans) zero p at any = any_left (lines q) (flat_map lines plans) (ap (λ r. list_any t (lines r)) (same_Some q p at) ∙ any)
     any_at (q ∷ plans) (suc n) p at any = any_right (lines q) (flat_map lines plans) (any_at plans n p at any)

@@ -1,5 +1,5 @@
--- What is at fault among the nodes of a cluster file, each by itself being in order (chapters 5 and 9; that a static slot on a
--- channel has one owner in all cycles, and the order of the faults, are own profile).
+-- What is at fault among the nodes of a cluster file, each by itself being in order (chapters 5 and 9; that a static
+-- slot on a channel has one owner in all cycles, and the order of the faults, are own profile).
 use Rattle.std.specs.Prelude.{ℕ, ◌+◌, Bool, List, [], ◌∷◌, Option, Some, None, option_map, position, if◌then◌else◌}
 use Rattle.std.specs.List.{flat_map}
 use Rattle.std.specs.Option.{option_or}
@@ -36,7 +36,8 @@ first_taken plans = first_of (taken_in (all_owned plans)) slots
 
 -- two transmit buffers, of one node or of two, admit the slot on the channel in the cycle
 abbrev pub overlap_at : List Buffer → ℕ → Channel → ℕ → Option ConfigError
-overlap_at buffers slot channel cycle = if two_pass (sends_at slot channel cycle) buffers then Some (Overlap slot channel cycle) else None
+overlap_at buffers slot channel cycle =
+    if two_pass (sends_at slot channel cycle) buffers then Some (Overlap slot channel cycle) else None
 
 abbrev pub overlap_on : List Buffer → ℕ → Channel → Option ConfigError
 overlap_on buffers slot channel = first_of (overlap_at buffers slot channel) cycles
@@ -69,7 +70,7 @@ not_owned_in p = buffer_fault NotOwned (λ plan. not_owned p plan.owned)
 abbrev pub dynamic_both_in : Parameters → ℕ → Plan → Option ConfigError
 dynamic_both_in p = buffer_fault DynamicBoth (λ plan. dynamic_both p)
 
--- a dynamic transmit buffer, whose frame would end behind the dynamic segment if it began at the node's latest minislot
+-- a dynamic transmit buffer, whose frame would end after the dynamic segment if it began at the node's latest minislot
 abbrev pub too_long_in : Parameters → ℕ → Plan → Option ConfigError
 too_long_in p = buffer_fault TooLong (too_long p)
 
@@ -79,7 +80,8 @@ unfoldable pub owner_fault : Parameters → List Plan → Option ConfigError
 owner_fault p plans = option_or (first_taken plans) (first_by (not_owned_in p) plans)
 
 unfoldable pub sender_fault : Parameters → List Plan → Option ConfigError
-sender_fault p plans = option_or (first_by (dynamic_both_in p) plans) (option_or (first_overlap plans) (first_by (too_long_in p) plans))
+sender_fault p plans =
+    option_or (first_by (dynamic_both_in p) plans) (option_or (first_overlap plans) (first_by (too_long_in p) plans))
 
 unfoldable pub file_fault : Parameters → List Plan → Option ConfigError
 file_fault p plans = option_or (owner_fault p plans) (sender_fault p plans)

@@ -48,7 +48,8 @@ params_in root = held (parameters_in (members_or_none (params_table root)))
 -- ---- the guarded channels: both where `guard` is absent, and "none" for no channel
 
 abbrev pub guard_named : List ℕ → Option (Option Channels)
-guard_named word = if bytes_eq word (codes "none") then Some None else option_and_then (λ c. Some (Some c)) (channels_named word)
+guard_named word =
+    if bytes_eq word (codes "none") then Some None else option_and_then (λ c. Some (Some c)) (channels_named word)
 
 abbrev pub guard_word : Option Data → Option (Option Channels)
 guard_word None = Some (Some channels.Both)

@@ -7,3 +7,5 @@ pub mod SenderTable
 pub mod Files
 pub mod NodeTables
 pub mod TableReading
+pub mod Claims
+pub mod DenseTable

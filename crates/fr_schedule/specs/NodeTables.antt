@@ -109,7 +109,8 @@ with_owned_in p table plan = do
   option_map (owning plan) (all_of (own_of p) lines)
 
 unfoldable pub with_queue_in : Members → Plan → Option Plan
-with_queue_in table plan = or_default plan (λ value. option_map (with_queue plan) (queue_of value)) (get_member (codes "queue") table)
+with_queue_in table plan =
+    or_default plan (λ value. option_map (with_queue plan) (queue_of value)) (get_member (codes "queue") table)
 
 -- the plan that a node's table gives, its buffers aside
 unfoldable pub head_in : Parameters → Members → Option Plan

@@ -1,5 +1,5 @@
--- What a table of a cluster file has under a key (own profile): `None` where the key is missing that has to be there, and where
--- something else stands there than has to.
+-- What a table of a cluster file has under a key (own profile): `None` where the key is missing that has to be there,
+-- and where something else stands there than has to.
 use Rattle.std.specs.Prelude.{ℕ, nat_le, ℤ, pos, Bool, false, ◌&&◌, List, [], ◌∷◌, length, codes, Option, Some, None}
 use Rattle.std.specs.Prelude.{is_some, option_and_then, if◌then◌else◌}
 use Rattle.std.specs.Int.Signed.{le_z}
@@ -28,7 +28,8 @@ or_default default read (Some value) = read value
 -- ---- numbers: integers from a least to a greatest one
 
 abbrev pub within : ℕ → ℕ → ℤ → Option ℕ
-within least greatest number = if le_z (pos least) number && le_z number (pos greatest) then Some (unsigned number) else None
+within least greatest number =
+    if le_z (pos least) number && le_z number (pos greatest) then Some (unsigned number) else None
 
 unfoldable pub number_in : ℕ → ℕ → Data → Option ℕ
 number_in least greatest value = do

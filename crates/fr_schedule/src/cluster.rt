@@ -1,24 +1,22 @@
 //! A cluster without fault.
 
-ghost use Rattle.std.specs.Prelude.{◌≡◌, ◌<◌, Err, None, length, option_map, position, slice_get, IfOk, IfSome, IfNone};
+ghost use Rattle.std.specs.Prelude.{◌≡◌, Err, None, length, option_map, slice_get, IfOk, IfSome, IfNone};
 ghost use Rattle.std.specs.Prelude.{ℕ};
-ghost use Rattle.std.specs.List.{list_any};
 ghost use Rattle.fr_schedule.specs.Clusters.{IsCluster};
 ghost use Rattle.fr_schedule.specs.Descriptions.{is_guarded};
-ghost use Rattle.fr_schedule.specs.SenderTable.{may_send, IsSender};
+ghost use Rattle.fr_schedule.specs.SenderTable.{IsSender};
 ghost use Rattle.fr_schedule.specs.declared.error.ConfigError.TheVariants as error;
 ghost use Rattle.fr_schedule.specs.Files.{described, description_of, IsTableOf};
-ghost use Rattle.fr_slots.specs.Faults.{plan_fault, sends_at};
+ghost use Rattle.fr_slots.specs.Faults.{plan_fault};
 ghost use Rattle.toml.specs.View.{table_view};
 
 use crate::error::ConfigError;
-use crate::faults::file_fault;
 use crate::file::{guard_in, nodes_in, params_in, plans_of};
+use crate::senders::{place_of, senders_of};
 use fr_slots::channel::{Channel, Channels};
-use fr_slots::fault::is_owned;
 use fr_slots::numbers::{Cycle, NodeId, SlotId};
 use fr_slots::params::Params;
-use fr_slots::plan::{Buffer, NodePlan};
+use fr_slots::plan::NodePlan;
 use std::alloc::Global;
 use std::marker::Model;
 use toml::Table;
@@ -29,6 +27,8 @@ pub struct Cluster {
     params: Params,
     guard: Option<Channels>,
     plans: Vec<NodePlan>,
+    /// For each slot, channel and cycle the number of the node that sends there.
+    senders: Vec<u8>,
 }
 
 impl Model for Cluster {
@@ -65,57 +65,13 @@ fn cluster_of(alloc: Global, root: &Table) -> Result<Cluster, ConfigError>
         return Err(ConfigError::TooManyNodes);
     };
     let plans = plans_of(alloc, &params, values)?;
-    if let Some(fault) = file_fault(&params, plans.as_slice()) {
-        return Err(fault);
-    }
+    let senders = senders_of(alloc, &params, plans.as_slice())?;
     Ok(Cluster {
         params: params.duplicate(),
         guard,
         plans,
+        senders,
     })
-}
-
-/// Whether the node sends in the slot on the channel in the cycle.
-fn may_send(params: &Params, cycle: Cycle, slot: SlotId, channel: Channel, plan: &NodePlan) -> bool
-    ensures { result ≡ may_send params.now cycle slot channel plan.now }
-{
-    if params.is_static(slot) {
-        is_owned(plan.owned(), slot, channel)
-    } else {
-        any_sends_at(plan.buffers(), cycle, slot, channel)
-    }
-}
-
-/// Whether a transmit buffer admits the slot on the channel in the cycle.
-fn any_sends_at(buffers: &[Buffer], cycle: Cycle, slot: SlotId, channel: Channel) -> bool
-    ensures { result ≡ list_any (sends_at slot channel cycle) buffers.now }
-{
-    buffers
-        .iter()
-        .any(|buffer| sends_at(buffer, cycle, slot, channel))
-}
-
-/// Whether the buffer is a transmit buffer that admits the slot on the channel in the cycle.
-fn sends_at(buffer: &Buffer, cycle: Cycle, slot: SlotId, channel: Channel) -> bool
-    ensures { result ≡ sends_at slot channel cycle buffer.now }
-{
-    buffer.transmits() && buffer.filter.admits(cycle, slot, channel)
-}
-
-/// The number of the first plan whose node sends in the slot on the channel in the cycle.
-fn sender_number(
-    params: &Params,
-    plans: &[NodePlan],
-    cycle: Cycle,
-    slot: SlotId,
-    channel: Channel,
-) -> Option<usize>
-    ensures value { result ≡ position (may_send params.now cycle slot channel) plans.now }
-    ensures within { IfSome result (λ number. number < length plans.now) }
-{
-    plans
-        .iter()
-        .position(|plan| may_send(params, cycle, slot, channel, plan))
 }
 
 impl Cluster {
@@ -147,8 +103,7 @@ impl Cluster {
         ensures nobody { IfNone result ((node : ℕ) → ¬ IsSender self.now cycle slot channel node) }
         ensures lawful { IsCluster self.now }
     {
-        let number = sender_number(&self.params, self.plans(), cycle, slot, channel)?;
-        NodeId::new(number as u8)
+        NodeId::new(self.senders[place_of(slot, channel, cycle)])
     }
 
     /// The parameters of the cluster.

@@ -1,8 +1,12 @@
 //! Why a text describes no cluster.
 
+ghost use Rattle.std.specs.Prelude.{◌≡◌};
+ghost use Rattle.fr_schedule.specs.declared.error.ConfigError.TheVariants as error;
+
 use fr_params::error::ParamError;
 use fr_slots::channel::Channel;
 use fr_slots::numbers::{Cycle, NodeId, SlotId};
+use std::alloc::AllocError;
 use thiserror::Error;
 
 /// Why a text describes no cluster. Nodes and buffers go by their numbers, which count from 0 in the order of the file.
@@ -41,10 +45,18 @@ pub enum ConfigError {
     #[error("Overlap {} {} {}", .0.number(), .1, .2.number())]
     Overlap(SlotId, Channel, Cycle),
     /// A frame of the dynamic transmit buffer that begins at the latest minislot of its node on its channel would end
-    /// behind the dynamic segment, where the minislots that stay idle behind it don't count (own profile).
+    /// after the dynamic segment, where the minislots that stay idle after it don't count (own profile).
     #[error("TooLong {} {}", .0.number(), .1)]
     TooLong(NodeId, u8),
     /// Memory was refused.
     #[error("Memory")]
     Memory,
+}
+
+impl From<AllocError> for ConfigError {
+    ghost from_gives = { λ refused given. given ≡ error.Memory };
+
+    fn from(_: AllocError) -> ConfigError {
+        ConfigError::Memory
+    }
 }

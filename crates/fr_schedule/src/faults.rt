@@ -1,24 +1,18 @@
 //! What is at fault among the nodes of a cluster file.
 
-ghost use Rattle.std.specs.Prelude.{◌≡◌, ◌≤◌, length};
-ghost use Rattle.fr_schedule.specs.FileFaults.{all_owned, all_buffers, first_taken, first_overlap, first_by};
+ghost use Rattle.std.specs.Prelude.{◌≡◌, ◌≤◌, length, option_map};
+ghost use Rattle.fr_schedule.specs.FileFaults.{all_owned, all_buffers, first_by};
 ghost use Rattle.fr_schedule.specs.FileFaults.{owner_fault, sender_fault, file_fault};
 ghost use Rattle.fr_schedule.specs.FileFaults.{not_owned_in, dynamic_both_in, too_long_in};
-ghost use Rattle.fr_schedule.specs.RuleFaults.{fault_by};
-ghost use Rattle.fr_slots.specs.Sharing.{own_filters, transmit_filters};
+ghost use Rattle.fr_schedule.specs.RuleFaults.{fault_by, taken_fault, overlap_fault};
+ghost use Rattle.fr_slots.specs.Sharing.{IsFirst, is_shared, own_filters, transmit_filters};
 
 use crate::error::ConfigError;
 use crate::file::node_of;
-use arrayvec::ArrayVec;
-use fr_slots::fault::{own_filters, transmit_filters};
-use fr_slots::filter::Filter;
 use fr_slots::numbers::NodeId;
 use fr_slots::params::Params;
 use fr_slots::plan::NodePlan;
-use fr_slots::sharing::first_shared;
-
-/// The most ownership lines, and the most buffers, of a cluster: 64 for each of 16 nodes (own profile).
-const ALL_LINES: usize = 1024;
+use fr_slots::sharing::Occasion;
 
 /// A rule that a transmit buffer keeps by itself.
 #[derive(Clone, Copy, Debug, PartialEq, Eq)]
@@ -31,51 +25,19 @@ pub(crate) enum Rule {
     EndsInTime,
 }
 
-/// The ownership lines of all nodes as filters.
-fn all_own_filters(plans: &[NodePlan]) -> ArrayVec<Filter, ALL_LINES>
-    requires { length plans.now ≤ 16 }
-    ensures { result.items ≡ own_filters (all_owned plans.now) }
+/// The fault of the first slot and channel that two ownership lines are for, which is this one.
+fn taken_fault(taken: Option<Occasion>) -> Option<ConfigError>
+    ensures { result ≡ option_map taken_fault taken }
 {
-    let mut all = ArrayVec::new();
-    for plan in plans {
-        let filters = own_filters(plan.owned());
-        let outcome = all.try_extend_from_slice(filters.as_slice());
-        let fits = outcome.is_ok();
-        prove!(fits);
-    }
-    all
-}
-
-/// The filters of the transmit buffers of all nodes.
-fn all_transmit_filters(plans: &[NodePlan]) -> ArrayVec<Filter, ALL_LINES>
-    requires { length plans.now ≤ 16 }
-    ensures { result.items ≡ transmit_filters (all_buffers plans.now) }
-{
-    let mut all = ArrayVec::new();
-    for plan in plans {
-        let filters = transmit_filters(plan.buffers());
-        let outcome = all.try_extend_from_slice(filters.as_slice());
-        let fits = outcome.is_ok();
-        prove!(fits);
-    }
-    all
-}
-
-/// The fault of the first slot and channel that two ownership lines are for.
-fn first_taken(plans: &[NodePlan]) -> Option<ConfigError>
-    requires { length plans.now ≤ 16 }
-    ensures { result ≡ first_taken plans.now }
-{
-    let shared = first_shared(all_own_filters(plans).as_slice())?;
+    let shared = taken?;
     Some(ConfigError::SlotTaken(shared.slot, shared.channel))
 }
 
-/// The fault of the first slot, channel and cycle that two transmit buffers admit.
-fn first_overlap(plans: &[NodePlan]) -> Option<ConfigError>
-    requires { length plans.now ≤ 16 }
-    ensures { result ≡ first_overlap plans.now }
+/// The fault of the first slot, channel and cycle that two transmit buffers admit, which is this one.
+fn overlap_fault(overlap: Option<Occasion>) -> Option<ConfigError>
+    ensures { result ≡ option_map overlap_fault overlap }
 {
-    let shared = first_shared(all_transmit_filters(plans).as_slice())?;
+    let shared = overlap?;
     Some(ConfigError::Overlap(shared.slot, shared.channel, shared.cycle))
 }
 
@@ -95,7 +57,7 @@ fn dynamic_both_in(params: &Params, node: NodeId, plan: &NodePlan) -> Option<Con
     Some(ConfigError::DynamicBoth(node, number))
 }
 
-/// The fault of the first dynamic buffer of the node whose frame would end behind the dynamic segment.
+/// The fault of the first dynamic buffer of the node whose frame would end after the dynamic segment.
 fn too_long_in(params: &Params, node: NodeId, plan: &NodePlan) -> Option<ConfigError>
     ensures { result ≡ too_long_in params.now node plan.now }
 {
@@ -127,32 +89,46 @@ fn first_by(rule: Rule, params: &Params, plans: &[NodePlan]) -> Option<ConfigErr
     None
 }
 
-/// The first fault of the ownership lines.
-#[tactic(auto, unfolding(crate::specs::FileFaults::owner_fault))]
-fn owner_fault(params: &Params, plans: &[NodePlan]) -> Option<ConfigError>
-    requires { length plans.now ≤ 16 }
+/// The first fault of the ownership lines, of which two are for this slot and channel.
+#[tactic(auto, using(crate::proofs::DenseSenderLemmas::taken_is), unfolding(crate::specs::FileFaults::owner_fault))]
+fn owner_fault(params: &Params, plans: &[NodePlan], taken: Option<Occasion>) -> Option<ConfigError>
+    requires few { length plans.now ≤ 16 }
+    requires first { IsFirst (is_shared (own_filters (all_owned plans.now))) taken }
     ensures { result ≡ owner_fault params.now plans.now }
 {
-    first_taken(plans).or_else(|| first_by(Rule::Owned, params, plans))
+    taken_fault(taken).or_else(|| first_by(Rule::Owned, params, plans))
 }
 
-/// The first fault of the transmit buffers.
-#[tactic(auto, unfolding(crate::specs::FileFaults::sender_fault))]
-fn sender_fault(params: &Params, plans: &[NodePlan]) -> Option<ConfigError>
-    requires { length plans.now ≤ 16 }
+/// The first fault of the transmit buffers, of which two admit this slot, channel and cycle.
+#[tactic(auto, using(crate::proofs::DenseSenderLemmas::overlap_is), unfolding(crate::specs::FileFaults::sender_fault))]
+fn sender_fault(
+    params: &Params,
+    plans: &[NodePlan],
+    overlap: Option<Occasion>,
+) -> Option<ConfigError>
+    requires few { length plans.now ≤ 16 }
+    requires first { IsFirst (is_shared (transmit_filters (all_buffers plans.now))) overlap }
     ensures { result ≡ sender_fault params.now plans.now }
 {
     first_by(Rule::OneChannel, params, plans)
-        .or_else(|| first_overlap(plans))
+        .or_else(|| overlap_fault(overlap))
         .or_else(|| first_by(Rule::EndsInTime, params, plans))
 }
 
 /// The first fault of the file: each kind is looked for in all nodes before the next, and of a kind the first in
-/// order of its numbers is named, channel A before B.
+/// order of its numbers is named, channel A before B. Two ownership lines are first for the one occasion, and two
+/// transmit buffers for the other.
 #[tactic(auto, unfolding(crate::specs::FileFaults::file_fault))]
-pub(crate) fn file_fault(params: &Params, plans: &[NodePlan]) -> Option<ConfigError>
-    requires { length plans.now ≤ 16 }
+pub(crate) fn file_fault(
+    params: &Params,
+    plans: &[NodePlan],
+    taken: Option<Occasion>,
+    overlap: Option<Occasion>,
+) -> Option<ConfigError>
+    requires few { length plans.now ≤ 16 }
+    requires taken { IsFirst (is_shared (own_filters (all_owned plans.now))) taken }
+    requires overlap { IsFirst (is_shared (transmit_filters (all_buffers plans.now))) overlap }
     ensures { result ≡ file_fault params.now plans.now }
 {
-    owner_fault(params, plans).or_else(|| sender_fault(params, plans))
+    owner_fault(params, plans, taken).or_else(|| sender_fault(params, plans, overlap))
 }

@@ -15,14 +15,14 @@ use crate::node::{buffer_of, head_in};
 use crate::table::{array_in, channels_named, tables_at, value_under};
 use fr_params::table::from_table;
 use fr_slots::channel::Channels;
-use fr_slots::numbers::NodeId;
+use fr_slots::numbers::{NODES, NodeId};
 use fr_slots::params::Params;
 use fr_slots::plan::{Buffer, NodePlan};
 use std::alloc::Global;
 use toml::{Table, Value};
 
 /// The most nodes of a cluster (own profile).
-const MOST_NODES: usize = 16;
+const MOST_NODES: usize = NODES as usize;
 
 /// The table `params`, if there is one.
 fn params_table(root: &Table) -> Option<&Table>

@@ -12,9 +12,11 @@
 //! *(own profile)* marks a rule of this project's own, which says nothing of the standard.
 #![tactic(auto)]
 
+mod claims;
 pub mod cluster;
 pub mod error;
 mod faults;
 mod file;
 mod node;
+mod senders;
 mod table;

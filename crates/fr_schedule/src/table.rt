@@ -12,9 +12,14 @@ ghost use Rattle.toml.specs.View.{view, table_view};
 
 use fr_slots::channel::Channels;
 use fr_slots::filter::CycleFilter;
-use fr_slots::numbers::SlotId;
+use fr_slots::numbers::{CYCLES, SlotId};
 use fr_slots::plan::{LINES, Mode};
 use toml::{Table, Value};
+
+// The greatest numbers of a cycle filter, as wide as those that are read.
+const MOST_CYCLES: u32 = CYCLES as u32;
+
+const LAST_CYCLE: u32 = MOST_CYCLES - 1;
 
 /// What stands under the key.
 pub(crate) fn value_under<'a>(table: &'a Table, name: &str) -> Option<&'a Value>
@@ -149,8 +154,8 @@ pub(crate) fn mode_in(table: &Table) -> Option<Mode>
 pub(crate) fn cycles_in(table: &Table) -> Option<CycleFilter>
     ensures { result ≡ cycles_in (table_view table.now) }
 {
-    let base = number_or(table, "base", 0, 63, 0)?;
-    let repetition = number_or(table, "repetition", 1, 64, 1)?;
+    let base = number_or(table, "base", 0, LAST_CYCLE, 0)?;
+    let repetition = number_or(table, "repetition", 1, MOST_CYCLES, 1)?;
     match CycleFilter::new(base as u8, repetition as u8) {
         Ok(cycles) => Some(cycles),
         Err(_) => None,

@@ -1,4 +1,5 @@
--- The faults of a plan, and what a plan without fault gives (chapters 5 and 9; the limits and the order are own profile).
+-- The faults of a plan, and what a plan without fault gives (chapters 5 and 9; the limits and the order are own
+-- profile).
 use Rattle.std.specs.Prelude.{◌≡◌, ℕ, suc, zero, ◌+◌, ◌-◌, ◌<◌, ◌≤◌, ◌==◌, nat_lt, nat_le, not, Bool, true, false, ◌&&◌}
 use Rattle.std.specs.Prelude.{◌||◌, List, [], ◌∷◌, Option, Some, None, is_some, unwrap_or, option_map, slice_get}
 use Rattle.std.specs.Prelude.{position, if◌then◌else◌}
@@ -108,7 +109,8 @@ has_late_latest p plan = nat_lt p.minislots plan.latest_a || nat_lt p.minislots 
 
 -- the plan isn't one for these parameters
 abbrev pub is_out_of_params : Parameters → Plan → Bool
-is_out_of_params p plan = list_any (is_owned_beyond p) plan.owned || has_late_latest p plan || list_any (has_wrong_words p) plan.buffers
+is_out_of_params p plan = list_any (is_owned_beyond p) plan.owned || has_late_latest p plan
+    || list_any (has_wrong_words p) plan.buffers
 
 abbrev pub out_of_params : Parameters → Plan → Option PlanFault
 out_of_params p plan = if is_out_of_params p plan then Some OutOfParams else None
@@ -140,7 +142,8 @@ dynamic_both p b = transmits_dynamic p b && list_all (includes b.filter.channels
 
 -- two transmit buffers admit the slot on the channel in the cycle
 abbrev pub overlap_at : List Buffer → ℕ → Channel → ℕ → Option PlanFault
-overlap_at buffers slot channel cycle = if two_pass (sends_at slot channel cycle) buffers then Some (Overlap slot channel cycle) else None
+overlap_at buffers slot channel cycle = if two_pass (sends_at slot channel cycle) buffers
+    then Some (Overlap slot channel cycle) else None
 
 abbrev pub overlap_on : List Buffer → ℕ → Channel → Option PlanFault
 overlap_on buffers slot channel = first_of (overlap_at buffers slot channel) cycles
@@ -165,14 +168,16 @@ too_long p plan b = transmits_dynamic p b && list_any (ends_late_on p plan b) ch
 -- the first fault of the parameters and the ownership lines, and of the buffers among themselves
 unfoldable pub ownership_fault : Parameters → Plan → Option PlanFault
 ownership_fault p plan =
-    option_or (out_of_params p plan) (option_or (first_taken plan.owned) (first_buffer NotOwned (not_owned p plan.owned) plan.buffers))
+    option_or (out_of_params p plan)
+        (option_or (first_taken plan.owned) (first_buffer NotOwned (not_owned p plan.owned) plan.buffers))
 
 unfoldable pub buffer_fault : Parameters → Plan → Option PlanFault
 buffer_fault p plan =
     option_or (first_buffer DynamicBoth (dynamic_both p) plan.buffers)
     (option_or (first_overlap plan.buffers) (first_buffer TooLong (too_long p plan) plan.buffers))
 
--- The first fault of a plan: each kind over the whole plan before the next, and of a kind the first in order of its numbers.
+-- The first fault of a plan: each kind over the whole plan before the next, and of a kind the first in order of its
+-- numbers.
 unfoldable pub plan_fault : Parameters → Plan → Option PlanFault
 plan_fault p plan = option_or (ownership_fault p plan) (buffer_fault p plan)
 
@@ -191,12 +196,14 @@ HasOneSender plan = (slot : ℕ) (channel : Channel) (cycle m n : ℕ) (b c : Bu
 -- at most one ownership line is for a slot on a channel
 abbrev pub HasOneOwner : Plan → Type 0
 HasOneOwner plan = (slot : ℕ) (channel : Channel) (m n : ℕ) (o p : Own) → IsSlot slot
-    → slice_get plan.owned m ≡ Some o → slice_get plan.owned n ≡ Some p → claims slot channel o ≡ true → claims slot channel p ≡ true → m ≡ n
+    → slice_get plan.owned m ≡ Some o → slice_get plan.owned n ≡ Some p → claims slot channel o ≡ true
+        → claims slot channel p ≡ true → m ≡ n
 
 -- a static transmit buffer has the cluster's words, and its slot is owned on each of its channels
 pub record FitsStatic (p : Parameters) (plan : Plan) (b : Buffer) : Type 0 where
   pub words_are : b.words ≡ None
-  pub owned : (channel : Channel) → includes b.filter.channels channel ≡ true → is_owned plan.owned b.filter.slot channel ≡ true
+  pub owned : (channel : Channel) → includes b.filter.channels channel ≡ true
+      → is_owned plan.owned b.filter.slot channel ≡ true
 
 -- a dynamic transmit buffer has words of its own, is for one channel, and its frame ends within the dynamic segment
 pub record FitsDynamic (p : Parameters) (plan : Plan) (b : Buffer) : Type 0 where
@@ -211,5 +218,7 @@ pub record IsFaultless (p : Parameters) (plan : Plan) : Type 0 where
   pub owned_are_static : (number : ℕ) (own : Own) → slice_get plan.owned number ≡ Some own → own.slot ≤ p.static_slots
   pub one_owner : HasOneOwner plan
   pub one_sender : HasOneSender plan
-  pub static_fit : (number : ℕ) (b : Buffer) → slice_get plan.buffers number ≡ Some b → transmits_static p b ≡ true → FitsStatic p plan b
-  pub dynamic_fit : (number : ℕ) (b : Buffer) → slice_get plan.buffers number ≡ Some b → transmits_dynamic p b ≡ true → FitsDynamic p plan b
+  pub static_fit : (number : ℕ) (b : Buffer) → slice_get plan.buffers number ≡ Some b → transmits_static p b ≡ true
+      → FitsStatic p plan b
+  pub dynamic_fit : (number : ℕ) (b : Buffer) → slice_get plan.buffers number ≡ Some b → transmits_dynamic p b ≡ true
+      → FitsDynamic p plan b

@@ -152,7 +152,8 @@ pub record AreLast (n : Five) : Type 0 where
   pub words_per_minislot_fit : IsWithin WordsPerMinislot n.4
 
 abbrev pub assembled : Five → Five → Parameters
-assembled a b = record { static_slots = a.0; minislots = a.1; static_words = a.2; static_mt = a.3; minislot_mt = a.4; symbol_mt = b.0; nit_mt = b.1; cycle_mt = b.2; idle = b.3; words_per_minislot = b.4 }
+assembled a b = record { static_slots = a.0; minislots = a.1; static_words = a.2; static_mt = a.3; minislot_mt = a.4;
+    symbol_mt = b.0; nit_mt = b.1; cycle_mt = b.2; idle = b.3; words_per_minislot = b.4 }
 
 -- The parameters that these numbers are, in the order of the keys: the first key whose number is out of range, then the
 -- sum.

@@ -4,7 +4,9 @@ use Rattle.fr_slots.specs.declared.plan.NodePlan.TheInside.{Inside}
 use Rattle.fr_slots.specs.Plans.{Plan, IsPlan}
 
 abbrev pub plan_in : Inside → Plan
-plan_in p = record { tasks = p.tasks; latest_a = slice_index p.latest 0; latest_b = slice_index p.latest 1; host_entries = p.host_entries; slot_entries = p.slot_entries; owned = p.owned.items; buffers = p.buffers.items; queue = p.queue }
+plan_in p = record { tasks = p.tasks; latest_a = slice_index p.latest 0; latest_b = slice_index p.latest 1;
+    host_entries = p.host_entries; slot_entries = p.slot_entries; owned = p.owned.items; buffers = p.buffers.items;
+    queue = p.queue }
 
 abbrev pub IsLawful : Inside → Type 0
 IsLawful p = IsPlan (plan_in p)

@@ -21,7 +21,8 @@ filter_admits f cycle slot channel = f.slot == slot && includes f.channels chann
 
 -- the slot is in the queue's range, and channel and cycle are the queue's
 abbrev pub queue_admits : Queue → ℕ → ℕ → Channel → Bool
-queue_admits q cycle slot channel = nat_le q.first slot && nat_le slot q.last && includes q.channels channel && cycle_admitted q.cycles cycle
+queue_admits q cycle slot channel = nat_le q.first slot && nat_le slot q.last && includes q.channels channel
+    && cycle_admitted q.cycles cycle
 
 abbrev pub admits_slot : Filter → ℕ → Channel → Option ℕ → Bool
 admits_slot f cycle channel None = false
@@ -124,16 +125,19 @@ pub record IsPlan (p : Plan) : Type 0 where
 
 abbrev pub limits_fit : ℕ → ℕ → ℕ → ℕ → ℕ → Bool
 limits_fit tasks latest_a latest_b host slot =
-    nat_le tasks most_tasks && nat_le latest_a last_minislot && nat_le latest_b last_minislot && nat_le 1 host && nat_le host most_host_entries && nat_le 2 slot && nat_le slot most_slot_entries
+    nat_le tasks most_tasks && nat_le latest_a last_minislot && nat_le latest_b last_minislot && nat_le 1 host
+        && nat_le host most_host_entries && nat_le 2 slot && nat_le slot most_slot_entries
 
 -- a plan with no lines yet
 abbrev pub empty_plan : ℕ → ℕ → ℕ → ℕ → ℕ → Plan
 empty_plan tasks latest_a latest_b host slot =
-    record { tasks = tasks; latest_a = latest_a; latest_b = latest_b; host_entries = host; slot_entries = slot; owned = []; buffers = []; queue = None }
+    record { tasks = tasks; latest_a = latest_a; latest_b = latest_b; host_entries = host; slot_entries = slot;
+        owned = []; buffers = []; queue = None }
 
 abbrev pub plan_of : ℕ → ℕ → ℕ → ℕ → ℕ → Result Plan PlanError
 plan_of tasks latest_a latest_b host slot =
-    if limits_fit tasks latest_a latest_b host slot then Ok (empty_plan tasks latest_a latest_b host slot) else Err OutOfRange
+    if limits_fit tasks latest_a latest_b host slot then Ok (empty_plan tasks latest_a latest_b host slot)
+        else Err OutOfRange
 
 abbrev pub own_refusal : Plan → Own → Option PlanError
 own_refusal p o =

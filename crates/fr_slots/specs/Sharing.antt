@@ -54,7 +54,8 @@ is_shared filters slot channel cycle = two_pass (admits_at slot channel cycle) f
 
 -- one of the filters and a further one do
 abbrev pub is_shared_with : Filter → List Filter → ℕ → Channel → ℕ → Bool
-is_shared_with f filters slot channel cycle = list_any (admits_at slot channel cycle) filters && admits_at slot channel cycle f
+is_shared_with f filters slot channel cycle = list_any (admits_at slot channel cycle) filters
+    && admits_at slot channel cycle f
 
 -- these two do
 abbrev pub is_shared_by : Filter → Filter → ℕ → Channel → ℕ → Bool

@@ -11,7 +11,8 @@ digit bit = if bit then 1 else 0
 -- the five counts of a channel with one slot more
 abbrev pub with_bits : List ℕ → SlotStatus → List ℕ
 with_bits counts s =
-    (slice_index counts 0 + digit s.valid) ∷ (slice_index counts 1 + digit s.syntax) ∷ (slice_index counts 2 + digit s.content)
+    (slice_index counts 0 + digit s.valid) ∷ (slice_index counts 1 + digit s.syntax) ∷ (slice_index counts 2
+        + digit s.content)
     ∷ (slice_index counts 3 + digit s.boundary) ∷ (slice_index counts 4 + digit s.conflict) ∷ []
 
 abbrev pub with_status : Counters → Channel → SlotStatus → Counters

@@ -78,13 +78,9 @@ fn a_full_queue_loses_its_oldest_frame(rt: HostRuntime) -> Result<(), Fail> {
         assert!(rt; queue.lost() < 3);
         queue.arrive(entry, Channel::A, frame(entry as u8)?);
     }
-    assert_eq!(rt; queue.len(), 2);
-    assert_eq!(rt; queue.lost(), 3);
-    let oldest = queue.pop().ok_or("nothing popped")?;
-    assert_eq!(rt; oldest.origin.entry, 3);
-    let next = queue.pop().ok_or("nothing popped")?;
-    assert_eq!(rt; next.origin.entry, 4);
-    assert_eq!(rt; queue.pop().is_none(), true);
+    assert_eq!(rt; (queue.len(), queue.lost()), (2, 3));
+    let popped = [queue.pop(), queue.pop(), queue.pop()].map(|arrival| Some(arrival?.origin.entry));
+    assert_eq!(rt; popped, [Some(3), Some(4), None]);
     assert_eq!(rt; queue.lost(), 3);
     Ok(())
 }

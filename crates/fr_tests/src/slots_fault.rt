@@ -64,18 +64,14 @@ fn fault_of(
 
 #[test]
 fn a_plan_of_other_parameters(rt: HostRuntime) -> Result<(), Fail> {
-    let fault = Some(PlanFault::OutOfParams);
-    assert_eq!(rt; fault_of([0, 0], &[own(4, Channels::A)?], &[])?, fault);
-    assert_eq!(rt; fault_of([5, 0], &[], &[])?, fault);
-    assert_eq!(rt; fault_of([0, 5], &[], &[])?, fault);
-    assert_eq!(rt;
+    let faults = [
+        fault_of([0, 0], &[own(4, Channels::A)?], &[])?,
+        fault_of([5, 0], &[], &[])?,
+        fault_of([0, 5], &[], &[])?,
         fault_of([0, 0], &[], &[event(1, Channels::A, Some(2))?])?,
-        fault
-    );
-    assert_eq!(rt;
         fault_of([0, 0], &[], &[event(4, Channels::A, None)?])?,
-        fault
-    );
+    ];
+    assert_eq!(rt; faults, [Some(PlanFault::OutOfParams); 5]);
     let lines = [own(3, Channels::Both)?];
     let buffers = [
         event(3, Channels::Both, None)?,
@@ -218,32 +214,24 @@ fn one_kind_of_fault_comes_before_the_next(rt: HostRuntime) -> Result<(), Fail> 
         event(2, Channels::A, Some(1))?,
     ];
     let latest = [4, 4];
-    assert_eq!(rt;
-        fault_of(latest, &lines, &buffers)?,
-        Some(PlanFault::OutOfParams)
-    );
+    let too_many_words = fault_of(latest, &lines, &buffers)?;
     buffers[4].words = None;
-    assert_eq!(rt;
-        fault_of(latest, &lines, &buffers)?,
-        Some(PlanFault::SlotTaken(slot(3)?, Channel::A))
-    );
-    assert_eq!(rt;
-        fault_of(latest, &[twice], &buffers)?,
-        Some(PlanFault::NotOwned(3))
-    );
-    assert_eq!(rt;
-        fault_of(latest, &[], &buffers[..3])?,
-        Some(PlanFault::DynamicBoth(2))
-    );
+    let taken = fault_of(latest, &lines, &buffers)?;
+    let not_owned = fault_of(latest, &[twice], &buffers)?;
+    let both = fault_of(latest, &[], &buffers[..3])?;
     buffers[2].filter.channels = Channels::A;
-    assert_eq!(rt;
-        fault_of(latest, &[], &buffers[..3])?,
-        Some(PlanFault::Overlap(slot(6)?, Channel::A, cycle(0)?))
-    );
-    assert_eq!(rt;
-        fault_of(latest, &[], &buffers[..2])?,
-        Some(PlanFault::TooLong(0))
-    );
+    let overlap = fault_of(latest, &[], &buffers[..3])?;
+    let too_long = fault_of(latest, &[], &buffers[..2])?;
+    let wanted = [
+        PlanFault::OutOfParams,
+        PlanFault::SlotTaken(slot(3)?, Channel::A),
+        PlanFault::NotOwned(3),
+        PlanFault::DynamicBoth(2),
+        PlanFault::Overlap(slot(6)?, Channel::A, cycle(0)?),
+        PlanFault::TooLong(0),
+    ];
+    let faults = [too_many_words, taken, not_owned, both, overlap, too_long];
+    assert_eq!(rt; faults, wanted.map(Some));
     Ok(())
 }
 

@@ -11,7 +11,7 @@ use Rattle.fr_text.specs.Reading.{bytes_as, bytes_in}
 use Rattle.fr_text.specs.Spelling.{hex_text}
 
 -- what is read is spelled so
-as_takes : (most : ℕ) (digits bs : List ℕ) (r : Result (List ℕ) FromHexError) → bytes_as most digits r ≡ Some bs
+pub as_takes : (most : ℕ) (digits bs : List ℕ) (r : Result (List ℕ) FromHexError) → bytes_as most digits r ≡ Some bs
     → (r ≡ Ok bs) × (encode_lower bs ≡ digits) × (length bs ≤ most)
 as_takes most digits bs (Err e) read = cc read
 as_takes most digits bs (Ok found) read =
@@ -23,7 +23,7 @@ as_takes most digits bs (Ok found) read =
       | inr fail ↦ cc (rw fail at read)
     ]
 
-none_from : (o : Option (List ℕ)) → ((bs : List ℕ) → o ≡ Some bs → ⊥) → o ≡ None
+pub none_from : (o : Option (List ℕ)) → ((bs : List ℕ) → o ≡ Some bs → ⊥) → o ≡ None
 none_from None h = refl
 none_from (Some bs) h = absurd (h bs refl)
 

@@ -1,9 +1,11 @@
 -- The words of a line, from its first space.
 use Rattle.std.proofs.Common.{◌≡◌, ℕ, ◌+◌, ◌≤◌, inl, inr, List, [], ◌∷◌, length, take, drop, Some, None, refl, ap, ◌∙◌}
-use Rattle.std.proofs.Common.{arith, ltb}
-use Rattle.std.proofs.lemmas.Bool.{cases_Bool, ltb-true}
+use Rattle.std.proofs.Common.{arith, ltb, ◌<◌, true, zero, suc, get_or}
+use Rattle.std.proofs.lemmas.Bool.{cases_Bool, ltb-true, lt-ltb, le-ltb}
 use Rattle.std.proofs.lemmas.List.Splits.{slice_split_first, slice_split-cons_no}
 use Rattle.std.specs.List.{position, position_or_len, slice_split, onto_first}
+use Rattle.memchr.specs.Find.{IsFirstByte, is_byte}
+use Rattle.std.specs.Prelude.{Option}
 use Rattle.fr_text.specs.Spaces.{is_space, words_of}
 
 split_none : (xs : List ℕ) → length xs ≤ position_or_len is_space xs → slice_split is_space xs ≡ xs ∷ []
@@ -37,3 +39,36 @@ cut_none line none =
       | inl pass ↦ cc (rw pass at none)
       | inr fail ↦ split_none line (grind arith)
     ]
+
+-- ---- the first space, by what a search of it says
+
+first_at : (line : List ℕ) (k : ℕ) → k < length line → is_space (get_or line k 0) ≡ true → ((j : ℕ) → j < k → is_space (get_or line j 0) ≡ true → ⊥) → position_or_len is_space line ≡ k
+first_at [] k lt here before = absurd (omega arith)
+first_at (b ∷ line) zero lt here before = rw here refl
+first_at (b ∷ line) (suc k) lt here before =
+    elim (cases_Bool (is_space b)) [
+      | inl pass ↦ absurd (before 0 (omega arith) pass)
+      | inr fail ↦
+          let rest : position_or_len is_space line ≡ k = first_at line k (omega arith) here (λ j less. before (suc j) (omega arith)) in
+          rw fail (omega arith)
+    ]
+
+first_none : (line : List ℕ) → ((j : ℕ) → j < length line → is_space (get_or line j 0) ≡ true → ⊥) → length line ≤ position_or_len is_space line
+first_none [] none = omega arith
+first_none (b ∷ line) none =
+    elim (cases_Bool (is_space b)) [
+      | inl pass ↦ absurd (none 0 (omega arith) pass)
+      | inr fail ↦
+          let rest : length line ≤ position_or_len is_space line = first_none line (λ j less. none (suc j) (omega arith)) in
+          rw fail (omega arith)
+    ]
+
+space_at : (line : List ℕ) (k : ℕ) → k < length line → is_space (get_or line k 0) ≡ true → ((j : ℕ) → j < k → is_space (get_or line j 0) ≡ true → ⊥) → Some k ≡ position is_space line
+space_at line k lt here before = rw (first_at line k lt here before, lt-ltb k (length line) lt) refl
+
+space_nowhere : (line : List ℕ) → ((j : ℕ) → j < length line → is_space (get_or line j 0) ≡ true → ⊥) → None ≡ position is_space line
+space_nowhere line none = rw (le-ltb (position_or_len is_space line) (length line) (first_none line none)) refl
+
+pub first_space : (line : List ℕ) (found : Option ℕ) → IsFirstByte (is_byte 32) line found → found ≡ position is_space line
+first_space line (Some k) first = space_at line k first.0.high first.1 (λ j less is. first.0.before j (omega arith) less is)
+first_space line None none = space_nowhere line (λ j less is. none j (omega arith) less is)

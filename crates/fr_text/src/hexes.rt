@@ -1,9 +1,9 @@
 //! The bytes that words spell: the letter `x`, and two lower-case hexadecimal digits for each byte.
-ghost use Rattle.std.specs.Prelude.{◌≡◌, ◌≤◌, length, option_map};
+ghost use Rattle.std.specs.Prelude.{ℕ, ◌≡◌, ◌<◌, ◌≤◌, length, option_map, slice_index};
 ghost use Rattle.fr_text.specs.Writing.{Writes};
 ghost use Rattle.fr_text.specs.Reading.{bytes_in, bytes_as};
 ghost use Rattle.fr_text.specs.Spelling.{hex_text};
-ghost use Rattle.hex.specs.Hex.{decode_of};
+ghost use Rattle.hex.specs.Hex.{decode_of, lower_digits};
 
 use arrayvec::ArrayVec;
 use std::io;
@@ -15,29 +15,44 @@ pub const MOST_BYTES: usize = 262;
 /// The digits of that word.
 const MOST_DIGITS: usize = 2 * MOST_BYTES;
 
+/// The value of a lower-case hexadecimal digit, and 255 for any other byte.
+fn digit_value(digit: u8) -> u8
+    ensures is { result < 16 → slice_index lower_digits result ≡ digit }
+    ensures only { (k : ℕ) → k < 16 → slice_index lower_digits k ≡ digit → result ≡ k }
+{
+    let number = digit.wrapping_sub(b'0');
+    let letter = digit.wrapping_sub(b'a');
+    if number < 10 {
+        number
+    } else if letter < 6 {
+        letter + 10
+    } else {
+        255
+    }
+}
+
 /// The bytes that the digits spell, in lower case.
 fn digits_of<const N: usize>(digits: &[u8]) -> Option<ArrayVec<u8, N>>
     requires { N ≤ MOST_BYTES }
     ensures { option_map (λ p. p.items) result ≡ bytes_as N digits.now (decode_of digits.now) }
 {
-    if digits.len() > 2 * N {
+    let count = digits.len() / 2;
+    if count > N || digits.len() % 2 == 1 {
         return None;
     }
     let mut room = [0u8; N];
-    let bytes = &mut room[..digits.len() / 2];
-    let Ok(()) = hex::decode_to_slice(digits, bytes) else {
-        return None;
-    };
-    // The decoder takes upper-case digits, too.
-    let mut again = [0u8; MOST_DIGITS];
-    let text = &mut again[..digits.len()];
-    let Ok(()) = hex::encode_to_slice(&*bytes, text) else {
-        return None;
-    };
-    if &*text != digits {
+    let mut plain = true;
+    for place in 0..count {
+        let high = digit_value(digits[2 * place]);
+        let low = digit_value(digits[2 * place + 1]);
+        plain &= high < 16;
+        plain &= low < 16;
+        room[place] = high << 4 | low;
+    }
+    if !plain {
         return None;
     }
-    ArrayVec::try_from(&*bytes).ok()
+    ArrayVec::try_from(&room[..count]).ok()
 }
 
 /// The bytes that the word spells: the letter `x`, and two lower-case digits for each byte. `None` where the word,

@@ -3,6 +3,7 @@ ghost use Rattle.std.specs.Prelude.{◌≡◌};
 ghost use Rattle.std.specs.List.{position};
 ghost use Rattle.fr_text.specs.Spaces.{is_space};
 
+use memchr::memchr;
 use std::marker::Model;
 
 /// The words that a line has left. The line is cut at each space, so an empty line has one word, the empty one, and a
@@ -63,5 +64,5 @@ impl<'a> Words<'a> {
 fn space_in(line: &[u8]) -> Option<usize>
     ensures { result ≡ position is_space line.now }
 {
-    line.iter().position(|b| *b == b' ')
+    memchr(b' ', line)
 }

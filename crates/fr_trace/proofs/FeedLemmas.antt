@@ -2,12 +2,10 @@
 use Rattle.std.proofs.Common.{◌≡◌, ℕ, true, List, [], ◌∷◌, ◌++◌, inl, inr, refl, sym, ap, ◌∙◌, append_assoc, subst}
 use Rattle.std.proofs.lemmas.List.Sums.{fold-append}
 use Rattle.std.proofs.lemmas.List.Folds.{fold_stays}
-use Rattle.std.specs.Prelude.{false, Option, Some, None, is_some}
 use Rattle.fr_interface.specs.State.{State}
-use Rattle.fr_trace.specs.Auditor.{phase_of, progress_in}
+use Rattle.fr_trace.specs.Auditor.{phase_of}
 use Rattle.fr_trace.specs.declared.auditor.Phase.{Phase as Given}
 use Rattle.fr_trace.specs.declared.auditor.Phase.TheVariants.{Magic, Parameters, Node, Lines, Body, Finished}
-use Rattle.fr_trace.specs.declared.error.TraceError.{TraceError}
 use Rattle.fr_trace.specs.Stream.{Phase, Progress, reading, failed, take_byte, take_bytes}
 use Rattle.fr_trace.specs.Feeds.{IsAtBegin, Begins, Reads, EndsLine}
 use Rattle.fr_trace.specs.declared.error.TraceError.TheVariants.{Memory}
@@ -35,17 +33,10 @@ pub feed_read : (p : Phase) (line : List ℕ) (new : Progress) → is_open p ≡
 feed_read p line new opened (inl is) = inl (is ∙ sym (take_in-open p line 10 opened))
 feed_read p line new opened (inr out) = inr (out.0, ([], [], refl, out.1))
 
-phase_open : (p : Given) → ((i : State) → p ≡ Finished i → ⊥) → is_open (phase_of p) ≡ true
+pub phase_open : (p : Given) → ((i : State) → p ≡ Finished i → ⊥) → is_open (phase_of p) ≡ true
 phase_open Magic h = refl
 phase_open Parameters h = refl
 phase_open (Node p) h = refl
 phase_open (Lines p plan) h = refl
 phase_open (Body i) h = refl
 phase_open (Finished i) h = absurd (h i refl)
-
--- the same of an auditor that hasn't failed and whose trace hasn't ended
-pub auditor_feed_read : (fault : Option TraceError) (p : Given) (line : List ℕ) (old new : Progress) → progress_in fault (phase_of p) line ≡ old → is_some fault ≡ false
-    → ((i : State) → p ≡ Finished i → ⊥) → EndsLine old new → Reads old (10 ∷ []) new
-auditor_feed_read None p line old new is fine h ends =
-    subst (λ x. Reads x (10 ∷ []) new) is (feed_read (phase_of p) line new (phase_open p h) (subst (λ x. EndsLine x new) (sym is) ends))
-auditor_feed_read (Some e) p line old new is fine h ends = cc fine

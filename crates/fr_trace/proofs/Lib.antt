@@ -2,6 +2,7 @@ pub mod AgainLemmas
 pub mod AnswerLemmas
 pub mod FaultLemmas
 pub mod FeedLemmas
+pub mod CutLemmas
 pub mod LineLemmas
 pub mod OutcomeLemmas
 pub mod PieceLemmas

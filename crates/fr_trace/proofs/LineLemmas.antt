@@ -11,7 +11,7 @@ use Rattle.fr_trace.specs.Stream.{Phase, Progress, reading, take_line, after_lin
 use Rattle.fr_lines.specs.Spelling.{line_feed}
 
 -- bytes that are no line feed fill the line
-fill : (p : Phase) (rest front : List ℕ) → is_open p ≡ true → has_no_feed rest ≡ true → length front + length rest ≤ 1200 → take_bytes (reading p front) rest ≡ reading p (front ++ rest)
+pub fill : (p : Phase) (rest front : List ℕ) → is_open p ≡ true → has_no_feed rest ≡ true → length front + length rest ≤ 1200 → take_bytes (reading p front) rest ≡ reading p (front ++ rest)
 fill p [] front opened plain room = ap (λ l. reading p l) (sym (append-nil front))
 fill p (b ∷ rest) front opened plain room =
     let parts = and_parts (not (is_feed b)) (has_no_feed rest) plain in

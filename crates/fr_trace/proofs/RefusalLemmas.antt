@@ -1,16 +1,14 @@
 -- Which line an error names, that no bytes after a fault help, and how long a text can be.
-use Rattle.std.proofs.Common.{◌≡◌, ℕ, zero, ◌+◌, ◌*◌, ◌≤◌, ◌==◌, ◌&&◌, Bool, true, false, List, [], ◌∷◌, ◌++◌, length}
+use Rattle.std.proofs.Common.{◌≡◌, ℕ, ◌+◌, ◌*◌, ◌≤◌, ◌==◌, ◌&&◌, Bool, true, List, [], ◌∷◌, ◌++◌, length}
 use Rattle.std.proofs.Common.{Option, Some, None, Result, Ok, Err, inl, inr, refl, sym, ap, subst, ◌∙◌, arith, cond}
 use Rattle.std.proofs.Common.{length-append, zero-add, eq-eqb}
 use Rattle.std.specs.Prelude.{ℤ, is_none, IfSome}
 use Rattle.std.specs.Str.{bytes_eq}
-use Rattle.std.proofs.lemmas.Bool.{cases_Bool, eqb-true}
-use Rattle.std.proofs.lemmas.Bool.Decides.{nat_tests}
-use Rattle.std.proofs.lemmas.List.{append-nil}
+use Rattle.std.proofs.lemmas.Bool.{cases_Bool}
 use Rattle.std.proofs.lemmas.List.Sums.{fold-append, sum_by-cons}
 use Rattle.std.proofs.lemmas.List.Folds.{fold_stays}
 use Rattle.fr_journal.specs.declared.entry.Entry.{Entry}
-use Rattle.fr_interface.specs.State.{State, IsLegalInterface, with_entry}
+use Rattle.fr_interface.specs.State.{State}
 use Rattle.fr_lines.proofs.NodeLemmas.{node_no_lines}
 use Rattle.fr_lines.specs.Reading.{params_in, node_in, plan_line_in, entry_in}
 use Rattle.fr_lines.specs.declared.plan_lines.PlanLine.{PlanLine}
@@ -22,10 +20,10 @@ use Rattle.fr_slots.specs.declared.plan.Own.{Own}
 use Rattle.fr_slots.specs.declared.plan.Queue.{Queue}
 use Rattle.fr_slots.specs.Faults.{plan_fault}
 use Rattle.fr_slots.specs.Parameters.{Parameters, parameters_of}
-use Rattle.fr_slots.specs.Plans.{Plan, own_refusal, buffer_refusal, queue_refusal, with_own, with_buffer, with_queue}
+use Rattle.fr_slots.specs.Plans.{Plan, own_refusal, buffer_refusal, queue_refusal}
 use Rattle.fr_text.specs.Spaces.{words_of}
 use Rattle.fr_trace.specs.Answers.{fault_of, made_by, is_answered, is_refused}
-use Rattle.fr_trace.specs.Audit.{IsOfText, HasNoFault, ReadsThrough, Audits}
+use Rattle.fr_trace.specs.Audit.{ReadsThrough, Audits}
 use Rattle.fr_trace.specs.declared.error.TraceError.{TraceError}
 use Rattle.fr_trace.specs.declared.error.TraceError.TheVariants.{BadMagic, BadLine, LineTooLong, Refused, WrongAnswer}
 use Rattle.fr_trace.specs.declared.error.TraceError.TheVariants.{Truncated, Read, Write, Memory}
@@ -35,11 +33,10 @@ use Rattle.fr_trace.specs.Refusals.{HopelessIfRefused, HasFewLines, ShortIfTaken
 use Rattle.fr_trace.specs.Stream.{Phase, magic, params, node, lines, body, finished, Progress, reading, failed}
 use Rattle.fr_trace.specs.Stream.{line_count, line_number, after_parameters, after_numbers, after_node, after_queue}
 use Rattle.fr_trace.specs.Stream.{after_buffer, has_owned_alone, after_own, after_plan_line, after_begin, after_fault}
-use Rattle.fr_trace.specs.Stream.{after_call, after_entry, take_line, too_long, after_line, take_open, take_in}
+use Rattle.fr_trace.specs.Stream.{after_entry, take_line, too_long, after_line, take_open, take_in}
 use Rattle.fr_trace.specs.Stream.{take_byte, take_bytes, fresh, longest_line, answer_of, outcome_of}
-use Rattle.fr_trace.specs.TraceText.{trace_text}
 use Rattle.fr_trace.proofs.OutcomeLemmas.{legal_outcome}
-use Rattle.fr_trace.proofs.PlanLemmas.{none_is, no_queue_yet}
+use Rattle.fr_trace.proofs.PlanLemmas.{no_queue_yet}
 use Rattle.fr_trace.proofs.TextLemmas.{is_open, take_in-open, text_spelled, Spelled}
 
 -- ---- whole lines: the next one has the next number, and a fault names this one

@@ -1,8 +1,8 @@
 -- What a call of an auditor does.
-use Rattle.std.specs.Prelude.{◌≡◌, ℕ, List, ◌∷◌, ◌++◌, ◌⊎◌, None, Result, Ok, Err}
-use Rattle.fr_lines.specs.Spelling.{begin_line}
+use Rattle.std.specs.Prelude.{◌≡◌, ℕ, List, [], ◌∷◌, ◌++◌, ◌⊎◌, None, Result, Ok, Err}
+use Rattle.fr_lines.specs.Spelling.{begin_line, end_line}
 use Rattle.fr_slots.specs.Faults.{plan_fault}
-use Rattle.fr_trace.specs.Stream.{Progress, Phase, reading, failed, lines, take_bytes, take_line, after_line}
+use Rattle.fr_trace.specs.Stream.{Progress, Phase, reading, failed, lines, body, take_bytes, take_line, after_line}
 use Rattle.fr_trace.specs.declared.error.TraceError.{TraceError}
 use Rattle.fr_trace.specs.declared.error.TraceError.TheVariants.{Memory}
 
@@ -42,3 +42,20 @@ GivesPhase view (Err e) read = read ≡ Err e
 abbrev pub GivesUnless : {X : Type 0} → Type 0 → (X → Phase) → Result X TraceError → Result Phase TraceError → Type 0
 GivesUnless may view (Ok x) read = read ≡ Ok (view x)
 GivesUnless may view (Err e) read = (read ≡ Err e) ⊎ ((e ≡ Memory) × may)
+
+-- ---- lines
+
+-- no line of a journal is expected, or the line is `end`
+abbrev pub IsNoEntry : Phase → List ℕ → Type 0
+IsNoEntry (body s) line = line ≡ end_line
+IsNoEntry p line = Unit
+
+-- the front of a line that isn't over
+abbrev pub held : Progress → List ℕ
+held (reading p line) = line
+held (failed e) = []
+
+-- the same, with this in place of what is held
+abbrev pub with_line : Progress → List ℕ → Progress
+with_line (reading p front) line = reading p line
+with_line (failed e) line = failed e

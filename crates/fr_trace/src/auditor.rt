@@ -2,13 +2,14 @@
 //! what the lines before have told is a plan or an interface by then.
 
 ghost use Rattle.std.specs.Prelude.{◌≡◌, ◌+◌, ◌≤◌, length, None};
-ghost use Rattle.fr_lines.specs.Reading.{plan_line_in};
+ghost use Rattle.fr_lines.specs.Reading.{plan_line_in, entry_in};
 ghost use Rattle.fr_slots.specs.Faults.{plan_fault};
 ghost use Rattle.fr_text.specs.Spaces.{words_of};
 ghost use Rattle.fr_trace.specs.Auditor.{phase_of};
-ghost use Rattle.fr_trace.specs.Feeds.{GivesPhase, GivesUnless, IsBegin};
+ghost use Rattle.fr_trace.specs.Feeds.{GivesPhase, GivesUnless, IsBegin, IsNoEntry};
 ghost use Rattle.fr_trace.specs.Stream.{params, node, lines, body, take_line, too_long, line_number};
 ghost use Rattle.fr_trace.specs.Stream.{line_count, has_owned_alone, after_begin, after_own, after_buffer};
+ghost use Rattle.fr_trace.specs.Stream.{after_entry};
 ghost use Rattle.fr_trace.specs.Stream.{after_queue, after_plan_line};
 
 use crate::error::TraceError;
@@ -21,6 +22,7 @@ use fr_lines::parameters::params_of;
 use fr_lines::plan_lines::{PlanLine, plan_line_of};
 use fr_slots::params::Params;
 use fr_slots::plan::{Buffer, NodePlan, Own, Queue};
+use memchr::memchr;
 use std::alloc::Global;
 use std::marker::Model;
 use std::mem;
@@ -186,24 +188,21 @@ fn plan_line(
     }
 }
 
-/// A line of the journal, of this number, or `end`.
-fn body_line(mut interface: Interface, number: u32, line: &[u8]) -> Result<Phase, TraceError>
-    requires { number ≡ line_number (body interface) }
-    ensures { GivesPhase phase_of result (take_line (body interface) line.now) }
+/// A line of the journal. The interface makes its call in place.
+fn entry_line(interface: &mut Interface, line: &[u8]) -> Result<(), TraceError>
+    ensures { GivesPhase (λ done. body interface.new) result (after_entry interface.old (entry_in (words_of line.now))) }
 {
-    if line == b"end".as_slice() {
-        return Ok(Phase::Finished(interface));
-    }
+    let number = lines_of(interface) + 5;
     let Some(entry) = entry_of(line) else {
         return Err(TraceError::BadLine(number));
     };
-    replay(&mut interface, &entry, number)?;
-    Ok(Phase::Body(interface))
+    replay(interface, &entry, number)
 }
 
-/// What follows a whole line, of this number.
+/// What follows a whole line, of this number, that is no line of the journal.
 fn after(alloc: Global, phase: Phase, number: u32, line: &[u8]) -> Result<Phase, TraceError>
-    requires { number ≡ line_number (phase_of phase) }
+    requires number { number ≡ line_number (phase_of phase) }
+    requires ending { IsNoEntry (phase_of phase) line.now }
     ensures { GivesUnless (IsBegin (phase_of phase) line.now) phase_of result (take_line (phase_of phase) line.now) }
 {
     match phase {
@@ -217,8 +216,29 @@ fn after(alloc: Global, phase: Phase, number: u32, line: &[u8]) -> Result<Phase,
         Phase::Parameters => parameters_line(line),
         Phase::Node(params) => node_line(params, line),
         Phase::Lines(params, plan) => plan_line(alloc, params, plan, number, line),
-        Phase::Body(interface) => body_line(interface, number, line),
+        Phase::Body(interface) => Ok(Phase::Finished(interface)),
         Phase::Finished(_) => Err(TraceError::BadLine(number)),
+    }
+}
+
+/// Takes a whole line. What stands before it is gone where it is refused.
+fn pass_line(alloc: Global, phase: &mut Phase, line: &[u8]) -> Result<(), TraceError>
+    ensures { GivesUnless (IsBegin (phase_of phase.old) line.now) (λ done. phase_of phase.new) result
+        (take_line (phase_of phase.old) line.now) }
+{
+    if line != b"end".as_slice() {
+        if let Phase::Body(interface) = phase {
+            return entry_line(interface, line);
+        }
+    }
+    let number = line_number(phase);
+    let before = mem::replace(phase, Phase::Magic);
+    match after(alloc, before, number, line) {
+        Ok(next) => {
+            *phase = next;
+            Ok(())
+        }
+        Err(fault) => Err(fault),
     }
 }
 
@@ -252,10 +272,11 @@ impl Model for Auditor {
 }
 
 impl Auditor {
-    ghost use Rattle.std.specs.Prelude.{◌≡◌, ◌∷◌, [], Ok, Err};
+    ghost use Rattle.std.specs.Prelude.{◌≡◌, ◌∷◌, [], Ok, Err, true};
     ghost use Rattle.std.specs.Prelude.{ℕ, List, ◌++◌};
     ghost use Rattle.fr_trace.specs.Stream.{fresh, take_bytes, answer_of, outcome_of};
-    ghost use Rattle.fr_trace.specs.Feeds.{Reads, EndsLine};
+    ghost use Rattle.fr_text.specs.Plain.{has_no_feed};
+    ghost use Rattle.fr_trace.specs.Feeds.{Reads, EndsLine, held, with_line};
     ghost use Rattle.fr_trace.specs.Refusals.{LineIsNamed, HopelessIfRefused};
 
     /// An auditor to which nothing has come. It takes memory from `alloc` at the line `begin` alone.
@@ -270,39 +291,45 @@ impl Auditor {
         }
     }
 
-    /// Looks at the line, which is whole.
-    fn end_line(&mut self)
-        ensures { EndsLine self.old self.new }
+    /// Looks at a whole line. No other is held.
+    fn end_line(&mut self, line: &[u8])
+        requires { held self.old ≡ [] }
+        ensures { EndsLine (with_line self.old line.now) self.new }
     {
         if self.fault.is_some() {
             return;
         }
-        let number = line_number(&self.phase);
-        let phase = mem::replace(&mut self.phase, Phase::Magic);
-        match after(self.alloc, phase, number, self.line.as_slice()) {
-            Ok(phase) => {
-                self.phase = phase;
-                self.line.clear();
-            }
-            Err(fault) => self.fault = Some(fault),
-        }
+        self.fault = pass_line(self.alloc, &mut self.phase, line).err();
     }
 
-    /// Takes the next byte.
-    fn take_byte(&mut self, byte: u8)
-        ensures { Reads self.old (byte ∷ []) self.new }
+    /// Takes bytes of one line.
+    fn add(&mut self, bytes: &[u8])
+        requires { has_no_feed bytes.now ≡ true }
+        ensures { self.new ≡ take_bytes self.old bytes.now }
     {
-        if self.fault.is_some() {
+        if self.fault.is_some() || bytes.is_empty() {
             return;
         }
         if let Phase::Finished(_) = &self.phase {
             self.fault = Some(TraceError::BadLine(line_number(&self.phase)));
-        } else if byte == b'\n' {
-            self.end_line();
-        } else if self.line.is_full() {
+        } else if bytes.len() > LINE - self.line.as_slice().len() {
             self.fault = Some(too_long(&self.phase));
         } else {
-            self.line.push(byte);
+            let _ = self.line.try_extend_from_slice(bytes);
+        }
+    }
+
+    /// Takes the rest of a line, and its line feed. A line that is whole is looked at where it lies.
+    fn take_line(&mut self, rest: &[u8])
+        requires { has_no_feed rest.now ≡ true }
+        ensures { Reads self.old (rest.now ++ 10 ∷ []) self.new }
+    {
+        if self.line.is_empty() && rest.len() <= LINE {
+            self.end_line(rest);
+        } else {
+            self.add(rest);
+            let line = mem::replace(&mut self.line, ArrayVec::new());
+            self.end_line(line.as_slice());
         }
     }
 
@@ -310,9 +337,13 @@ impl Auditor {
     fn take_bytes(&mut self, piece: &[u8])
         ensures { Reads self.old piece.now self.new }
     {
-        for byte in piece {
-            self.take_byte(*byte);
+        let mut rest = piece;
+        while let Some(at) = memchr(b'\n', rest) {
+            let (front, back) = rest.split_at(at);
+            self.take_line(front);
+            rest = &back[1..];
         }
+        self.add(rest);
     }
 
     /// The fault that has shown, if one has.

@@ -2,7 +2,7 @@ use Rattle.std.proofs.Common.{◌≡◌, ◌+◌, ◌*◌, ◌<◌, subst, sym, 
 use Rattle.fr_slots.specs.Parameters.{Parameters}
 use Rattle.fr_guardian.specs.Guarding.{IsOpenTo}
 use Rattle.fr_guardian.specs.Intervals.{Span, AreMaximalIntervals, run}
-use Rattle.fr_guardian.proofs.OpenLemmas.{IsFound, step_open, step_closed, step_last, same_found}
+use Rattle.fr_guardian.proofs.OpenLemmas.{IsFound, step_open, step_closed, step_last, same_found, open_by_slots}
 use Rattle.fr_guardian.proofs.intervals.open_intervals.Goals as goal
 use Rattle.fr_guardian.proofs.intervals.open_intervals.Goals.{then-not-is_open_slot+in_ok-add, else-not-is_open_slot}
 
@@ -15,6 +15,8 @@ loop-earlier-preserved c =
     let slots = ap (λ (x : Parameters). x.static_slots) same in
     let below : c.loop-earlier.earlier < p.static_slots = omega arith in
     let found = c.loop-earlier.invariant in
+    let few = lawful.static_slots_fit in
+    let here = open_by_slots c.args.owned.now c.args.channel c.owned_slots-slots.result c.args.guarded (c.loop-earlier.earlier + 1) c.owned_slots-slots.ensures (omega (arith, below, few.at_most)) in
     elim c.if-not-is_open_slot.branch [
       | then-not-is_open_slot+in_ok-add w ↦
           let closed = step_closed p lawful c.args.guarded c.args.owned.now c.args.channel c.from-static_mt.result c.loop-earlier.earlier c.loop-earlier.since c.loop-earlier.intervals.items size below found (cc) in

@@ -1,20 +1,13 @@
-use Rattle.std.proofs.Common.{◌≡◌, ◌<◌, Some, None, rules}
-use Rattle.std.specs.Prelude.{length, position}
-use Rattle.fr_schedule.proofs.SenderLemmas.{sender_found, no_sender}
-use Rattle.fr_schedule.specs.SenderTable.{may_send}
+use Rattle.std.proofs.Common.{subst}
+use Rattle.fr_schedule.specs.Clusters.{IsCluster}
+use Rattle.fr_schedule.specs.DenseTable.{IsDenseTable}
+use Rattle.fr_schedule.specs.Descriptions.{Description}
+use Rattle.fr_schedule.proofs.DenseSenderLemmas.{read_nobody}
 use Rattle.fr_schedule.proofs.cluster.Cluster.sender.Goals as goal
 
-pub returns-in_err-number-clause-nobody : goal.returns-in_err-number-clause-nobody
-returns-in_err-number-clause-nobody c =
-    let d = c.args.self.now in
-    let found : position (may_send d.params c.args.cycle c.args.slot c.args.channel) d.plans ≡ None = search rules in
-    rw c.from_residual.ensures (no_sender d c.args.cycle c.args.slot c.args.channel found)
-
-pub returns-clause-sender : goal.returns-clause-sender
-returns-clause-sender c =
-    let d = c.args.self.now in
-    let n = c.in_ok-number.number in
-    let found : position (may_send d.params c.args.cycle c.args.slot c.args.channel) d.plans ≡ Some n = search rules in
-    let within : n < length d.plans = search rules in
-    let told : c.new.result ≡ Some n = search rules in
-    rw told (sender_found d c.args.cycle c.args.slot c.args.channel n within found)
+pub returns-clause-nobody : goal.returns-clause-nobody
+returns-clause-nobody c =
+    let lawful = subst IsCluster c.self.view_is c.self.invariant.cluster in
+    let table = subst (λ (d : Description). IsDenseTable d c.self.inside.senders.items) c.self.view_is c.self.invariant.table in
+    read_nobody c.args.self.now c.self.inside.senders.items lawful table c.args.slot c.args.channel c.args.cycle c.place_of.result c.place_of.ensures.cycle c.place_of.ensures.slot
+    c.place_of.ensures.place c.place_of.ensures.within c.index.result.now c.index.ensures c.new.result c.new.ensures

@@ -1,4 +1,4 @@
-use Rattle.std.proofs.Common.{ℕ, List, ◌++◌, Result, sym, subst}
+use Rattle.std.proofs.Common.{◌++◌, Result, sym, subst}
 use Rattle.fr_trace.specs.declared.error.TraceError.{TraceError}
 use Rattle.fr_trace.specs.Refusals.{LineIsNamed, HopelessIfRefused}
 use Rattle.fr_trace.proofs.RefusalLemmas.{piece_named, piece_hopeless}

@@ -1,6 +1,10 @@
-use Rattle.std.proofs.Common.{take}
+use Rattle.std.proofs.Common.{◌≡◌, ℕ, List, ◌++◌, length}
 use Rattle.fr_trace.specs.Feeds.{Reads}
 use Rattle.fr_trace.proofs.auditor.Auditor.take_bytes.Given as goal
 
-abbrev pub invariant-loop-byte : goal.invariant-loop-byte
-invariant-loop-byte l = Reads l.fn.self (take l.byte-index l.piece) l.self
+-- the lines so far have been taken, and the rest is left
+abbrev pub invariant-loop-at : goal.invariant-loop-at
+invariant-loop-at l = (front : List ℕ) × (front ++ l.rest ≡ l.piece) × Reads l.fn.self front l.self
+
+abbrev pub decreases-loop-at : goal.decreases-loop-at
+decreases-loop-at l = length l.rest

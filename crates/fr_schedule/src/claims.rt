@@ -1,0 +1,68 @@
+//! What the nodes of a cluster claim: the slots that they own, and those that they send in.
+
+ghost use Rattle.std.specs.Prelude.{◌≡◌, ◌≤◌, ◌++◌, length, map, IfOk, OnOk};
+ghost use Rattle.fr_schedule.specs.Claims.{claim_of, claims_from, filters_by};
+
+use crate::file::node_of;
+use arrayvec::ArrayVec;
+use fr_slots::fault::{own_filters, transmit_filters};
+use fr_slots::filter::Filter;
+use fr_slots::numbers::NodeId;
+use fr_slots::plan::{LINES, NodePlan};
+use std::alloc::{AllocError, Global};
+
+/// A node's claim to the occasions of a filter.
+#[derive(Clone, Copy, Debug)]
+pub(crate) struct Claim {
+    pub(crate) filter: Filter,
+    pub(crate) node: NodeId,
+}
+
+/// Lines of a plan that claim occasions.
+#[derive(Clone, Copy, Debug, PartialEq, Eq)]
+pub(crate) enum Lines {
+    /// The ownership lines, each for every cycle.
+    Owned,
+    /// The transmit buffers.
+    Transmitting,
+}
+
+/// The filters of these lines, of which a plan has at most 64.
+fn filters_by(lines: Lines, plan: &NodePlan) -> ArrayVec<Filter, LINES>
+    ensures { result.items ≡ filters_by lines plan.now }
+{
+    match lines {
+        Lines::Owned => own_filters(plan.owned()),
+        Lines::Transmitting => transmit_filters(plan.buffers()),
+    }
+}
+
+/// Appends the node's claims to the occasions of these filters.
+fn add_claims(claims: &mut Vec<Claim>, node: NodeId, filters: &[Filter]) -> Result<(), AllocError>
+    ensures { OnOk result (claims.new.items ≡ claims.old.items ++ map (claim_of node) filters.now) }
+{
+    for filter in filters {
+        claims.push(Claim {
+            filter: *filter,
+            node,
+        })?;
+    }
+    Ok(())
+}
+
+/// The claims of all nodes by these lines, in the order of nodes.
+pub(crate) fn claims_of(
+    alloc: Global,
+    lines: Lines,
+    plans: &[NodePlan],
+) -> Result<Vec<Claim>, AllocError>
+    requires { length plans.now ≤ 16 }
+    ensures { IfOk result (λ claims. claims.items ≡ claims_from (filters_by lines) 0 plans.now) }
+{
+    let mut claims = Vec::new(alloc);
+    for (number, plan) in plans.iter().enumerate() {
+        let filters = filters_by(lines, plan);
+        add_claims(&mut claims, node_of(number), filters.as_slice())?;
+    }
+    Ok(claims)
+}

@@ -1,0 +1,201 @@
+//! The sender table: which node sends in a slot, on a channel and in a cycle.
+
+ghost use Rattle.std.specs.Prelude.{◌≡◌, ◌+◌, ◌*◌, ◌<◌, ◌≤◌, length, None, Some, IfOk, IfErr};
+ghost use Rattle.fr_slots.specs.Faults.{cycles};
+ghost use Rattle.fr_slots.specs.Numbers.{IsSlot, cycle_count};
+ghost use Rattle.fr_slots.specs.Plans.{Each};
+ghost use Rattle.fr_slots.specs.Sharing.{place_of, is_before, earlier, IsFirst, is_shared, admits_at};
+ghost use Rattle.fr_schedule.specs.Claims.{IsClaim, filters_of};
+ghost use Rattle.fr_schedule.specs.DenseTable.{occasions, is_taken_in, first_taken_in, IsRowEntered, is_retaken_on};
+ghost use Rattle.fr_schedule.specs.DenseTable.{is_retaken};
+ghost use Rattle.fr_schedule.specs.DenseTable.{IsEntered, AreEntered, IsFree, is_admitted_on, free, HasClaims};
+ghost use Rattle.fr_schedule.specs.declared.error.ConfigError.TheVariants as error;
+ghost use Rattle.fr_schedule.specs.FileFaults.{file_fault};
+
+use crate::claims::{Claim, Lines, claims_of};
+use crate::error::ConfigError;
+use crate::faults::file_fault;
+use fr_slots::channel::Channel;
+use fr_slots::filter::CycleFilter;
+use fr_slots::numbers::{CYCLES, Cycle, LAST_SLOT, SlotId};
+use fr_slots::params::Params;
+use fr_slots::plan::NodePlan;
+use fr_slots::sharing::Occasion;
+use std::alloc::{AllocError, Global};
+
+/// How many cycles a row of the table has, which is for a slot on a channel.
+const ROW: usize = CYCLES as usize;
+
+/// How many occasions there are: 2,047 slots on two channels in 64 cycles.
+pub(crate) const OCCASIONS: usize = LAST_SLOT as usize * 2 * ROW;
+
+/// What stands where no node sends.
+pub(crate) const NOBODY: u8 = u8::MAX;
+
+/// Where the row of the slot on the channel starts.
+fn start_of(slot: SlotId, channel: Channel) -> usize
+    ensures place { result + 2 * cycle_count ≡ place_of slot channel 0 }
+    ensures within { result + cycle_count ≤ occasions }
+    ensures lawful { IsSlot slot }
+{
+    let earlier = (usize::from(slot.number()) - 1) * 2;
+    match channel {
+        Channel::A => earlier * ROW,
+        Channel::B => (earlier + 1) * ROW,
+    }
+}
+
+/// The place of the occasion in the table.
+pub(crate) fn place_of(slot: SlotId, channel: Channel, cycle: Cycle) -> usize
+    ensures place { result + 2 * cycle_count ≡ place_of slot channel cycle }
+    ensures within { result < occasions }
+    ensures slot { IsSlot slot }
+    ensures cycle { cycle < cycle_count }
+{
+    start_of(slot, channel) + usize::from(cycle.number())
+}
+
+/// The first of the cycles at which a node stands in the row that starts there.
+fn first_taken_in(nodes: &[u8], start: usize, cycles: CycleFilter) -> Option<Cycle>
+    requires { start + cycle_count ≤ length nodes.now }
+    ensures { result ≡ first_taken_in nodes.now start cycles }
+{
+    for number in 0..CYCLES {
+        let cycle = Cycle::from_bits(number);
+        if is_taken_in(nodes, start, cycles, cycle) {
+            return Some(cycle);
+        }
+    }
+    None
+}
+
+/// Whether the cycle is one of these, and a node stands there in the row that starts there.
+fn is_taken_in(nodes: &[u8], start: usize, cycles: CycleFilter, cycle: Cycle) -> bool
+    requires { start + cycle_count ≤ length nodes.now }
+    ensures { result ≡ is_taken_in nodes.now start cycles cycle }
+{
+    cycles.admits(cycle) && nodes[start + usize::from(cycle.number())] != NOBODY
+}
+
+/// Enters the node at the cycles in the row that starts there.
+fn enter_row(nodes: &mut [u8], start: usize, cycles: CycleFilter, node: u8)
+    requires { start + cycle_count ≤ length nodes.old }
+    ensures { IsRowEntered cycle_count start cycles node nodes.old nodes.new }
+{
+    for number in 0..CYCLES {
+        if cycles.admits(Cycle::from_bits(number)) {
+            nodes[start + usize::from(number)] = node;
+        }
+    }
+}
+
+/// Enters the claim on the channel, and gives the first of its occasions there that was taken.
+fn enter_on(nodes: &mut [u8], claim: &Claim, channel: Channel) -> Option<Occasion>
+    requires { length nodes.old ≡ occasions }
+    ensures first { IsFirst (is_retaken_on nodes.old claim.now.filter channel) result }
+    ensures entered { IsEntered (is_admitted_on claim.now.filter channel) claim.now.node nodes.old nodes.new }
+    ensures lawful { IsClaim claim.now }
+{
+    let filter = claim.filter;
+    let start = start_of(filter.slot, channel);
+    let node = claim.node.number();
+    if !filter.channels.includes(channel) {
+        return None;
+    }
+    let taken = first_taken_in(nodes, start, filter.cycles);
+    enter_row(nodes, start, filter.cycles, node);
+    let cycle = taken?;
+    Some(Occasion {
+        slot: filter.slot,
+        channel,
+        cycle,
+    })
+}
+
+/// Enters the claim, and gives the first of its occasions that was taken.
+fn enter(nodes: &mut [u8], claim: &Claim) -> Option<Occasion>
+    requires { length nodes.old ≡ occasions }
+    ensures first { IsFirst (is_retaken nodes.old claim.now.filter) result }
+    ensures entered { IsEntered
+        (λ slot channel cycle. admits_at slot channel cycle claim.now.filter)
+        claim.now.node
+        nodes.old
+        nodes.new }
+    ensures lawful { IsClaim claim.now }
+{
+    let on_a = enter_on(nodes, claim, Channel::A);
+    let on_b = enter_on(nodes, claim, Channel::B);
+    earlier(on_a, on_b)
+}
+
+/// Enters the claims, and gives the first occasion that was taken or that two of them are for.
+pub(crate) fn enter_all(nodes: &mut [u8], claims: &[Claim]) -> Option<Occasion>
+    requires { length nodes.old ≡ occasions }
+    ensures entered { AreEntered claims.now nodes.old nodes.new }
+    ensures first { IsFree nodes.old → IsFirst (is_shared (filters_of claims.now)) result }
+    ensures lawful { Each IsClaim claims.now }
+{
+    let mut first = None;
+    for claim in claims {
+        first = earlier(first, enter(nodes, claim));
+    }
+    first
+}
+
+/// The table in which nobody sends.
+fn free_table(alloc: Global) -> Result<Vec<u8>, AllocError>
+    ensures { IfOk result (λ nodes. nodes.items ≡ free) }
+{
+    Ok(vec![in alloc; NOBODY; OCCASIONS]?)
+}
+
+/// The table after these claims were entered into a free one, and the first occasion that two of them are for.
+fn entered(alloc: Global, claims: &[Claim]) -> Result<(Vec<u8>, Option<Occasion>), AllocError>
+    ensures table { IfOk result (λ made. AreEntered claims.now free made.0.items) }
+    ensures first { IfOk result (λ made. IsFirst (is_shared (filters_of claims.now)) made.1) }
+    ensures lawful { IfOk result (λ made. Each IsClaim claims.now) }
+{
+    let mut nodes = free_table(alloc)?;
+    let shared = enter_all(nodes.as_mut_slice(), claims);
+    Ok((nodes, shared))
+}
+
+/// The sender table of the plans, or the first of their faults.
+pub(crate) fn senders_of(
+    alloc: Global,
+    params: &Params,
+    plans: &[NodePlan],
+) -> Result<Vec<u8>, ConfigError>
+    requires { length plans.now ≤ 16 }
+    ensures table { IfOk result (λ nodes. HasClaims plans.now nodes.items) }
+    ensures faultless { IfOk result (λ nodes. file_fault params.now plans.now ≡ None) }
+    ensures refused { IfErr result (λ e. ¬ (e ≡ error.Memory) → file_fault params.now plans.now ≡ Some e) }
+{
+    let owned = claims_of(alloc, Lines::Owned, plans)?;
+    let transmitting = claims_of(alloc, Lines::Transmitting, plans)?;
+    let (_, taken) = entered(alloc, owned.as_slice())?;
+    let (mut senders, overlap) = entered(alloc, transmitting.as_slice())?;
+    if let Some(fault) = file_fault(params, plans, taken, overlap) {
+        return Err(fault);
+    }
+    let _ = enter_all(senders.as_mut_slice(), owned.as_slice());
+    Ok(senders)
+}
+
+/// The one of the two that comes first.
+fn earlier(one: Option<Occasion>, other: Option<Occasion>) -> Option<Occasion>
+    ensures { result ≡ earlier one other }
+{
+    match (one, other) {
+        (None, _) => other,
+        (Some(_), None) => one,
+        (Some(first), Some(second)) => { if is_before(second, first) { other } else { one } }
+    }
+}
+
+/// Whether one comes before the other: in the order of slots, then of channels, then of cycles.
+fn is_before(one: Occasion, other: Occasion) -> bool
+    ensures { result ≡ is_before one other }
+{
+    place_of(one.slot, one.channel, one.cycle) < place_of(other.slot, other.channel, other.cycle)
+}
