@@ -45,7 +45,11 @@ fn after_the_last_cycle_comes_the_first(rt: HostRuntime) -> Result<(), Fail> {
 fn cycle_filters_that_meet(rt: HostRuntime) -> Result<(), Fail> {
     let every_second = CycleFilter::new(1, 2)?;
     let every_fourth = CycleFilter::new(3, 4)?;
-    let [first, second, third] = [1, 2, 3].map(Cycle::from_bits);
+    let [first, second, third] = [
+        Cycle::from_bits(1),
+        Cycle::from_bits(2),
+        Cycle::from_bits(3),
+    ];
     assert_eq!(rt;
         [first, second, third].map(|cycle| every_second.admits(cycle)),
         [true, false, true]
@@ -56,10 +60,12 @@ fn cycle_filters_that_meet(rt: HostRuntime) -> Result<(), Fail> {
     );
     assert_eq!(rt; (every_fourth.base(), every_fourth.repetition()), (3, 4));
     let (even, last) = (CycleFilter::new(0, 2)?, CycleFilter::new(63, 64)?);
-    assert_eq!(rt;
-        [every_second, even, last].map(|other| every_fourth.first_common(&other)),
-        [Some(third), None, Some(Cycle::from_bits(63))]
-    );
+    let common = [
+        every_fourth.first_common(&every_second),
+        every_fourth.first_common(&even),
+        every_fourth.first_common(&last),
+    ];
+    assert_eq!(rt; common, [Some(third), None, Some(Cycle::from_bits(63))]);
     Ok(())
 }
 
