@@ -1,0 +1,5 @@
+//! The tests of books and shares.
+#![tactic(auto)]
+
+#[cfg(test)]
+mod books;
