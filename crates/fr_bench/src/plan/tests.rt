@@ -1,11 +1,11 @@
 //! Printed lines of plans.
 
-use super::{write_buffer, write_owner, write_spans};
+use super::{write_buffer, write_owner_line, write_spans};
 use fr_slots::channel::{Channel, Channels};
 use fr_slots::filter::{CycleFilter, Filter};
-use fr_slots::numbers::SlotId;
+use fr_slots::numbers::{NodeId, SlotId};
 use fr_slots::params::Params;
-use fr_slots::plan::{Buffer, Mode, NodePlan, Own};
+use fr_slots::plan::{Buffer, Mode};
 use std::test::Fail;
 
 /// A cycle of three static slots and four minislots.
@@ -28,16 +28,9 @@ fn event(number: u16) -> Result<Buffer, Fail> {
 #[test]
 fn an_owner_has_a_line_for_its_slot(rt: HostRuntime) -> Result<(), Fail> {
     let slot = SlotId::new(2).ok_or("no slot")?;
-    let mut plan = NodePlan::new(1, [0, 0], 256, 4096)?;
-    plan.add_own(Own {
-        slot,
-        channels: Channels::B,
-        sync: false,
-        startup: false,
-    })?;
+    let node = NodeId::new(1).ok_or("no node")?;
     let mut text = Vec::with_capacity(rt.alloc(), 64)?;
-    write_owner(&mut text, slot, Channel::A, 1, &plan)?;
-    write_owner(&mut text, slot, Channel::B, 1, &plan)?;
+    write_owner_line(&mut text, slot, Channel::B, node)?;
     assert_eq!(rt; text.as_slice(), b"slot 2 B 1\n".as_slice());
     Ok(())
 }
