@@ -1,4 +1,4 @@
--- What a world is seen as, and what every world keeps (own profile).
+-- What a world is seen as (own profile).
 use Rattle.std.specs.Prelude.{◌≡◌, ℕ, nat_lt, Bool, true, false, List, [], length, map, replicate, Result, Ok, Err}
 use Rattle.std.specs.Prelude.{slice_index_or}
 use Rattle.fr_bus.specs.declared.error.BusError.{BusError}
@@ -73,12 +73,7 @@ OpensWorld d cycles (Ok w) = (cycles_fit cycles ≡ true) × (w ≡ opening_worl
 OpensWorld d cycles (Err Memory) = cycles_fit cycles ≡ true
 OpensWorld d cycles (Err e) = (cycles_fit cycles ≡ false) × (e ≡ BadCycles)
 
--- ---- what every world keeps
+-- ---- but for its journal
 
 abbrev pub without_entries : State → State
 without_entries s = record { params = s.params; plan = s.plan; entries = [] }
-
--- Its interfaces are, but for their journals, those of its cluster's nodes, and each has a controller.
-pub record IsWorld (w : WorldState) : Type 0 where
-  pub configured : map without_entries w.interfaces ≡ map (new_interface w.bus.cluster.params) w.bus.cluster.plans
-  pub a_controller_each : length w.interfaces ≡ length w.carried

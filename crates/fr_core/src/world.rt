@@ -24,7 +24,8 @@ pub struct World {
 }
 
 impl Model for World {
-    ghost use Rattle.fr_core.specs.Worlds.{WorldState, IsWorld};
+    ghost use Rattle.fr_core.specs.Agreement.{IsWorld};
+    ghost use Rattle.fr_core.specs.Worlds.{WorldState};
 
     ghost Value = { WorldState };
 
@@ -38,8 +39,9 @@ impl World {
     ghost use Rattle.std.specs.List.{All, list_all};
     ghost use Rattle.fr_bus.specs.States.{IsRun, OneSenderEach};
     ghost use Rattle.fr_core.specs.Commits.{AreAccounted};
+    ghost use Rattle.fr_core.specs.Agreement.{IsWorld};
     ghost use Rattle.fr_core.specs.Steps.{Steps};
-    ghost use Rattle.fr_core.specs.Worlds.{OpensWorld, IsWorld, is_between};
+    ghost use Rattle.fr_core.specs.Worlds.{OpensWorld, is_between};
     ghost use Rattle.fr_interface.specs.State.{IsLegalInterface};
 
     /// The opening world of a cluster for a run of so many cycles, 1 to 1024: all journals are empty, the bus is at
@@ -70,22 +72,24 @@ impl World {
     }
 
     /// The interfaces, in the order of the nodes. Each is legal, and each of its commits is sent, overwritten or
-    /// pending.
+    /// pending. Their journals agree with the record, but for at most one step that each controller carries.
     pub fn interfaces(&self) -> &[Interface]
         ensures value { result.now ≡ self.now.interfaces }
         ensures legal { All IsLegalInterface self.now.interfaces }
         ensures accounted { All AreAccounted self.now.interfaces }
+        ensures configured { IsWorld self.now }
     {
         self.known();
         self.machine.interfaces()
     }
 
     /// The bus. Its record is that of a run, and in a static slot of a guarded channel all that passed is of one
-    /// sender.
+    /// sender. All journals agree with the record, but for at most one step that each controller carries.
     pub fn bus(&self) -> &Bus
         ensures value { result.now ≡ self.now.bus }
         ensures run { IsRun self.now.bus }
         ensures one_sender { OneSenderEach self.now.bus.cluster self.now.bus.sealed }
+        ensures configured { IsWorld self.now }
     {
         self.known();
         self.machine.bus()
@@ -98,9 +102,10 @@ impl World {
         self.machine.between_windows()
     }
 
-    /// What every world keeps: its interfaces are those of its cluster's nodes, each is legal, each of its commits is
-    /// sent, overwritten or pending, the record is that of a run, and no static slot of a guarded channel carries two
-    /// senders. It does nothing but tell so.
+    /// What every world keeps: its interfaces are those of its cluster's nodes, and all journals agree with the record,
+    /// but for at most one step that each controller carries. Each interface is legal, each of its commits is sent,
+    /// overwritten or pending, the record is that of a run, and no static slot of a guarded channel carries two senders.
+    /// It does nothing but tell so.
     pub fn known(&self)
         ensures configured { IsWorld self.now }
         ensures legal { All IsLegalInterface self.now.interfaces }
