@@ -193,13 +193,16 @@ fn entry_line(interface: &mut Interface, line: &[u8]) -> Result<(), TraceError>
     ensures { GivesPhase (λ done. body interface.new) result (after_entry interface.old (entry_in (words_of line.now))) }
 {
     let number = lines_of(interface) + 5;
-    let Some(entry) = entry_of(line) else {
-        return Err(TraceError::BadLine(number));
-    };
-    replay(interface, &entry, number)
+    match &entry_of(line) {
+        Some(entry) => replay(interface, entry, number),
+        None => Err(TraceError::BadLine(number)),
+    }
 }
 
 /// What follows a whole line, of this number, that is no line of the journal.
+///
+/// It isn't inlined, so that a line of the journal doesn't pay for the plans and interfaces that are moved here.
+#[inline(never)]
 fn after(alloc: Global, phase: Phase, number: u32, line: &[u8]) -> Result<Phase, TraceError>
     requires number { number ≡ line_number (phase_of phase) }
     requires ending { IsNoEntry (phase_of phase) line.now }
