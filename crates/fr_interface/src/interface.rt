@@ -148,12 +148,8 @@ impl Interface {
         }
         let entry = self.journal.len();
         let payload = kept_payload(payload);
-        commit_to(&mut self.transmit, buffer, entry, &payload);
-        self.journal.push_host(Entry::Commit {
-            task,
-            buffer,
-            payload,
-        });
+        commit_to(&mut self.transmit, buffer, entry, payload);
+        self.journal.push_commit(task, buffer, payload);
         Ok(Receipt { task, entry })
     }
 
@@ -283,9 +279,9 @@ impl Interface {
         let told_b = Told::of(&self.params, &window, Channel::B, b);
         count_seen(&mut self.counters, Channel::A, told_a.status);
         count_seen(&mut self.counters, Channel::B, told_b.status);
-        let (frame_a, frame_b) = (told_a.frame, told_b.frame);
+        let (frame_a, frame_b) = (&told_a.frame, &told_b.frame);
         let lines = self.plan.buffers();
-        store_all(&mut self.receive, lines, entry, &window, &frame_a, &frame_b);
+        store_all(&mut self.receive, lines, entry, &window, frame_a, frame_b);
         arrive_all(
             &mut self.queue,
             &self.plan,
@@ -298,11 +294,7 @@ impl Interface {
             window: None,
             last: self.opening.last,
         };
-        self.journal.push_slot(Entry::Observe {
-            window: number,
-            a: kept(a),
-            b: kept(b),
-        });
+        self.journal.push_observe(number, kept(a), kept(b));
         Ok(())
     }
 
@@ -444,14 +436,14 @@ fn has_words(params: &Params, buffer: &Buffer, payload: &Payload) -> bool
     payload.as_slice().len() == 2 * usize::from(buffer.words(params))
 }
 
-/// A copy of the payload, whose bytes are counted for the same reason as a window's numbers are read.
-fn kept_payload(payload: &Payload) -> Payload
-    ensures value { result ≡ payload.now }
+/// The payload, whose bytes are counted for the same reason as a window's numbers are read.
+fn kept_payload(payload: &Payload) -> &Payload
+    ensures value { result.now ≡ payload.now }
     ensures is_payload { IsPayload payload.now }
     ensures bytes { AreBytes payload.now }
 {
     let _count = count_of(payload.as_slice());
-    payload.duplicate()
+    payload
 }
 
 /// The number of bytes; a slice of bytes tells that each is below 256 only to a function that takes it.
@@ -461,18 +453,15 @@ fn count_of(bytes: &[u8]) -> usize
     bytes.len()
 }
 
-/// A copy of what was seen, with its bytes counted, as a payload's are.
-fn kept(seen: &Seen) -> Seen
-    ensures value { result ≡ seen.now }
+/// What was seen, with its bytes counted, as a payload's are.
+fn kept(seen: &Seen) -> &Seen
+    ensures value { result.now ≡ seen.now }
     ensures fits { IsSeen seen.now }
 {
-    match seen {
-        Seen::Bytes(bytes) => {
-            let _count = count_of(bytes.as_slice());
-            seen.duplicate()
-        }
-        _ => seen.duplicate(),
+    if let Seen::Bytes(bytes) = seen {
+        let _count = count_of(bytes.as_slice());
     }
+    seen
 }
 
 /// Where a frame that arrived comes from.

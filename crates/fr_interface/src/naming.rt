@@ -21,7 +21,7 @@ pub(crate) fn frame_named(params: &Params, journal: &Journal, origin: Origin) ->
 {
     let entry = journal.get(origin.entry)?;
     let window = window_open_at(journal, origin.entry);
-    frame_in_entry(params, origin.channel, &window, entry)
+    frame_in_entry(params, origin.channel, &window, &entry)
 }
 
 /// What the entry tells of a frame on the channel, where this window is open before it.
@@ -63,10 +63,10 @@ fn window_mark(entry: &Entry) -> Option<Option<Window>>
 }
 
 /// What the entry says of the open window, if there is an entry and it says something.
-fn window_said(last: Option<&Entry>) -> Option<Option<Window>>
-    ensures { result ≡ option_and_then (window_mark []) (option_copied last.entry) }
+fn window_said(entry: &Option<Entry>) -> Option<Option<Window>>
+    ensures { result ≡ option_and_then (window_mark []) entry.now }
 {
-    window_mark(last?)
+    window_mark(entry.as_ref()?)
 }
 
 /// The window that is open before the entry of this number: the last one that says something decides, and it is near.
@@ -75,7 +75,7 @@ fn window_open_at(journal: &Journal, number: u32) -> Option<Window>
     ensures { result ≡ open_window (take number journal.now.entries) }
 {
     for place in (0..number).rev() {
-        if let Some(window) = window_said(journal.get(place)) {
+        if let Some(window) = window_said(&journal.get(place)) {
             return window;
         }
     }

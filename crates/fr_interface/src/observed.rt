@@ -157,14 +157,14 @@ pub(crate) fn arrive(
     number: u32,
     window: &Window,
     channel: Channel,
-    frame: Option<Frame>,
+    frame: &Option<Frame>,
 )
     requires { waiting.old.lost + 1 < 2 ^ 32 }
-    ensures { waiting.new ≡ with_arrival waiting.old (queued_on plan.now queue.now number window.now channel frame) }
+    ensures { waiting.new ≡ with_arrival waiting.old (queued_on plan.now queue.now number window.now channel frame.now) }
 {
     if let Some(frame) = frame {
         if is_for_queue(plan, queue, window, channel) {
-            waiting.arrive(number, channel, frame);
+            waiting.arrive(number, channel, frame.duplicate());
         }
     }
 }
@@ -175,11 +175,11 @@ pub(crate) fn arrive_all(
     plan: &NodePlan,
     number: u32,
     window: &Window,
-    a: Option<Frame>,
-    b: Option<Frame>,
+    a: &Option<Frame>,
+    b: &Option<Frame>,
 )
     requires { ForSome queue.old (λ w. w.lost + 2 < 2 ^ 32) }
-    ensures { queue.new ≡ with_arrivals plan.now number window.now a b plan.now.queue queue.old }
+    ensures { queue.new ≡ with_arrivals plan.now number window.now a.now b.now plan.now.queue queue.old }
 {
     if let Some(line) = plan.queue() {
         if let Some(waiting) = queue {

@@ -224,6 +224,26 @@ pub(crate) fn handed_out(
     ensures spelled { IsHandedOut channel (frame_by params.now plan.now buffers.now window.now channel sender) result }
     ensures bytes { result ≡ bytes_of channel (frame_by params.now plan.now buffers.now window.now channel sender) }
 {
+    let slot = window.slot(channel)?;
+    if sender.is_none() && !owns(plan, window, channel, slot) {
+        return None;
+    }
+    spelled_by(params, plan, buffers, window, channel, sender)
+}
+
+/// The same. It isn't inlined, so that a window in which nothing goes out doesn't pay for the room of a frame.
+#[inline(never)]
+fn spelled_by(
+    params: &Params,
+    plan: &NodePlan,
+    buffers: &[TxBuffer],
+    window: &Window,
+    channel: Channel,
+    sender: Option<Sender>,
+) -> Option<Bytes>
+    ensures spelled { IsHandedOut channel (frame_by params.now plan.now buffers.now window.now channel sender) result }
+    ensures bytes { result ≡ bytes_of channel (frame_by params.now plan.now buffers.now window.now channel sender) }
+{
     match frame_by(params, plan, buffers, window, channel, sender) {
         Some(frame) => Some(encode(&frame, channel)),
         None => None,

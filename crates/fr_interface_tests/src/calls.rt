@@ -184,7 +184,7 @@ fn each_accepted_call_is_an_entry(rt: HostRuntime) -> Result<(), Fail> {
     ];
     assert_eq!(rt;
         entries,
-        [Some(&fetched), Some(&observed), Some(&read), None]
+        [Some(fetched), Some(observed), Some(read), None]
     );
     let made_with = (
         interface.params().static_slots,

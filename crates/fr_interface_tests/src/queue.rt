@@ -122,7 +122,7 @@ fn each_pop_is_an_entry(rt: HostRuntime) -> Result<(), Fail> {
     };
     let journal = interface.journal();
     let entries = [journal.get(6), journal.get(8), journal.get(9)];
-    assert_eq!(rt; entries, [Some(&answered), Some(&unanswered), None]);
+    assert_eq!(rt; entries, [Some(answered), Some(unanswered), None]);
     Ok(())
 }
 
@@ -140,7 +140,7 @@ fn the_queue_takes_both_channels(rt: HostRuntime) -> Result<(), Fail> {
             channel: Channel::A,
         }),
     };
-    assert_eq!(rt; interface.journal().get(4), Some(&from_a));
+    assert_eq!(rt; interface.journal().get(4), Some(from_a));
     assert_eq!(rt; interface.queue_lost(), Some(0));
     Ok(())
 }
@@ -160,7 +160,7 @@ fn the_queue_leaves_a_buffer_its_frames(rt: HostRuntime) -> Result<(), Fail> {
             channel: Channel::B,
         }),
     };
-    assert_eq!(rt; interface.journal().get(2), Some(&from_b));
+    assert_eq!(rt; interface.journal().get(2), Some(from_b));
     Ok(())
 }
 

@@ -67,7 +67,7 @@ fn observed(interface: &mut Interface, number: u8) -> Result<(), Fail> {
 /// What the fetch at this entry handed out on channel A.
 fn fetched(interface: &Interface, entry: u32) -> Result<Offered, Fail> {
     match interface.journal().get(entry) {
-        Some(Entry::Fetch { a, .. }) => Ok(*a),
+        Some(Entry::Fetch { a, .. }) => Ok(a),
         _ => Err(Fail::from("no fetch")),
     }
 }

@@ -9,5 +9,6 @@ pub mod OpenWindowLemmas
 pub mod QueuePlaceLemmas
 pub mod RoomLemmas
 pub mod SeenPlaceLemmas
+pub mod ShortLemmas
 pub mod TallyLemmas
 pub mod WorkedLemmas

@@ -1,19 +1,33 @@
 -- The fields of `Journal` as what it keeps.
-use Rattle.std.specs.Prelude.{◌≡◌, ◌+◌, ◌≤◌, count_by, vec_capacity}
+use Rattle.std.specs.Prelude.{◌≡◌, ℕ, ◌+◌, ◌*◌, ◌≤◌, length, map, count_by, vec_capacity}
+use Rattle.std.specs.List.{All}
+use Rattle.fr_frame.specs.Payload.{most_payload_bytes}
 use Rattle.fr_journal.specs.declared.journal.Journal.TheInside.{Inside}
 use Rattle.fr_journal.specs.Entries.{is_host, is_slot}
 use Rattle.fr_journal.specs.Kept.{Kept}
+use Rattle.fr_journal.specs.Shortened.{restored, IsShort, most_seen_bytes}
 use Rattle.fr_slots.specs.Numbers.{most_host_entries, most_slot_entries}
 
 abbrev pub kept_in : Inside → Kept
-kept_in j = record { host_limit = j.host_limit; slot_limit = j.slot_limit; entries = j.entries.items }
+kept_in j = record {
+  host_limit = j.host_limit;
+  slot_limit = j.slot_limit;
+  entries = map (restored j.pool.items) j.shorts.items;
+}
 
--- the counts are those of the entries, and the room is reserved
+-- how many bytes so many entries of the host and of the controller may have
+abbrev pub pool_room : ℕ → ℕ → ℕ
+pool_room host slot = most_payload_bytes * host + most_seen_bytes * slot
+
+-- the counts are those of the entries, the short entries have their bytes in the pool, and the room for both is reserved
 pub record IsCounted (j : Inside) : Type 0 where
-  pub host_is : j.host_count ≡ count_by is_host j.entries.items
-  pub slot_is : j.slot_count ≡ count_by is_slot j.entries.items
+  pub host_is : j.host_count ≡ count_by is_host (map (restored j.pool.items) j.shorts.items)
+  pub slot_is : j.slot_count ≡ count_by is_slot (map (restored j.pool.items) j.shorts.items)
   pub host_within : j.host_count ≤ j.host_limit
   pub slot_within : j.slot_count ≤ j.slot_limit
-  pub reserved : j.host_limit + j.slot_limit ≤ vec_capacity j.entries
+  pub reserved : j.host_limit + j.slot_limit ≤ vec_capacity j.shorts
   pub few_host : j.host_limit ≤ most_host_entries
   pub few_slot : j.slot_limit ≤ most_slot_entries
+  pub are_short : All (IsShort (length j.pool.items)) j.shorts.items
+  pub pool_within : length j.pool.items ≤ pool_room j.host_count j.slot_count
+  pub pool_reserved : pool_room j.host_limit j.slot_limit ≤ vec_capacity j.pool

@@ -8,3 +8,4 @@ pub mod Kept
 pub mod Legal
 pub mod Offers
 pub mod OpenWindow
+pub mod Shortened

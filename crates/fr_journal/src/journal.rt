@@ -1,12 +1,16 @@
 //! A journal, which takes all its memory when it is made.
 
 ghost use Rattle.std.specs.Prelude.{◌≡◌, ◌<◌, ◌≤◌, ◌∷◌, [], ◌++◌, IfOk, IsTrue, ◌↔◌, false, length, slice_get};
-ghost use Rattle.std.specs.Option.{option_copied};
 ghost use Rattle.fr_journal.specs.Entries.{is_host};
 ghost use Rattle.fr_journal.specs.Kept.{host_room, slot_room};
 ghost use Rattle.fr_slots.specs.Numbers.{most_host_entries, most_slot_entries, most_entries};
 
 use crate::entry::Entry;
+use crate::short::{ShortEntry, restored, shortened_commit, shortened_host, shortened_observe, shortened_slot};
+use fr_frame::frame::FRAME_BYTES;
+use fr_frame::payload::{PAYLOAD_BYTES, Payload};
+use fr_slots::numbers::TaskId;
+use fr_status::seen::Seen;
 use std::alloc::{AllocError, Global};
 use std::marker::Model;
 
@@ -17,7 +21,9 @@ pub struct Journal {
     slot_limit: u32,
     host_count: u32,
     slot_count: u32,
-    entries: Vec<Entry>,
+    /// The entries in short form, whose bytes stand in the pool one after another.
+    shorts: Vec<ShortEntry>,
+    pool: Vec<u8>,
 }
 
 impl Model for Journal {
@@ -33,6 +39,10 @@ impl Model for Journal {
 }
 
 impl Journal {
+    ghost use Rattle.std.specs.Prelude.{◌≡◌, ◌<◌, ◌∷◌, [], ◌++◌};
+    ghost use Rattle.fr_journal.specs.declared.entry.Entry.TheVariants as entries;
+    ghost use Rattle.fr_journal.specs.Kept.{host_room, slot_room};
+
     /// A journal without entries, and with room reserved for all that it may have.
     ///
     /// `host` and `slot` are its limits, at most 16384 and 65536 entries. Refused where memory for them is refused.
@@ -41,13 +51,16 @@ impl Journal {
         requires slot_limit { slot ≤ most_slot_entries }
         ensures { IfOk result (λ j. j ≡ record { host_limit = host; slot_limit = slot; entries = [] }) }
     {
-        let entries = Vec::with_capacity(alloc, (host + slot) as usize)?;
+        let shorts = Vec::with_capacity(alloc, (host + slot) as usize)?;
+        let bytes = host as usize * PAYLOAD_BYTES + slot as usize * (2 * FRAME_BYTES);
+        let pool = Vec::with_capacity(alloc, bytes)?;
         Ok(Journal {
             host_limit: host,
             slot_limit: slot,
             host_count: 0,
             slot_count: 0,
-            entries,
+            shorts,
+            pool,
         })
     }
 
@@ -66,24 +79,48 @@ impl Journal {
     }
 
     /// Appends an entry of the host, in the room that was reserved: `host_room` isn't 0 before.
-    #[tactic(auto, using(crate::proofs::KindLemmas::kinds_fill))]
     pub fn push_host(&mut self, entry: Entry)
         requires kind { IsTrue (is_host entry) }
         requires room { 0 < host_room self.old }
         ensures { self.new ≡ record self.old { entries = self.old.entries ++ entry ∷ [] } }
     {
-        self.entries.push_reserved(entry);
+        let short = shortened_host(&mut self.pool, &entry);
+        self.shorts.push_reserved(short);
+        self.host_count += 1;
+    }
+
+    /// Appends a commit, in the room that was reserved: `host_room` isn't 0 before.
+    pub fn push_commit(&mut self, task: TaskId, buffer: u8, payload: &Payload)
+        requires room { 0 < host_room self.old }
+        ensures { self.new ≡ record self.old {
+            entries = self.old.entries ++ entries.Commit task buffer payload.now ∷ [];
+        } }
+    {
+        let short = shortened_commit(&mut self.pool, task, buffer, payload);
+        self.shorts.push_reserved(short);
         self.host_count += 1;
     }
 
     /// Appends an entry of the controller, in the room that was reserved: `slot_room` isn't 0 before.
-    #[tactic(auto, using(crate::proofs::KindLemmas::kinds_fill))]
     pub fn push_slot(&mut self, entry: Entry)
         requires kind { is_host entry ≡ false }
         requires room { 0 < slot_room self.old }
         ensures { self.new ≡ record self.old { entries = self.old.entries ++ entry ∷ [] } }
     {
-        self.entries.push_reserved(entry);
+        let short = shortened_slot(&mut self.pool, &entry);
+        self.shorts.push_reserved(short);
+        self.slot_count += 1;
+    }
+
+    /// Appends an observe, in the room that was reserved: `slot_room` isn't 0 before.
+    pub fn push_observe(&mut self, window: u32, a: &Seen, b: &Seen)
+        requires room { 0 < slot_room self.old }
+        ensures { self.new ≡ record self.old {
+            entries = self.old.entries ++ entries.Observe window a.now b.now ∷ [];
+        } }
+    {
+        let short = shortened_observe(&mut self.pool, window, a, b);
+        self.shorts.push_reserved(short);
         self.slot_count += 1;
     }
 
@@ -100,13 +137,14 @@ impl Journal {
     pub fn is_empty(&self) -> bool
         ensures { IsTrue result ↔ (self.now.entries ≡ []) }
     {
-        self.entries.is_empty()
+        self.shorts.is_empty()
     }
 
     /// The entry of this number, counted from 0.
-    pub fn get(&self, number: u32) -> Option<&Entry>
-        ensures { option_copied result ≡ slice_get self.now.entries number }
+    pub fn get(&self, number: u32) -> Option<Entry>
+        ensures { result ≡ slice_get self.now.entries number }
     {
-        self.entries.as_slice().get(number as usize)
+        let short = self.shorts.as_slice().get(number as usize)?;
+        Some(restored(self.pool.as_slice(), *short))
     }
 }

@@ -18,3 +18,4 @@
 pub mod entry;
 pub mod fate;
 pub mod journal;
+mod short;

@@ -1,11 +1,12 @@
 -- A word is the decimal text of at most one number, and `parse` finds it.
 use Rattle.std.proofs.Common.{◌≡◌, ◌≢◌, ℕ, ◌<◌, ◌≤◌, ◌^◌, ◌&&◌, inl, inr, true, false, List, [], ◌∷◌, length, get_or}
-use Rattle.std.proofs.Common.{Some, None, Result, Ok, Err, refl, sym, ap, ◌∙◌, arith, ltb, leb}
+use Rattle.std.proofs.Common.{Some, None, Result, Ok, Err, refl, sym, ap, subst, ◌∙◌, arith, ltb, leb, ◌+◌, ◌*◌, ◌%◌, take, length-take}
 use Rattle.std.proofs.lemmas.Bool.{and_parts, cases_Bool, cases_lt, ltb-true, lt-ltb, le-leb}
 use Rattle.std.proofs.lemmas.Fmt.{parse-decimal, decimal-digits_value, first_decimal, decimal_digit, digits_decimal}
 use Rattle.std.proofs.lemmas.Fmt.{digits_value-decimal, IsAscii-decimal, decimal_nonempty}
-use Rattle.std.proofs.lemmas.Str.{IsUtf8-from_ascii}
-use Rattle.std.proofs.lemmas.Str.Parse.{IsNumeralModel, numerals_by_value, tells_digits, parse_plain, digit_at}
+use Rattle.std.proofs.lemmas.Str.{IsUtf8-from_ascii, digit_value_digit}
+use Rattle.std.proofs.lemmas.Str.Parse.{IsNumeralModel, numerals_by_value, tells_digits, parse_plain, digit_at, digits_value_short}
+use Rattle.std.proofs.lemmas.Int.Digits.{digits_value_more, digits_more}
 use Rattle.std.proofs.lemmas.Slice.Eq.{bytes_eq-Decides}
 use Rattle.std.proofs.lemmas.Result.{OkIff-at_ok}
 use Rattle.std.specs.Fmt.{decimal}
@@ -118,3 +119,49 @@ parsed bound word r n parses read sign padded below =
     let text = facts.0 in
     let canonical : decimal (digits_value 10 word) ≡ word = decimal-digits_value own word text.0 text.1 (λ z. let le = padded z in let some = text.1 in omega arith) text.2 in
     number_some bound word n (rw value text.2) below (rw value canonical)
+
+-- ---- what few digits write
+
+digit_byte : (b : ℕ) → b < 256 → (b + 208) % 256 ≤ 9 → (48 ≤ b) × (b ≤ 57)
+digit_byte b small few = (omega arith, omega arith)
+
+-- one digit more
+pub digits-value_more : (word : List ℕ) (i n : ℕ) → i < length word → n ≡ digits_value 10 (take i word) → get_or word i 0 < 256 → (get_or word i 0 + 208) % 256 ≤ 9
+    → n * 10 + (get_or word i 0 + 208) % 256 ≡ digits_value 10 (take (i + 1) word)
+digits-value_more word i n within is small few =
+    let range = digit_byte (get_or word i 0) small few in
+    let digit = digit_value_digit (get_or word i 0) range in
+    omega (arith, digits_value_more 10 word i within, digit, range.0, range.1)
+
+pub digits-all_more : (word : List ℕ) (i : ℕ) → i < length word → AllDigits 10 (take i word) → get_or word i 0 < 256 → (get_or word i 0 + 208) % 256 ≤ 9 → AllDigits 10 (take (i + 1) word)
+digits-all_more word i within all small few =
+    let range = digit_byte (get_or word i 0) small few in
+    digits_more 10 word i within all (omega (arith, digit_value_digit (get_or word i 0) range, range.1))
+
+-- what digits write of a word of at most nine is small
+pub digits-small : (word : List ℕ) (i n : ℕ) → length word ≤ 9 → n ≡ digits_value 10 (take i word) → AllDigits 10 (take i word) → n < 10 ^ 9
+digits-small word i n few is all = omega (arith, is, digits_value_short own (take i word) 9 all (omega (arith, length-take i word)))
+
+-- a byte that is no digit
+pub digits-other : (word : List ℕ) (i : ℕ) → i < length word → 9 < (get_or word i 0 + 208) % 256 → AllDigits 10 word → ⊥
+digits-other word i within high all = let range = digit_at word i all within in omega (arith, range.0, range.1)
+
+pub number-no_digits : (bound : ℕ) (word : List ℕ) → bound ≤ 2 ^ 64 → (AllDigits 10 word → ⊥) → number_in bound word ≡ None
+number-no_digits bound word small bad =
+    number_none bound word (λ n below same. bad (subst (AllDigits 10) same (digits_decimal own n (omega arith))))
+
+pub number-empty : (bound : ℕ) (word : List ℕ) → bound ≤ 2 ^ 64 → length word ≡ 0 → number_in bound word ≡ None
+number-empty bound word small empty =
+    number_none bound word (λ n below same. omega (arith, decimal_nonempty n (omega arith), ap length same))
+
+pub number-high : (bound : ℕ) (word : List ℕ) (n : ℕ) → bound ≤ 2 ^ 64 → n ≡ digits_value 10 word → bound ≤ n → number_in bound word ≡ None
+number-high bound word n small is high =
+    number_none bound word (λ m below same.
+    let value : digits_value 10 word ≡ m = rw (← same) (digits_value-decimal own m (omega arith)) in
+    omega arith)
+
+pub number-digits : (bound : ℕ) (word : List ℕ) (n : ℕ) → bound ≤ 2 ^ 64 → n ≡ digits_value 10 word → AllDigits 10 word → 0 < length word
+    → (get_or word 0 0 ≡ 48 → length word ≤ 1) → n < bound → number_in bound word ≡ Some n
+number-digits bound word n small is all some padded below =
+    let canonical : decimal (digits_value 10 word) ≡ word = decimal-digits_value own word all some (λ z. let le = padded z in omega arith) (omega arith) in
+    number_some bound word n (omega arith) below (rw is canonical)

@@ -1,10 +1,50 @@
 //! The numbers that words spell.
-ghost use Rattle.std.specs.Prelude.{◌≡◌, ◌<◌, IfSome};
+ghost use Rattle.std.specs.Prelude.{◌≡◌, ◌<◌, ◌≤◌, length, IfSome, IfNone};
+ghost use Rattle.std.specs.Str.Parse.{AllDigits, digits_value};
 ghost use Rattle.fr_text.specs.Reading.{number_in};
 
-/// The number below `bound` that the word spells in decimal, without sign and without leading zeros. `None` where the
-/// word, which may be empty, is no such spelling, or where the number is `bound` or more.
-pub fn number_of(word: &[u8], bound: u64) -> Option<u64>
+/// So many digits always write a number that 64 bits hold.
+const FEW_DIGITS: usize = 9;
+
+/// The number that few digits write, leading zeros included. `None` where a byte is no digit.
+fn few_digits(word: &[u8]) -> Option<u64>
+    requires { length word.now ≤ 9 }
+    ensures value { IfSome result (λ n. n ≡ digits_value 10 word.now) }
+    ensures digits { IfSome result (λ _. AllDigits 10 word.now) }
+    ensures none { IfNone result (AllDigits 10 word.now → ⊥) }
+{
+    let mut number: u64 = 0;
+    for digit in word {
+        let value = digit.wrapping_sub(b'0');
+        if value > 9 {
+            return None;
+        }
+        number = number * 10 + u64::from(value);
+    }
+    Some(number)
+}
+
+/// The number below `bound` that the word of few digits spells.
+fn short_number_of(word: &[u8], bound: u64) -> Option<u64>
+    requires { length word.now ≤ 9 }
+    ensures number { result ≡ number_in bound word.now }
+    ensures below { IfSome result (λ n. n < bound) }
+{
+    let number = few_digits(word)?;
+    if word.is_empty() {
+        return None;
+    }
+    if word[0] == b'0' && word.len() > 1 {
+        return None;
+    }
+    if number >= bound {
+        return None;
+    }
+    Some(number)
+}
+
+/// The number below `bound` that the word of any length spells.
+fn long_number_of(word: &[u8], bound: u64) -> Option<u64>
     ensures number { result ≡ number_in bound word.now }
     ensures below { IfSome result (λ n. n < bound) }
 {
@@ -18,11 +58,24 @@ pub fn number_of(word: &[u8], bound: u64) -> Option<u64>
     if word[0] == b'+' {
         return None;
     }
-    if word[0] == b'0' && word.len() > 1 {
+    if word[0] == b'0' && 1 < word.len() {
         return None;
     }
     if number >= bound {
         return None;
     }
     Some(number)
+}
+
+/// The number below `bound` that the word spells in decimal, without sign and without leading zeros. `None` where the
+/// word, which may be empty, is no such spelling, or where the number is `bound` or more.
+pub fn number_of(word: &[u8], bound: u64) -> Option<u64>
+    ensures number { result ≡ number_in bound word.now }
+    ensures below { IfSome result (λ n. n < bound) }
+{
+    if word.len() > FEW_DIGITS {
+        long_number_of(word, bound)
+    } else {
+        short_number_of(word, bound)
+    }
 }

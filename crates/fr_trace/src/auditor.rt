@@ -193,10 +193,10 @@ fn entry_line(interface: &mut Interface, line: &[u8]) -> Result<(), TraceError>
     ensures { GivesPhase (λ done. body interface.new) result (after_entry interface.old (entry_in (words_of line.now))) }
 {
     let number = lines_of(interface) + 5;
-    let Some(entry) = entry_of(line) else {
-        return Err(TraceError::BadLine(number));
-    };
-    replay(interface, &entry, number)
+    match &entry_of(line) {
+        Some(entry) => replay(interface, entry, number),
+        None => Err(TraceError::BadLine(number)),
+    }
 }
 
 /// What follows a whole line, of this number, that is no line of the journal.
@@ -221,6 +221,26 @@ fn after(alloc: Global, phase: Phase, number: u32, line: &[u8]) -> Result<Phase,
     }
 }
 
+/// Takes a whole line that is no line of the journal. What stands before it is gone where it is refused.
+///
+/// It isn't inlined, so that a line of the journal doesn't pay for the plans and interfaces that are moved here.
+#[inline(never)]
+fn move_on(alloc: Global, phase: &mut Phase, line: &[u8]) -> Result<(), TraceError>
+    requires { IsNoEntry (phase_of phase.old) line.now }
+    ensures { GivesUnless (IsBegin (phase_of phase.old) line.now) (λ done. phase_of phase.new) result
+        (take_line (phase_of phase.old) line.now) }
+{
+    let number = line_number(phase);
+    let before = mem::replace(phase, Phase::Magic);
+    match after(alloc, before, number, line) {
+        Ok(next) => {
+            *phase = next;
+            Ok(())
+        }
+        Err(fault) => Err(fault),
+    }
+}
+
 /// Takes a whole line. What stands before it is gone where it is refused.
 fn pass_line(alloc: Global, phase: &mut Phase, line: &[u8]) -> Result<(), TraceError>
     ensures { GivesUnless (IsBegin (phase_of phase.old) line.now) (λ done. phase_of phase.new) result
@@ -231,15 +251,7 @@ fn pass_line(alloc: Global, phase: &mut Phase, line: &[u8]) -> Result<(), TraceE
             return entry_line(interface, line);
         }
     }
-    let number = line_number(phase);
-    let before = mem::replace(phase, Phase::Magic);
-    match after(alloc, before, number, line) {
-        Ok(next) => {
-            *phase = next;
-            Ok(())
-        }
-        Err(fault) => Err(fault),
-    }
+    move_on(alloc, phase, line)
 }
 
 /// Why a line that is too long is refused.

@@ -74,7 +74,7 @@ fn write_entries<W: Write>(writer: &mut W, journal: &Journal) -> io::Result<()>
 {
     for number in 0..journal.len() {
         if let Some(entry) = journal.get(number) {
-            write_entry(writer, entry)?;
+            write_entry(writer, &entry)?;
         }
     }
     Ok(())

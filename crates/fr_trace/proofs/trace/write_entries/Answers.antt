@@ -1,7 +1,6 @@
-use Rattle.std.proofs.Common.{◌<◌, ◌+◌, take, sym, ◌∙◌, arith, ap, length, subst}
+use Rattle.std.proofs.Common.{◌<◌, ◌+◌, take, sym, ◌∙◌, arith, length, subst}
 use Rattle.std.specs.Io.KnownBytes.{Appends}
 use Rattle.std.specs.List.{flat_map}
-use Rattle.std.specs.Option.{option_copied}
 use Rattle.std.proofs.KnownBytes.{Appends-nil}
 use Rattle.fr_trace.specs.TraceText.{entry_line}
 use Rattle.fr_trace.proofs.WritingLemmas.{written-more, there_is, none_behind}
@@ -19,9 +18,9 @@ loop-number-preserved g c =
     let lt : i < length entries = omega (arith, c.len-number-end.ensures.value, c.loop-number-test.true) in
     elim c.match-get.branch [
       | in-Some+in_ok-write_entry w ↦
-          let e = w.in-Some.entry.now in
+          let e = w.in-Some.entry in
           subst (λ x. Appends start (g.W.Write.contents x) (flat_map entry_line (take (i + 1) entries))) (sym w.writer-is)
           (written-more entry_line entries i e start (g.W.Write.contents c.loop-number.writer) (g.W.Write.contents w.write_entry.new.writer) lt
-          (there_is entries i e (sym c.get.ensures ∙ ap option_copied w.in-Some.is)) c.loop-number.invariant w.in_ok-write_entry.ensures)
-      | in_default w ↦ absurd (none_behind entries i lt (sym c.get.ensures ∙ ap option_copied w.in_default.is))
+          (there_is entries i e (sym c.get.ensures ∙ w.in-Some.is)) c.loop-number.invariant w.in_ok-write_entry.ensures)
+      | in_default w ↦ absurd (none_behind entries i lt (sym c.get.ensures ∙ w.in_default.is))
     ]

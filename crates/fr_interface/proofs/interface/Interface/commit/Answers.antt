@@ -26,12 +26,12 @@ invariant_of-self c =
     let line = c.in-Some.line in
     let entries = c.self.inside.journal.entries in
     let transmit : c.deref_mut.result.now ≡ transmitters plan entries = c.deref_mut.ensures.value ∙ c.self.invariant.transmit_is in
-    let kept = c.kept_payload-payload.result in
+    let kept = c.kept_payload-payload.result.now in
     let is : kept ≡ c.args.payload.now = c.kept_payload-payload.ensures.value in
     let there : buffer_at plan c.args.buffer ≡ Some line = sym c.buffer.ensures ∙ c.in-Some.is in
     let transmits : is_receive line.mode ≡ false = sym c.is_receive.ensures ∙ c.if-is_receive.false in
     let words : length kept ≡ 2 * words_of params line = ap length is ∙ words_from_test params line c.args.payload.now (sym c.has_words.ensures ∙ c.if-not-has_words.false) in
-    rw c.push_host.ensures (record {
+    rw c.push_commit.ensures (record {
       host_limit = c.self.invariant.host_limit;
       slot_limit = c.self.invariant.slot_limit;
       legal = record {

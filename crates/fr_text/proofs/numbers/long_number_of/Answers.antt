@@ -1,6 +1,6 @@
 use Rattle.std.proofs.Common.{sym, arith}
 use Rattle.fr_text.proofs.NumberLemmas.{not_text, not_parsed, not_sign, not_padded, not_below, parsed}
-use Rattle.fr_text.proofs.numbers.number_of.Goals as goal
+use Rattle.fr_text.proofs.numbers.long_number_of.Goals as goal
 
 pub returns-in_default-clause-number : goal.returns-in_default-clause-number
 returns-in_default-clause-number c = sym (not_text c.args.bound c.args.word.now (omega arith) c.in_default.ensures.cases.0)

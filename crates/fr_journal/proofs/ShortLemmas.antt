@@ -1,0 +1,169 @@
+-- What is appended to a pool leaves what short entries restore from it.
+use Rattle.std.proofs.Common.{◌≡◌, ℕ, ◌+◌, ◌-◌, ◌<◌, ◌≤◌, Bool, true, false, not, cond, List, [], ◌∷◌, ◌++◌, length, take, drop, refl, sym, ap, subst}
+use Rattle.std.proofs.Common.{◌∙◌, arith, length-append, length-drop}
+use Rattle.std.specs.Prelude.{IsTrue, count_by, map, slice_range, vec_capacity}
+use Rattle.std.specs.List.{All}
+use Rattle.std.proofs.lemmas.List.{take-append-le, drop-append-le, map-append, length-map}
+use Rattle.std.proofs.lemmas.List.Elements.{All-head, All-tail, All-push, All-weaker}
+use Rattle.std.proofs.lemmas.List.Sums.{sum_by-append}
+use Rattle.fr_frame.specs.Payload.{most_payload_bytes}
+use Rattle.fr_journal.specs.declared.entry.Entry.{Entry}
+use Rattle.fr_journal.specs.declared.entry.Entry.TheVariants as entries
+use Rattle.fr_journal.specs.declared.journal.Journal.TheInside.{Inside}
+use Rattle.fr_journal.specs.declared.short.Stretch.{Stretch}
+use Rattle.fr_journal.specs.declared.short.ShortEntry.{ShortEntry}
+use Rattle.fr_journal.specs.declared.short.ShortEntry.TheVariants as short
+use Rattle.fr_journal.specs.declared.short.ShortSeen.{ShortSeen}
+use Rattle.fr_journal.specs.declared.short.ShortSeen.TheVariants as short_seen
+use Rattle.fr_journal.specs.Entries.{is_host, is_slot}
+use Rattle.fr_journal.specs.JournalFields.{kept_in, IsCounted}
+use Rattle.fr_journal.specs.Kept.{Kept, host_room, slot_room}
+use Rattle.fr_journal.specs.Shortened.{restored_seen, restored, bytes_in, IsStretch, IsShortSeen, IsShort, IsShortened, most_seen_bytes}
+use Rattle.fr_journal.proofs.KindLemmas.{kinds_fill}
+use Rattle.fr_status.specs.declared.seen.Seen.TheVariants as seen
+
+-- ---- one short entry
+
+slice_range-append : (xs ys : List ℕ) (from to : ℕ) → from ≤ to → to ≤ length xs → slice_range (xs ++ ys) from to ≡ slice_range xs from to
+slice_range-append xs ys from to order within =
+    ap (take (to - from)) (drop-append-le from xs ys (omega arith))
+    ∙ take-append-le (to - from) (drop from xs) ys (omega (arith, length-drop from xs))
+
+stretch-more : (pool more : List ℕ) (most : ℕ) (s : Stretch) → IsStretch (length pool) most s → IsStretch (length (pool ++ more)) most s
+stretch-more pool more most s h = record { order = h.order; within = omega (arith, h.within, length-append pool more); few = h.few }
+
+seen-more : (pool more : List ℕ) (s : ShortSeen) → IsShortSeen (length pool) s → IsShortSeen (length (pool ++ more)) s
+seen-more pool more short_seen.Silence h = tt
+seen-more pool more short_seen.Own h = tt
+seen-more pool more short_seen.Conflict h = tt
+seen-more pool more short_seen.Noise h = tt
+seen-more pool more short_seen.Overrun h = tt
+seen-more pool more (short_seen.Bytes s) h = stretch-more pool more _ s h
+
+short-more : (pool more : List ℕ) (s : ShortEntry) → IsShort (length pool) s → IsShort (length (pool ++ more)) s
+short-more pool more (short.Commit task buffer payload) h = (stretch-more pool more _ payload h.0, h.1)
+short-more pool more (short.Read task buffer from) h = tt
+short-more pool more (short.Pop task from) h = tt
+short-more pool more (short.Fetch window a b) h = tt
+short-more pool more (short.Observe window a b) h = (seen-more pool more a h.0, seen-more pool more b h.1)
+
+restored_seen-append : (pool more : List ℕ) (s : ShortSeen) → IsShortSeen (length pool) s → restored_seen (pool ++ more) s ≡ restored_seen pool s
+restored_seen-append pool more short_seen.Silence h = refl
+restored_seen-append pool more short_seen.Own h = refl
+restored_seen-append pool more short_seen.Conflict h = refl
+restored_seen-append pool more short_seen.Noise h = refl
+restored_seen-append pool more short_seen.Overrun h = refl
+restored_seen-append pool more (short_seen.Bytes s) h =
+    ap (λ (bytes : List ℕ). seen.Bytes (record { items = bytes })) (slice_range-append pool more s.start s.end h.order h.within)
+
+pub restored-append : (pool more : List ℕ) (s : ShortEntry) → IsShort (length pool) s → restored (pool ++ more) s ≡ restored pool s
+restored-append pool more (short.Commit task buffer payload) h =
+    ap (λ (bytes : List ℕ). entries.Commit task buffer bytes) (slice_range-append pool more payload.start payload.end h.0.order h.0.within)
+restored-append pool more (short.Read task buffer from) h = refl
+restored-append pool more (short.Pop task from) h = refl
+restored-append pool more (short.Fetch window a b) h = refl
+restored-append pool more (short.Observe window a b) h =
+    let first = restored_seen-append pool more a h.0 in
+    let second = restored_seen-append pool more b h.1 in
+    cc
+
+-- ---- all short entries
+
+all-restored : (pool more : List ℕ) (shorts : List ShortEntry) → All (IsShort (length pool)) shorts → map (restored (pool ++ more)) shorts ≡ map (restored pool) shorts
+all-restored pool more [] h = refl
+all-restored pool more (s ∷ shorts) h =
+    let first = restored-append pool more s (All-head (IsShort (length pool)) s shorts h) in
+    let rest = all-restored pool more shorts (All-tail (IsShort (length pool)) s shorts h) in
+    cc
+
+-- ---- a journal, and what it is after an entry was appended to its pool and its short entries
+
+pub record IsPushed (j n : Inside) (most : ℕ) (s : ShortEntry) (e : Entry) : Type 0 where
+  pub host_limit_is : n.host_limit ≡ j.host_limit
+  pub slot_limit_is : n.slot_limit ≡ j.slot_limit
+  pub shorts_are : n.shorts.items ≡ j.shorts.items ++ s ∷ []
+  pub shorts_room : vec_capacity n.shorts ≡ vec_capacity j.shorts
+  pub shortened : IsShortened j.pool.items n.pool.items most s e
+  pub pool_room : vec_capacity j.pool ≤ vec_capacity n.pool
+
+pub counts-fill : (j : Inside) → IsCounted j → j.host_count + j.slot_count ≡ length j.shorts.items
+counts-fill j h = omega (arith, h.host_is, h.slot_is, kinds_fill (map (restored j.pool.items) j.shorts.items), length-map j.shorts.items (restored j.pool.items))
+
+pub entries-pushed : (j n : Inside) (most : ℕ) (s : ShortEntry) (e : Entry) → IsCounted j → IsPushed j n most s e
+    → map (restored n.pool.items) n.shorts.items ≡ map (restored j.pool.items) j.shorts.items ++ e ∷ []
+entries-pushed j n most s e h p =
+    let f = restored n.pool.items in
+    let same : map f j.shorts.items ≡ map (restored j.pool.items) j.shorts.items =
+    ap (λ (pool : List ℕ). map (restored pool) j.shorts.items) p.shortened.pool_is ∙ all-restored j.pool.items (bytes_in e) j.shorts.items h.are_short in
+    ap (map f) p.shorts_are ∙ map-append f j.shorts.items (s ∷ []) ∙ ap (λ (x : Entry). map f j.shorts.items ++ x ∷ []) p.shortened.entry_is
+    ∙ ap (λ (l : List Entry). l ++ e ∷ []) same
+
+are_short-pushed : (j n : Inside) (most : ℕ) (s : ShortEntry) (e : Entry) → IsCounted j → IsPushed j n most s e → All (IsShort (length n.pool.items)) n.shorts.items
+are_short-pushed j n most s e h p =
+    let more : All (IsShort (length (j.pool.items ++ bytes_in e))) j.shorts.items =
+    All-weaker (IsShort (length j.pool.items)) (IsShort (length (j.pool.items ++ bytes_in e))) (short-more j.pool.items (bytes_in e)) j.shorts.items h.are_short in
+    let old : All (IsShort (length n.pool.items)) j.shorts.items = subst (λ (pool : List ℕ). All (IsShort (length pool)) j.shorts.items) (sym p.shortened.pool_is) more in
+    subst (λ (l : List ShortEntry). All (IsShort (length n.pool.items)) l) (sym p.shorts_are) (All-push (IsShort (length n.pool.items)) j.shorts.items s old p.shortened.within)
+
+pub kept-pushed : (j n : Inside) (k : Kept) (most : ℕ) (s : ShortEntry) (e : Entry) → IsCounted j → IsPushed j n most s e → kept_in j ≡ k
+    → kept_in n ≡ record { host_limit = k.host_limit; slot_limit = k.slot_limit; entries = k.entries ++ e ∷ [] }
+kept-pushed j n k most s e h p view =
+    let entries = entries-pushed j n most s e h p in
+    let host = p.host_limit_is in
+    let slot = p.slot_limit_is in
+    subst (λ (k : Kept). kept_in n ≡ record { host_limit = k.host_limit; slot_limit = k.slot_limit; entries = k.entries ++ e ∷ [] }) view cc
+
+pub host-room : (j : Inside) (k : Kept) → IsCounted j → kept_in j ≡ k → 0 < host_room k → j.host_count < j.host_limit
+host-room j k h view room =
+    let left : 0 < host_room (kept_in j) = subst (λ (k : Kept). 0 < host_room k) (sym view) room in
+    omega (arith, left, h.host_is)
+
+pub slot-room : (j : Inside) (k : Kept) → IsCounted j → kept_in j ≡ k → 0 < slot_room k → j.slot_count < j.slot_limit
+slot-room j k h view room =
+    let left : 0 < slot_room (kept_in j) = subst (λ (k : Kept). 0 < slot_room k) (sym view) room in
+    omega (arith, left, h.slot_is)
+
+counted-more : (test : Entry → Bool) (xs ys : List Entry) (e : Entry) → ys ≡ xs ++ e ∷ [] → count_by test ys ≡ count_by test xs + cond (test e) 1 0
+counted-more test xs ys e is = ap (count_by test) is ∙ omega (arith, sum_by-append (λ x. cond (test x) 1 0) xs (e ∷ []))
+
+pub host-pushed : (j n : Inside) (s : ShortEntry) (e : Entry) → IsCounted j → IsPushed j n most_payload_bytes s e → is_host e ≡ true → n.host_count ≡ j.host_count + 1 → n.slot_count ≡ j.slot_count → j.host_count < j.host_limit → IsCounted n
+host-pushed j n s e h p kind host slot room =
+    let is = entries-pushed j n most_payload_bytes s e h p in
+    let more = counted-more is_host _ _ e is in
+    let same = counted-more is_slot _ _ e is in
+    let one : cond {A = ℕ} (is_host e) 1 0 ≡ 1 = ap (λ (b : Bool). cond {A = ℕ} b 1 0) kind in
+    let none : cond {A = ℕ} (is_slot e) 1 0 ≡ 0 = ap (λ (b : Bool). cond {A = ℕ} (not b) 1 0) kind in
+    let grown : length n.pool.items ≡ length j.pool.items + length (bytes_in e) = ap length p.shortened.pool_is ∙ length-append j.pool.items (bytes_in e) in
+    record {
+      host_is = omega (arith, host, h.host_is, more, one);
+      slot_is = omega (arith, slot, h.slot_is, same, none);
+      host_within = omega (arith, host, room, p.host_limit_is);
+      slot_within = omega (arith, slot, h.slot_within, p.slot_limit_is);
+      reserved = omega (arith, h.reserved, p.host_limit_is, p.slot_limit_is, p.shorts_room);
+      few_host = omega (arith, h.few_host, p.host_limit_is);
+      few_slot = omega (arith, h.few_slot, p.slot_limit_is);
+      are_short = are_short-pushed j n most_payload_bytes s e h p;
+      pool_within = omega (arith, grown, h.pool_within, p.shortened.few, host, slot);
+      pool_reserved = omega (arith, h.pool_reserved, p.host_limit_is, p.slot_limit_is, p.pool_room);
+    }
+
+pub slot-pushed : (j n : Inside) (s : ShortEntry) (e : Entry) → IsCounted j → IsPushed j n most_seen_bytes s e → is_host e ≡ false → n.host_count ≡ j.host_count → n.slot_count ≡ j.slot_count + 1 → j.slot_count < j.slot_limit → IsCounted n
+slot-pushed j n s e h p kind host slot room =
+    let is = entries-pushed j n most_seen_bytes s e h p in
+    let same = counted-more is_host _ _ e is in
+    let more = counted-more is_slot _ _ e is in
+    let none : cond {A = ℕ} (is_host e) 1 0 ≡ 0 = ap (λ (b : Bool). cond {A = ℕ} b 1 0) kind in
+    let one : cond {A = ℕ} (is_slot e) 1 0 ≡ 1 = ap (λ (b : Bool). cond {A = ℕ} (not b) 1 0) kind in
+    let grown : length n.pool.items ≡ length j.pool.items + length (bytes_in e) = ap length p.shortened.pool_is ∙ length-append j.pool.items (bytes_in e) in
+    record {
+      host_is = omega (arith, host, h.host_is, same, none);
+      slot_is = omega (arith, slot, h.slot_is, more, one);
+      host_within = omega (arith, host, h.host_within, p.host_limit_is);
+      slot_within = omega (arith, slot, room, p.slot_limit_is);
+      reserved = omega (arith, h.reserved, p.host_limit_is, p.slot_limit_is, p.shorts_room);
+      few_host = omega (arith, h.few_host, p.host_limit_is);
+      few_slot = omega (arith, h.few_slot, p.slot_limit_is);
+      are_short = are_short-pushed j n most_seen_bytes s e h p;
+      pool_within = omega (arith, grown, h.pool_within, p.shortened.few, host, slot);
+      pool_reserved = omega (arith, h.pool_reserved, p.host_limit_is, p.slot_limit_is, p.pool_room);
+    }

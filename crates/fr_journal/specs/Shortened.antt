@@ -1,0 +1,82 @@
+-- What short entries are short for: their numbers, and bytes that stand in a pool.
+use Rattle.std.specs.Prelude.{◌≡◌, ℕ, ◌+◌, ◌*◌, ◌-◌, ◌%◌, ◌≤◌, List, [], ◌++◌, length, slice_range}
+use Rattle.fr_frame.specs.Payload.{most_payload_bytes, most_frame_bytes}
+use Rattle.fr_journal.specs.declared.entry.Entry.{Entry}
+use Rattle.fr_journal.specs.declared.entry.Entry.TheVariants.{Commit, Read, Pop, Fetch, Observe}
+use Rattle.fr_journal.specs.declared.short.Stretch.{Stretch}
+use Rattle.fr_journal.specs.declared.short.ShortEntry.{ShortEntry}
+use Rattle.fr_journal.specs.declared.short.ShortEntry.TheVariants as short
+use Rattle.fr_journal.specs.declared.short.ShortSeen.{ShortSeen}
+use Rattle.fr_journal.specs.declared.short.ShortSeen.TheVariants as short_seen
+use Rattle.fr_status.specs.declared.seen.Seen.{Seen}
+use Rattle.fr_status.specs.declared.seen.Seen.TheVariants as seen
+
+abbrev pub bytes_at : List ℕ → Stretch → List ℕ
+bytes_at pool s = slice_range pool s.start s.end
+
+abbrev pub restored_seen : List ℕ → ShortSeen → Seen
+restored_seen pool short_seen.Silence = seen.Silence
+restored_seen pool short_seen.Own = seen.Own
+restored_seen pool short_seen.Conflict = seen.Conflict
+restored_seen pool short_seen.Noise = seen.Noise
+restored_seen pool short_seen.Overrun = seen.Overrun
+restored_seen pool (short_seen.Bytes s) = seen.Bytes (record { items = bytes_at pool s })
+
+abbrev pub restored : List ℕ → ShortEntry → Entry
+restored pool (short.Commit task buffer payload) = Commit task buffer (bytes_at pool payload)
+restored pool (short.Read task buffer from) = Read task buffer from
+restored pool (short.Pop task from) = Pop task from
+restored pool (short.Fetch window a b) = Fetch window a b
+restored pool (short.Observe window a b) = Observe window (restored_seen pool a) (restored_seen pool b)
+
+-- ---- what stands in the pool
+
+abbrev pub bytes_in_seen : Seen → List ℕ
+bytes_in_seen seen.Silence = []
+bytes_in_seen seen.Own = []
+bytes_in_seen seen.Conflict = []
+bytes_in_seen seen.Noise = []
+bytes_in_seen seen.Overrun = []
+bytes_in_seen (seen.Bytes bytes) = bytes.items
+
+-- the most bytes of an entry of the controller: those of a frame on each channel
+abbrev pub most_seen_bytes : ℕ
+most_seen_bytes = 2 * most_frame_bytes
+
+-- a stretch of a pool of this size, of at most so many bytes
+pub record IsStretch (size most : ℕ) (s : Stretch) : Type 0 where
+  pub order : s.start ≤ s.end
+  pub within : s.end ≤ size
+  pub few : s.end ≤ s.start + most
+
+abbrev pub IsShortSeen : ℕ → ShortSeen → Type 0
+IsShortSeen size short_seen.Silence = Unit {0}
+IsShortSeen size short_seen.Own = Unit {0}
+IsShortSeen size short_seen.Conflict = Unit {0}
+IsShortSeen size short_seen.Noise = Unit {0}
+IsShortSeen size short_seen.Overrun = Unit {0}
+IsShortSeen size (short_seen.Bytes s) = IsStretch size most_frame_bytes s
+
+-- the stretches of the entry stand in a pool of this size, and are of a size that its bytes may have
+abbrev pub IsShort : ℕ → ShortEntry → Type 0
+IsShort size (short.Commit task buffer payload) = IsStretch size most_payload_bytes payload × ((payload.end - payload.start) % 2 ≡ 0)
+IsShort size (short.Read task buffer from) = Unit {0}
+IsShort size (short.Pop task from) = Unit {0}
+IsShort size (short.Fetch window a b) = Unit {0}
+IsShort size (short.Observe window a b) = IsShortSeen size a × IsShortSeen size b
+
+-- ---- what becomes of the pool
+
+abbrev pub bytes_in : Entry → List ℕ
+bytes_in (Commit task buffer payload) = payload
+bytes_in (Read task buffer from) = []
+bytes_in (Pop task from) = []
+bytes_in (Fetch window a b) = []
+bytes_in (Observe window a b) = bytes_in_seen a ++ bytes_in_seen b
+
+-- the entry's bytes, of which there are at most so many, are appended to the pool, from which the short entry restores it
+pub record IsShortened (before after : List ℕ) (most : ℕ) (short : ShortEntry) (entry : Entry) : Type 0 where
+  pub entry_is : restored after short ≡ entry
+  pub within : IsShort (length after) short
+  pub pool_is : after ≡ before ++ bytes_in entry
+  pub few : length (bytes_in entry) ≤ most

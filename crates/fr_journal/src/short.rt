@@ -1,0 +1,262 @@
+//! Entries in short form: the numbers of an entry, and where its bytes stand in a pool.
+
+ghost use Rattle.std.specs.Prelude.{◌≡◌, ◌+◌, ◌<◌, ◌≤◌, ◌^◌, ◌++◌, length, vec_capacity, IsTrue, false};
+ghost use Rattle.fr_frame.specs.Payload.{IsPayload, most_payload_bytes, most_frame_bytes};
+ghost use Rattle.fr_journal.specs.Entries.{is_host};
+ghost use Rattle.fr_journal.specs.Shortened.{bytes_at, restored_seen, restored, bytes_in_seen, most_seen_bytes};
+ghost use Rattle.fr_journal.specs.Shortened.{IsShortSeen, IsShort, IsShortened};
+ghost use Rattle.fr_journal.specs.declared.entry.Entry.TheVariants as entries;
+
+use crate::entry::{Entry, Offered, Origin};
+use fr_frame::frame::Bytes;
+use fr_frame::payload::Payload;
+use fr_slots::numbers::TaskId;
+use fr_slots::window::Window;
+use fr_status::seen::Seen;
+
+/// Where bytes stand in a pool.
+#[derive(Clone, Copy)]
+pub(crate) struct Stretch {
+    /// The place of the first byte.
+    pub start: u32,
+    /// The place after the last byte.
+    pub end: u32,
+}
+
+/// What was seen, with its bytes in a pool.
+#[derive(Clone, Copy)]
+pub(crate) enum ShortSeen {
+    Silence,
+    Own,
+    Conflict,
+    Noise,
+    Overrun,
+    Bytes(Stretch),
+}
+
+/// An entry, with its bytes in a pool.
+#[derive(Clone, Copy)]
+pub(crate) enum ShortEntry {
+    Commit {
+        task: TaskId,
+        buffer: u8,
+        payload: Stretch,
+    },
+    Read {
+        task: TaskId,
+        buffer: u8,
+        from: Option<Origin>,
+    },
+    Pop {
+        task: TaskId,
+        from: Option<Origin>,
+    },
+    Fetch {
+        window: Window,
+        a: Offered,
+        b: Offered,
+    },
+    Observe {
+        window: u32,
+        a: ShortSeen,
+        b: ShortSeen,
+    },
+}
+
+/// Appends the bytes to the pool, in the room that was reserved, and says where they stand.
+fn kept_bytes(pool: &mut Vec<u8>, bytes: &[u8]) -> Stretch
+    requires room { length pool.old.items + length bytes.now ≤ vec_capacity pool.old }
+    requires few { length pool.old.items + length bytes.now < 2 ^ 32 }
+    ensures place { result ≡ record {
+        start = length pool.old.items;
+        end = length pool.old.items + length bytes.now;
+    } }
+    ensures pool { pool.new.items ≡ pool.old.items ++ bytes.now }
+    ensures room { vec_capacity pool.old ≤ vec_capacity pool.new }
+{
+    let start = pool.len();
+    let outcome = pool.extend_from_slice(bytes);
+    let fits = outcome.is_ok();
+    prove!(fits);
+    Stretch {
+        start: start as u32,
+        end: (start + bytes.len()) as u32,
+    }
+}
+
+/// What was seen in short form, its bytes at the end of the pool.
+fn shortened_seen(pool: &mut Vec<u8>, seen: &Seen) -> ShortSeen
+    requires room { length pool.old.items + most_frame_bytes ≤ vec_capacity pool.old }
+    requires few { length pool.old.items + most_frame_bytes < 2 ^ 32 }
+    ensures seen { restored_seen pool.new.items result ≡ seen.now }
+    ensures within { IsShortSeen (length pool.new.items) result }
+    ensures pool { pool.new.items ≡ pool.old.items ++ bytes_in_seen seen.now }
+    ensures few { length (bytes_in_seen seen.now) ≤ most_frame_bytes }
+    ensures room { vec_capacity pool.old ≤ vec_capacity pool.new }
+{
+    match seen {
+        Seen::Silence => ShortSeen::Silence,
+        Seen::Own => ShortSeen::Own,
+        Seen::Conflict => ShortSeen::Conflict,
+        Seen::Noise => ShortSeen::Noise,
+        Seen::Overrun => ShortSeen::Overrun,
+        Seen::Bytes(bytes) => ShortSeen::Bytes(kept_bytes(pool, bytes.as_slice())),
+    }
+}
+
+/// A commit in short form, its payload at the end of the pool.
+pub(crate) fn shortened_commit(
+    pool: &mut Vec<u8>,
+    task: TaskId,
+    buffer: u8,
+    payload: &Payload,
+) -> ShortEntry
+    requires room { length pool.old.items + most_payload_bytes ≤ vec_capacity pool.old }
+    requires few { length pool.old.items + most_payload_bytes < 2 ^ 32 }
+    ensures entry { IsShortened pool.old.items pool.new.items most_payload_bytes result
+        (entries.Commit task buffer payload.now) }
+    ensures room { vec_capacity pool.old ≤ vec_capacity pool.new }
+{
+    ShortEntry::Commit {
+        task,
+        buffer,
+        payload: kept_bytes(pool, payload.as_slice()),
+    }
+}
+
+/// An observe in short form, its bytes at the end of the pool.
+pub(crate) fn shortened_observe(
+    pool: &mut Vec<u8>,
+    window: u32,
+    a: &Seen,
+    b: &Seen,
+) -> ShortEntry
+    requires room { length pool.old.items + most_seen_bytes ≤ vec_capacity pool.old }
+    requires few { length pool.old.items + most_seen_bytes < 2 ^ 32 }
+    ensures entry { IsShortened pool.old.items pool.new.items most_seen_bytes result
+        (entries.Observe window a.now b.now) }
+    ensures room { vec_capacity pool.old ≤ vec_capacity pool.new }
+{
+    let a = shortened_seen(pool, a);
+    let b = shortened_seen(pool, b);
+    ShortEntry::Observe { window, a, b }
+}
+
+/// An entry of the host in short form, its bytes at the end of the pool.
+pub(crate) fn shortened_host(pool: &mut Vec<u8>, entry: &Entry) -> ShortEntry
+    requires kind { IsTrue (is_host entry.now) }
+    requires room { length pool.old.items + most_payload_bytes ≤ vec_capacity pool.old }
+    requires few { length pool.old.items + most_payload_bytes < 2 ^ 32 }
+    ensures entry { IsShortened pool.old.items pool.new.items most_payload_bytes result entry.now }
+    ensures room { vec_capacity pool.old ≤ vec_capacity pool.new }
+{
+    match entry {
+        Entry::Commit {
+            task,
+            buffer,
+            payload,
+        } => shortened_commit(pool, *task, *buffer, payload),
+        Entry::Read { task, buffer, from } => ShortEntry::Read {
+            task: *task,
+            buffer: *buffer,
+            from: *from,
+        },
+        Entry::Pop { task, from } => ShortEntry::Pop {
+            task: *task,
+            from: *from,
+        },
+        Entry::Fetch { .. } | Entry::Observe { .. } => unreachable!(),
+    }
+}
+
+/// An entry of the controller in short form, its bytes at the end of the pool.
+pub(crate) fn shortened_slot(pool: &mut Vec<u8>, entry: &Entry) -> ShortEntry
+    requires kind { is_host entry.now ≡ false }
+    requires room { length pool.old.items + most_seen_bytes ≤ vec_capacity pool.old }
+    requires few { length pool.old.items + most_seen_bytes < 2 ^ 32 }
+    ensures entry { IsShortened pool.old.items pool.new.items most_seen_bytes result entry.now }
+    ensures room { vec_capacity pool.old ≤ vec_capacity pool.new }
+{
+    match entry {
+        Entry::Fetch { window, a, b } => ShortEntry::Fetch {
+            window: *window,
+            a: *a,
+            b: *b,
+        },
+        Entry::Observe { window, a, b } => shortened_observe(pool, *window, a, b),
+        Entry::Commit { .. } | Entry::Read { .. } | Entry::Pop { .. } => unreachable!(),
+    }
+}
+
+/// The bytes of a stretch of the pool.
+fn bytes_at(pool: &[u8], stretch: Stretch) -> &[u8]
+    requires order { stretch.start ≤ stretch.end }
+    requires within { stretch.end ≤ length pool.now }
+    ensures { result.now ≡ bytes_at pool.now stretch }
+{
+    &pool[stretch.start as usize..stretch.end as usize]
+}
+
+/// What was seen, with its bytes from the pool.
+fn restored_seen(pool: &[u8], seen: ShortSeen) -> Seen
+    requires { IsShortSeen (length pool.now) seen }
+    ensures { result ≡ restored_seen pool.now seen }
+{
+    match seen {
+        ShortSeen::Silence => Seen::Silence,
+        ShortSeen::Own => Seen::Own,
+        ShortSeen::Conflict => Seen::Conflict,
+        ShortSeen::Noise => Seen::Noise,
+        ShortSeen::Overrun => Seen::Overrun,
+        ShortSeen::Bytes(stretch) => Seen::Bytes(frame_bytes(bytes_at(pool, stretch))),
+    }
+}
+
+/// A copy of at most as many bytes as a frame has.
+fn frame_bytes(bytes: &[u8]) -> Bytes
+    requires { length bytes.now ≤ most_frame_bytes }
+    ensures { result.items ≡ bytes.now }
+{
+    let mut copy = Bytes::new();
+    let outcome = copy.try_extend_from_slice(bytes);
+    let fits = outcome.is_ok();
+    prove!(fits);
+    copy
+}
+
+/// The payload of bytes that are one.
+fn payload(bytes: &[u8]) -> Payload
+    requires { IsPayload bytes.now }
+    ensures { result ≡ bytes.now }
+{
+    match Payload::from_slice(bytes) {
+        Ok(payload) => payload,
+        Err(_) => unreachable!(),
+    }
+}
+
+/// The entry, with its bytes from the pool.
+pub(crate) fn restored(pool: &[u8], entry: ShortEntry) -> Entry
+    requires { IsShort (length pool.now) entry }
+    ensures { result ≡ restored pool.now entry }
+{
+    match entry {
+        ShortEntry::Commit {
+            task,
+            buffer,
+            payload: stretch,
+        } => Entry::Commit {
+            task,
+            buffer,
+            payload: payload(bytes_at(pool, stretch)),
+        },
+        ShortEntry::Read { task, buffer, from } => Entry::Read { task, buffer, from },
+        ShortEntry::Pop { task, from } => Entry::Pop { task, from },
+        ShortEntry::Fetch { window, a, b } => Entry::Fetch { window, a, b },
+        ShortEntry::Observe { window, a, b } => Entry::Observe {
+            window,
+            a: restored_seen(pool, a),
+            b: restored_seen(pool, b),
+        },
+    }
+}
