@@ -6,3 +6,9 @@ pub mod AgreementLemmas
 pub mod WorldLemmas
 pub mod RunLemmas
 pub mod WorkedLemmas
+pub mod JudgedLemmas
+pub mod LoneLemmas
+pub mod HandingLemmas
+pub mod ReceiverLemmas
+pub mod FollowLemmas
+pub mod HeadlineLemmas
