@@ -4,9 +4,9 @@ use Rattle.std.specs.List.{All}
 use Rattle.fr_bus.specs.States.{BusState, IsRun, OneSenderEach}
 use Rattle.fr_core.specs.Agreement.{IsWorld}
 use Rattle.fr_core.specs.Commits.{AreAccounted}
-use Rattle.fr_core.specs.Headline.{Headline}
+use Rattle.fr_core.specs.Headline.{Headline, WorldsAlike}
 use Rattle.fr_core.specs.Worlds.{WorldState}
-use Rattle.fr_core.proofs.FollowLemmas.{world_receivers}
+use Rattle.fr_core.proofs.FollowLemmas.{world_receivers, world_harmless, worlds_alike}
 use Rattle.fr_interface.specs.State.{State, IsLegalInterface}
 
 pub headline : (w : WorldState) → All IsLegalInterface w.interfaces → All AreAccounted w.interfaces → IsRun w.bus
@@ -18,6 +18,7 @@ headline w lawful accounted run one_sender kept = record {
   one_sender = one_sender;
   agrees = kept;
   receivers = world_receivers w kept run lawful;
+  harmless = world_harmless w kept run lawful;
 }
 
 -- the same, where the interfaces and the bus were lent
@@ -26,3 +27,6 @@ pub headline_of : (w : WorldState) (lent : List State) (bus : BusState) → lent
 headline_of w lent bus p q lawful accounted run one_sender kept =
     headline w (subst (All IsLegalInterface) p lawful) (subst (All AreAccounted) p accounted) (subst IsRun q run)
     (subst (λ (b : BusState). OneSenderEach b.cluster b.sealed) q one_sender) kept
+
+pub alike_worlds : (w v : WorldState) → Headline w → Headline v → WorldsAlike w v
+alike_worlds w v a b = worlds_alike w v a.agrees b.agrees a.harmless b.harmless a.legal b.legal

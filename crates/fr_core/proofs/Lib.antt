@@ -10,5 +10,15 @@ pub mod JudgedLemmas
 pub mod LoneLemmas
 pub mod HandingLemmas
 pub mod ReceiverLemmas
+pub mod TimingLemmas
+pub mod TimedLemmas
+pub mod LeftOverLemmas
+pub mod TakingLemmas
+pub mod SendingLemmas
+pub mod AccountableLemmas
+pub mod OwnLemmas
+pub mod ToldLemmas
+pub mod HarmlessLemmas
+pub mod AlikeLemmas
 pub mod FollowLemmas
 pub mod HeadlineLemmas

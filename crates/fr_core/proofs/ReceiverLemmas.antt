@@ -1,13 +1,11 @@
 -- From a faultless slot receivers hold what the owner committed: from the lists of the interfaces alone.
-use Rattle.std.proofs.Common.{◌≡◌, ℕ, Bool, true, false, cond, List, [], ◌∷◌, ◌++◌, length, map, take, Option, Some}
-use Rattle.std.proofs.Common.{None, refl, sym, ap, subst, ◌∙◌, inl, inr, slice_get, option_map}
+use Rattle.std.proofs.Common.{◌≡◌, ℕ, true, List, [], ◌∷◌, ◌++◌, length, map, take, Option, Some}
+use Rattle.std.proofs.Common.{None, refl, sym, ap, ◌∙◌, inl, inr, slice_get, option_map}
 use Rattle.std.specs.Prelude.{option_to_list}
 use Rattle.std.specs.Option.{option_and_then}
-use Rattle.std.specs.List.{list_any}
 use Rattle.arrayvec.specs.ArrayVec.{ArrayVec}
 use Rattle.fr_bus.specs.Record.{Recorded, offer_in, seen_by}
-use Rattle.fr_slots.proofs.PlaceLemmas.{same_some, get-append, get-after, get-map, map-get, each_after-cut, cut-at}
-use Rattle.fr_slots.proofs.PlaceLemmas.{AllAfter-cut}
+use Rattle.fr_slots.proofs.PlaceLemmas.{same_some, get-append, get-after, get-map, map-get, each_after-cut}
 use Rattle.fr_core.proofs.CaseLemmas.{kept, kept_if}
 use Rattle.fr_core.specs.Agreeing.{Handed, Sight, fetched, sight_of, sight_at, observed, offers_of, sights_of}
 use Rattle.fr_core.specs.Agreeing.{Follows}
@@ -33,7 +31,6 @@ use Rattle.fr_schedule.specs.Descriptions.{Description}
 use Rattle.fr_slots.specs.declared.channel.Channel.{Channel}
 use Rattle.fr_slots.specs.declared.channel.Channel.TheVariants.{A, B}
 use Rattle.fr_slots.specs.declared.plan.Buffer.{Buffer}
-use Rattle.fr_slots.specs.Faults.{is_owned, sends_at}
 use Rattle.fr_slots.specs.History.{each_after}
 use Rattle.fr_slots.specs.Parameters.{Parameters}
 use Rattle.fr_slots.specs.Windows.{Opportunity, slot_of}

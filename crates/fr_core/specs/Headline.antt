@@ -1,6 +1,8 @@
 -- The headline promise: what holds of every world, whatever list of events led to it (own profile).
+use Rattle.std.specs.Prelude.{◌≡◌}
 use Rattle.std.specs.List.{All}
 use Rattle.fr_bus.specs.States.{IsRun, OneSenderEach}
+use Rattle.fr_core.specs.Accounts.{IsHarmless, AreAlike}
 use Rattle.fr_core.specs.Agreement.{IsWorld}
 use Rattle.fr_core.specs.Commits.{AreAccounted}
 use Rattle.fr_core.specs.Receivers.{Receivers}
@@ -21,3 +23,10 @@ pub record Headline (w : WorldState) : Type 0 where
   pub agrees : IsWorld w
   -- from a faultless slot receivers hold what its owner committed
   pub receivers : Receivers w.bus.cluster w.interfaces w.bus.sealed
+  -- in a guarded static slot each node sees what its owner's account gives, whatever others commit, babble or lose
+  pub harmless : IsHarmless w.bus.cluster w.interfaces w.bus.sealed
+
+-- Two worlds of one cluster that are the same in an owner's part of a guarded static slot: each node sees the same in it.
+abbrev pub WorldsAlike : WorldState → WorldState → Type 0
+WorldsAlike w v = w.bus.cluster ≡ v.bus.cluster
+    → AreAlike w.bus.cluster w.interfaces w.bus.sealed v.interfaces v.bus.sealed

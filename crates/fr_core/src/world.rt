@@ -37,7 +37,7 @@ impl Model for World {
 impl World {
     ghost use Rattle.std.specs.Prelude.{◌≡◌};
     ghost use Rattle.std.specs.List.{list_all};
-    ghost use Rattle.fr_core.specs.Headline.{Headline};
+    ghost use Rattle.fr_core.specs.Headline.{Headline, WorldsAlike};
     ghost use Rattle.fr_core.specs.Steps.{Steps};
     ghost use Rattle.fr_core.specs.Worlds.{OpensWorld, is_between};
 
@@ -98,12 +98,24 @@ impl World {
     /// Each interface is legal, and each of its commits is sent, overwritten or pending. The record is that of a run,
     /// and no static slot of a guarded channel carries two senders. The interfaces are those of the cluster's nodes,
     /// and all journals agree with the record, but for at most one step that each controller carries. A frame that a
-    /// receive buffer or a queue holds from a faultless slot is one that the slot's owner committed and handed over.
-    /// It does nothing but tell so.
+    /// receive buffer or a queue holds from a faultless slot is one that the slot's owner committed and handed over. In
+    /// a static slot of a guarded channel each node sees what the account of the slot's owner gives, with the owner's
+    /// own babble and mute and the corrupt bit, whatever other nodes commit, babble or lose; where the slot has no
+    /// owner, each sees silence. It does nothing but tell so.
     pub fn known(&self)
         ensures headline { Headline self.now }
     {
         legal::known(self.machine.interfaces());
         self.machine.bus().known();
+    }
+
+    /// What a babbling node can't change: in two worlds of one cluster, a static slot of a guarded channel in a run
+    /// cycle shows each node the same, where the owner's account before it, its babble and mute there and the corrupt
+    /// bit are the same, whatever else differs (own profile). It does nothing but tell so.
+    pub fn alike(&self, other: &World)
+        ensures { WorldsAlike self.now other.now }
+    {
+        self.known();
+        other.known();
     }
 }
