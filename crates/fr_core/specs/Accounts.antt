@@ -139,8 +139,8 @@ sent_by_account s owner channel slot cycle before mine =
     (bytes_of channel (Some (frame_by_account s.params s.plan slot channel cycle (account s.plan slot before))))
     (babble_of mine)
 
--- The owner fetched the recorded window. By its account before that fetch it sent what is recorded of it on the channel,
--- and each node sees there what that alone gives, without any other transmission.
+-- The owner fetched the recorded window. What is recorded of it on the channel is what it sent by its account before
+-- that fetch, and each node sees there what that alone gives, without any other transmission.
 pub record IsSeenByAccount (p : Parameters) (r : Recorded) (cycle : ℕ) (s : State) (owner : ℕ) (channel : Channel)
     (slot : ℕ) : Type 0 where
   pub before : List Entry
@@ -198,8 +198,8 @@ pub record IsSamePart (slot owner : ℕ) (channel : Channel) (r t : Recorded) (m
   pub babbles : babble_of (own channel owner r.sent) ≡ babble_of (own channel owner t.sent)
   pub corrupts : corrupt_on r channel ≡ corrupt_on t channel
 
--- Where these are the same in two runs of one cluster, for a guarded static slot in a run cycle, each node sees the same
--- there, whatever else the nodes committed, babbled or lost, and whatever the windows' numbers are.
+-- where these are the same in two runs of one cluster, for a guarded static slot in a run cycle, each node sees the
+-- same there, whatever else the nodes committed, babbled or lost, and whatever the windows' numbers are
 abbrev pub AreAlike : Description → List State → List Recorded → List State → List Recorded → Type 0
 AreAlike d interfaces rs others ts = (k j owner slot : ℕ) (r t : Recorded) (mine theirs : State) (channel : Channel)
     → slice_get rs k ≡ Some r → slice_get ts j ≡ Some t

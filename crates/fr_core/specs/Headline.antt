@@ -26,7 +26,7 @@ pub record Headline (w : WorldState) : Type 0 where
   -- in a guarded static slot each node sees what its owner's account gives, whatever others commit, babble or lose
   pub harmless : IsHarmless w.bus.cluster w.interfaces w.bus.sealed
 
--- Two worlds of one cluster that are the same in an owner's part of a guarded static slot: each node sees the same in it.
+-- where two worlds of one cluster are the same in an owner's part of a guarded static slot, each node sees the same
 abbrev pub WorldsAlike : WorldState → WorldState → Type 0
 WorldsAlike w v = w.bus.cluster ≡ v.bus.cluster
     → AreAlike w.bus.cluster w.interfaces w.bus.sealed v.interfaces v.bus.sealed
