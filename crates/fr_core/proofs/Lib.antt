@@ -22,3 +22,4 @@ pub mod HarmlessLemmas
 pub mod AlikeLemmas
 pub mod FollowLemmas
 pub mod HeadlineLemmas
+pub mod WorkedAccountLemmas
