@@ -30,7 +30,13 @@ pub record BusView : Type 0 where
   pub station : Station
 
 abbrev pub view_for : BusState → ℕ → BusView
-view_for b n = record { params = b.cluster.params; sealed = b.sealed; phase = b.phase; opened = b.opened; station = station_at b n }
+view_for b n = record {
+  params = b.cluster.params;
+  sealed = b.sealed;
+  phase = b.phase;
+  opened = b.opened;
+  station = station_at b n;
+}
 
 -- ---- what is under way
 
@@ -61,7 +67,8 @@ abbrev pub behind : ℕ → Carried → BusView → List Sight
 behind n Idle v = []
 behind n (Knows w) v = []
 behind n (Offers w offer) v = []
-behind n (Waits w) v = if collects v.phase then [] else sight_of (last_seen v.params v.sealed A n) (last_seen v.params v.sealed B n) w ∷ []
+behind n (Waits w) v = if collects v.phase then []
+    else sight_of (last_seen v.params v.sealed A n) (last_seen v.params v.sealed B n) w ∷ []
 behind n (Took w a b) v = sight_of a b w ∷ []
 
 -- the window that the controller's interface has open

@@ -4,3 +4,6 @@ pub mod Agreement
 pub mod Steps
 pub mod Commits
 pub mod Runs
+pub mod Receivers
+pub mod Accounts
+pub mod Headline

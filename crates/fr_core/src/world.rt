@@ -36,13 +36,10 @@ impl Model for World {
 
 impl World {
     ghost use Rattle.std.specs.Prelude.{◌≡◌};
-    ghost use Rattle.std.specs.List.{All, list_all};
-    ghost use Rattle.fr_bus.specs.States.{IsRun, OneSenderEach};
-    ghost use Rattle.fr_core.specs.Commits.{AreAccounted};
-    ghost use Rattle.fr_core.specs.Agreement.{IsWorld};
+    ghost use Rattle.std.specs.List.{list_all};
+    ghost use Rattle.fr_core.specs.Headline.{Headline, WorldsAlike};
     ghost use Rattle.fr_core.specs.Steps.{Steps};
     ghost use Rattle.fr_core.specs.Worlds.{OpensWorld, is_between};
-    ghost use Rattle.fr_interface.specs.State.{IsLegalInterface};
 
     /// The opening world of a cluster for a run of so many cycles, 1 to 1024: all journals are empty, the bus is at
     /// cycle 0, slot 1, and no controller carries anything.
@@ -71,25 +68,19 @@ impl World {
         self.machine.step(event)
     }
 
-    /// The interfaces, in the order of the nodes. Each is legal, and each of its commits is sent, overwritten or
-    /// pending. Their journals agree with the record, but for at most one step that each controller carries.
+    /// The interfaces, in the order of the nodes. Of their world the headline promise holds.
     pub fn interfaces(&self) -> &[Interface]
         ensures value { result.now ≡ self.now.interfaces }
-        ensures legal { All IsLegalInterface self.now.interfaces }
-        ensures accounted { All AreAccounted self.now.interfaces }
-        ensures configured { IsWorld self.now }
+        ensures headline { Headline self.now }
     {
         self.known();
         self.machine.interfaces()
     }
 
-    /// The bus. Its record is that of a run, and in a static slot of a guarded channel all that passed is of one
-    /// sender. All journals agree with the record, but for at most one step that each controller carries.
+    /// The bus. Of its world the headline promise holds.
     pub fn bus(&self) -> &Bus
         ensures value { result.now ≡ self.now.bus }
-        ensures run { IsRun self.now.bus }
-        ensures one_sender { OneSenderEach self.now.bus.cluster self.now.bus.sealed }
-        ensures configured { IsWorld self.now }
+        ensures headline { Headline self.now }
     {
         self.known();
         self.machine.bus()
@@ -102,18 +93,29 @@ impl World {
         self.machine.between_windows()
     }
 
-    /// What every world keeps: its interfaces are those of its cluster's nodes, and all journals agree with the record,
-    /// but for at most one step that each controller carries. Each interface is legal, each of its commits is sent,
-    /// overwritten or pending, the record is that of a run, and no static slot of a guarded channel carries two senders.
-    /// It does nothing but tell so.
+    /// The headline promise, which holds of every world, whatever list of events led to it (own profile).
+    ///
+    /// Each interface is legal, and each of its commits is sent, overwritten or pending. The record is that of a run,
+    /// and no static slot of a guarded channel carries two senders. The interfaces are those of the cluster's nodes,
+    /// and all journals agree with the record, but for at most one step that each controller carries. A frame that a
+    /// receive buffer or a queue holds from a faultless slot is one that the slot's owner committed and handed over. In
+    /// a static slot of a guarded channel each node sees what the account of the slot's owner gives, with the owner's
+    /// own babble and mute and the corrupt bit, whatever other nodes commit, babble or lose; where the slot has no
+    /// owner, each sees silence. It does nothing but tell so.
     pub fn known(&self)
-        ensures configured { IsWorld self.now }
-        ensures legal { All IsLegalInterface self.now.interfaces }
-        ensures accounted { All AreAccounted self.now.interfaces }
-        ensures run { IsRun self.now.bus }
-        ensures one_sender { OneSenderEach self.now.bus.cluster self.now.bus.sealed }
+        ensures headline { Headline self.now }
     {
         legal::known(self.machine.interfaces());
         self.machine.bus().known();
+    }
+
+    /// What a babbling node can't change: in two worlds of one cluster, a static slot of a guarded channel in a run
+    /// cycle shows each node the same, where the owner's account before it, its babble and mute there and the corrupt
+    /// bit are the same, whatever else differs (own profile). It does nothing but tell so.
+    pub fn alike(&self, other: &World)
+        ensures { WorldsAlike self.now other.now }
+    {
+        self.known();
+        other.known();
     }
 }
