@@ -1,8 +1,2 @@
 pub mod Audits
-pub mod Checks
-pub mod ClusterFiles
-pub mod Inputs
-pub mod Midpoints
-pub mod Numbers
-pub mod Orders
-pub mod PlanText
+pub mod Failures

@@ -1,10 +1,10 @@
 //! How the program ends when it hasn't done what it was asked.
 ghost use Rattle.std.specs.Prelude.{◌≡◌};
-ghost use Rattle.fr_bench.specs.Orders.{failure_of, status_of};
+ghost use Rattle.fr_bench.specs.Failures.{failure_of, status_of};
 ghost use Rattle.fr_bench.specs.declared.failure.Failure.TheVariants as failure;
 
-use crate::command::OrderError;
-use crate::error::BenchError;
+use fr_commands::error::BenchError;
+use fr_orders::command::OrderError;
 use fr_trace::error::TraceError;
 use thiserror::Error;
 

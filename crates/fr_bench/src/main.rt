@@ -17,21 +17,15 @@
 #![tactic(auto)]
 
 mod audit;
-mod check;
-mod cluster_file;
-mod command;
-mod error;
 mod failure;
-mod input;
-mod midpoint;
-mod numbers;
-mod order;
-mod output;
-mod plan;
 
-use command::{Order, OrderError};
-use error::BenchError;
 use failure::Failure;
+use fr_commands::check::check_text;
+use fr_commands::error::BenchError;
+use fr_commands::midpoint::midpoint_text;
+use fr_commands::plan::plan_text;
+use fr_orders::command::{Order, OrderError};
+use fr_orders::order::order;
 use std::alloc::{AllocError, Global};
 use std::process::ExitCode;
 use std::rt::{Env, Files};
@@ -72,13 +66,13 @@ fn carry_out<R: Files + Input + Print + AllocGlobal>(
         Order::Audit => Ok(audit::audit(alloc, &mut rt.reader(), &mut output)?),
         Order::Check(path) => {
             let mut file = opened(rt, path)?;
-            Ok(check::check_text(alloc, &mut file, &mut output)?)
+            Ok(check_text(alloc, &mut file, &mut output)?)
         }
         Order::Plan(path) => {
             let mut file = opened(rt, path)?;
-            Ok(plan::plan_text(alloc, &mut file, &mut output)?)
+            Ok(plan_text(alloc, &mut file, &mut output)?)
         }
-        Order::Midpoint => Ok(midpoint::midpoint_text(alloc, &mut rt.reader(), &mut output)?),
+        Order::Midpoint => Ok(midpoint_text(alloc, &mut rt.reader(), &mut output)?),
     }
 }
 
@@ -86,7 +80,7 @@ fn carry_out<R: Files + Input + Print + AllocGlobal>(
 fn run<R: Env + Files + Input + Print + AllocGlobal>(rt: &R) -> Result<(), Failure> {
     let words = words_given(rt)?;
     let texts: Vec<&str> = texts_of(rt.alloc(), &words)?;
-    carry_out(rt, order::order(rt.alloc(), texts.as_slice())?)
+    carry_out(rt, order(rt.alloc(), texts.as_slice())?)
 }
 
 fn main(rt: HostRuntime) -> ExitCode {

@@ -10,34 +10,21 @@ use fr_testing::{ONE_WORD_CYCLE, SMALL_CYCLE, cycle, slot};
 use std::test::Fail;
 
 #[test]
-fn numbers_end_at_their_bounds(rt: HostRuntime) -> Result<(), Fail> {
-    assert_eq!(rt;
+fn numbers_end_at_their_bounds(rt: HostRuntime) {
+    let made = (
         [0, 1, 2047, 2048].map(|n| SlotId::new(n).is_some()),
-        [false, true, true, false]
-    );
-    assert_eq!(rt;
         [0, 63, 64].map(|n| Cycle::new(n).is_some()),
-        [true, true, false]
-    );
-    assert_eq!(rt;
         [0, 15, 16].map(|n| NodeId::new(n).is_some()),
-        [true, true, false]
-    );
-    assert_eq!(rt;
         [0, 7, 8].map(|n| TaskId::new(n).is_some()),
-        [true, true, false]
     );
-    assert_eq!(rt;
-        (slot(2047)?.number(), Cycle::from_bits(63).number()),
-        (2047, 63)
-    );
-    Ok(())
+    let wanted = [true, true, false];
+    assert_eq!(rt; made, ([false, true, true, false], wanted, wanted, wanted));
 }
 
 #[test]
 fn after_the_last_cycle_comes_the_first(rt: HostRuntime) -> Result<(), Fail> {
-    assert_eq!(rt; cycle(62)?.next(), cycle(63)?);
-    assert_eq!(rt; cycle(63)?.next(), cycle(0)?);
+    let next = [cycle(62)?.next(), cycle(63)?.next()];
+    assert_eq!(rt; next.map(|cycle| cycle.number()), [63, 0]);
     Ok(())
 }
 
@@ -71,15 +58,13 @@ fn cycle_filters_that_meet(rt: HostRuntime) -> Result<(), Fail> {
 
 #[test]
 fn numbers_that_are_no_cycle_filter(rt: HostRuntime) {
-    assert_eq!(rt;
-        CycleFilter::new(0, 3),
-        Err(FilterError::RepetitionNotPower)
-    );
-    assert_eq!(rt; CycleFilter::new(64, 64), Err(FilterError::BaseTooLarge));
-    assert_eq!(rt;
-        CycleFilter::new(9, 0),
-        Err(FilterError::RepetitionNotPower)
-    );
+    let answers = [(0, 3), (64, 64), (9, 0)].map(|(base, repetition)| CycleFilter::new(base, repetition).err());
+    let wanted = [
+        FilterError::RepetitionNotPower,
+        FilterError::BaseTooLarge,
+        FilterError::RepetitionNotPower,
+    ];
+    assert_eq!(rt; answers, wanted.map(Some));
 }
 
 #[test]
@@ -89,33 +74,43 @@ fn a_filter_asks_for_slot_channel_and_cycle(rt: HostRuntime) -> Result<(), Fail>
         channels: Channels::A,
         cycles: CycleFilter::new(1, 2)?,
     };
-    assert_eq!(rt; filter.admits(cycle(5)?, slot(4)?, Channel::A), true);
-    assert_eq!(rt; filter.admits(cycle(5)?, slot(5)?, Channel::A), false);
-    assert_eq!(rt; filter.admits(cycle(5)?, slot(4)?, Channel::B), false);
-    assert_eq!(rt; filter.admits(cycle(4)?, slot(4)?, Channel::A), false);
-    assert_eq!(rt; Channels::Both.includes(Channel::B), true);
+    let admitted = [
+        filter.admits(cycle(5)?, slot(4)?, Channel::A),
+        filter.admits(cycle(5)?, slot(5)?, Channel::A),
+        filter.admits(cycle(5)?, slot(4)?, Channel::B),
+        filter.admits(cycle(4)?, slot(4)?, Channel::A),
+        Channels::Both.includes(Channel::B),
+    ];
+    assert_eq!(rt; admitted, [true, false, false, false, true]);
     Ok(())
 }
 
 #[test]
 fn a_static_window_has_its_slot_on_both_channels(rt: HostRuntime) -> Result<(), Fail> {
     let window = Window::fixed(7, cycle(2)?, slot(3)?);
-    assert_eq!(rt; window.is_static(), true);
-    assert_eq!(rt; window.slot(Channel::A), Some(slot(3)?));
-    assert_eq!(rt; window.slot(Channel::B), Some(slot(3)?));
+    let told = (window.is_static(), window.slot(Channel::A), window.slot(Channel::B));
+    assert_eq!(rt; told, (true, Some(slot(3)?), Some(slot(3)?)));
+    Ok(())
+}
+
+#[test]
+fn a_dynamic_window_has_the_slots_that_are_open(rt: HostRuntime) -> Result<(), Fail> {
+    let open = Some(slot(5)?);
+    let window = Window::dynamic(7, cycle(2)?, 8000, open, None).ok_or("no window")?;
+    let told = (window.is_static(), window.slot(Channel::A), window.slot(Channel::B));
+    assert_eq!(rt; told, (false, open, None));
     Ok(())
 }
 
 #[test]
 fn a_dynamic_window_needs_a_minislot_and_a_slot(rt: HostRuntime) -> Result<(), Fail> {
     let open = Some(slot(5)?);
-    let window = Window::dynamic(7, cycle(2)?, 8000, open, None).ok_or("no window")?;
-    assert_eq!(rt; window.is_static(), false);
-    assert_eq!(rt; window.slot(Channel::A), open);
-    assert_eq!(rt; window.slot(Channel::B), None);
-    assert_eq!(rt; Window::dynamic(7, cycle(2)?, 0, open, None), None);
-    assert_eq!(rt; Window::dynamic(7, cycle(2)?, 8001, open, None), None);
-    assert_eq!(rt; Window::dynamic(7, cycle(2)?, 1, None, None), None);
+    let windows = [
+        Window::dynamic(7, cycle(2)?, 0, open, None),
+        Window::dynamic(7, cycle(2)?, 8001, open, None),
+        Window::dynamic(7, cycle(2)?, 1, None, None),
+    ];
+    assert_eq!(rt; windows, [None; 3]);
     Ok(())
 }
 
@@ -135,8 +130,7 @@ fn keys_are_printed_as_cluster_files_spell_them(rt: HostRuntime) -> Result<(), F
     ];
     for (key, name) in spelled {
         let printed = format!(in rt.alloc(); "{key}")?;
-        assert_eq!(rt; printed.as_str(), name);
-        assert_eq!(rt; key.name(), name);
+        assert_eq!(rt; (printed.as_str(), key.name()), (name, name));
     }
     Ok(())
 }
@@ -151,33 +145,32 @@ fn channels_are_printed_by_their_letters(rt: HostRuntime) -> Result<(), Fail> {
 
 #[test]
 fn a_key_admits_its_range(rt: HostRuntime) {
-    assert_eq!(rt; Key::StaticSlots.least(), 2);
-    assert_eq!(rt; Key::CycleMt.greatest(), 20000);
-    assert_eq!(rt; Key::StaticSlots.admits(2), true);
-    assert_eq!(rt; Key::StaticSlots.admits(1), false);
-    assert_eq!(rt; Key::Idle.admits(-1), false);
-    assert_eq!(rt; Key::CycleMt.admits(20001), false);
+    assert_eq!(rt; (Key::StaticSlots.least(), Key::CycleMt.greatest()), (2, 20000));
+    let admitted = [
+        Key::StaticSlots.admits(2),
+        Key::StaticSlots.admits(1),
+        Key::Idle.admits(-1),
+        Key::CycleMt.admits(20001),
+    ];
+    assert_eq!(rt; admitted, [true, false, false, false]);
 }
 
 #[test]
 fn parameters_that_fill_their_cycle(rt: HostRuntime) -> Result<(), Fail> {
-    let small = Params::new(SMALL_CYCLE)?;
-    assert_eq!(rt; small.cycle_mt, 120);
-    assert_eq!(rt; small.words_per_minislot, 4);
-    assert_eq!(rt; small.duplicate(), small);
-    assert_eq!(rt; Params::new(ONE_WORD_CYCLE)?.cycle_mt, 90);
+    let small = Params::new(SMALL_CYCLE)?.duplicate();
+    let other = Params::new(ONE_WORD_CYCLE)?;
+    let told = (small.cycle_mt, small.words_per_minislot, other.cycle_mt);
+    assert_eq!(rt; told, (120, 4, 90));
     Ok(())
 }
 
 #[test]
 fn numbers_that_are_no_parameters(rt: HostRuntime) {
     let out_of_range = [3, 8001, 128, 20, 5, 4, 6, 120, 1, 4];
-    assert_eq!(rt;
-        Params::new(out_of_range),
-        Err(RangeError::OutOfRange(Key::Minislots))
-    );
     let longer_cycle = [3, 4, 1, 20, 5, 0, 10, 91, 0, 5];
-    assert_eq!(rt; Params::new(longer_cycle), Err(RangeError::CycleSum));
+    let answers = [out_of_range, longer_cycle].map(|numbers| Params::new(numbers).err());
+    let wanted = [RangeError::OutOfRange(Key::Minislots), RangeError::CycleSum];
+    assert_eq!(rt; answers, wanted.map(Some));
 }
 
 #[test]
@@ -185,12 +178,9 @@ fn a_plan_of_one_receive_buffer(rt: HostRuntime) -> Result<(), Fail> {
     let mut plan = NodePlan::new(1, [0, 8000], 16384, 65536)?;
     plan.add_buffer(Buffer::default())?;
     let plan = plan.duplicate();
-    assert_eq!(rt; plan.tasks(), 1);
-    assert_eq!(rt; plan.host_entries(), 16384);
-    assert_eq!(rt; plan.slot_entries(), 65536);
-    assert_eq!(rt; plan.buffers(), [Buffer::default()].as_slice());
-    assert_eq!(rt; plan.owned().len(), 0);
-    assert_eq!(rt; plan.queue(), None);
+    let told = (plan.tasks(), plan.host_entries(), plan.slot_entries());
+    assert_eq!(rt; told, (1, 16384, 65536));
+    assert_eq!(rt; (plan.buffers().len(), plan.owned().len(), plan.queue()), (1, 0, None));
     Ok(())
 }
 
@@ -199,9 +189,9 @@ fn plans_are_the_same_up_to_the_last_buffer(rt: HostRuntime) -> Result<(), Fail>
     let mut plan = NodePlan::new(1, [0, 0], 1, 2)?;
     plan.add_own(Own::default())?;
     let other = plan.duplicate();
-    assert_eq!(rt; plan.is_same(&other), true);
+    let at_first = plan.is_same(&other);
     plan.add_buffer(Buffer::default())?;
-    assert_eq!(rt; plan.is_same(&other), false);
+    assert_eq!(rt; (at_first, plan.is_same(&other)), (true, false));
     Ok(())
 }
 
@@ -212,12 +202,12 @@ fn ownership_lines_that_are_refused(rt: HostRuntime) -> Result<(), Fail> {
         slot: slot(1024)?,
         ..Own::default()
     };
-    assert_eq!(rt; plan.add_own(beyond), Err(PlanError::OutOfRange));
     let startup_alone = Own {
         startup: true,
         ..Own::default()
     };
-    assert_eq!(rt; plan.add_own(startup_alone), Err(PlanError::OutOfRange));
+    let refused = [plan.add_own(beyond), plan.add_own(startup_alone)];
+    assert_eq!(rt; refused, [Err(PlanError::OutOfRange); 2]);
     let last = Own {
         slot: slot(1023)?,
         sync: true,
@@ -227,9 +217,8 @@ fn ownership_lines_that_are_refused(rt: HostRuntime) -> Result<(), Fail> {
     for _ in 0..LINES {
         plan.add_own(last)?;
     }
-    assert_eq!(rt; plan.add_own(last), Err(PlanError::TooMany));
-    assert_eq!(rt; plan.owned().len(), LINES);
-    assert_eq!(rt; plan.owned()[0], last);
+    let refused = plan.add_own(last);
+    assert_eq!(rt; (refused, plan.owned().len()), (Err(PlanError::TooMany), LINES));
     Ok(())
 }
 
@@ -247,14 +236,18 @@ fn a_node_has_one_queue(rt: HostRuntime) -> Result<(), Fail> {
         capacity: 257,
         ..queue
     };
-    assert_eq!(rt; plan.set_queue(too_many_frames), Err(PlanError::OutOfRange));
     let no_slots = Queue {
         first: slot(5)?,
         ..queue
     };
-    assert_eq!(rt; plan.set_queue(no_slots), Err(PlanError::OutOfRange));
-    plan.set_queue(queue)?;
-    assert_eq!(rt; plan.set_queue(queue), Err(PlanError::TooMany));
+    let answers = [
+        plan.set_queue(too_many_frames),
+        plan.set_queue(no_slots),
+        plan.set_queue(queue),
+        plan.set_queue(queue),
+    ];
+    let out_of_range = Err(PlanError::OutOfRange);
+    assert_eq!(rt; answers, [out_of_range, out_of_range, Ok(()), Err(PlanError::TooMany)]);
     assert_eq!(rt; plan.queue(), Some(queue));
     Ok(())
 }
@@ -262,8 +255,7 @@ fn a_node_has_one_queue(rt: HostRuntime) -> Result<(), Fail> {
 #[test]
 fn a_latest_minislot_for_each_channel(rt: HostRuntime) -> Result<(), Fail> {
     let plan = NodePlan::new(1, [3, 8000], 1, 2)?;
-    assert_eq!(rt; plan.latest(Channel::A), 3);
-    assert_eq!(rt; plan.latest(Channel::B), 8000);
+    assert_eq!(rt; [Channel::A, Channel::B].map(|channel| plan.latest(channel)), [3, 8000]);
     Ok(())
 }
 
@@ -278,10 +270,12 @@ fn lines_that_are_refused(rt: HostRuntime) -> Result<(), Fail> {
         words: Some(1),
         ..Buffer::default()
     };
-    assert_eq!(rt; plan.add_buffer(with_words), Err(PlanError::OutOfRange));
+    let out_of_range = plan.add_buffer(with_words);
     for _ in 0..LINES {
         plan.add_buffer(Buffer::default())?;
     }
-    assert_eq!(rt; plan.add_buffer(Buffer::default()), Err(PlanError::TooMany));
+    let too_many = plan.add_buffer(Buffer::default());
+    let wanted = [PlanError::OutOfRange, PlanError::TooMany];
+    assert_eq!(rt; [out_of_range, too_many], wanted.map(Err));
     Ok(())
 }

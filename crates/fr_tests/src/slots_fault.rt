@@ -84,28 +84,35 @@ fn a_plan_of_other_parameters(rt: HostRuntime) -> Result<(), Fail> {
 #[test]
 fn a_line_for_channel_b(rt: HostRuntime) -> Result<(), Fail> {
     let line = own(2, Channels::B)?;
-    assert!(rt; line.claims(slot(2)?, Channel::B));
-    assert!(rt; !line.claims(slot(2)?, Channel::A));
-    assert!(rt; !line.claims(slot(3)?, Channel::B));
+    let claimed = [
+        line.claims(slot(2)?, Channel::B),
+        line.claims(slot(2)?, Channel::A),
+        line.claims(slot(3)?, Channel::B),
+    ];
+    assert_eq!(rt; claimed, [true, false, false]);
     Ok(())
 }
 
 #[test]
 fn buffers_that_transmit_in_dynamic_slots(rt: HostRuntime) -> Result<(), Fail> {
     let params = Params::new(ONE_WORD_CYCLE)?;
-    assert!(rt; event(4, Channels::A, Some(1))?.transmits_dynamic(&params));
-    assert!(rt; !event(3, Channels::A, None)?.transmits_dynamic(&params));
     let mut receiver = event(4, Channels::A, None)?;
     receiver.mode = Mode::Receive;
-    assert!(rt; !receiver.transmits_dynamic(&params));
+    let buffers = [
+        event(4, Channels::A, Some(1))?,
+        event(3, Channels::A, None)?,
+        receiver,
+    ];
+    let transmitting = buffers.map(|buffer| buffer.transmits_dynamic(&params));
+    assert_eq!(rt; transmitting, [true, false, false]);
     Ok(())
 }
 
 #[test]
 fn words_of_a_static_and_of_a_dynamic_buffer(rt: HostRuntime) -> Result<(), Fail> {
     let params = Params::new(ONE_WORD_CYCLE)?;
-    assert_eq!(rt; event(3, Channels::A, None)?.words(&params), 1);
-    assert_eq!(rt; event(4, Channels::A, Some(7))?.words(&params), 7);
+    let buffers = [event(3, Channels::A, None)?, event(4, Channels::A, Some(7))?];
+    assert_eq!(rt; buffers.map(|buffer| buffer.words(&params)), [1, 7]);
     Ok(())
 }
 
@@ -113,20 +120,20 @@ fn words_of_a_static_and_of_a_dynamic_buffer(rt: HostRuntime) -> Result<(), Fail
 fn a_slot_with_two_owners(rt: HostRuntime) -> Result<(), Fail> {
     let both = own(2, Channels::Both)?;
     let on_b = own(2, Channels::B)?;
-    assert_eq!(rt; fault_of([0, 0], &[own(2, Channels::A)?, on_b], &[])?, None);
-    assert_eq!(rt;
-        fault_of([0, 0], &[on_b, both], &[])?,
-        Some(PlanFault::SlotTaken(slot(2)?, Channel::B))
-    );
-    assert_eq!(rt;
-        fault_of([0, 0], &[on_b, both, both], &[])?,
-        Some(PlanFault::SlotTaken(slot(2)?, Channel::A))
-    );
     let first = own(1, Channels::B)?;
-    assert_eq!(rt;
+    let faults = [
+        fault_of([0, 0], &[own(2, Channels::A)?, on_b], &[])?,
+        fault_of([0, 0], &[on_b, both], &[])?,
+        fault_of([0, 0], &[on_b, both, both], &[])?,
         fault_of([0, 0], &[both, both, first, first], &[])?,
-        Some(PlanFault::SlotTaken(slot(1)?, Channel::B))
-    );
+    ];
+    let wanted = [
+        None,
+        Some(PlanFault::SlotTaken(slot(2)?, Channel::B)),
+        Some(PlanFault::SlotTaken(slot(2)?, Channel::A)),
+        Some(PlanFault::SlotTaken(slot(1)?, Channel::B)),
+    ];
+    assert_eq!(rt; faults, wanted);
     Ok(())
 }
 
@@ -134,15 +141,12 @@ fn a_slot_with_two_owners(rt: HostRuntime) -> Result<(), Fail> {
 fn a_static_buffer_without_its_slot(rt: HostRuntime) -> Result<(), Fail> {
     let lines = [own(1, Channels::A)?];
     let on_a = event(1, Channels::A, None)?;
-    assert_eq!(rt; fault_of([0, 0], &lines, &[on_a])?, None);
-    assert_eq!(rt;
+    let faults = [
+        fault_of([0, 0], &lines, &[on_a])?,
         fault_of([0, 0], &lines, &[on_a, event(1, Channels::Both, None)?])?,
-        Some(PlanFault::NotOwned(1))
-    );
-    assert_eq!(rt;
         fault_of([0, 0], &lines, &[event(2, Channels::A, None)?])?,
-        Some(PlanFault::NotOwned(0))
-    );
+    ];
+    assert_eq!(rt; faults, [None, Some(PlanFault::NotOwned(1)), Some(PlanFault::NotOwned(0))]);
     Ok(())
 }
 
@@ -159,31 +163,24 @@ fn a_dynamic_buffer_on_both_channels(rt: HostRuntime) -> Result<(), Fail> {
 
 #[test]
 fn two_buffers_for_one_slot(rt: HostRuntime) -> Result<(), Fail> {
-    assert_eq!(rt;
-        fault_of([4, 0], &[], &[divided(4, 0, 2)?, divided(4, 3, 4)?])?,
-        None
-    );
-    assert_eq!(rt;
-        fault_of([4, 0], &[], &[divided(4, 0, 1)?, divided(4, 1, 2)?])?,
-        Some(PlanFault::Overlap(slot(4)?, Channel::A, cycle(1)?))
-    );
-    let later = [divided(5, 0, 1)?, divided(5, 0, 1)?];
-    assert_eq!(rt;
-        fault_of(
-            [4, 0],
-            &[],
-            &[later[0], later[1], divided(4, 1, 2)?, divided(4, 3, 4)?]
-        )?,
-        Some(PlanFault::Overlap(slot(4)?, Channel::A, cycle(3)?))
-    );
+    let [later, other] = [divided(5, 0, 1)?, divided(5, 0, 1)?];
     let receiving = Buffer {
         filter: filter(4, Channels::Both, 0, 1)?,
         ..Buffer::default()
     };
-    assert_eq!(rt;
+    let plans = [
+        fault_of([4, 0], &[], &[divided(4, 0, 2)?, divided(4, 3, 4)?])?,
+        fault_of([4, 0], &[], &[divided(4, 0, 1)?, divided(4, 1, 2)?])?,
+        fault_of([4, 0], &[], &[later, other, divided(4, 1, 2)?, divided(4, 3, 4)?])?,
         fault_of([4, 0], &[], &[receiving, receiving, divided(4, 0, 1)?])?,
-        None
-    );
+    ];
+    let wanted = [
+        None,
+        Some(PlanFault::Overlap(slot(4)?, Channel::A, cycle(1)?)),
+        Some(PlanFault::Overlap(slot(4)?, Channel::A, cycle(3)?)),
+        None,
+    ];
+    assert_eq!(rt; plans, wanted);
     Ok(())
 }
 
@@ -196,9 +193,12 @@ fn fault_of_four_words(latest: [u16; 2]) -> Result<Option<PlanFault>, Fail> {
 
 #[test]
 fn a_frame_that_ends_too_late(rt: HostRuntime) -> Result<(), Fail> {
-    assert_eq!(rt; fault_of_four_words([10, 0])?, Some(PlanFault::TooLong(0)));
-    assert_eq!(rt; fault_of_four_words([9, 10])?, None);
-    assert_eq!(rt; fault_of_four_words([0, 0])?, None);
+    let faults = [
+        fault_of_four_words([10, 0])?,
+        fault_of_four_words([9, 10])?,
+        fault_of_four_words([0, 0])?,
+    ];
+    assert_eq!(rt; faults, [Some(PlanFault::TooLong(0)), None, None]);
     Ok(())
 }
 
@@ -248,9 +248,8 @@ fn filters_share_the_first_slot_channel_and_cycle(rt: HostRuntime) -> Result<(),
         channel: Channel::B,
         cycle: cycle(5)?,
     };
-    assert_eq!(rt; first_shared(&filters), Some(shared));
-    assert_eq!(rt; first_shared(&filters[..2]), None);
-    assert_eq!(rt; first_shared(&[]), None);
+    let answers = [first_shared(&filters), first_shared(&filters[..2]), first_shared(&[])];
+    assert_eq!(rt; answers, [Some(shared), None, None]);
     Ok(())
 }
 

@@ -22,67 +22,63 @@ fn there_and_back(params: &Params, macrotick: u32) -> Option<u32>
     start_of(params, locate(params, macrotick)?)
 }
 
+/// A place in a minislot.
+fn in_minislot(number: u16, offset: u32) -> Place {
+    Place::Minislot { number, offset }
+}
+
 #[test]
 fn places_of_the_small_cycle(rt: HostRuntime) -> Result<(), Fail> {
     let params = Params::new(SMALL_CYCLE)?;
-    assert_eq!(rt; locate(&params, 0), Some(in_static_slot(1, 0)?));
-    assert_eq!(rt; locate(&params, 59), Some(in_static_slot(3, 19)?));
-    let first_minislot = Place::Minislot {
-        number: 1,
-        offset: 0,
-    };
-    assert_eq!(rt; locate(&params, 60), Some(first_minislot));
-    let last_minislot = Place::Minislot {
-        number: 10,
-        offset: 4,
-    };
-    assert_eq!(rt; locate(&params, 109), Some(last_minislot));
-    assert_eq!(rt; locate(&params, 110), Some(Place::Symbol { offset: 0 }));
-    assert_eq!(rt; locate(&params, 119), Some(Place::Idle { offset: 5 }));
-    assert_eq!(rt; locate(&params, 120), None);
+    let places = [0, 59, 60, 109, 110, 119, 120].map(|macrotick| locate(&params, macrotick));
+    let wanted = [
+        Some(in_static_slot(1, 0)?),
+        Some(in_static_slot(3, 19)?),
+        Some(in_minislot(1, 0)),
+        Some(in_minislot(10, 4)),
+        Some(Place::Symbol { offset: 0 }),
+        Some(Place::Idle { offset: 5 }),
+        None,
+    ];
+    assert_eq!(rt; places, wanted);
     Ok(())
 }
 
 #[test]
 fn macroticks_of_the_small_cycle(rt: HostRuntime) -> Result<(), Fail> {
     let params = Params::new(SMALL_CYCLE)?;
-    assert_eq!(rt; start_of(&params, in_static_slot(3, 19)?), Some(59));
-    let last_minislot = Place::Minislot {
-        number: 10,
-        offset: 4,
-    };
-    assert_eq!(rt; start_of(&params, last_minislot), Some(109));
-    assert_eq!(rt; start_of(&params, Place::Symbol { offset: 3 }), Some(113));
-    assert_eq!(rt; start_of(&params, Place::Idle { offset: 0 }), Some(114));
-    assert_eq!(rt; there_and_back(&params, 77), Some(77));
+    let macroticks = [
+        start_of(&params, in_static_slot(3, 19)?),
+        start_of(&params, in_minislot(10, 4)),
+        start_of(&params, Place::Symbol { offset: 3 }),
+        start_of(&params, Place::Idle { offset: 0 }),
+        there_and_back(&params, 77),
+    ];
+    assert_eq!(rt; macroticks, [59, 109, 113, 114, 77].map(Some));
     Ok(())
 }
 
 #[test]
 fn places_that_the_small_cycle_has_not(rt: HostRuntime) -> Result<(), Fail> {
     let params = Params::new(SMALL_CYCLE)?;
-    assert_eq!(rt; start_of(&params, in_static_slot(4, 0)?), None);
-    assert_eq!(rt; start_of(&params, in_static_slot(3, 20)?), None);
-    let no_minislot = Place::Minislot {
-        number: 0,
-        offset: 0,
-    };
-    assert_eq!(rt; start_of(&params, no_minislot), None);
-    let after_the_last = Place::Minislot {
-        number: 11,
-        offset: 0,
-    };
-    assert_eq!(rt; start_of(&params, after_the_last), None);
-    assert_eq!(rt; start_of(&params, Place::Idle { offset: u32::MAX }), None);
+    let macroticks = [
+        start_of(&params, in_static_slot(4, 0)?),
+        start_of(&params, in_static_slot(3, 20)?),
+        start_of(&params, in_minislot(0, 0)),
+        start_of(&params, in_minislot(11, 0)),
+        start_of(&params, Place::Idle { offset: u32::MAX }),
+    ];
+    assert_eq!(rt; macroticks, [None; 5]);
     Ok(())
 }
 
 #[test]
-fn without_minislots_the_symbol_window_follows_the_static_slots(
-    rt: HostRuntime,
-) -> Result<(), Fail> {
-    let params = Params::new([3, 0, 1, 20, 5, 4, 6, 70, 1, 4])?;
-    assert_eq!(rt; locate(&params, 60), Some(Place::Symbol { offset: 0 }));
+fn the_symbol_window_stands_between_its_neighbours(rt: HostRuntime) -> Result<(), Fail> {
+    let without_minislots = Params::new([3, 0, 1, 20, 5, 4, 6, 70, 1, 4])?;
+    let without_symbols = Params::new([3, 4, 1, 20, 5, 0, 10, 90, 0, 5])?;
+    let places = [locate(&without_minislots, 60), locate(&without_symbols, 80)];
+    let wanted = [Place::Symbol { offset: 0 }, Place::Idle { offset: 0 }];
+    assert_eq!(rt; places, wanted.map(Some));
     Ok(())
 }
 
@@ -90,20 +86,22 @@ fn without_minislots_the_symbol_window_follows_the_static_slots(
 fn a_symbol_window_without_macroticks_is_no_place(rt: HostRuntime) -> Result<(), Fail> {
     let params = Params::new([3, 4, 1, 20, 5, 0, 10, 90, 0, 5])?;
     assert_eq!(rt; start_of(&params, Place::Symbol { offset: 0 }), None);
-    assert_eq!(rt; locate(&params, 80), Some(Place::Idle { offset: 0 }));
     Ok(())
 }
 
 #[test]
 fn the_longest_cycle_ends_in_idle_time(rt: HostRuntime) -> Result<(), Fail> {
     let params = Params::new([4, 8000, 127, 500, 2, 1000, 1000, 20000, 2, 127])?;
-    assert_eq!(rt; locate(&params, 19999), Some(Place::Idle { offset: 999 }));
-    assert_eq!(rt; locate(&params, 20000), None);
-    assert_eq!(rt; locate(&params, u32::MAX), None);
-    let last_minislot = Place::Minislot {
-        number: 8000,
-        offset: 1,
-    };
-    assert_eq!(rt; start_of(&params, last_minislot), Some(17999));
+    let places = [19999, 20000, u32::MAX].map(|macrotick| locate(&params, macrotick));
+    assert_eq!(rt; places, [Some(Place::Idle { offset: 999 }), None, None]);
+    Ok(())
+}
+
+#[test]
+fn the_last_minislot_of_the_longest_cycle_begins_before_the_symbol_window(
+    rt: HostRuntime,
+) -> Result<(), Fail> {
+    let params = Params::new([4, 8000, 127, 500, 2, 1000, 1000, 20000, 2, 127])?;
+    assert_eq!(rt; start_of(&params, in_minislot(8000, 1)), Some(17999));
     Ok(())
 }

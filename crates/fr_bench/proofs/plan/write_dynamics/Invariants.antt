@@ -1,6 +1,0 @@
-use Rattle.fr_bench.specs.PlanText.{node_text}
-use Rattle.fr_bench.proofs.PlanTextLemmas.{AreNodes}
-use Rattle.fr_bench.proofs.plan.write_dynamics.Given as goal
-
-abbrev pub invariant-loop-number : goal.invariant-loop-number
-invariant-loop-number g l = AreNodes (node_text l.cluster.params) l.cluster.plans l.number (g.W.Write.contents l.fn.writer) (g.W.Write.contents l.writer)

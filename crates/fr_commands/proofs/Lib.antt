@@ -1,0 +1,3 @@
+pub mod InputLemmas
+pub mod NumberLemmas
+pub mod PlanTextLemmas

@@ -1,0 +1,35 @@
+//! A cluster file, read as a cluster.
+ghost use Rattle.std.specs.Prelude.{IfSome};
+ghost use Rattle.fr_commands.specs.ClusterFiles.{IsClusterIn, IsClusterOf};
+
+use crate::error::BenchError;
+use crate::input::read_up_to;
+use fr_schedule::cluster::Cluster;
+use fr_schedule::error::ConfigError;
+use std::alloc::Global;
+use std::io::Read;
+use std::str;
+
+/// The most bytes that a cluster file may have.
+const MOST_BYTES: u64 = 1_048_576;
+
+/// The cluster that the bytes of a cluster file describe.
+fn cluster_in(alloc: Global, bytes: &[u8]) -> Result<Cluster, BenchError>
+    ensures { IsClusterIn bytes.now result }
+{
+    let Ok(text) = str::from_utf8(bytes) else {
+        return Err(BenchError::Config(ConfigError::Toml));
+    };
+    Ok(Cluster::from_text(alloc, text)?)
+}
+
+/// Reads a cluster file to its end, and gives the cluster that it describes (own profile).
+///
+/// Refused with `TooLong` for more than 1,048,576 bytes, then as a text that is no cluster file: with `Toml` also where
+/// it isn't UTF-8. `Read` and `Memory` come where the reader fails and where memory is refused.
+pub fn cluster_of<R: Read>(alloc: Global, reader: &mut R) -> Result<Cluster, BenchError>
+    ensures { IfSome (R.remaining reader.old) (λ text. IsClusterOf text result) }
+{
+    let bytes = read_up_to(alloc, reader, MOST_BYTES)?;
+    cluster_in(alloc, bytes.as_slice())
+}

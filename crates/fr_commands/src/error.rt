@@ -1,0 +1,56 @@
+//! Why a command that reads one text has refused it.
+ghost use Rattle.std.specs.Prelude.{◌≡◌};
+ghost use Rattle.fr_commands.specs.ClusterFiles.{given_of};
+ghost use Rattle.fr_commands.specs.declared.error.BenchError.TheVariants as refusal;
+
+use fr_midpoint::ranks::MidpointError;
+use fr_schedule::error::ConfigError;
+use thiserror::Error;
+
+/// Why `check`, `plan` or `midpoint` hasn't done what it was asked (own profile).
+///
+/// Printed, it is the error's name, and for an error of a crate below the names and values of that
+/// error.
+#[derive(Clone, Copy, Debug, Drop, PartialEq, Eq, Error)]
+pub enum BenchError {
+    /// The input has more bytes than the command takes.
+    #[error("TooLong")]
+    TooLong,
+    /// The input couldn't be read.
+    #[error("Read")]
+    Read,
+    /// The output couldn't be written.
+    #[error("Write")]
+    Write,
+    /// Memory was refused.
+    #[error("Memory")]
+    Memory,
+    /// A word of the input is no number.
+    #[error("BadNumber")]
+    BadNumber,
+    /// The cluster file is refused, for another cause than want of memory.
+    #[error("{0}")]
+    Config(ConfigError),
+    /// The values have no midpoint.
+    #[error("{0}")]
+    Midpoint(MidpointError),
+}
+
+impl From<ConfigError> for BenchError {
+    ghost from_gives = { λ error given. given ≡ given_of error };
+
+    fn from(error: ConfigError) -> BenchError {
+        match error {
+            ConfigError::Memory => BenchError::Memory,
+            _ => BenchError::Config(error),
+        }
+    }
+}
+
+impl From<MidpointError> for BenchError {
+    ghost from_gives = { λ error given. given ≡ refusal.Midpoint error };
+
+    fn from(error: MidpointError) -> BenchError {
+        BenchError::Midpoint(error)
+    }
+}

@@ -1,0 +1,25 @@
+//! A whole input, up to a limit.
+ghost use Rattle.std.specs.Prelude.{◌<◌, ◌^◌, IfSome};
+ghost use Rattle.fr_commands.specs.Inputs.{IsReadUpTo};
+
+use crate::error::BenchError;
+use std::alloc::Global;
+use std::io::{ErrorKind, Read};
+
+/// All bytes that the reader has left, of which there may be `limit` at most.
+///
+/// Refused with `Read` where the reader fails, with `Memory` where memory is refused, and with
+/// `TooLong` where there are more bytes. No byte is read beyond the first one too many.
+#[tactic(auto, using(crate::proofs::InputLemmas::whole))]
+pub fn read_up_to<R: Read>(alloc: Global, reader: &mut R, limit: u64) -> Result<Vec<u8>, BenchError>
+    requires { limit < 2 ^ 32 }
+    ensures { IfSome (R.remaining reader.old) (λ text. IsReadUpTo limit text result) }
+{
+    let mut bytes = Vec::new(alloc);
+    match reader.take(limit + 1).read_to_end(&mut bytes) {
+        Ok(_) if bytes.len() as u64 > limit => Err(BenchError::TooLong),
+        Ok(_) => Ok(bytes),
+        Err(error) if error.kind() == ErrorKind::OutOfMemory => Err(BenchError::Memory),
+        Err(_) => Err(BenchError::Read),
+    }
+}

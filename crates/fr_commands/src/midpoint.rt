@@ -1,0 +1,59 @@
+//! `fr_bench midpoint`.
+ghost use Rattle.std.specs.Prelude.{IfSome, OnOk};
+ghost use Rattle.std.specs.Io.KnownBytes.{Appends};
+ghost use Rattle.fr_commands.specs.Midpoints.{Midpoints, midpoint_line};
+
+use crate::error::BenchError;
+use crate::input::read_up_to;
+use crate::numbers::numbers_of;
+use crate::output::write_whole;
+use fr_midpoint::midpoint::midpoint;
+use fr_midpoint::ranks::Midpoint;
+use std::alloc::Global;
+use std::io::{self, Read, Write};
+
+/// The most bytes that the input may have.
+const MOST_BYTES: u64 = 4096;
+
+/// Writes a midpoint with its two ranks, or that there is none.
+fn write_midpoint<W: Write>(writer: &mut W, answer: Option<Midpoint>) -> io::Result<()>
+    ensures { OnOk result (Appends (W.contents writer.old) (W.contents writer.new) (midpoint_line answer)) }
+{
+    match answer {
+        None => writeln!(writer, "none"),
+        Some(
+            Midpoint {
+                value,
+                low_rank,
+                high_rank,
+            },
+        ) => writeln!(writer, "{value} {low_rank} {high_rank}"),
+    }
+}
+
+/// Reads numbers to the end and writes their fault-tolerant midpoint with the ranks of the two values
+/// that it lies between, or `none` (chapter 8; the texts are own profile).
+///
+/// Numbers are separated by spaces and line feeds. Refused with `TooLong` for more than 4096 bytes,
+/// then with `BadNumber` for a word that is no number, then with `TooMany` for more than 15 numbers,
+/// and then with `TooLarge` for one that is more than 1,000,000 from 0. `Read`, `Write` and `Memory`
+/// come where the reader fails, the writer fails, or memory is refused. On every refusal but `Write`
+/// nothing is written.
+pub fn midpoint_text<R: Read, W: Write>(
+    alloc: Global,
+    reader: &mut R,
+    writer: &mut W,
+) -> Result<(), BenchError>
+    ensures { IfSome (R.remaining reader.old)
+        (λ text. Midpoints text (W.contents writer.old) (W.contents writer.new) result) }
+{
+    let text = read_up_to(alloc, reader, MOST_BYTES)?;
+    let numbers = numbers_of(alloc, text.as_slice())?;
+    let answer = midpoint(numbers.as_slice())?;
+    let mut line = Vec::new(alloc);
+    match write_midpoint(&mut line, answer) {
+        Ok(()) => write_whole(writer, line.as_slice()),
+        // A list of bytes fails to take more for want of memory alone.
+        Err(_) => Err(BenchError::Memory),
+    }
+}

@@ -1,0 +1,37 @@
+//! Words that are a command, and words that are none.
+
+use fr_orders::command::{Order, OrderError};
+use fr_orders::order::order;
+use std::test::Fail;
+
+#[test]
+fn each_command_is_an_order(rt: HostRuntime) -> Result<(), Fail> {
+    let orders = [
+        order(rt.alloc(), &["audit"])?,
+        order(rt.alloc(), &["check", "cluster.toml"])?,
+        order(rt.alloc(), &["plan", "cluster.toml"])?,
+        order(rt.alloc(), &["midpoint"])?,
+    ];
+    let wanted = [
+        Order::Audit,
+        Order::Check("cluster.toml"),
+        Order::Plan("cluster.toml"),
+        Order::Midpoint,
+    ];
+    assert_eq!(rt; orders, wanted);
+    Ok(())
+}
+
+#[test]
+fn other_words_are_usage(rt: HostRuntime) {
+    let answers = [
+        order(rt.alloc(), &[]).err(),
+        order(rt.alloc(), &["audits"]).err(),
+        order(rt.alloc(), &["audit", "trace"]).err(),
+        order(rt.alloc(), &["help"]).err(),
+        order(rt.alloc(), &["--help"]).err(),
+        order(rt.alloc(), &["-V"]).err(),
+        order(rt.alloc(), &["check"]).err(),
+    ];
+    assert_eq!(rt; answers, [Some(OrderError::Usage); 7]);
+}

@@ -1,0 +1,70 @@
+-- The commands are of the kind of which `clap` tells all faults, what a parse holds tells the command's name and the
+-- word for its file, and so the answer is the one that is due.
+use Rattle.std.proofs.Common.{◌≡◌, ◌∷◌, [], List, Option, Some, None, Err, option_map, is_some, true≢false, ap, sym}
+use Rattle.std.proofs.Common.{refl, ◌∙◌, ℕ, arith, inl, inr, codes, true}
+use Rattle.std.specs.Prelude.{IfSome, IsSome}
+use Rattle.std.specs.Option.{ok_or, option_map_or}
+use Rattle.clap.specs.Values.{kind_of}
+use Rattle.clap.specs.Words.{HasKind, IsAmong, Kinds, Row, Text, fault_of, first_of, is_simple, is_simple_and_free}
+use Rattle.clap.specs.Words.{subcommand_of}
+use Rattle.clap.specs.declared.error.Error.{Error}
+use Rattle.clap.proofs.OnLiterals.{clap_on_literals}
+use Rattle.fr_orders.specs.declared.command.Order.{Order}
+use Rattle.fr_orders.specs.declared.command.OrderError.{OrderError}
+use Rattle.fr_orders.specs.declared.command.OrderError.TheVariants as refusal
+use Rattle.fr_orders.specs.Orders.{HasFile, IsAnswer, IsNamed, IsOrder, IsWhole, file_in, name_in, order_error_of}
+use Rattle.fr_orders.specs.Orders.{the_commands}
+use Rattle.fr_orders.proofs.WholeLemmas.{whole}
+
+pub are_simple : is_simple the_commands ≡ true
+unfolding clap_on_literals
+are_simple = refl
+
+pub are_free : is_simple_and_free the_commands ≡ true
+unfolding clap_on_literals
+are_free = refl
+
+-- where the rows of the entered command are known, so is its word for FILE
+pub file_of_rows : (entered : Option (Text × List Row)) (rows : List Row)
+    → option_map (λ p. p.1) entered ≡ Some rows → file_in entered ≡ first_of (codes "FILE") rows
+file_of_rows None rows are = cc are
+file_of_rows (Some (name, entered)) rows are = let is : entered ≡ rows = cc are in rw is refl
+
+-- a command has one name, and these differ in their first letters
+abbrev first : Text → ℕ
+first [] = 0
+first (letter ∷ letters) = letter
+
+one_name : (a b : Text) (o : Option Text) → o ≡ Some a → o ≡ Some b → first a ≡ first b
+one_name a b o is_a is_b = ap (λ x. option_map_or first x 0) (sym is_a ∙ is_b)
+
+-- a whole command of a file has its file
+pub check_has_file : (entered : Option (Text × List Row)) → IsNamed (codes "check") entered → IsWhole entered → HasFile entered
+check_has_file entered named (inl (inl e)) = let bad : 99 ≡ 97 = one_name (codes "check") (codes "audit") (name_in entered) named e in absurd (omega (arith, bad))
+check_has_file entered named (inl (inr e)) = let bad : 99 ≡ 109 = one_name (codes "check") (codes "midpoint") (name_in entered) named e in absurd (omega (arith, bad))
+check_has_file entered named (inr h) = h.1
+
+pub plan_has_file : (entered : Option (Text × List Row)) → IsNamed (codes "plan") entered → IsWhole entered → HasFile entered
+plan_has_file entered named (inl (inl e)) = let bad : 112 ≡ 97 = one_name (codes "plan") (codes "audit") (name_in entered) named e in absurd (omega (arith, bad))
+plan_has_file entered named (inl (inr e)) = let bad : 112 ≡ 109 = one_name (codes "plan") (codes "midpoint") (name_in entered) named e in absurd (omega (arith, bad))
+plan_has_file entered named (inr h) = h.1
+
+pub none_has_none : (o : Option Text) → o ≡ None → is_some o ≡ true → ⊥
+none_has_none o none some = true≢false (sym some ∙ ap is_some none)
+
+-- an error for which there is a fault, or none for which there is want of memory
+pub refused_for : (words : List Text) (e : Error) → HasKind (fault_of the_commands words) e → IsAnswer words (Err (order_error_of (kind_of e)))
+refused_for words e (inl memory) = rw memory tt
+refused_for words e (inr among) = by (order_error_of (kind_of e)) (fault_of the_commands words) refl among
+  where
+    by : (given : OrderError) (kinds : Kinds) → fault_of the_commands words ≡ kinds → IsAmong (kind_of e) kinds → IsAnswer words (Err given)
+    by refusal.Memory kinds are among = tt
+    by refusal.Usage [] are among = absurd among
+    by refusal.Usage (k ∷ ks) are among = rw are (omega arith)
+
+-- without a fault the order that was found is the answer
+pub taken_for : (words : List Text) (found : Option Order) → fault_of the_commands words ≡ []
+    → IfSome found (IsOrder (subcommand_of the_commands words)) → (IsWhole (subcommand_of the_commands words) → IsSome found)
+    → IsAnswer words (ok_or found refusal.Usage)
+taken_for words (Some order) none told has = (none, told)
+taken_for words None none told has = absurd (true≢false (sym (has (whole words none))))

@@ -1,0 +1,85 @@
+-- Which words are an order, by the rules of `clap`, and how the refusal of words follows from its errors.
+use Rattle.std.specs.Prelude.{◌≡◌, ◌⊎◌, ◌<◌, ℕ, List, [], length, Option, Some, Result, Ok, Err, true, codes, is_some}
+use Rattle.std.specs.Prelude.{option_map, option_and_then}
+use Rattle.clap.specs.Words.{App, Row, Rule, Shape, Text, fault_of, first_of, new_app, new_rule, subcommand_of}
+use Rattle.clap.specs.Words.{with_rule, with_subcommand}
+use Rattle.clap.specs.declared.error.kind.ErrorKind.{ErrorKind}
+use Rattle.clap.specs.declared.error.kind.ErrorKind.TheVariants as kind
+use Rattle.fr_orders.specs.declared.command.Order.{Order}
+use Rattle.fr_orders.specs.declared.command.Order.TheVariants as the_order
+use Rattle.fr_orders.specs.declared.command.OrderError.{OrderError}
+use Rattle.fr_orders.specs.declared.command.OrderError.TheVariants as refusal
+
+-- a command with nothing but its name
+abbrev pub named : Text → Shape
+named name = (new_app name).top
+
+-- the program without a command: a command is required, the words begin with it, and help is none
+abbrev pub bare : App
+bare = record {
+  top = record (named (codes "fr_bench")) {
+    no_binary_name = true;
+    subcommand_required = true;
+    disable_help_flag = true;
+    disable_help_subcommand = true;
+  };
+  subs = [];
+}
+
+-- the argument FILE, which has to be there
+abbrev pub the_file : Rule
+the_file = record (new_rule (codes "FILE")) { required = true }
+
+-- a command of this name, with its file
+abbrev pub with_file : Text → App
+with_file name = with_rule (new_app name) the_file
+
+-- the program with the commands `audit` and `check`, and then with `plan` too
+abbrev pub two_commands : App
+two_commands = with_subcommand (with_subcommand bare (named (codes "audit"))) (with_file (codes "check")).top
+
+abbrev pub three_commands : App
+three_commands = with_subcommand two_commands (with_file (codes "plan")).top
+
+-- the program with all its commands
+abbrev pub the_commands : App
+the_commands = with_subcommand three_commands (named (codes "midpoint"))
+
+-- the name of the command that words enter
+abbrev pub name_in : Option (Text × List Row) → Option Text
+name_in = option_map (λ entered. entered.0)
+
+-- the word for FILE
+abbrev pub file_in : Option (Text × List Row) → Option Text
+file_in = option_and_then (λ entered. first_of (codes "FILE") entered.1)
+
+-- one of the commands was entered, with its file where it has one
+abbrev pub IsNamed : Text → Option (Text × List Row) → Type 0
+IsNamed name entered = name_in entered ≡ Some name
+
+abbrev pub HasFile : Option (Text × List Row) → Type 0
+HasFile entered = is_some (file_in entered) ≡ true
+
+abbrev pub IsWhole : Option (Text × List Row) → Type 0
+IsWhole entered =
+    (IsNamed (codes "audit") entered ⊎ IsNamed (codes "midpoint") entered)
+    ⊎ ((IsNamed (codes "check") entered ⊎ IsNamed (codes "plan") entered) × HasFile entered)
+
+-- the order is that of the command which the words enter, with its file
+abbrev pub IsOrder : Option (Text × List Row) → Order → Type 0
+IsOrder entered the_order.Audit = IsNamed (codes "audit") entered
+IsOrder entered (the_order.Check file) = IsNamed (codes "check") entered × (file_in entered ≡ Some file.now)
+IsOrder entered (the_order.Plan file) = IsNamed (codes "plan") entered × (file_in entered ≡ Some file.now)
+IsOrder entered the_order.Midpoint = IsNamed (codes "midpoint") entered
+
+-- The order is the one that the words enter, where `clap` finds no fault with them. Where it finds one they are no command,
+-- and nowhere else; for want of memory either may stay unanswered.
+abbrev pub IsAnswer : List Text → Result Order OrderError → Type 0
+IsAnswer words (Ok order) = (fault_of the_commands words ≡ []) × IsOrder (subcommand_of the_commands words) order
+IsAnswer words (Err refusal.Usage) = 0 < length (fault_of the_commands words)
+IsAnswer words (Err refusal.Memory) = Unit {0}
+
+-- want of memory alone is no fault of the words
+abbrev pub order_error_of : ErrorKind → OrderError
+order_error_of kind.OutOfMemory = refusal.Memory
+order_error_of _ = refusal.Usage

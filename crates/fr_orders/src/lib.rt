@@ -1,0 +1,13 @@
+//! The words after the program's name, read as an order (own profile).
+//!
+//! ```text
+//! order(alloc, &["audit"])?; // Order::Audit
+//! order(alloc, &["plan", "cluster.toml"])?; // Order::Plan("cluster.toml")
+//! order(alloc, &["audit", "trace"]); // Err(OrderError::Usage)
+//! ```
+//!
+//! *(own profile)* marks a rule of this project's own, which says nothing of the standard.
+#![tactic(auto)]
+
+pub mod command;
+pub mod order;
