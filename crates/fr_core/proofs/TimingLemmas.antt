@@ -1,7 +1,7 @@
 -- The cycle of a static window is its run cycle's.
 use Rattle.std.proofs.Common.{◌≡◌, ◌≤◌, ◌<◌, ℕ, zero, suc, ◌+◌, ◌-◌, ◌%◌, Bool, true, false, cond, List, [], ◌∷◌}
 use Rattle.std.proofs.Common.{◌++◌, length, take, Option, Some, None, refl, sym, ap, subst, ◌∙◌, arith, option_map}
-use Rattle.std.specs.Prelude.{◌==◌, nat_lt, count_by}
+use Rattle.std.specs.Prelude.{◌==◌, nat_lt, count_by, slice_get}
 use Rattle.std.specs.List.{find, fold, range_with_len}
 use Rattle.std.specs.Option.{option_or}
 use Rattle.std.proofs.lemmas.Bool.{ne_eqb}
@@ -11,10 +11,8 @@ use Rattle.fr_journal.specs.declared.entry.Entry.{Entry}
 use Rattle.fr_journal.specs.declared.entry.Entry.TheVariants.{Commit, Read, Pop, Fetch, Observe}
 use Rattle.fr_bus.specs.States.{IsRecorded}
 use Rattle.fr_schedule.specs.Descriptions.{Description}
-use Rattle.fr_bus.specs.Windows.{opens_cycle}
-use Rattle.std.specs.Prelude.{slice_get}
 use Rattle.fr_bus.specs.Windows.{begins_cycle, cycles_begun, with_window, this_cycle, is_static_one, opens_any}
-use Rattle.fr_bus.specs.Windows.{window_at, next_dynamic, statics_of, next_in_cycle, first_of_cycle, following}
+use Rattle.fr_bus.specs.Windows.{opens_cycle, window_at, next_dynamic, statics_of, next_in_cycle, first_of_cycle, following}
 use Rattle.fr_bus.specs.Record.{Recorded}
 use Rattle.fr_core.proofs.CaseLemmas.{differ, kept, both_first}
 use Rattle.fr_slots.proofs.PlaceLemmas.{same_some, cut-at, AllAfter-cut}
@@ -64,7 +62,7 @@ one_more n = omega arith
 none_more : (n : ℕ) → n - 1 ≡ (n + 0) - 1
 none_more n = omega arith
 
--- the first window of a cycle is on time, and opens_cycle it
+-- the first window of a cycle is on time, and begins it
 record IsFirst (begun : ℕ) (w : Opportunity) : Type 0 where
   on_time : IsOnTime begun w
   begins_it : opens_cycle w ≡ true
@@ -82,7 +80,7 @@ at_static number begun statics w some e =
     subst (IsOnTime begun) (same_some later w e)
     (λ still. ap (λ n. n % 64) (none_more begun) ∙ ap (λ (b : Bool). ((begun + cond b 1 0) - 1) % 64) (sym other))
 
--- what is found in a range that starts behind 0 isn't 0
+-- what is found in a range that starts after 0 isn't 0
 found_after : (test : ℕ → Bool) (start n m : ℕ) → 1 ≤ start → find test (range_with_len start n) ≡ Some m → 1 ≤ m
 found_after test start zero m least e = absurd (let none : ⊥ = cc in none)
 found_after test start (suc n) m least e = here (test start) (find test (range_with_len (start + 1) n)) (found_after test (start + 1) n m (omega (arith, least))) e

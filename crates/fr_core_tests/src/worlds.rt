@@ -6,7 +6,10 @@ use fr_core::error::StepError;
 use fr_core::event::{Event, Reply};
 use fr_core::world::World;
 use fr_frame::payload::Payload;
+use fr_interface::interface::Interface;
+use fr_journal::fate::Tally;
 use fr_schedule::cluster::Cluster;
+use fr_status::counters::Counters;
 use fr_testing::{node, task};
 use std::alloc::Global;
 use std::test::Fail;
@@ -31,7 +34,7 @@ buffer = [{kind = \"event\", slot = 1, channels = \"AB\"}]
 [[node]]
 tasks = 2
 own = [{slot = 2, channels = \"AB\"}]
-buffer = [{kind = \"receive\", slot = 1, channels = \"A\"}]
+buffer = [{kind = \"receive\", slot = 1, channels = \"A\"}, {kind = \"receive\", slot = 1, channels = \"B\"}]
 [[node]]
 tasks = 2
 ";
@@ -57,10 +60,15 @@ pub(crate) fn commit(number: u8, list: &[u8]) -> Result<Event, Fail> {
 
 /// The first task of the node reads its buffer 0.
 pub(crate) fn read(number: u8) -> Result<Event, Fail> {
+    read_of(number, 0)
+}
+
+/// The first task of the node reads its buffer of this number.
+pub(crate) fn read_of(number: u8, buffer: u8) -> Result<Event, Fail> {
     Ok(Event::Read {
         node: node(number)?,
         task: task(0)?,
-        buffer: 0,
+        buffer,
     })
 }
 
@@ -107,6 +115,29 @@ pub(crate) fn payload_read(world: &mut World, event: &Event) -> Result<Payload, 
         Reply::Frame(Some(frame)) => Ok(frame.payload),
         _ => Err(Fail::from("no frame")),
     }
+}
+
+/// The payload that the event reads, or nothing where there is no frame.
+pub(crate) fn payload_if_any(world: &mut World, event: &Event) -> Result<Option<Payload>, Fail> {
+    match world.step(event)? {
+        Reply::Frame(Some(frame)) => Ok(Some(frame.payload)),
+        _ => Ok(None),
+    }
+}
+
+/// The interface at this place; none fails the test.
+fn interface(world: &World, place: usize) -> Result<&Interface, Fail> {
+    Ok(world.interfaces().get(place).ok_or("no interface")?)
+}
+
+/// What became of the commits on the node's buffer 0.
+pub(crate) fn tally(world: &World, place: usize) -> Result<Tally, Fail> {
+    Ok(interface(world, place)?.tally(0).ok_or("no tally")?)
+}
+
+/// The node's status counters.
+pub(crate) fn counters(world: &World, place: usize) -> Result<Counters, Fail> {
+    Ok(interface(world, place)?.counters())
 }
 
 /// How many windows the record has.
