@@ -62,7 +62,10 @@ fn the_longest_frame(rt: HostRuntime) -> Result<(), Fail> {
     assert_eq!(rt; header_crc(&frame), 0x135);
     let bytes = encode(&frame, Channel::A);
     let header = [0x27, 0xff, 0xfe, 0x4d, 0x7f];
-    assert_eq!(rt; (bytes.len(), &bytes.as_slice()[..5]), (262, header.as_slice()));
+    assert_eq!(rt;
+        (bytes.len(), &bytes.as_slice()[..5]),
+        (262, header.as_slice())
+    );
     assert_eq!(rt; decode(bytes.as_slice(), Channel::A)?, frame);
     Ok(())
 }

@@ -41,7 +41,10 @@ fn a_lane_ends_with_its_minislots(rt: HostRuntime) -> Result<(), Fail> {
         lane.close(0)?;
     }
     let last = (lane.opens(10), lane.close(0), lane.close(0));
-    assert_eq!(rt; last, (SlotId::new(11), Ok(()), Err(LaneError::NothingOpen)));
+    assert_eq!(rt;
+        last,
+        (SlotId::new(11), Ok(()), Err(LaneError::NothingOpen))
+    );
     Ok(())
 }
 

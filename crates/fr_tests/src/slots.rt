@@ -58,7 +58,9 @@ fn cycle_filters_that_meet(rt: HostRuntime) -> Result<(), Fail> {
 
 #[test]
 fn numbers_that_are_no_cycle_filter(rt: HostRuntime) {
-    let answers = [(0, 3), (64, 64), (9, 0)].map(|(base, repetition)| CycleFilter::new(base, repetition).err());
+    let answers = [(0, 3), (64, 64), (9, 0)].map(|(base, repetition)| CycleFilter::new(
+        base, repetition,
+    ).err());
     let wanted = [
         FilterError::RepetitionNotPower,
         FilterError::BaseTooLarge,
@@ -88,7 +90,11 @@ fn a_filter_asks_for_slot_channel_and_cycle(rt: HostRuntime) -> Result<(), Fail>
 #[test]
 fn a_static_window_has_its_slot_on_both_channels(rt: HostRuntime) -> Result<(), Fail> {
     let window = Window::fixed(7, cycle(2)?, slot(3)?);
-    let told = (window.is_static(), window.slot(Channel::A), window.slot(Channel::B));
+    let told = (
+        window.is_static(),
+        window.slot(Channel::A),
+        window.slot(Channel::B),
+    );
     assert_eq!(rt; told, (true, Some(slot(3)?), Some(slot(3)?)));
     Ok(())
 }
@@ -97,7 +103,11 @@ fn a_static_window_has_its_slot_on_both_channels(rt: HostRuntime) -> Result<(), 
 fn a_dynamic_window_has_the_slots_that_are_open(rt: HostRuntime) -> Result<(), Fail> {
     let open = Some(slot(5)?);
     let window = Window::dynamic(7, cycle(2)?, 8000, open, None).ok_or("no window")?;
-    let told = (window.is_static(), window.slot(Channel::A), window.slot(Channel::B));
+    let told = (
+        window.is_static(),
+        window.slot(Channel::A),
+        window.slot(Channel::B),
+    );
     assert_eq!(rt; told, (false, open, None));
     Ok(())
 }
@@ -130,7 +140,8 @@ fn keys_are_printed_as_cluster_files_spell_them(rt: HostRuntime) -> Result<(), F
     ];
     for (key, name) in spelled {
         let printed = format!(in rt.alloc(); "{key}")?;
-        assert_eq!(rt; (printed.as_str(), key.name()), (name, name));
+        assert_eq!(rt; printed.as_str(), name);
+        assert_eq!(rt; key.name(), name);
     }
     Ok(())
 }
@@ -145,7 +156,10 @@ fn channels_are_printed_by_their_letters(rt: HostRuntime) -> Result<(), Fail> {
 
 #[test]
 fn a_key_admits_its_range(rt: HostRuntime) {
-    assert_eq!(rt; (Key::StaticSlots.least(), Key::CycleMt.greatest()), (2, 20000));
+    assert_eq!(rt;
+        (Key::StaticSlots.least(), Key::CycleMt.greatest()),
+        (2, 20000)
+    );
     let admitted = [
         Key::StaticSlots.admits(2),
         Key::StaticSlots.admits(1),
@@ -180,7 +194,10 @@ fn a_plan_of_one_receive_buffer(rt: HostRuntime) -> Result<(), Fail> {
     let plan = plan.duplicate();
     let told = (plan.tasks(), plan.host_entries(), plan.slot_entries());
     assert_eq!(rt; told, (1, 16384, 65536));
-    assert_eq!(rt; (plan.buffers().len(), plan.owned().len(), plan.queue()), (1, 0, None));
+    assert_eq!(rt;
+        (plan.buffers().len(), plan.owned().len(), plan.queue()),
+        (1, 0, None)
+    );
     Ok(())
 }
 
@@ -218,7 +235,10 @@ fn ownership_lines_that_are_refused(rt: HostRuntime) -> Result<(), Fail> {
         plan.add_own(last)?;
     }
     let refused = plan.add_own(last);
-    assert_eq!(rt; (refused, plan.owned().len()), (Err(PlanError::TooMany), LINES));
+    assert_eq!(rt;
+        (refused, plan.owned().len()),
+        (Err(PlanError::TooMany), LINES)
+    );
     Ok(())
 }
 
@@ -247,7 +267,10 @@ fn a_node_has_one_queue(rt: HostRuntime) -> Result<(), Fail> {
         plan.set_queue(queue),
     ];
     let out_of_range = Err(PlanError::OutOfRange);
-    assert_eq!(rt; answers, [out_of_range, out_of_range, Ok(()), Err(PlanError::TooMany)]);
+    assert_eq!(rt;
+        answers,
+        [out_of_range, out_of_range, Ok(()), Err(PlanError::TooMany)]
+    );
     assert_eq!(rt; plan.queue(), Some(queue));
     Ok(())
 }
@@ -255,7 +278,10 @@ fn a_node_has_one_queue(rt: HostRuntime) -> Result<(), Fail> {
 #[test]
 fn a_latest_minislot_for_each_channel(rt: HostRuntime) -> Result<(), Fail> {
     let plan = NodePlan::new(1, [3, 8000], 1, 2)?;
-    assert_eq!(rt; [Channel::A, Channel::B].map(|channel| plan.latest(channel)), [3, 8000]);
+    assert_eq!(rt;
+        [Channel::A, Channel::B].map(|channel| plan.latest(channel)),
+        [3, 8000]
+    );
     Ok(())
 }
 

@@ -111,7 +111,10 @@ fn buffers_that_transmit_in_dynamic_slots(rt: HostRuntime) -> Result<(), Fail> {
 #[test]
 fn words_of_a_static_and_of_a_dynamic_buffer(rt: HostRuntime) -> Result<(), Fail> {
     let params = Params::new(ONE_WORD_CYCLE)?;
-    let buffers = [event(3, Channels::A, None)?, event(4, Channels::A, Some(7))?];
+    let buffers = [
+        event(3, Channels::A, None)?,
+        event(4, Channels::A, Some(7))?,
+    ];
     assert_eq!(rt; buffers.map(|buffer| buffer.words(&params)), [1, 7]);
     Ok(())
 }
@@ -146,7 +149,14 @@ fn a_static_buffer_without_its_slot(rt: HostRuntime) -> Result<(), Fail> {
         fault_of([0, 0], &lines, &[on_a, event(1, Channels::Both, None)?])?,
         fault_of([0, 0], &lines, &[event(2, Channels::A, None)?])?,
     ];
-    assert_eq!(rt; faults, [None, Some(PlanFault::NotOwned(1)), Some(PlanFault::NotOwned(0))]);
+    assert_eq!(rt;
+        faults,
+        [
+            None,
+            Some(PlanFault::NotOwned(1)),
+            Some(PlanFault::NotOwned(0))
+        ]
+    );
     Ok(())
 }
 
@@ -171,7 +181,11 @@ fn two_buffers_for_one_slot(rt: HostRuntime) -> Result<(), Fail> {
     let plans = [
         fault_of([4, 0], &[], &[divided(4, 0, 2)?, divided(4, 3, 4)?])?,
         fault_of([4, 0], &[], &[divided(4, 0, 1)?, divided(4, 1, 2)?])?,
-        fault_of([4, 0], &[], &[later, other, divided(4, 1, 2)?, divided(4, 3, 4)?])?,
+        fault_of(
+            [4, 0],
+            &[],
+            &[later, other, divided(4, 1, 2)?, divided(4, 3, 4)?],
+        )?,
         fault_of([4, 0], &[], &[receiving, receiving, divided(4, 0, 1)?])?,
     ];
     let wanted = [
@@ -248,7 +262,11 @@ fn filters_share_the_first_slot_channel_and_cycle(rt: HostRuntime) -> Result<(),
         channel: Channel::B,
         cycle: cycle(5)?,
     };
-    let answers = [first_shared(&filters), first_shared(&filters[..2]), first_shared(&[])];
+    let answers = [
+        first_shared(&filters),
+        first_shared(&filters[..2]),
+        first_shared(&[]),
+    ];
     assert_eq!(rt; answers, [Some(shared), None, None]);
     Ok(())
 }
