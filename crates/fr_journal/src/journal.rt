@@ -41,9 +41,7 @@ impl Model for Journal {
 }
 
 impl Journal {
-    ghost use Rattle.std.specs.Prelude.{◌≡◌, ◌<◌, ◌∷◌, [], ◌++◌};
     ghost use Rattle.fr_journal.specs.declared.entry.Entry.TheVariants as entries;
-    ghost use Rattle.fr_journal.specs.Kept.{host_room, slot_room};
 
     /// A journal without entries, and with room reserved for all that it may have.
     ///
