@@ -1,7 +1,7 @@
 //! The frame that an origin names.
 
 ghost use Rattle.std.specs.Prelude.{◌≡◌, ◌≤◌, [], length, take};
-ghost use Rattle.std.specs.Option.{option_and_then, option_copied};
+ghost use Rattle.std.specs.Option.{option_and_then};
 ghost use Rattle.fr_journal.specs.Counts.{seen_on};
 ghost use Rattle.fr_journal.specs.Held.{frame_in_entry, frame_named};
 ghost use Rattle.fr_journal.specs.OpenWindow.{open_window, window_mark};

@@ -160,7 +160,8 @@ pub(crate) fn arrive(
     frame: &Option<Frame>,
 )
     requires { waiting.old.lost + 1 < 2 ^ 32 }
-    ensures { waiting.new ≡ with_arrival waiting.old (queued_on plan.now queue.now number window.now channel frame.now) }
+    ensures { waiting.new ≡ with_arrival waiting.old
+        (queued_on plan.now queue.now number window.now channel frame.now) }
 {
     if let Some(frame) = frame {
         if is_for_queue(plan, queue, window, channel) {

@@ -182,10 +182,7 @@ fn each_accepted_call_is_an_entry(rt: HostRuntime) -> Result<(), Fail> {
         journal.get(2),
         journal.get(3),
     ];
-    assert_eq!(rt;
-        entries,
-        [Some(fetched), Some(observed), Some(read), None]
-    );
+    assert_eq!(rt; entries, [Some(fetched), Some(observed), Some(read), None]);
     let made_with = (
         interface.params().static_slots,
         interface.plan().host_entries(),

@@ -1,9 +1,9 @@
 -- In a legal journal what was popped and what is there had arrived.
-use Rattle.std.proofs.Common.{◌≡◌, ℕ, ◌+◌, ◌-◌, ◌≤◌, Bool, true, false, cond, List, [], ◌∷◌, ◌++◌, drop, length, Option}
-use Rattle.std.proofs.Common.{Some, None, refl, sym, ap, subst, ◌∙◌, arith, option_map, append-nil, length-append}
+use Rattle.std.proofs.Common.{◌≡◌, ℕ, ◌+◌, ◌-◌, ◌≤◌, Bool, true, false, cond, List, [], ◌∷◌, ◌++◌, length, Option}
+use Rattle.std.proofs.Common.{Some, refl, ap, subst, ◌∙◌, arith, option_map, length-append}
 use Rattle.std.specs.Prelude.{IsSomeAnd, count_by, is_some, slice_get}
 use Rattle.std.proofs.lemmas.List.Sums.{fold-append, sum_by-append}
-use Rattle.fr_journal.specs.Arrivals.{Move, arrives, pops, arrive_all, moves_at, moves, arrived, length_after}
+use Rattle.fr_journal.specs.Arrivals.{Move, pops, arrive_all, moves_at, moves, arrived, length_after}
 use Rattle.fr_journal.specs.Arrivals.{queue_length, queue_content, oldest, is_answered_pop, queue_arrivals_in}
 use Rattle.fr_journal.specs.Arrivals.{queue_lost}
 use Rattle.fr_journal.specs.declared.entry.Arrival.{Arrival}

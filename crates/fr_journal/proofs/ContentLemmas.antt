@@ -1,5 +1,5 @@
 -- What a queue holds, with one more move.
-use Rattle.std.proofs.Common.{◌≡◌, ℕ, zero, suc, ◌+◌, ◌-◌, ◌≤◌, ◌<◌, List, [], ◌∷◌, ◌++◌, drop, length, refl, sym, ap}
+use Rattle.std.proofs.Common.{◌≡◌, ℕ, zero, suc, ◌+◌, ◌-◌, ◌≤◌, List, [], ◌∷◌, ◌++◌, drop, length, sym, ap}
 use Rattle.std.proofs.Common.{◌∙◌, arith, length-append, append-nil, length-drop, drop-drop}
 use Rattle.std.specs.Prelude.{min}
 use Rattle.std.specs.List.{fold}

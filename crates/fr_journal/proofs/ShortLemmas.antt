@@ -1,7 +1,7 @@
 -- What is appended to a pool leaves what short entries restore from it.
 use Rattle.std.proofs.Common.{◌≡◌, ℕ, ◌+◌, ◌-◌, ◌<◌, ◌≤◌, Bool, true, false, not, cond, List, [], ◌∷◌, ◌++◌, length, take, drop, refl, sym, ap, subst}
 use Rattle.std.proofs.Common.{◌∙◌, arith, length-append, length-drop}
-use Rattle.std.specs.Prelude.{IsTrue, count_by, map, slice_range, vec_capacity}
+use Rattle.std.specs.Prelude.{count_by, map, slice_range, vec_capacity}
 use Rattle.std.specs.List.{All}
 use Rattle.std.proofs.lemmas.List.{take-append-le, drop-append-le, map-append, length-map}
 use Rattle.std.proofs.lemmas.List.Elements.{All-head, All-tail, All-push, All-weaker}

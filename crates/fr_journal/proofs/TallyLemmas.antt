@@ -1,6 +1,6 @@
 -- How many commits met each fate, and how many of them are pending.
 use Rattle.std.proofs.Common.{◌≡◌, ℕ, suc, ◌+◌, ◌-◌, ◌≤◌, Bool, true, false, cond, eqb, ◌&&◌, List, [], ◌∷◌, ◌++◌, drop}
-use Rattle.std.proofs.Common.{length, map, Option, Some, None, refl, sym, ap, subst, ◌∙◌, arith, length-append}
+use Rattle.std.proofs.Common.{length, map, Option, Some, None, refl, ap, ◌∙◌, arith, length-append}
 use Rattle.std.specs.Prelude.{count_by, IsSomeAnd}
 use Rattle.std.specs.List.{list_any}
 use Rattle.std.specs.Option.{option_and_then, option_or}
@@ -9,7 +9,7 @@ use Rattle.fr_journal.specs.declared.entry.Entry.{Entry}
 use Rattle.fr_journal.specs.declared.fate.Fate.{Fate}
 use Rattle.fr_journal.specs.declared.fate.Fate.TheVariants.{Sent, Overwritten, Pending}
 use Rattle.fr_journal.specs.Fate.{is_commit_on, commit_on, last_commit, sends, fate_of, fates_from, fates, is_sent}
-use Rattle.fr_journal.specs.Fate.{is_overwritten, is_pending, if_pending, pending_commit, tally_of}
+use Rattle.fr_journal.specs.Fate.{is_overwritten, is_pending, if_pending, pending_commit}
 use Rattle.fr_journal.proofs.FateStepLemmas.{fate_by, after_commit, after_fetch}
 use Rattle.fr_journal.proofs.LastCommitLemmas.{or-false, last-none, last-some}
 use Rattle.fr_slots.specs.History.{last_after}

@@ -19,7 +19,8 @@ kept_in j = record {
 abbrev pub pool_room : ℕ → ℕ → ℕ
 pool_room host slot = most_payload_bytes * host + most_seen_bytes * slot
 
--- the counts are those of the entries, the short entries have their bytes in the pool, and the room for both is reserved
+-- the counts are those of the entries, the short entries have their bytes in the pool, and the room for both is
+-- reserved
 pub record IsCounted (j : Inside) : Type 0 where
   pub host_is : j.host_count ≡ count_by is_host (map (restored j.pool.items) j.shorts.items)
   pub slot_is : j.slot_count ≡ count_by is_slot (map (restored j.pool.items) j.shorts.items)

@@ -59,7 +59,8 @@ IsShortSeen size (short_seen.Bytes s) = IsStretch size most_frame_bytes s
 
 -- the stretches of the entry stand in a pool of this size, and are of a size that its bytes may have
 abbrev pub IsShort : ℕ → ShortEntry → Type 0
-IsShort size (short.Commit task buffer payload) = IsStretch size most_payload_bytes payload × ((payload.end - payload.start) % 2 ≡ 0)
+IsShort size (short.Commit task buffer payload) =
+    IsStretch size most_payload_bytes payload × ((payload.end - payload.start) % 2 ≡ 0)
 IsShort size (short.Read task buffer from) = Unit {0}
 IsShort size (short.Pop task from) = Unit {0}
 IsShort size (short.Fetch window a b) = Unit {0}
@@ -74,7 +75,8 @@ bytes_in (Pop task from) = []
 bytes_in (Fetch window a b) = []
 bytes_in (Observe window a b) = bytes_in_seen a ++ bytes_in_seen b
 
--- the entry's bytes, of which there are at most so many, are appended to the pool, from which the short entry restores it
+-- the entry's bytes, of which there are at most so many, are appended to the pool, from which the short entry restores
+-- it
 pub record IsShortened (before after : List ℕ) (most : ℕ) (short : ShortEntry) (entry : Entry) : Type 0 where
   pub entry_is : restored after short ≡ entry
   pub within : IsShort (length after) short

@@ -6,7 +6,9 @@ ghost use Rattle.fr_journal.specs.Kept.{host_room, slot_room};
 ghost use Rattle.fr_slots.specs.Numbers.{most_host_entries, most_slot_entries, most_entries};
 
 use crate::entry::Entry;
-use crate::short::{ShortEntry, restored, shortened_commit, shortened_host, shortened_observe, shortened_slot};
+use crate::short::{
+    ShortEntry, restored, shortened_commit, shortened_host, shortened_observe, shortened_slot,
+};
 use fr_frame::frame::FRAME_BYTES;
 use fr_frame::payload::{PAYLOAD_BYTES, Payload};
 use fr_slots::numbers::TaskId;
@@ -39,9 +41,7 @@ impl Model for Journal {
 }
 
 impl Journal {
-    ghost use Rattle.std.specs.Prelude.{◌≡◌, ◌<◌, ◌∷◌, [], ◌++◌};
     ghost use Rattle.fr_journal.specs.declared.entry.Entry.TheVariants as entries;
-    ghost use Rattle.fr_journal.specs.Kept.{host_room, slot_room};
 
     /// A journal without entries, and with room reserved for all that it may have.
     ///
@@ -93,7 +93,7 @@ impl Journal {
     pub fn push_commit(&mut self, task: TaskId, buffer: u8, payload: &Payload)
         requires room { 0 < host_room self.old }
         ensures { self.new ≡ record self.old {
-            entries = self.old.entries ++ entries.Commit task buffer payload.now ∷ [];
+          entries = self.old.entries ++ entries.Commit task buffer payload.now ∷ [];
         } }
     {
         let short = shortened_commit(&mut self.pool, task, buffer, payload);
@@ -116,7 +116,7 @@ impl Journal {
     pub fn push_observe(&mut self, window: u32, a: &Seen, b: &Seen)
         requires room { 0 < slot_room self.old }
         ensures { self.new ≡ record self.old {
-            entries = self.old.entries ++ entries.Observe window a.now b.now ∷ [];
+          entries = self.old.entries ++ entries.Observe window a.now b.now ∷ [];
         } }
     {
         let short = shortened_observe(&mut self.pool, window, a, b);

@@ -68,8 +68,8 @@ fn kept_bytes(pool: &mut Vec<u8>, bytes: &[u8]) -> Stretch
     requires room { length pool.old.items + length bytes.now ≤ vec_capacity pool.old }
     requires few { length pool.old.items + length bytes.now < 2 ^ 32 }
     ensures place { result ≡ record {
-        start = length pool.old.items;
-        end = length pool.old.items + length bytes.now;
+      start = length pool.old.items;
+      end = length pool.old.items + length bytes.now;
     } }
     ensures pool { pool.new.items ≡ pool.old.items ++ bytes.now }
     ensures room { vec_capacity pool.old ≤ vec_capacity pool.new }
@@ -125,12 +125,7 @@ pub(crate) fn shortened_commit(
 }
 
 /// An observe in short form, its bytes at the end of the pool.
-pub(crate) fn shortened_observe(
-    pool: &mut Vec<u8>,
-    window: u32,
-    a: &Seen,
-    b: &Seen,
-) -> ShortEntry
+pub(crate) fn shortened_observe(pool: &mut Vec<u8>, window: u32, a: &Seen, b: &Seen) -> ShortEntry
     requires room { length pool.old.items + most_seen_bytes ≤ vec_capacity pool.old }
     requires few { length pool.old.items + most_seen_bytes < 2 ^ 32 }
     ensures entry { IsShortened pool.old.items pool.new.items most_seen_bytes result

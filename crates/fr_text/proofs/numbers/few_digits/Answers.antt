@@ -1,5 +1,4 @@
-use Rattle.std.proofs.Common.{◌≡◌, ◌<◌, ◌≤◌, ◌+◌, ◌*◌, ◌^◌, ap, arith, subst, take, take_all, sym, ◌∙◌}
-use Rattle.std.specs.Str.Parse.{AllDigits, digits_value}
+use Rattle.std.proofs.Common.{◌+◌, ◌*◌, ap, arith, ◌∙◌}
 use Rattle.fr_text.proofs.NumberLemmas.{digits-value_more, digits-all_more, digits-small, digits-other}
 use Rattle.fr_text.proofs.numbers.few_digits.Goals as goal
 
