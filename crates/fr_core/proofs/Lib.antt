@@ -5,4 +5,5 @@ pub mod NodeLemmas
 pub mod AgreementLemmas
 pub mod WorldLemmas
 pub mod RunLemmas
+pub mod WalkLemmas
 pub mod WorkedLemmas

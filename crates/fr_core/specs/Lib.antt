@@ -4,3 +4,7 @@ pub mod Agreement
 pub mod Steps
 pub mod Commits
 pub mod Runs
+pub mod Scripts
+pub mod ScriptFields
+pub mod Settling
+pub mod Walks

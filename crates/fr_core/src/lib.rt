@@ -19,4 +19,7 @@ pub mod event;
 mod legal;
 mod machine;
 pub mod run;
+pub mod script;
+pub mod settle;
+mod walk;
 pub mod world;
