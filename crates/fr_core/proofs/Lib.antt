@@ -6,4 +6,6 @@ pub mod AgreementLemmas
 pub mod WorldLemmas
 pub mod RunLemmas
 pub mod WalkLemmas
+pub mod ScriptLemmas
+pub mod SettleLemmas
 pub mod WorkedLemmas

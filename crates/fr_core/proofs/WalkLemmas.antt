@@ -28,12 +28,12 @@ abbrev pub given : {X A : Type 0} → (List X → X → List A) → List X → O
 given f before None = []
 given f before (Some x) = f before x
 
-none_past : {X : Type 0} (xs : List X) (k : ℕ) → k < length xs → slice_get xs k ≡ None → ⊥
+pub none_past : {X : Type 0} (xs : List X) (k : ℕ) → k < length xs → slice_get xs k ≡ None → ⊥
 none_past [] k below none = omega (arith, below)
 none_past (x ∷ xs) zero below none = cc
 none_past (x ∷ xs) (suc k) below none = none_past xs k (omega (arith, below)) none
 
-get_after : {X : Type 0} (xs : List X) (y : X) (more : List X) (k : ℕ) → length xs ≡ k → slice_get (xs ++ y ∷ more) k ≡ Some y
+pub get_after : {X : Type 0} (xs : List X) (y : X) (more : List X) (k : ℕ) → length xs ≡ k → slice_get (xs ++ y ∷ more) k ≡ Some y
 get_after [] y more zero long = refl
 get_after [] y more (suc k) long = absurd (let none : ⊥ = omega (arith, long) in none)
 get_after (x ∷ xs) y more zero long = absurd (let none : ⊥ = omega (arith, long) in none)
@@ -59,7 +59,7 @@ module _ {X A : Type 0} (f : List X → X → List A) where
       ∙ ap (λ l. l ++ later.0) (each_after-snoc f before x)
       ∙ append_assoc (each_after f [] before) (f before x) later.0)
 
-  some_rest : (xs : List X) (k : ℕ) → (more : List A) × (each_after f [] xs ≡ each_after f [] (take k xs) ++ more)
+  pub some_rest : (xs : List X) (k : ℕ) → (more : List A) × (each_after f [] xs ≡ each_after f [] (take k xs) ++ more)
   some_rest xs k =
       let all = rest (take k xs) (drop k xs) in
       (all.0, ap (each_after f []) (sym (take-append-drop k xs)) ∙ all.1)
@@ -67,7 +67,7 @@ module _ {X A : Type 0} (f : List X → X → List A) where
   pub as_far_first : (xs : List X) (ys : List A) → IsAsFar f xs ys 0 0
   as_far_first xs ys = record { within = omega arith; same = nil }
 
-  gives : (xs : List X) (k : ℕ) (o : Option A) → k < length xs → given f (take k xs) (slice_get xs k) ≡ option_to_list o
+  pub gives : (xs : List X) (k : ℕ) (o : Option A) → k < length xs → given f (take k xs) (slice_get xs k) ≡ option_to_list o
       → each_after f [] (take (k + 1) xs) ≡ each_after f [] (take k xs) ++ option_to_list o
   gives xs k o below is = by_place (slice_get xs k) refl is
     where

@@ -72,8 +72,14 @@ pub record AreLines (lines : List Line) (deeds : List Deed) : Type 0 where
 abbrev pub is_for : ℕ → ℕ → Scripted → Bool
 is_for n task script = script.node == n && script.task == task
 
--- each script that is given for the task has the lines that the task did; without a script it did nothing
+-- the script, if it is the task's, has the lines that the task did
+abbrev pub IsScript : List State → ℕ → ℕ → Scripted → Type 0
+IsScript is n task script = is_for n task script ≡ true → AreLines script.lines (deeds_at is n task)
+
+abbrev pub IsScriptAt : List State → List Scripted → ℕ → ℕ → ℕ → Type 0
+IsScriptAt is scripts n task k = IfSome (slice_get scripts k) (IsScript is n task)
+
+-- each script that is given for the task has the lines that the task did, and without a script it did nothing
 pub record ScriptAgrees (is : List State) (scripts : List Scripted) (n task : ℕ) : Type 0 where
-  pub given : (k : ℕ) (script : Scripted) → slice_get scripts k ≡ Some script → is_for n task script ≡ true
-      → AreLines script.lines (deeds_at is n task)
+  pub given : (k : ℕ) → IsScriptAt is scripts n task k
   pub missing : list_any (is_for n task) scripts ≡ false → deeds_at is n task ≡ []

@@ -1,16 +1,18 @@
 -- How far a walk along a journal has come, beside a list that it is compared with.
-use Rattle.std.specs.Prelude.{◌≡◌, ℕ, ◌<◌, ◌≤◌, List, [], length, take, slice_get, Option, Some, None, option_map}
+use Rattle.std.specs.Prelude.{◌≡◌, ℕ, min, ◌≤◌, List, [], length, take, slice_get, Option, Some, None, option_map}
 use Rattle.std.specs.Option.{option_and_then}
 use Rattle.fr_core.specs.Agreeing.{Handed, Sight, sight_of}
 use Rattle.fr_core.specs.declared.script.Deed.{Deed}
 use Rattle.fr_core.specs.declared.script.Line.{Line}
 use Rattle.fr_core.specs.Scripts.{IsLine}
+use Rattle.fr_core.specs.Settling.{IsFirst, EachNode, EachTask}
 use Rattle.fr_interface.specs.Handing.{bytes_handed}
 use Rattle.fr_interface.specs.State.{State}
 use Rattle.fr_journal.specs.declared.entry.Entry.{Entry}
 use Rattle.fr_journal.specs.declared.entry.Entry.TheVariants.{Commit, Read, Pop, Fetch, Observe}
 use Rattle.fr_slots.specs.declared.channel.Channel.TheVariants.{A, B}
 use Rattle.fr_slots.specs.History.{each_after}
+use Rattle.fr_slots.specs.Numbers.{last_task}
 use Rattle.fr_slots.specs.Windows.{Opportunity}
 
 -- ---- searches
@@ -18,7 +20,30 @@ use Rattle.fr_slots.specs.Windows.{Opportunity}
 -- none fails, or this is the first that does
 abbrev pub Finds : (ℕ → Type 0) → Option ℕ → Type 0
 Finds P None = (n : ℕ) → P n
-Finds P (Some n) = ((m : ℕ) → m < n → P m) × ¬ P n
+Finds P (Some n) = IsFirst P n
+
+abbrev pub FindsNode : (ℕ → Type 0) → Option ℕ → Type 0
+FindsNode P None = EachNode P
+FindsNode P (Some n) = IsFirst P n
+
+abbrev pub FindsTask : (ℕ → Type 0) → Option ℕ → Type 0
+FindsTask P None = EachTask P
+FindsTask P (Some task) = (task ≤ last_task) × IsFirst P task
+
+-- the first node, and of that node the first place
+abbrev pub FindsPlace : (ℕ → ℕ → Type 0) → Option (ℕ × ℕ) → Type 0
+FindsPlace P None = EachNode (λ n. (k : ℕ) → P n k)
+FindsPlace P (Some found) = IsFirst (λ n. (k : ℕ) → P n k) found.0 × IsFirst (P found.0) found.1
+
+-- the first node, and of that node the first task
+abbrev pub FindsScript : (ℕ → ℕ → Type 0) → Option (ℕ × ℕ) → Type 0
+FindsScript P None = EachNode (λ n. EachTask (P n))
+FindsScript P (Some found) = IsFirst (λ n. EachTask (P n)) found.0 × IsFirst (P found.0) found.1
+
+abbrev pub lesser_of : Option ℕ → Option ℕ → Option ℕ
+lesser_of None y = y
+lesser_of (Some x) None = Some x
+lesser_of (Some x) (Some y) = Some (min x y)
 
 -- the first place at which two lists differ
 pub record IsFirstDifference {X : Type 0} (xs ys : List X) (k : ℕ) : Type 0 where

@@ -21,5 +21,6 @@ mod machine;
 pub mod run;
 pub mod script;
 pub mod settle;
+mod tasks;
 mod walk;
 pub mod world;

@@ -1,6 +1,23 @@
 //! Whether a cluster, interfaces, a record and scripts agree.
 
-use fr_slots::numbers::{NodeId, TaskId};
+ghost use Rattle.std.specs.Prelude.{◌≡◌, ◌↔◌, ◌<◌, IsTrue, IfSome, length, slice_get, option_map};
+ghost use Rattle.std.specs.List.{list_all};
+ghost use Rattle.fr_core.specs.Settling.{ArePlanned, PlansAgree, WindowsAgree, IsFatedAt, IsOfferedAt, IsSeenAt};
+ghost use Rattle.fr_core.specs.Settling.{is_due, is_right, are_right, Settles};
+ghost use Rattle.fr_core.specs.Walks.{Finds, FindsNode, FindsPlace, lesser_of};
+
+use crate::script::Script;
+use crate::walk::{has_windows, interface_at, node_of, other_offer, other_sight};
+use fr_bus::bus::Bus;
+use fr_bus::outcome::{Fate, Sealed, Sent};
+use fr_guardian::guardian::Guardian;
+use fr_interface::interface::Interface;
+use fr_schedule::cluster::Cluster;
+use fr_slots::numbers::{NODES, NodeId, TaskId};
+use fr_slots::params::Params;
+use fr_slots::plan::NodePlan;
+use fr_slots::window::Window;
+use std::alloc::Global;
 use thiserror::Error;
 
 /// What a settling found that agrees.
@@ -33,4 +50,191 @@ pub enum SettleError {
     /// Memory is refused.
     #[error("Memory")]
     Memory,
+}
+
+/// Whether interface and node are both there, with the same parameters and the same plan, or neither is.
+fn are_planned(params: &Params, interface: Option<&Interface>, plan: Option<&NodePlan>) -> bool
+    ensures { IsTrue result
+        ↔ ArePlanned params.now (option_map (λ i. i.now) interface.entry) (option_map (λ p. p.now) plan.entry) }
+{
+    match (interface, plan) {
+        (Some(interface), Some(plan)) => {
+            *interface.params() == *params && interface.plan().is_same(plan)
+        }
+        (None, None) => true,
+        _ => false,
+    }
+}
+
+/// The plan at this place.
+fn plan_at(plans: &[NodePlan], place: usize) -> Option<&NodePlan>
+    ensures { option_map (λ plan. plan.now) result ≡ slice_get plans.now place }
+{
+    plans.get(place)
+}
+
+/// The first place at which interface and node aren't both there with the same parameters and plan.
+fn other_plan(cluster: &Cluster, interfaces: &[Interface]) -> Option<usize>
+    ensures { Finds (PlansAgree cluster.now interfaces.now) result }
+{
+    let plans = cluster.plans();
+    for place in 0..interfaces.len().max(plans.len()) {
+        let interface = interface_at(interfaces, place);
+        if !are_planned(cluster.params(), interface, plan_at(plans, place)) {
+            return Some(place);
+        }
+    }
+    None
+}
+
+/// Whether the node's windows are the record's, if its interface is there.
+fn windows_agree(interfaces: &[Interface], place: usize, recorded: &[Sealed]) -> bool
+    ensures { IsTrue result ↔ WindowsAgree interfaces.now recorded.now place }
+{
+    match interface_at(interfaces, place) {
+        Some(interface) => has_windows(interface, recorded),
+        None => true,
+    }
+}
+
+/// The first node whose windows aren't the record's.
+fn other_windows(interfaces: &[Interface], recorded: &[Sealed]) -> Option<NodeId>
+    ensures { FindsNode (WindowsAgree interfaces.now recorded.now) result }
+{
+    for number in 0..NODES {
+        if !windows_agree(interfaces, usize::from(number), recorded) {
+            return Some(node_of(number));
+        }
+    }
+    None
+}
+
+/// Whether the fate is what the guardian gives, or a mute.
+fn is_due(fate: Fate, let_pass: bool) -> bool
+    ensures { result ≡ is_due fate let_pass }
+{
+    match fate {
+        Fate::Passed => let_pass,
+        Fate::Blocked => !let_pass,
+        Fate::Muted => true,
+    }
+}
+
+/// Whether the transmission is right, if it is the node's.
+fn is_right(guardian: &Guardian, node: NodeId, window: &Window, sent: &Sent) -> bool
+    ensures { result ≡ is_right guardian.now node window.now sent.now }
+{
+    sent.node != node
+        || (node.number() < guardian.nodes()
+            && is_due(sent.fate, guardian.passes(node, window, sent.channel)))
+}
+
+/// Whether all transmissions of the node among these are right.
+fn all_right(guardian: &Guardian, node: NodeId, window: &Window, sent: &[Sent]) -> bool
+    ensures { result ≡ list_all (is_right guardian.now node window.now) sent.now }
+{
+    sent.iter().all(|sent| is_right(guardian, node, window, sent))
+}
+
+/// Whether all transmissions of the node in the window are right.
+fn are_right(guardian: &Guardian, node: NodeId, sealed: &Sealed) -> bool
+    ensures { result ≡ are_right guardian.now node sealed.now }
+{
+    all_right(guardian, node, &sealed.window, sealed.sent.as_slice())
+}
+
+/// The first place at which a transmission of the node isn't right.
+fn other_fate(guardian: &Guardian, node: NodeId, recorded: &[Sealed]) -> Option<usize>
+    ensures { Finds (IsFatedAt guardian.now recorded.now node) result }
+{
+    for (place, sealed) in recorded.iter().enumerate() {
+        if !are_right(guardian, node, sealed) {
+            return Some(place);
+        }
+    }
+    None
+}
+
+/// The lesser of both.
+fn lesser(one: Option<usize>, other: Option<usize>) -> Option<usize>
+    ensures { result ≡ lesser_of one other }
+{
+    match (one, other) {
+        (Some(one), Some(other)) => Some(one.min(other)),
+        (None, other) => other,
+        (one, None) => one,
+    }
+}
+
+/// The first place at which the node's offers or fates differ.
+fn offers_differ(
+    guardian: &Guardian,
+    interfaces: &[Interface],
+    node: NodeId,
+    recorded: &[Sealed],
+) -> Option<usize>
+    ensures { Finds (IsOfferedAt guardian.now recorded.now node (slice_get interfaces.now node)) result }
+{
+    let fate = other_fate(guardian, node, recorded);
+    match interface_at(interfaces, usize::from(node.number())) {
+        Some(interface) => lesser(other_offer(interface, node, recorded), fate),
+        None => fate,
+    }
+}
+
+/// The first node whose offers or fates differ, and the first place at which they do.
+fn other_offers(
+    guardian: &Guardian,
+    interfaces: &[Interface],
+    recorded: &[Sealed],
+) -> Option<(NodeId, usize)>
+    ensures { FindsPlace (λ n. IsOfferedAt guardian.now recorded.now n (slice_get interfaces.now n)) result }
+{
+    for number in 0..NODES {
+        let node = node_of(number);
+        if let Some(place) = offers_differ(guardian, interfaces, node, recorded) {
+            return Some((node, place));
+        }
+    }
+    None
+}
+
+/// The first place at which the node saw something else than the record lets it see.
+fn sights_differ(
+    cluster: &Cluster,
+    interfaces: &[Interface],
+    node: NodeId,
+    recorded: &[Sealed],
+) -> Option<usize>
+    ensures { Finds (IsSeenAt cluster.now recorded.now node (slice_get interfaces.now node)) result }
+{
+    match interface_at(interfaces, usize::from(node.number())) {
+        Some(interface) => other_sight(interface, cluster.params(), node, recorded),
+        None => None,
+    }
+}
+
+/// The first node that saw something else than the record lets it see, and the first place at which it did.
+fn other_sights(
+    cluster: &Cluster,
+    interfaces: &[Interface],
+    recorded: &[Sealed],
+) -> Option<(NodeId, usize)>
+    ensures { FindsPlace (λ n. IsSeenAt cluster.now recorded.now n (slice_get interfaces.now n)) result }
+{
+    for number in 0..NODES {
+        let node = node_of(number);
+        if let Some(place) = sights_differ(cluster, interfaces, node, recorded) {
+            return Some((node, place));
+        }
+    }
+    None
+}
+
+/// The number of the window at this place of the record.
+fn number_at(recorded: &[Sealed], place: usize) -> u32
+    requires { place < length recorded.now }
+    ensures { IfSome (slice_get recorded.now place) (λ r. result ≡ r.window.number) }
+{
+    recorded[place].window.number
 }

@@ -1,6 +1,6 @@
 //! Walks along the journal of one node, beside the record.
 
-ghost use Rattle.std.specs.Prelude.{◌≡◌, ◌≤◌, ◌↔◌, IsTrue, Some, None, nat_lt, if◌then◌else◌, length, map, slice_get};
+ghost use Rattle.std.specs.Prelude.{◌≡◌, ◌<◌, ◌≤◌, ◌↔◌, IsTrue, Some, None, nat_lt, if◌then◌else◌, length, map, slice_get};
 ghost use Rattle.std.specs.Prelude.{option_map};
 ghost use Rattle.std.specs.Option.{option_and_then, option_copied};
 ghost use Rattle.fr_bus.specs.Record.{seen_by};
@@ -34,6 +34,24 @@ pub(crate) fn entry_at(interface: &Interface, number: u32) -> Option<&Entry>
     ensures { option_copied result ≡ slice_get interface.now.entries number }
 {
     interface.journal().get(number)
+}
+
+/// The node of this number.
+pub(crate) fn node_of(number: u8) -> NodeId
+    requires { number < 16 }
+    ensures { result ≡ number }
+{
+    match NodeId::new(number) {
+        Some(node) => node,
+        None => unreachable!(),
+    }
+}
+
+/// The interface at this place.
+pub(crate) fn interface_at(interfaces: &[Interface], place: usize) -> Option<&Interface>
+    ensures { option_map (λ interface. interface.now) result ≡ slice_get interfaces.now place }
+{
+    interfaces.get(place)
 }
 
 /// What stands at this place of the record.
