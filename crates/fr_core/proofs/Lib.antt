@@ -8,4 +8,5 @@ pub mod RunLemmas
 pub mod WalkLemmas
 pub mod ScriptLemmas
 pub mod SettleLemmas
+pub mod SettledLemmas
 pub mod WorkedLemmas

@@ -7,12 +7,16 @@ use Rattle.fr_bus.specs.declared.outcome.Fate.TheVariants.{Passed, Blocked, Mute
 use Rattle.fr_bus.specs.declared.outcome.Sent.{Sent}
 use Rattle.fr_bus.specs.Outcome.{is_of}
 use Rattle.fr_bus.specs.Record.{Recorded}
-use Rattle.fr_core.specs.Agreeing.{fetched, observed, offers_of, sights_of}
+use Rattle.fr_bus.specs.States.{BusState, IsRun}
+use Rattle.fr_core.specs.Agreeing.{fetched, observed, offers_of, sights_of, Follows}
+use Rattle.fr_core.specs.Agreement.{IsWorld}
+use Rattle.fr_core.specs.declared.carried.Carried.{Carried}
 use Rattle.fr_core.specs.declared.settle.Settled.{Settled}
 use Rattle.fr_core.specs.declared.settle.SettleError.{SettleError}
 use Rattle.fr_core.specs.declared.settle.SettleError.TheVariants.{PlanDiffers, WindowsDiffer, OfferDiffers, SeenDiffers}
 use Rattle.fr_core.specs.declared.settle.SettleError.TheVariants.{ScriptDiffers, Memory}
 use Rattle.fr_core.specs.Scripts.{Scripted, ScriptAgrees}
+use Rattle.fr_core.specs.Worlds.{is_between}
 use Rattle.fr_guardian.specs.Guarding.{passes}
 use Rattle.fr_interface.specs.State.{State}
 use Rattle.fr_journal.specs.declared.entry.Entry.{Entry}
@@ -190,3 +194,24 @@ Settles d is rs scripts (Err (ScriptDiffers n task)) =
     × IsFirst (ScriptsAgree is scripts) n
     × IsFirst (ScriptAgrees is scripts n) task
 Settles d is rs scripts (Err Memory) = Unit {0}
+
+-- ---- what follows
+
+-- the lists of each interface are those of the record
+abbrev pub EachFollows : Parameters → List State → List Recorded → Type 0
+EachFollows p is rs = (n : ℕ) (s : State) → slice_get is n ≡ Some s → Follows p rs n s
+
+-- these are the cluster, the interfaces and the bus of a world that is between two windows
+pub record IsBetweenWindows (d : Description) (is : List State) (b : BusState) : Type 0 where
+  pub carried : List Carried
+  pub world : IsWorld (record { interfaces = is; bus = b; carried = carried })
+  pub run : IsRun b
+  pub cluster_is : b.cluster ≡ d
+  pub between : list_all is_between carried ≡ true
+
+-- all but the scripts agrees, or memory is refused
+abbrev pub DiffersInScriptsAlone : Result Settled SettleError → Type 0
+DiffersInScriptsAlone (Ok settled) = Unit {0}
+DiffersInScriptsAlone (Err (ScriptDiffers n task)) = Unit {0}
+DiffersInScriptsAlone (Err Memory) = Unit {0}
+DiffersInScriptsAlone (Err e) = ⊥

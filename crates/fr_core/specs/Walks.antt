@@ -12,7 +12,7 @@ use Rattle.fr_journal.specs.declared.entry.Entry.{Entry}
 use Rattle.fr_journal.specs.declared.entry.Entry.TheVariants.{Commit, Read, Pop, Fetch, Observe}
 use Rattle.fr_slots.specs.declared.channel.Channel.TheVariants.{A, B}
 use Rattle.fr_slots.specs.History.{each_after}
-use Rattle.fr_slots.specs.Numbers.{last_task}
+use Rattle.fr_slots.specs.Numbers.{last_node, last_task}
 use Rattle.fr_slots.specs.Windows.{Opportunity}
 
 -- ---- searches
@@ -33,7 +33,7 @@ FindsTask P (Some task) = (task ≤ last_task) × IsFirst P task
 -- the first node, and of that node the first place
 abbrev pub FindsPlace : (ℕ → ℕ → Type 0) → Option (ℕ × ℕ) → Type 0
 FindsPlace P None = EachNode (λ n. (k : ℕ) → P n k)
-FindsPlace P (Some found) = IsFirst (λ n. (k : ℕ) → P n k) found.0 × IsFirst (P found.0) found.1
+FindsPlace P (Some found) = (found.0 ≤ last_node) × IsFirst (λ n. (k : ℕ) → P n k) found.0 × IsFirst (P found.0) found.1
 
 -- the first node, and of that node the first task
 abbrev pub FindsScript : (ℕ → ℕ → Type 0) → Option (ℕ × ℕ) → Type 0

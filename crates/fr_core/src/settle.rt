@@ -1,14 +1,12 @@
 //! Whether a cluster, interfaces, a record and scripts agree.
 
-ghost use Rattle.std.specs.Prelude.{◌≡◌, ◌↔◌, ◌<◌, IsTrue, IfSome, length, slice_get, option_map};
+ghost use Rattle.std.specs.Prelude.{◌≡◌, ◌↔◌, IsTrue, slice_get, option_map};
 ghost use Rattle.std.specs.List.{list_all};
 ghost use Rattle.fr_core.specs.Settling.{ArePlanned, PlansAgree, WindowsAgree, IsFatedAt, IsOfferedAt, IsSeenAt};
-ghost use Rattle.fr_core.specs.Settling.{is_due, is_right, are_right, Settles};
+ghost use Rattle.fr_core.specs.Settling.{is_due, is_right, are_right};
 ghost use Rattle.fr_core.specs.Walks.{Finds, FindsNode, FindsPlace, lesser_of};
 
-use crate::script::Script;
 use crate::walk::{has_windows, interface_at, node_of, other_offer, other_sight};
-use fr_bus::bus::Bus;
 use fr_bus::outcome::{Fate, Sealed, Sent};
 use fr_guardian::guardian::Guardian;
 use fr_interface::interface::Interface;
@@ -17,7 +15,6 @@ use fr_slots::numbers::{NODES, NodeId, TaskId};
 use fr_slots::params::Params;
 use fr_slots::plan::NodePlan;
 use fr_slots::window::Window;
-use std::alloc::Global;
 use thiserror::Error;
 
 /// What a settling found that agrees.
@@ -229,12 +226,4 @@ fn other_sights(
         }
     }
     None
-}
-
-/// The number of the window at this place of the record.
-fn number_at(recorded: &[Sealed], place: usize) -> u32
-    requires { place < length recorded.now }
-    ensures { IfSome (slice_get recorded.now place) (λ r. result ≡ r.window.number) }
-{
-    recorded[place].window.number
 }

@@ -6,7 +6,7 @@ use Rattle.fr_core.proofs.settle.other_offers.Goals as goal
 pub returns-in-Some : goal.returns-in-Some
 returns-in-Some c =
     found_at (λ n. IsOfferedAt c.args.guardian.now c.args.recorded.now n (slice_get c.args.interfaces.now n)) c.loop-number.number c.node_of-node.result
-    c.in-Some.place c.node_of-node.ensures c.loop-number.invariant c.in-Some.ensures
+    c.in-Some.place c.node_of-node.ensures c.loop-number.invariant (omega (arith, c.loop-number-test.true)) c.in-Some.ensures
 
 pub loop-number-preserved : goal.loop-number-preserved
 loop-number-preserved c =
