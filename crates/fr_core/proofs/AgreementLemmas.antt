@@ -1,14 +1,12 @@
 -- Each event keeps the agreement of all journals with the record.
 use Rattle.std.proofs.Common.{◌≡◌, ◌≢◌, ◌<◌, ℕ, zero, suc, Bool, true, false, not, cond, List, [], ◌∷◌, length, map, replicate, Option, Some, None, refl, sym, ap, subst, ◌∙◌, arith, get_or, inl, inr}
-use Rattle.std.specs.Prelude.{slice_set, option_map}
+use Rattle.std.specs.Prelude.{option_map}
 use Rattle.std.specs.List.{list_all}
 use Rattle.std.proofs.lemmas.Bool.{ltb-true}
 use Rattle.std.proofs.lemmas.Bool.Decides.{eqb_tells}
 use Rattle.std.proofs.lemmas.List.{length-set, get_or-set_same, get_or-set_other, set-get_or, length-replicate, length-map}
 use Rattle.arrayvec.specs.ArrayVec.{ArrayVec}
 use Rattle.fr_bus.specs.declared.error.BusError.{BusError}
-use Rattle.fr_bus.specs.declared.error.Phase.{Phase}
-use Rattle.fr_bus.specs.declared.error.Phase.TheVariants.{Collect, Sealed as InSealed, Finished}
 use Rattle.fr_bus.specs.declared.fault.Fault.{Fault}
 use Rattle.fr_bus.specs.declared.fault.Fault.TheVariants.{Babble, Mute, Corrupt}
 use Rattle.fr_bus.specs.declared.station.Station.{Station}
@@ -27,7 +25,6 @@ use Rattle.fr_core.specs.declared.event.Event.{Event}
 use Rattle.fr_core.specs.declared.event.Event.TheVariants.{Commit, Read, Pop, Look, Fetch, Put, Take, Observe, Inject, Seal, Advance}
 use Rattle.fr_core.specs.Steps.{step_refusal, step_done, if_node, with_interface, with_carried, with_bus, offer_of, look_in_turn, take_in_turn, looked, fetched, put_on_bus, taken, observed}
 use Rattle.fr_core.specs.Worlds.{WorldState, has_node, interface_at, carried_at, no_interface, new_interface, opening_world}
-use Rattle.fr_interface.specs.declared.interface.Offer.{Offer}
 use Rattle.fr_interface.specs.State.{State, with_entry, read_entry, pop_entry, fetch_entry}
 use Rattle.fr_journal.specs.declared.entry.Entry.{Entry}
 use Rattle.fr_journal.specs.declared.entry.Entry.TheVariants as entries

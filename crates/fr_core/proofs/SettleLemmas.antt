@@ -1,5 +1,5 @@
 -- Searches over nodes and tasks, and what a settling tells.
-use Rattle.std.proofs.Common.{◌≡◌, ◌<◌, ◌≤◌, ◌≢◌, ℕ, ◌+◌, sym, subst, ◌∙◌, arith, inl, inr}
+use Rattle.std.proofs.Common.{◌≡◌, ◌<◌, ◌≤◌, ℕ, ◌+◌, sym, subst, ◌∙◌, arith, inl, inr}
 use Rattle.std.proofs.lemmas.Bool.Decides.{eqb_tells}
 use Rattle.fr_core.specs.Settling.{IsFirst, EachTask}
 use Rattle.fr_slots.specs.Numbers.{last_node, last_task}

@@ -1,29 +1,28 @@
 -- What a settling tells: the windows of lists that agree, where a first failure stands, and what a world gives.
 use Rattle.std.proofs.Common.{◌≡◌, ◌<◌, ◌≤◌, ℕ, zero, suc, ◌+◌, Bool, true, false, not, cond, ◌&&◌, ◌||◌, List, [], ◌∷◌, ◌++◌, length, map, Option, Some, None, refl, sym, ap, subst, ◌∙◌, arith, get_or, inl, inr}
-use Rattle.std.specs.Prelude.{slice_get, option_map, option_to_list, nat_lt, ◌==◌, Result, Ok, Err}
+use Rattle.std.specs.Prelude.{slice_get, option_map, option_to_list, nat_lt, ◌==◌, Result, Ok, Err, IfSome, OnOk}
 use Rattle.std.specs.List.{list_all}
 use Rattle.std.proofs.lemmas.List.{append-nil, length-map, length-append, map-append}
 use Rattle.std.proofs.lemmas.Bool.{ltb-false}
 use Rattle.std.proofs.lemmas.Bool.Decides.{eqb_tells}
 use Rattle.std.proofs.lemmas.Option.{slice_get_past, slice_get_within, get_or_from_slice_get}
 use Rattle.arrayvec.specs.ArrayVec.{ArrayVec}
-use Rattle.fr_bus.specs.declared.outcome.Sent.{Sent}
 use Rattle.fr_bus.specs.declared.station.Side.{Side}
 use Rattle.fr_bus.specs.declared.station.Station.{Station}
 use Rattle.fr_bus.specs.Outcome.{fate_of, transmission, sent_in, sent_of, sent_from}
 use Rattle.fr_bus.specs.Record.{Recorded, IsOutcome}
 use Rattle.fr_bus.specs.States.{BusState, IsRun, IsRecorded}
 use Rattle.fr_core.proofs.CaseLemmas.{both, both_first, both_rest}
-use Rattle.fr_core.proofs.WalkLemmas.{get_map, some_alike}
-use Rattle.fr_core.specs.Agreeing.{Handed, Sight, handed_at, sight_at, sight_of, fetched, observed, offers_of, sights_of, Follows}
-use Rattle.fr_core.specs.Agreement.{BusView, view_for, ahead, behind, NodeAgrees, AgreesAt, Agreement, IsWorld}
+use Rattle.fr_core.proofs.WalkLemmas.{get_map, some_alike, none_past}
+use Rattle.fr_core.specs.Agreeing.{Handed, Sight, handed_at, sight_at, sight_of, fetched, observed, offers_of, sights_of}
+use Rattle.fr_core.specs.Agreement.{BusView, view_for, ahead, behind, AgreesAt, IsWorld}
 use Rattle.fr_core.specs.declared.carried.Carried.{Carried}
 use Rattle.fr_core.specs.declared.carried.Carried.TheVariants.{Idle, Knows, Offers, Waits, Took}
 use Rattle.fr_core.specs.declared.settle.Settled.{Settled}
 use Rattle.fr_core.specs.declared.settle.SettleError.{SettleError}
 use Rattle.fr_core.specs.declared.settle.SettleError.TheVariants.{PlanDiffers, WindowsDiffer, OfferDiffers, SeenDiffers, ScriptDiffers, Memory}
 use Rattle.fr_core.specs.Scripts.{Scripted}
-use Rattle.fr_core.specs.Settling.{IsFirst, EachNode, IfThere, ArePlanned, PlansAgree, HasWindows, WindowsAgree, fetches_at, observes_at, windows_fetched, windows_observed, windows_of, is_due, is_right, are_right, IsFatedAt, IsHandedAt, IsOfferedAt, OffersAgree, IsShownAt, IsSeenAt, SightsAgree, Agrees, Settles, EachFollows, IsBetweenWindows, DiffersInScriptsAlone}
+use Rattle.fr_core.specs.Settling.{IsFirst, IsFirstWindow, EachNode, IfThere, ArePlanned, PlansAgree, HasWindows, WindowsAgree, fetches_at, observes_at, windows_fetched, windows_observed, windows_of, is_due, is_right, are_right, IsFatedAt, IsHandedAt, IsOfferedAt, OffersAgree, IsShownAt, IsSeenAt, SightsAgree, Agrees, Settles, EachFollows, IsBetweenWindows, DiffersInScriptsAlone}
 use Rattle.fr_core.specs.Worlds.{WorldState, interface_at, carried_at, no_interface, new_interface, without_entries, is_between}
 use Rattle.fr_guardian.specs.Guarding.{passes}
 use Rattle.fr_interface.specs.State.{State}
@@ -363,3 +362,16 @@ pub between_windows : (d : Description) (is : List State) (b : BusState) (given 
     → IsBetweenWindows d is b → DiffersInScriptsAlone answer
 between_windows d is b given answer told w =
     scripts_alone is b w.carried w.world w.run w.between given answer (subst (λ (c : Description). Settles c is b.sealed given answer) (sym w.cluster_is) told)
+
+-- ---- the answer
+
+pub first_window : (rs : List Recorded) (P : ℕ → Type 0) (place number : ℕ) → place < length rs → IsFirst P place → IfSome (slice_get rs place) (λ r. number ≡ r.window.number) → IsFirstWindow rs P number
+first_window rs P place number within first told = by_place (slice_get rs place) refl told
+  where
+    by_place : (o : Option Recorded) → slice_get rs place ≡ o → IfSome o (λ r. number ≡ r.window.number) → IsFirstWindow rs P number
+    by_place None at told = absurd (none_past rs place within at)
+    by_place (Some r) at told = record { place = place; first = first; there = r; is_there = at; number_is = told }
+
+pub answer_follows : (d : Description) (is : List State) (rs : List Recorded) (given : List Scripted) (answer : Result Settled SettleError) → IsCluster d → Settles d is rs given answer → OnOk answer (EachFollows d.params is rs)
+answer_follows d is rs given (Ok x) cluster told = each_follows d is rs given cluster told.0
+answer_follows d is rs given (Err e) cluster told = tt

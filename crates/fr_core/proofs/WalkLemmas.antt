@@ -1,8 +1,8 @@
 -- One step further along a journal, beside a list that it is compared with.
-use Rattle.std.proofs.Common.{◌≡◌, Bool, true, false, ◌<◌, ◌≤◌, ℕ, zero, suc, ◌+◌, List, [], ◌∷◌, ◌++◌, length, Option, Some, None, refl, sym, ap, subst, ◌∙◌, arith, take, drop, get_or, append_assoc}
+use Rattle.std.proofs.Common.{◌≡◌, Bool, true, false, ◌<◌, ◌≤◌, ℕ, zero, suc, ◌+◌, List, [], ◌∷◌, ◌++◌, length, Option, Some, None, refl, sym, ap, subst, ◌∙◌, arith, take, drop, append_assoc}
 use Rattle.std.specs.Prelude.{slice_get, option_to_list}
 use Rattle.std.proofs.lemmas.List.{take_more, take_all, append-nil, length-take-le, take_at, take-append-drop, length-map}
-use Rattle.std.proofs.lemmas.Option.{slice_get-get_or, slice_get_past, slice_get_within, get_or_from_slice_get}
+use Rattle.std.proofs.lemmas.Option.{slice_get_past, slice_get_within, get_or_from_slice_get}
 use Rattle.std.specs.Prelude.{option_map, map, nat_lt, if◌then◌else◌}
 use Rattle.std.proofs.lemmas.Bool.{ltb-true, ltb-false}
 use Rattle.std.specs.Option.{option_and_then}
@@ -53,11 +53,12 @@ module _ {X A : Type 0} (f : List X → X → List A) where
   rest : (before xs : List X) → (more : List A) × (each_after f [] (before ++ xs) ≡ each_after f [] before ++ more)
   rest before [] = ([], ap (each_after f []) (append-nil before) ∙ sym (append-nil (each_after f [] before)))
   rest before (x ∷ xs) =
-      let later = rest (before ++ x ∷ []) xs in
-      (f before x ++ later.0,
-      ap (each_after f []) (sym (append_assoc before (x ∷ []) xs)) ∙ later.1
-      ∙ ap (λ l. l ++ later.0) (each_after-snoc f before x)
-      ∙ append_assoc (each_after f [] before) (f before x) later.0)
+      let later = rest (before ++ x ∷ []) xs in (
+        f before x ++ later.0,
+        ap (each_after f []) (sym (append_assoc before (x ∷ []) xs)) ∙ later.1
+            ∙ ap (λ l. l ++ later.0) (each_after-snoc f before x)
+            ∙ append_assoc (each_after f [] before) (f before x) later.0,
+      )
 
   pub some_rest : (xs : List X) (k : ℕ) → (more : List A) × (each_after f [] xs ≡ each_after f [] (take k xs) ++ more)
   some_rest xs k =

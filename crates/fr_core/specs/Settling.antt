@@ -1,5 +1,5 @@
 -- What a settling of a cluster, interfaces, a record and scripts answers (own profile).
-use Rattle.std.specs.Prelude.{◌≡◌, ℕ, ◌<◌, ◌≤◌, nat_lt, ◌==◌, Bool, true, not, ◌&&◌, ◌||◌, List, [], ◌∷◌, length, map, take}
+use Rattle.std.specs.Prelude.{◌≡◌, ℕ, ◌<◌, ◌≤◌, nat_lt, Bool, true, not, ◌&&◌, ◌||◌, List, [], length, map}
 use Rattle.std.specs.Prelude.{slice_get, Option, Some, None, option_to_list, Result, Ok, Err}
 use Rattle.std.specs.List.{list_all}
 use Rattle.fr_bus.specs.declared.outcome.Fate.{Fate}

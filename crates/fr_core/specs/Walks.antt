@@ -1,6 +1,5 @@
 -- How far a walk along a journal has come, beside a list that it is compared with.
-use Rattle.std.specs.Prelude.{◌≡◌, ℕ, min, ◌≤◌, List, [], length, take, slice_get, Option, Some, None, option_map}
-use Rattle.std.specs.Option.{option_and_then}
+use Rattle.std.specs.Prelude.{◌≡◌, ℕ, min, ◌≤◌, List, [], length, take, slice_get, Option, Some, None}
 use Rattle.fr_core.specs.Agreeing.{Handed, Sight, sight_of}
 use Rattle.fr_core.specs.declared.script.Deed.{Deed}
 use Rattle.fr_core.specs.declared.script.Line.{Line}

@@ -9,14 +9,9 @@ use std::marker::Model;
 #[derive(Debug, Drop, PartialEq, Eq)]
 pub enum Action {
     /// It gives the payload to the transmit buffer of this number.
-    Commit {
-        buffer: u8,
-        payload: Payload,
-    },
+    Commit { buffer: u8, payload: Payload },
     /// It reads the receive buffer of this number.
-    Read {
-        buffer: u8,
-    },
+    Read { buffer: u8 },
     /// It takes the oldest frame of the receive queue.
     Pop,
 }

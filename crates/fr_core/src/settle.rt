@@ -1,12 +1,16 @@
 //! Whether a cluster, interfaces, a record and scripts agree.
 
-ghost use Rattle.std.specs.Prelude.{◌≡◌, ◌↔◌, IsTrue, slice_get, option_map};
+ghost use Rattle.std.specs.Prelude.{◌≡◌, ◌↔◌, ◌<◌, IsTrue, IfSome, OnOk, length, slice_get, option_map};
 ghost use Rattle.std.specs.List.{list_all};
 ghost use Rattle.fr_core.specs.Settling.{ArePlanned, PlansAgree, WindowsAgree, IsFatedAt, IsOfferedAt, IsSeenAt};
-ghost use Rattle.fr_core.specs.Settling.{is_due, is_right, are_right};
+ghost use Rattle.fr_core.specs.Settling.{is_due, is_right, are_right, Settles, EachFollows, IsBetweenWindows};
+ghost use Rattle.fr_core.specs.Settling.{DiffersInScriptsAlone};
 ghost use Rattle.fr_core.specs.Walks.{Finds, FindsNode, FindsPlace, lesser_of};
 
-use crate::walk::{has_windows, interface_at, node_of, other_offer, other_sight};
+use crate::script::Script;
+use crate::tasks::other_script;
+use crate::walk::{entries_of, has_windows, interface_at, node_of, other_offer, other_sight};
+use fr_bus::bus::Bus;
 use fr_bus::outcome::{Fate, Sealed, Sent};
 use fr_guardian::guardian::Guardian;
 use fr_interface::interface::Interface;
@@ -15,6 +19,7 @@ use fr_slots::numbers::{NODES, NodeId, TaskId};
 use fr_slots::params::Params;
 use fr_slots::plan::NodePlan;
 use fr_slots::window::Window;
+use std::alloc::Global;
 use thiserror::Error;
 
 /// What a settling found that agrees.
@@ -130,7 +135,8 @@ fn is_right(guardian: &Guardian, node: NodeId, window: &Window, sent: &Sent) -> 
 fn all_right(guardian: &Guardian, node: NodeId, window: &Window, sent: &[Sent]) -> bool
     ensures { result ≡ list_all (is_right guardian.now node window.now) sent.now }
 {
-    sent.iter().all(|sent| is_right(guardian, node, window, sent))
+    sent.iter()
+        .all(|sent| is_right(guardian, node, window, sent))
 }
 
 /// Whether all transmissions of the node in the window are right.
@@ -226,4 +232,96 @@ fn other_sights(
         }
     }
     None
+}
+
+/// The number of the window at this place of the record.
+fn number_at(recorded: &[Sealed], place: usize) -> u32
+    requires { place < length recorded.now }
+    ensures { IfSome (slice_get recorded.now place) (λ r. result ≡ r.window.number) }
+{
+    let sealed = &recorded[place];
+    sealed.window.number
+}
+
+/// The number of windows of the record, which an interface that has them all observed.
+fn count_windows(interfaces: &[Interface], recorded: &[Sealed]) -> u32
+    requires there { 0 < length interfaces.now }
+    requires agree { WindowsAgree interfaces.now recorded.now 0 }
+    ensures { result ≡ length recorded.now }
+{
+    let Some(interface) = interface_at(interfaces, 0) else {
+        unreachable!();
+    };
+    let _entries = entries_of(interface);
+    recorded.len() as u32
+}
+
+/// Whether all agrees, and if not what differs first.
+fn judge(
+    alloc: Global,
+    cluster: &Cluster,
+    interfaces: &[Interface],
+    recorded: &[Sealed],
+    scripts: &[Script],
+) -> Result<Settled, SettleError>
+    ensures { Settles cluster.now interfaces.now recorded.now scripts.now result }
+{
+    if let Some(place) = other_plan(cluster, interfaces) {
+        return Err(SettleError::PlanDiffers(place));
+    }
+    if let Some(node) = other_windows(interfaces, recorded) {
+        return Err(SettleError::WindowsDiffer(node));
+    }
+    let Ok(guardian) = Guardian::new(alloc, cluster) else {
+        return Err(SettleError::Memory);
+    };
+    if let Some(found) = other_offers(&guardian, interfaces, recorded) {
+        let number = number_at(recorded, found.1);
+        return Err(SettleError::OfferDiffers(found.0, number));
+    }
+    if let Some(found) = other_sights(cluster, interfaces, recorded) {
+        let number = number_at(recorded, found.1);
+        return Err(SettleError::SeenDiffers(found.0, number));
+    }
+    if let Some(found) = other_script(interfaces, scripts) {
+        return Err(SettleError::ScriptDiffers(found.0, found.1));
+    }
+    let _params = cluster.params();
+    let windows = count_windows(interfaces, recorded);
+    Ok(Settled { windows })
+}
+
+/// Whether the interfaces are those of the cluster's nodes, and their journals and the scripts agree with the record of
+/// the bus (own profile).
+///
+/// Each of these is tested for all nodes before the next, and where one fails the least node is named, and then the
+/// first window or the least task of that node:
+///
+/// - each interface has the cluster's parameters and the plan of the node of its place, and there are as many as
+///   nodes: `PlanDiffers`;
+/// - the windows that a node fetched, and those that it observed, are the record's: `WindowsDiffer`;
+/// - in each window the record has of a node the offers that its journal handed to the bus, and each fate of the node's
+///   transmissions, unless it is a mute, is what the cluster's guardians give; a transmission of a node that the
+///   cluster doesn't have differs too: `OfferDiffers`;
+/// - a node saw in each window what the record lets it see: `SeenDiffers`;
+/// - what a task did, by the journal, is the lines of each script that is given for it, in whatever cycle, with the
+///   answers that these have, and nothing where no script is given: `ScriptDiffers`.
+///
+/// `Memory` may be answered in place of the last three and of the number of windows, where memory is refused. A world
+/// between two windows settles with its own cluster, interfaces and bus, but for the scripts.
+pub fn settle(
+    alloc: Global,
+    cluster: &Cluster,
+    interfaces: &[Interface],
+    bus: &Bus,
+    scripts: &[Script],
+) -> Result<Settled, SettleError>
+    ensures answer { Settles cluster.now interfaces.now bus.now.sealed scripts.now result }
+    ensures follows { OnOk result (EachFollows cluster.now.params interfaces.now bus.now.sealed) }
+    ensures between { IsBetweenWindows cluster.now interfaces.now bus.now → DiffersInScriptsAlone result }
+{
+    let recorded = bus.record();
+    let answer = judge(alloc, cluster, interfaces, recorded, scripts);
+    let _params = cluster.params();
+    answer
 }

@@ -25,12 +25,7 @@ fn frame_reply(interface: &Interface, from: Option<Origin>) -> Reply
 }
 
 /// What the task did by the entry of this number, if it is the task's.
-fn deed_in(
-    interface: &Interface,
-    task: TaskId,
-    number: u32,
-    entry: Option<&Entry>,
-) -> Option<Deed>
+fn deed_in(interface: &Interface, task: TaskId, number: u32, entry: Option<&Entry>) -> Option<Deed>
     ensures { result ≡ option_and_then (deed_in interface.now task number) (option_copied entry.entry) }
 {
     let (doer, action, answer) = match entry? {
@@ -185,8 +180,7 @@ fn is_idle_without(interfaces: &[Interface], scripts: &[Script], node: NodeId, t
 fn script_agrees(interfaces: &[Interface], scripts: &[Script], node: NodeId, task: TaskId) -> bool
     ensures { IsTrue result ↔ ScriptAgrees interfaces.now scripts.now node task }
 {
-    is_idle_without(interfaces, scripts, node, task)
-        && are_scripts(interfaces, scripts, node, task)
+    is_idle_without(interfaces, scripts, node, task) && are_scripts(interfaces, scripts, node, task)
 }
 
 /// The task of this number.
@@ -214,10 +208,7 @@ fn other_task(interfaces: &[Interface], scripts: &[Script], node: NodeId) -> Opt
 }
 
 /// The first node with a task that didn't do its script, and the first such task of it.
-pub(crate) fn other_script(
-    interfaces: &[Interface],
-    scripts: &[Script],
-) -> Option<(NodeId, TaskId)>
+pub(crate) fn other_script(interfaces: &[Interface], scripts: &[Script]) -> Option<(NodeId, TaskId)>
     ensures { FindsScript (ScriptAgrees interfaces.now scripts.now) result }
 {
     for number in 0..NODES {

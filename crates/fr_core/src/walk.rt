@@ -121,8 +121,14 @@ fn is_handed(
     ensures { IsTrue result ↔ (offers_of node sealed.now ≡ handed_by interface.now number window.now) }
 {
     is_of_window(sealed, window)
-        && are_same(&interface.handed_at(number, Channel::A), sealed.offered(Channel::A, node))
-        && are_same(&interface.handed_at(number, Channel::B), sealed.offered(Channel::B, node))
+        && are_same(
+            &interface.handed_at(number, Channel::A),
+            sealed.offered(Channel::A, node),
+        )
+        && are_same(
+            &interface.handed_at(number, Channel::B),
+            sealed.offered(Channel::B, node),
+        )
 }
 
 /// Whether the node saw this, on A and on B, by the record.

@@ -1,4 +1,4 @@
-use Rattle.std.proofs.Common.{◌≡◌, ◌<◌, ℕ, arith, slice_get}
+use Rattle.std.proofs.Common.{ℕ, arith, slice_get}
 use Rattle.fr_core.proofs.SettleLemmas.{found_at, one_more}
 use Rattle.fr_core.specs.Settling.{IsOfferedAt}
 use Rattle.fr_core.proofs.settle.other_offers.Goals as goal

@@ -1,4 +1,3 @@
-use Rattle.std.proofs.Common.{◌≡◌, ℕ, ◌<◌, true, Some}
 use Rattle.fr_core.specs.Scripts.{deed_at}
 use Rattle.fr_core.specs.Walks.{IsScriptedAsFar}
 use Rattle.fr_core.proofs.tasks.are_lines.Given as goal

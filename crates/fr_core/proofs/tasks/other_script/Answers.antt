@@ -1,4 +1,4 @@
-use Rattle.std.proofs.Common.{◌≡◌, ◌<◌, ℕ, arith}
+use Rattle.std.proofs.Common.{arith}
 use Rattle.fr_core.proofs.SettleLemmas.{found_task, one_more}
 use Rattle.fr_core.specs.Scripts.{ScriptAgrees}
 use Rattle.fr_core.specs.Settling.{EachTask}

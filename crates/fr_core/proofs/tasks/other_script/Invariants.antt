@@ -1,4 +1,4 @@
-use Rattle.std.proofs.Common.{◌≡◌, ℕ, ◌<◌, true, Some}
+use Rattle.std.proofs.Common.{ℕ, ◌<◌}
 use Rattle.fr_core.specs.Scripts.{ScriptAgrees}
 use Rattle.fr_core.specs.Settling.{EachTask}
 use Rattle.fr_core.proofs.tasks.other_script.Given as goal

@@ -1,5 +1,4 @@
-use Rattle.std.proofs.Common.{◌≡◌, ◌<◌, ◌≤◌, arith, sym, ap, refl, ◌∙◌, Some, None, map}
-use Rattle.std.specs.Prelude.{option_map}
+use Rattle.std.proofs.Common.{arith, refl, map}
 use Rattle.fr_bus.specs.Record.{Recorded}
 use Rattle.fr_core.proofs.CaseLemmas.{differ}
 use Rattle.fr_core.proofs.WalkLemmas.{as_far_first, fetches_are, walk_past, walk_on, walk_beyond, walk_apart, row_at, no_row, finds_rest}

@@ -1,5 +1,4 @@
-use Rattle.std.proofs.Common.{◌≡◌, ◌<◌, ◌≤◌, arith, sym, ap, refl, ◌∙◌, Some, None, map}
-use Rattle.std.specs.Prelude.{option_map}
+use Rattle.std.proofs.Common.{arith, sym, refl, map}
 use Rattle.fr_bus.specs.Record.{Recorded}
 use Rattle.fr_core.proofs.CaseLemmas.{differ}
 use Rattle.fr_core.proofs.WalkLemmas.{as_far_first, observes_are, opened_nil, opened_on, walk_past, walk_on, walk_beyond, walk_apart, row_at, no_row, finds_rest}
@@ -13,8 +12,8 @@ pub loop-number-preserved-in_default : goal.loop-number-preserved-in_default
 loop-number-preserved-in_default c =
     record {
       far = walk_past observes_at c.args.interface.now.entries (map (λ (r : Recorded). r.window) c.args.recorded.now) c.loop-number.number c.loop-number.place c.observed_window-observed.result
-    (omega (arith, c.loop-number-test.true, c.entries_of-number-end.ensures.value)) c.loop-number.invariant.far
-    (observes_are c.args.interface.now.entries c.loop-number.number _ _ _ c.loop-number.invariant.opening c.observed_window-observed.ensures c.entry_at-entry.ensures) c.in_default.is;
+          (omega (arith, c.loop-number-test.true, c.entries_of-number-end.ensures.value)) c.loop-number.invariant.far
+          (observes_are c.args.interface.now.entries c.loop-number.number _ _ _ c.loop-number.invariant.opening c.observed_window-observed.ensures c.entry_at-entry.ensures) c.in_default.is;
       opening = opened_on c.args.interface.now.entries c.loop-number.number _ _ _ (omega (arith, c.loop-number-test.true, c.entries_of-number-end.ensures.value)) c.loop-number.invariant.opening c.opened_past-opened.ensures c.entry_at-entry.ensures;
     }
 
@@ -37,9 +36,9 @@ pub loop-number-preserved : goal.loop-number-preserved
 loop-number-preserved c =
     record {
       far = walk_on observes_at c.args.interface.now.entries (map (λ (r : Recorded). r.window) c.args.recorded.now) c.loop-number.number c.loop-number.place c.observed_window-observed.result
-    (omega (arith, c.loop-number-test.true, c.entries_of-number-end.ensures.value)) c.loop-number.invariant.far
-    (observes_are c.args.interface.now.entries c.loop-number.number _ _ _ c.loop-number.invariant.opening c.observed_window-observed.ensures c.entry_at-entry.ensures)
-    c.in-Some.window _ c.in-Some.is (row_at (λ (r : Recorded). r.window) c.args.recorded.now c.loop-number.place c.in-Some-sealed_at.sealed.now c.in-Some-sealed_at.ensures) (c.if-not-is_of_window.ensures.0 refl);
+          (omega (arith, c.loop-number-test.true, c.entries_of-number-end.ensures.value)) c.loop-number.invariant.far
+          (observes_are c.args.interface.now.entries c.loop-number.number _ _ _ c.loop-number.invariant.opening c.observed_window-observed.ensures c.entry_at-entry.ensures)
+          c.in-Some.window _ c.in-Some.is (row_at (λ (r : Recorded). r.window) c.args.recorded.now c.loop-number.place c.in-Some-sealed_at.sealed.now c.in-Some-sealed_at.ensures) (c.if-not-is_of_window.ensures.0 refl);
       opening = opened_on c.args.interface.now.entries c.loop-number.number _ _ _ (omega (arith, c.loop-number-test.true, c.entries_of-number-end.ensures.value)) c.loop-number.invariant.opening c.opened_past-opened.ensures c.entry_at-entry.ensures;
     }
 

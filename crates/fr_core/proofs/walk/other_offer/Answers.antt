@@ -1,4 +1,4 @@
-use Rattle.std.proofs.Common.{◌≡◌, ◌<◌, ◌≤◌, arith, sym, ap, refl, ◌∙◌, Some, None, map}
+use Rattle.std.proofs.Common.{arith, ap, refl, map}
 use Rattle.std.specs.Prelude.{option_map}
 use Rattle.fr_core.proofs.CaseLemmas.{differ}
 use Rattle.fr_core.proofs.WalkLemmas.{as_far_first, handed_are, walk_past, walk_on, walk_beyond, walk_apart, row_at, no_row, finds_rest}

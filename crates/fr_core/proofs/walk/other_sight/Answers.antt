@@ -1,5 +1,4 @@
-use Rattle.std.proofs.Common.{◌≡◌, ◌<◌, ◌≤◌, arith, sym, ap, refl, ◌∙◌, Some, None, map}
-use Rattle.std.specs.Prelude.{option_map}
+use Rattle.std.proofs.Common.{arith, sym, ap, refl, ◌∙◌, Some, map}
 use Rattle.std.specs.Option.{option_copied}
 use Rattle.fr_core.proofs.CaseLemmas.{differ}
 use Rattle.fr_core.proofs.WalkLemmas.{as_far_first, sights_are, sighted, saw_some, some_alike, opened_nil, opened_on, walk_past, walk_on, walk_beyond, walk_apart, row_at, no_row, finds_rest}
@@ -13,8 +12,8 @@ pub loop-number-preserved-in_default : goal.loop-number-preserved-in_default
 loop-number-preserved-in_default c =
     record {
       far = walk_past sight_at c.args.interface.now.entries (map (sights_of c.args.params.now c.args.node) c.args.recorded.now) c.loop-number.number c.loop-number.place (sighted c.observed_window-observed.result (option_copied c.entry_at-entry.result))
-    (omega (arith, c.loop-number-test.true, c.entries_of-number-end.ensures.value)) c.loop-number.invariant.far
-    (sights_are c.args.interface.now.entries c.loop-number.number _ _ _ c.loop-number.invariant.opening c.observed_window-observed.ensures c.entry_at-entry.ensures) (ap (λ w. sighted w (option_copied c.entry_at-entry.result)) c.in_default.is);
+          (omega (arith, c.loop-number-test.true, c.entries_of-number-end.ensures.value)) c.loop-number.invariant.far
+          (sights_are c.args.interface.now.entries c.loop-number.number _ _ _ c.loop-number.invariant.opening c.observed_window-observed.ensures c.entry_at-entry.ensures) (ap (λ w. sighted w (option_copied c.entry_at-entry.result)) c.in_default.is);
       opening = opened_on c.args.interface.now.entries c.loop-number.number _ _ _ (omega (arith, c.loop-number-test.true, c.entries_of-number-end.ensures.value)) c.loop-number.invariant.opening c.opened_past-opened.ensures c.entry_at-entry.ensures;
     }
 
@@ -43,9 +42,9 @@ loop-number-preserved c =
     let is = ap (λ w. sighted w (option_copied c.entry_at-entry.result)) c.in-Some.is ∙ x.1 in
     record {
       far = walk_on sight_at c.args.interface.now.entries (map (sights_of c.args.params.now c.args.node) c.args.recorded.now) c.loop-number.number c.loop-number.place (sighted c.observed_window-observed.result (option_copied c.entry_at-entry.result))
-    (omega (arith, c.loop-number-test.true, c.entries_of-number-end.ensures.value)) c.loop-number.invariant.far
-    (sights_are c.args.interface.now.entries c.loop-number.number _ _ _ c.loop-number.invariant.opening c.observed_window-observed.ensures c.entry_at-entry.ensures)
-    x.0 _ is (row_at (sights_of c.args.params.now c.args.node) c.args.recorded.now c.loop-number.place c.in-Some-sealed_at.sealed.now c.in-Some-sealed_at.ensures) (some_alike _ _ (sym (c.if-not-has_seen.ensures.0 refl) ∙ x.1));
+          (omega (arith, c.loop-number-test.true, c.entries_of-number-end.ensures.value)) c.loop-number.invariant.far
+          (sights_are c.args.interface.now.entries c.loop-number.number _ _ _ c.loop-number.invariant.opening c.observed_window-observed.ensures c.entry_at-entry.ensures)
+          x.0 _ is (row_at (sights_of c.args.params.now c.args.node) c.args.recorded.now c.loop-number.place c.in-Some-sealed_at.sealed.now c.in-Some-sealed_at.ensures) (some_alike _ _ (sym (c.if-not-has_seen.ensures.0 refl) ∙ x.1));
       opening = opened_on c.args.interface.now.entries c.loop-number.number _ _ _ (omega (arith, c.loop-number-test.true, c.entries_of-number-end.ensures.value)) c.loop-number.invariant.opening c.opened_past-opened.ensures c.entry_at-entry.ensures;
     }
 
