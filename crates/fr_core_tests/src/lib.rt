@@ -2,6 +2,8 @@
 #![tactic(auto)]
 
 #[cfg(test)]
+mod settling;
+#[cfg(test)]
 mod turns;
 #[cfg(test)]
 mod worlds;
