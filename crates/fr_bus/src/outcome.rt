@@ -3,8 +3,10 @@
 ghost use Rattle.std.specs.Prelude.{◌≡◌, ◌<◌, ◌≤◌, [], ◌∷◌, ◌++◌, List, length, IfOk, OnOk, OnErr};
 ghost use Rattle.std.specs.Prelude.{None, ◌&&◌, ◌+◌, IfSome, IfNone};
 ghost use Rattle.std.specs.List.{list_any};
+ghost use Rattle.std.specs.Option.{option_copied};
 ghost use Rattle.fr_bus.specs.Outcome.{fate_of, transmission, sent_on, sent_in, sent_of, sent_from, passed_on, is_of};
 ghost use Rattle.fr_bus.specs.Outcome.{overruns, seen_of, all_passed, received, longest};
+ghost use Rattle.fr_bus.specs.Record.{is_offer_of, offer_in};
 ghost use Rattle.fr_bus.specs.Corruption.{turned, with_bit_turned, corrupted};
 ghost use Rattle.fr_slots.specs.declared.channel.Channel.TheVariants as Channel;
 ghost use Rattle.fr_guardian.specs.Guarding.{passes};
@@ -359,9 +361,29 @@ fn seen_in(
     }
 }
 
+/// Whether it is the node's offer on the channel.
+fn is_offer_of(channel: Channel, node: NodeId, sent: &Sent) -> bool
+    ensures { result ≡ is_offer_of channel node sent.now }
+{
+    is_of(node, sent) && sent.channel == channel && !sent.babble
+}
+
+/// The bytes of the node's offer on the channel, if it is among these.
+fn offer_in(channel: Channel, node: NodeId, sent: &[Sent]) -> Option<&Bytes>
+    ensures { option_copied result ≡ offer_in channel node sent.now }
+{
+    for t in sent {
+        if is_offer_of(channel, node, t) {
+            return Some(&t.bytes);
+        }
+    }
+    None
+}
+
 impl Sealed {
     ghost use Rattle.std.specs.Prelude.{◌≡◌, ◌≤◌};
-    ghost use Rattle.fr_bus.specs.Record.{corrupt_on, seen_by};
+    ghost use Rattle.std.specs.Option.{option_copied};
+    ghost use Rattle.fr_bus.specs.Record.{corrupt_on, offer_in, seen_by};
     ghost use Rattle.fr_bus.specs.Outcome.{longest};
 
     /// The bit that a fault turns on the channel, if any.
@@ -374,8 +396,9 @@ impl Sealed {
         }
     }
 
-    /// What the node sees on the channel.
-    pub(crate) fn seen(&self, params: &Params, channel: Channel, node: NodeId) -> Seen
+    /// What the node sees on the channel of what passed there and of the bit that is turned, by the parameters of the
+    /// cluster (own profile).
+    pub fn seen(&self, params: &Params, channel: Channel, node: NodeId) -> Seen
         ensures { result ≡ seen_by params.now self.now channel node }
     {
         let corrupt = self.corrupt_on(channel);
@@ -387,6 +410,13 @@ impl Sealed {
             node,
             self.sent.as_slice(),
         )
+    }
+
+    /// The bytes of the node's offer on the channel, whatever became of it. None where it offered nothing there.
+    pub fn offered(&self, channel: Channel, node: NodeId) -> Option<&Bytes>
+        ensures { option_copied result ≡ offer_in channel node self.now.sent }
+    {
+        offer_in(channel, node, self.sent.as_slice())
     }
 
     /// The bytes of the longest transmission that passed on the channel, up to 262, or 0 where none did.

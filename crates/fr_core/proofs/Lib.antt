@@ -5,6 +5,10 @@ pub mod NodeLemmas
 pub mod AgreementLemmas
 pub mod WorldLemmas
 pub mod RunLemmas
+pub mod WalkLemmas
+pub mod ScriptLemmas
+pub mod SettleLemmas
+pub mod SettledLemmas
 pub mod WorkedLemmas
 pub mod JudgedLemmas
 pub mod LoneLemmas

@@ -7,3 +7,7 @@ pub mod Runs
 pub mod Receivers
 pub mod Accounts
 pub mod Headline
+pub mod Scripts
+pub mod ScriptFields
+pub mod Settling
+pub mod Walks

@@ -19,4 +19,8 @@ pub mod event;
 mod legal;
 mod machine;
 pub mod run;
+pub mod script;
+pub mod settle;
+mod tasks;
+mod walk;
 pub mod world;

@@ -4,6 +4,8 @@
 #[cfg(test)]
 mod faults;
 #[cfg(test)]
+mod settling;
+#[cfg(test)]
 mod turns;
 #[cfg(test)]
 mod worlds;

@@ -42,9 +42,14 @@ tasks = 2
 /// The number of the cluster's nodes.
 pub(crate) const NODES: u8 = 3;
 
+/// The cluster of the three nodes.
+pub(crate) fn three_node_cluster(alloc: Global) -> Result<Cluster, Fail> {
+    Ok(Cluster::from_text(alloc, THREE_NODES)?)
+}
+
 /// The opening world of the three nodes, for a run of one cycle.
 pub(crate) fn three_nodes(alloc: Global) -> Result<World, Fail> {
-    let cluster = Cluster::from_text(alloc, THREE_NODES)?;
+    let cluster = three_node_cluster(alloc)?;
     Ok(World::new(alloc, &cluster, 1)?)
 }
 

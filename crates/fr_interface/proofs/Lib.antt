@@ -1,6 +1,7 @@
 pub mod AnswerLemmas
 pub mod ChangeLemmas
 pub mod CounterLemmas
+pub mod HandingLemmas
 pub mod KeptLemmas
 pub mod NamingLemmas
 pub mod OpeningLemmas

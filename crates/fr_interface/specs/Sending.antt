@@ -57,16 +57,21 @@ held_payload b = unwrap_or (payload_of b) []
 abbrev pub payload_at : List Transmitter → ℕ → List ℕ
 payload_at buffers number = unwrap_or (option_map held_payload (slice_get buffers number)) []
 
-abbrev pub data_frame_by : Plan → List Transmitter → Opportunity → Channel → ℕ → Sender → Fields
-data_frame_by plan buffers window channel slot sender = record {
+-- the data frame with this payload
+abbrev pub data_frame_with : Plan → Opportunity → Channel → ℕ → List ℕ → Fields
+data_frame_with plan window channel slot payload = record {
   preamble = preamble_in plan window channel;
   has_data = true;
   sync = sync_of (line_of plan window channel slot);
   startup = startup_of (line_of plan window channel slot);
   id = slot;
-  payload = payload_at buffers sender.buffer;
+  payload = payload;
   cycle = window.cycle;
 }
+
+abbrev pub data_frame_by : Plan → List Transmitter → Opportunity → Channel → ℕ → Sender → Fields
+data_frame_by plan buffers window channel slot sender =
+    data_frame_with plan window channel slot (payload_at buffers sender.buffer)
 
 abbrev pub frame_at : Parameters → Plan → List Transmitter → Opportunity → Channel → ℕ → Option Sender → Option Fields
 frame_at params plan buffers window channel slot None = if owns plan window channel slot

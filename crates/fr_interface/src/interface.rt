@@ -8,6 +8,7 @@ ghost use Rattle.fr_interface.specs.State.{is_not_above, has_words};
 ghost use Rattle.fr_slots.specs.Windows.{IsInRange, IsSlotOrNone};
 
 use crate::errors::{HostError, InterfaceError, SlotError};
+use crate::handing::bytes_in_entry;
 use crate::naming::frame_named;
 use crate::observed::{Told, arrive_all, count_seen, store_all};
 use crate::offers::{handed_out, offered_by};
@@ -83,6 +84,7 @@ impl Interface {
     ghost use Rattle.fr_journal.specs.Counts.{counters_of};
     ghost use Rattle.fr_journal.specs.Held.{frame_named, frame_of, origin_of, IsReceivable};
     ghost use Rattle.fr_journal.specs.Offers.{frame_offered, IsHandedOut, bytes_of};
+    ghost use Rattle.fr_interface.specs.Handing.{bytes_handed};
     ghost use Rattle.fr_interface.specs.State.{with_entry, read_entry, pop_entry, fetch_entry};
     ghost use Rattle.fr_interface.specs.State.{received_by, source_of, tally_by, oldest_of, length_of, lost_of};
     ghost use Rattle.fr_interface.specs.State.{arrived_of, popped_of, queued_of, commit_refusal, read_refusal};
@@ -344,6 +346,22 @@ impl Interface {
         ensures { result ≡ frame_named self.now.params self.now.entries origin }
     {
         frame_named(&self.params, &self.journal, origin)
+    }
+
+    /// The bytes that the fetch of this entry handed to the bus on the channel (chapters 5 and 9). None where it handed
+    /// nothing out there, and where that entry is no fetch.
+    pub fn handed_at(&self, entry: u32, channel: Channel) -> Option<Bytes>
+        ensures { result ≡ bytes_handed self.now entry channel }
+    {
+        let told = self.journal.get(entry)?;
+        bytes_in_entry(
+            &self.params,
+            &self.plan,
+            &self.journal,
+            entry,
+            channel,
+            told,
+        )
     }
 
     /// How many frames the receive queue holds, at most its capacity (own profile). None where the plan has no queue.

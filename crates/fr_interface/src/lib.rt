@@ -14,6 +14,7 @@
 #![tactic(auto)]
 
 pub mod errors;
+mod handing;
 pub mod interface;
 mod naming;
 mod observed;

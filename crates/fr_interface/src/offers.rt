@@ -4,7 +4,7 @@ ghost use Rattle.std.specs.Prelude.{◌≡◌, ◌<◌, length, IfSome};
 ghost use Rattle.std.specs.List.{position};
 ghost use Rattle.fr_journal.specs.Entries.{IsOffered};
 ghost use Rattle.fr_slots.specs.Faults.{claims};
-ghost use Rattle.fr_interface.specs.Sending.{offered_by, data_frame_by, frame_by};
+ghost use Rattle.fr_interface.specs.Sending.{offered_by, data_frame_with, data_frame_by, frame_by};
 ghost use Rattle.fr_journal.specs.Offers.{is_admitting, transmitter, may_begin, ownership, line_of, owns, sync_of};
 ghost use Rattle.fr_journal.specs.Offers.{startup_of, preamble_in, null_frame, IsHandedOut, bytes_of};
 
@@ -144,7 +144,7 @@ fn preamble_in(plan: &NodePlan, window: &Window, channel: Channel) -> bool
 }
 
 /// The null frame of a slot that the node owns.
-fn null_frame(
+pub(crate) fn null_frame(
     params: &Params,
     plan: &NodePlan,
     window: &Window,
@@ -165,6 +165,28 @@ fn null_frame(
     }
 }
 
+/// The data frame with this payload.
+pub(crate) fn data_frame_with(
+    plan: &NodePlan,
+    window: &Window,
+    channel: Channel,
+    slot: SlotId,
+    payload: Payload,
+) -> Frame
+    ensures { result ≡ data_frame_with plan.now window.now channel slot payload }
+{
+    let line = line_of(plan, window, channel, slot);
+    Frame {
+        preamble: preamble_in(plan, window, channel),
+        has_data: true,
+        sync: sync_of(&line),
+        startup: startup_of(&line),
+        id: slot.number(),
+        payload,
+        cycle: window.cycle,
+    }
+}
+
 /// The data frame of the commit that this offers.
 fn data_frame_by(
     plan: &NodePlan,
@@ -176,16 +198,8 @@ fn data_frame_by(
 ) -> Frame
     ensures { result ≡ data_frame_by plan.now buffers.now window.now channel slot sender }
 {
-    let line = line_of(plan, window, channel, slot);
-    Frame {
-        preamble: preamble_in(plan, window, channel),
-        has_data: true,
-        sync: sync_of(&line),
-        startup: startup_of(&line),
-        id: slot.number(),
-        payload: payload_at(buffers, sender.buffer),
-        cycle: window.cycle,
-    }
+    let payload = payload_at(buffers, sender.buffer);
+    data_frame_with(plan, window, channel, slot, payload)
 }
 
 /// The frame that goes out in the window on the channel, where this offers a commit.

@@ -1,0 +1,68 @@
+//! Scripts: what a task is to do.
+
+use crate::event::Reply;
+use fr_frame::payload::Payload;
+use fr_slots::numbers::{NodeId, TaskId};
+use std::marker::Model;
+
+/// One call of a task at its node's interface (chapter 9).
+#[derive(Debug, Drop, PartialEq, Eq)]
+pub enum Action {
+    /// It gives the payload to the transmit buffer of this number.
+    Commit { buffer: u8, payload: Payload },
+    /// It reads the receive buffer of this number.
+    Read { buffer: u8 },
+    /// It takes the oldest frame of the receive queue.
+    Pop,
+}
+
+/// A line of a script (own profile).
+#[derive(Debug, Drop, PartialEq, Eq)]
+pub struct Line {
+    /// The cycle of the run in which it is to be done, from 0.
+    pub cycle: u16,
+    /// What is to be done.
+    pub action: Action,
+    /// How it was answered. None where that isn't known, as before a run.
+    pub answer: Option<Reply>,
+}
+
+/// What a task of a node is to do, in order (own profile).
+#[derive(Drop)]
+pub struct Script {
+    /// The node.
+    pub node: NodeId,
+    /// The task of that node.
+    pub task: TaskId,
+    /// What it is to do.
+    pub lines: Vec<Line>,
+}
+
+impl Model for Script {
+    ghost use Rattle.fr_core.specs.Scripts.{Scripted};
+
+    ghost Value = { Scripted };
+
+    ghost use Rattle.fr_core.specs.ScriptFields.{scripted_in};
+
+    ghost view = { scripted_in };
+}
+
+/// What a task did, with the answer that it got.
+#[derive(Debug, Drop, PartialEq, Eq)]
+pub(crate) struct Deed {
+    pub action: Action,
+    pub answer: Reply,
+}
+
+impl Script {
+    ghost use Rattle.std.specs.Prelude.{◌≡◌};
+    ghost use Rattle.fr_core.specs.Scripts.{is_for};
+
+    /// Whether the script is that task's.
+    pub(crate) fn is_for(&self, node: NodeId, task: TaskId) -> bool
+        ensures { result ≡ is_for node task self.now }
+    {
+        self.node == node && self.task == task
+    }
+}

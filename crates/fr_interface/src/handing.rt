@@ -1,0 +1,98 @@
+//! What the fetches of a journal handed to the bus.
+
+ghost use Rattle.std.specs.Prelude.{◌≡◌, take};
+ghost use Rattle.fr_interface.specs.Handing.{offered_on, bytes_in_entry};
+ghost use Rattle.fr_journal.specs.Offers.{payload_of, data_frame_of, frame_with};
+
+use crate::offers::{data_frame_with, null_frame};
+use fr_frame::encode::encode;
+use fr_frame::frame::{Bytes, Frame};
+use fr_frame::payload::Payload;
+use fr_journal::entry::{Entry, Offered};
+use fr_journal::journal::Journal;
+use fr_slots::channel::Channel;
+use fr_slots::numbers::SlotId;
+use fr_slots::params::Params;
+use fr_slots::plan::NodePlan;
+use fr_slots::window::Window;
+
+/// The payload of the commit of this number among the first entries, or none where it isn't one of these.
+#[tactic(auto, using(crate::proofs::HandingLemmas::get_take, crate::proofs::HandingLemmas::get_past_take))]
+fn payload_of(journal: &Journal, entries: u32, commit: u32) -> Payload
+    ensures { result ≡ payload_of (take entries journal.now.entries) commit }
+{
+    if commit >= entries {
+        return Payload::default();
+    }
+    match journal.get(commit) {
+        Some(Entry::Commit { payload, .. }) => payload,
+        _ => Payload::default(),
+    }
+}
+
+/// The data frame with the payload of the commit of this number among the first entries.
+fn data_frame_of(
+    plan: &NodePlan,
+    journal: &Journal,
+    entries: u32,
+    window: &Window,
+    channel: Channel,
+    slot: SlotId,
+    commit: u32,
+) -> Frame
+    ensures { result ≡ data_frame_of plan.now (take entries journal.now.entries) window.now channel slot commit }
+{
+    let payload = payload_of(journal, entries, commit);
+    data_frame_with(plan, window, channel, slot, payload)
+}
+
+/// The frame that this offer is in the window on the channel, after the first entries.
+fn frame_with(
+    params: &Params,
+    plan: &NodePlan,
+    journal: &Journal,
+    entries: u32,
+    window: &Window,
+    channel: Channel,
+    offered: Offered,
+) -> Option<Frame>
+    ensures { result ≡ frame_with params.now plan.now (take entries journal.now.entries) window.now channel offered }
+{
+    let slot = window.slot(channel)?;
+    match offered {
+        Offered::Nothing => None,
+        Offered::Null => Some(null_frame(params, plan, window, channel, slot)),
+        Offered::Data(commit) => {
+            Some(data_frame_of(plan, journal, entries, window, channel, slot, commit))
+        }
+    }
+}
+
+/// Of what stands for the two channels, that of one.
+fn offered_on(channel: Channel, a: Offered, b: Offered) -> Offered
+    ensures { result ≡ offered_on channel a b }
+{
+    match channel {
+        Channel::A => a,
+        Channel::B => b,
+    }
+}
+
+/// The bytes that the entry handed to the bus on the channel, where so many entries are before it.
+pub(crate) fn bytes_in_entry(
+    params: &Params,
+    plan: &NodePlan,
+    journal: &Journal,
+    entries: u32,
+    channel: Channel,
+    entry: &Entry,
+) -> Option<Bytes>
+    ensures { result ≡ bytes_in_entry params.now plan.now (take entries journal.now.entries) channel entry.now }
+{
+    let Entry::Fetch { window, a, b } = entry else {
+        return None;
+    };
+    let offered = offered_on(channel, *a, *b);
+    let frame = frame_with(params, plan, journal, entries, window, channel, offered)?;
+    Some(encode(&frame, channel))
+}
