@@ -360,7 +360,7 @@ impl Interface {
             &self.journal,
             entry,
             channel,
-            told,
+            &told,
         )
     }
 
