@@ -1,6 +1,7 @@
 pub mod AccountLemmas
 pub mod CommitLemmas
 pub mod CaseLemmas
+pub mod ClusterLemmas
 pub mod NodeLemmas
 pub mod AgreementLemmas
 pub mod WorldLemmas

@@ -2,6 +2,7 @@
 use Rattle.std.proofs.Common.{◌≡◌, ℕ, ◌+◌, cond, List, [], ◌∷◌, ◌++◌, refl, ap, subst, arith}
 use Rattle.std.specs.Result.{is_ok}
 use Rattle.std.proofs.lemmas.List.Sums.{sum_by_push}
+use Rattle.fr_core.proofs.ClusterLemmas.{steps_cluster}
 use Rattle.fr_core.proofs.CommitLemmas.{step_counts}
 use Rattle.fr_core.specs.Commits.{commits_of}
 use Rattle.fr_core.specs.declared.event.Event.{Event}
@@ -29,7 +30,7 @@ steps_count old (e ∷ events) (a ∷ answers) new n steps =
 
 pub run_none : (w : WorldState) → IsRunOf w [] 0 w
 unfolding StepsAll commits_accepted
-run_none w = record { answers = []; steps = refl; accepted_is = refl; commits = λ n. omega arith }
+run_none w = record { answers = []; steps = refl; accepted_is = refl; commits = λ n. omega arith; cluster = refl }
 
 pub run_more : (old : WorldState) (events : List Event) (accepted : ℕ) (between : WorldState) (event : Event) (answer : Answer) (more : ℕ) (new : WorldState)
     → IsRunOf old events accepted between → Steps between event answer new → more ≡ cond (is_ok answer) 1 0 → IsRunOf old (events ++ event ∷ []) (accepted + more) new
@@ -40,4 +41,5 @@ run_more old events accepted between event answer more new run step counts =
       steps = steps;
       accepted_is = omega (arith, run.accepted_is, counts, sum_by_push (λ (a : Answer). cond (is_ok a) 1 0) run.answers answer);
       commits = λ n. steps_count old (events ++ event ∷ []) (run.answers ++ answer ∷ []) new n steps;
+      cluster = steps_cluster old (events ++ event ∷ []) (run.answers ++ answer ∷ []) new steps;
     }

@@ -8,6 +8,7 @@ use Rattle.fr_bus.specs.declared.fault.Fault.{Fault}
 use Rattle.fr_bus.specs.declared.fault.Fault.TheVariants.{Babble, Mute, Corrupt}
 use Rattle.fr_bus.specs.States.{BusState, inject_done, sealed_with, collecting_of}
 use Rattle.fr_core.proofs.AgreementLemmas.{keeps_done, agreement_opens}
+use Rattle.fr_core.proofs.ClusterLemmas.{inject_cluster, seal_cluster}
 use Rattle.fr_core.specs.Agreement.{Agreement, IsWorld}
 use Rattle.fr_core.specs.declared.carried.Carried.{Carried}
 use Rattle.fr_core.specs.declared.carried.Carried.TheVariants.{Idle, Knows, Offers, Waits, Took}
@@ -53,16 +54,6 @@ kept_bus w b same kept = record {
   configured = kept.configured ∙ ap (λ (d : Description). map (new_interface d.params) d.plans) (sym same);
   a_controller_each = kept.a_controller_each;
 }
-
-inject_cluster : (b : BusState) (fault : Fault) → (inject_done b fault).cluster ≡ b.cluster
-inject_cluster b (Babble node channel bytes) = refl
-inject_cluster b (Mute node channel) = refl
-inject_cluster b (Corrupt A bit) = refl
-inject_cluster b (Corrupt B bit) = refl
-
-seal_cluster : (b : BusState) (opened : Option Opportunity) → (sealed_with b opened).cluster ≡ b.cluster
-seal_cluster b None = refl
-seal_cluster b (Some window) = refl
 
 -- ---- the steps of a controller
 

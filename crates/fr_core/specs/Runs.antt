@@ -45,11 +45,12 @@ commits_accepted n [] answers = 0
 commits_accepted n (event ∷ events) [] = 0
 commits_accepted n (event ∷ events) (answer ∷ answers) = commits_by n event answer + commits_accepted n events answers
 
--- The events lead from `old` to `new`, so many of them are accepted, and each interface took as many commits as there
--- are accepted commits at its node.
+-- The events lead from `old` to `new`, so many of them are accepted, each interface took as many commits as there are
+-- accepted commits at its node, and the cluster is the same.
 pub record IsRunOf (old : WorldState) (events : List Event) (accepted : ℕ) (new : WorldState) : Type 0 where
   pub answers : List Answer
   pub steps : StepsAll old events answers new
   pub accepted_is : accepted ≡ count_by is_ok answers
   pub commits : (n : ℕ)
       → commits_of (interface_at new n) ≡ commits_of (interface_at old n) + commits_accepted n events answers
+  pub cluster : new.bus.cluster ≡ old.bus.cluster

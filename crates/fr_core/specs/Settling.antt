@@ -193,7 +193,7 @@ Settles d is rs scripts (Err (ScriptDiffers n task)) =
     × EachNode (SightsAgree d is rs)
     × IsFirst (ScriptsAgree is scripts) n
     × IsFirst (ScriptAgrees is scripts n) task
-Settles d is rs scripts (Err Memory) = Unit {0}
+Settles d is rs scripts (Err Memory) = ((m : ℕ) → PlansAgree d is m) × EachNode (WindowsAgree is rs)
 
 -- ---- what follows
 

@@ -2,4 +2,4 @@ use Rattle.fr_core.proofs.WorldLemmas.{kept_step}
 use Rattle.fr_core.proofs.world.World.step.Goals as goal
 
 pub invariant_of-self : goal.invariant_of-self
-invariant_of-self c = kept_step _ _ _ _ c.step.ensures c.self.invariant
+invariant_of-self c = kept_step _ _ _ _ c.step-answer.ensures c.self.invariant
