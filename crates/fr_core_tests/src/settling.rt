@@ -66,65 +66,92 @@ fn receipt(entry: u32) -> Result<Reply, Fail> {
     }))
 }
 
+/// What a settling of the interfaces of one world with the record of another tells, without scripts.
+fn told_of(
+    alloc: Global,
+    interfaces: &World,
+    record: &World,
+) -> Result<Result<Settled, SettleError>, Fail> {
+    told(alloc, interfaces.interfaces(), record, &[])
+}
+
+/// What a settling of a world tells, where node 0 was to commit and to be answered so.
+fn told_with(
+    alloc: Global,
+    world: &World,
+    answer: Option<Reply>,
+) -> Result<Result<Settled, SettleError>, Fail> {
+    told(alloc, world.interfaces(), world, &[script(alloc, answer)?])
+}
+
 #[test]
-fn the_first_difference_is_told(rt: HostRuntime) -> Result<(), Fail> {
-    let alloc = rt.alloc();
-    let opening = three_nodes(alloc)?;
-    let idle = after_window(alloc, None)?;
-    let sent = after_window(alloc, Some(&commit(0, &COMMITTED)?))?;
+fn a_world_settles_with_its_own_record(rt: HostRuntime) -> Result<(), Fail> {
+    let idle = after_window(rt.alloc(), None)?;
+    let settled = told_of(rt.alloc(), &idle, &idle)?;
+    assert_eq!(rt; settled, Ok(Settled { windows: 1 }));
+    Ok(())
+}
+
+#[test]
+fn windows_that_the_record_has_not_differ(rt: HostRuntime) -> Result<(), Fail> {
+    let idle = after_window(rt.alloc(), None)?;
+    let opening = three_nodes(rt.alloc())?;
+    let settled = told_of(rt.alloc(), &idle, &opening)?;
+    assert_eq!(rt; settled, Err(SettleError::WindowsDiffer(node(0)?)));
+    Ok(())
+}
+
+#[test]
+fn an_offer_that_the_record_has_not_differs(rt: HostRuntime) -> Result<(), Fail> {
+    let sent = after_window(rt.alloc(), Some(&commit(0, &COMMITTED)?))?;
+    let idle = after_window(rt.alloc(), None)?;
+    let settled = told_of(rt.alloc(), &sent, &idle)?;
+    assert_eq!(rt; settled, Err(SettleError::OfferDiffers(node(0)?, 0)));
+    Ok(())
+}
+
+#[test]
+fn a_frame_seen_without_its_turned_bit_differs(rt: HostRuntime) -> Result<(), Fail> {
+    let idle = after_window(rt.alloc(), None)?;
     let fault = Event::Inject(Fault::Corrupt {
         channel: Channel::A,
         bit: 40,
     });
-    let corrupt = after_window(alloc, Some(&fault))?;
-    let answers = [
-        told(alloc, idle.interfaces(), &idle, &[])?,
-        told(alloc, idle.interfaces(), &opening, &[])?,
-        told(alloc, sent.interfaces(), &idle, &[])?,
-        told(alloc, idle.interfaces(), &corrupt, &[])?,
-        told(alloc, sent.interfaces(), &sent, &[])?,
-        told(alloc, &idle.interfaces()[1..], &idle, &[])?,
-    ];
+    let corrupt = after_window(rt.alloc(), Some(&fault))?;
+    let settled = told_of(rt.alloc(), &idle, &corrupt)?;
+    assert_eq!(rt; settled, Err(SettleError::SeenDiffers(node(1)?, 0)));
+    Ok(())
+}
+
+#[test]
+fn a_commit_without_a_script_differs(rt: HostRuntime) -> Result<(), Fail> {
+    let sent = after_window(rt.alloc(), Some(&commit(0, &COMMITTED)?))?;
+    let settled = told_of(rt.alloc(), &sent, &sent)?;
     assert_eq!(rt;
-        answers,
-        [
-            Ok(Settled { windows: 1 }),
-            Err(SettleError::WindowsDiffer(node(0)?)),
-            Err(SettleError::OfferDiffers(node(0)?, 0)),
-            Err(SettleError::SeenDiffers(node(1)?, 0)),
-            Err(SettleError::ScriptDiffers(node(0)?, task(0)?)),
-            Err(SettleError::PlanDiffers(0)),
-        ]
+        settled,
+        Err(SettleError::ScriptDiffers(node(0)?, task(0)?))
     );
     Ok(())
 }
 
 #[test]
+fn interfaces_of_other_nodes_differ(rt: HostRuntime) -> Result<(), Fail> {
+    let idle = after_window(rt.alloc(), None)?;
+    let settled = told(rt.alloc(), &idle.interfaces()[1..], &idle, &[])?;
+    assert_eq!(rt; settled, Err(SettleError::PlanDiffers(0)));
+    Ok(())
+}
+
+#[test]
 fn a_script_is_compared_with_its_answers(rt: HostRuntime) -> Result<(), Fail> {
-    let alloc = rt.alloc();
-    let sent = after_window(alloc, Some(&commit(0, &COMMITTED)?))?;
-    let answers = [
-        told(alloc, sent.interfaces(), &sent, &[script(alloc, None)?])?,
-        told(
-            alloc,
-            sent.interfaces(),
-            &sent,
-            &[script(alloc, Some(receipt(0)?))?],
-        )?,
-        told(
-            alloc,
-            sent.interfaces(),
-            &sent,
-            &[script(alloc, Some(receipt(1)?))?],
-        )?,
+    let sent = after_window(rt.alloc(), Some(&commit(0, &COMMITTED)?))?;
+    let settled = [
+        told_with(rt.alloc(), &sent, None)?,
+        told_with(rt.alloc(), &sent, Some(receipt(0)?))?,
+        told_with(rt.alloc(), &sent, Some(receipt(1)?))?,
     ];
-    assert_eq!(rt;
-        answers,
-        [
-            Ok(Settled { windows: 1 }),
-            Ok(Settled { windows: 1 }),
-            Err(SettleError::ScriptDiffers(node(0)?, task(0)?)),
-        ]
-    );
+    let differs = Err(SettleError::ScriptDiffers(node(0)?, task(0)?));
+    let agrees = Ok(Settled { windows: 1 });
+    assert_eq!(rt; settled, [agrees, agrees, differs]);
     Ok(())
 }
