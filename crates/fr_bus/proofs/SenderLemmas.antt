@@ -2,7 +2,7 @@
 use Rattle.std.proofs.Common.{◌≡◌, ℕ, ◌+◌, Bool, true, false, cond, List, [], ◌∷◌, ◌++◌, length, Option, Some, None}
 use Rattle.std.proofs.Common.{refl, subst}
 use Rattle.std.proofs.lemmas.List.Elements.{All-nil, All-cons, All-head, All-tail, All-append, All-same, All-contains}
-use Rattle.std.specs.Prelude.{◌==◌, All}
+use Rattle.std.specs.Prelude.{◌==◌, All, Contains}
 use Rattle.std.specs.List.{filter}
 use Rattle.arrayvec.specs.ArrayVec.{ArrayVec}
 use Rattle.fr_bus.proofs.NextLemmas.{and_left}
@@ -12,18 +12,20 @@ use Rattle.fr_bus.specs.declared.station.Side.{Side}
 use Rattle.fr_bus.specs.declared.station.Station.{Station}
 use Rattle.fr_bus.specs.Outcome.{fate_of, transmission, sent_in, sent_of, sent_from, is_passed, passed_on, all_passed}
 use Rattle.fr_slots.specs.Admission.{is_channel}
-use Rattle.fr_bus.specs.Record.{IsOutcome}
+use Rattle.fr_bus.specs.Record.{Recorded, IsOutcome}
 use Rattle.fr_bus.specs.States.{BusState, IsRecorded, IsRun, OneSenderEach}
 use Rattle.fr_guardian.proofs.AloneLemmas.{passing_sends}
 use Rattle.fr_guardian.specs.Guarding.{passes}
-use Rattle.fr_schedule.specs.Descriptions.{Description}
+use Rattle.fr_schedule.specs.Clusters.{IsCluster}
+use Rattle.fr_schedule.specs.Descriptions.{Description, is_guarded}
+use Rattle.fr_schedule.specs.SenderTable.{IsSender}
 use Rattle.fr_slots.specs.declared.channel.Channel.{Channel}
 use Rattle.fr_slots.specs.declared.channel.Channel.TheVariants.{A, B}
 use Rattle.fr_slots.specs.History.{AllAfter}
-use Rattle.fr_slots.specs.Windows.{Opportunity, slot_of}
+use Rattle.fr_slots.specs.Windows.{Opportunity, slot_of, is_static}
 
 -- what passed is let pass by its node's guardian
-abbrev IsLetPass : Description → Opportunity → Sent → Type 0
+abbrev pub IsLetPass : Description → Opportunity → Sent → Type 0
 IsLetPass d w t = (channel : Channel) → passed_on channel t ≡ true → passes d t.node w channel ≡ true
 
 fate_case : (muted pass : Bool) → is_passed (fate_of muted pass) ≡ true → pass ≡ true
@@ -31,7 +33,7 @@ fate_case true pass e = absurd (let none : ⊥ = cc in none)
 fate_case false true e = refl
 fate_case false false e = e
 
-channel_case : (c channel : Channel) → is_channel c channel ≡ true → c ≡ channel
+pub channel_case : (c channel : Channel) → is_channel c channel ≡ true → c ≡ channel
 channel_case A A e = refl
 channel_case A B e = absurd (let none : ⊥ = cc in none)
 channel_case B A e = absurd (let none : ⊥ = cc in none)
@@ -78,12 +80,19 @@ unfolding AllAfter
 All-each P Q weaker before [] all = All-nil Q
 All-each P Q weaker before (x ∷ xs) all = All-cons Q x xs (weaker before x all.0) (All-each P Q weaker (before ++ x ∷ []) xs all.1)
 
+-- where each of them is let pass by its node's guardian, what passes a guarded static slot is its sender's
+pub passed_sends : (d : Description) → IsCluster d → (r : Recorded) → All (IsLetPass d r.window) r.sent → (channel : Channel) (slot : ℕ) (t : Sent)
+    → is_static r.window ≡ true → is_guarded d.guard channel ≡ true → slot_of r.window channel ≡ Some slot
+    → Contains (all_passed channel r.sent) t → IsSender d r.window.cycle slot channel t.node
+passed_sends d cluster r sent channel slot t static guarded opened of_passed =
+    let passed : All (λ (u : Sent). passes d u.node r.window channel ≡ true) (all_passed channel r.sent) =
+    All-kept (passed_on channel) (λ (u : Sent). passes d u.node r.window channel ≡ true) r.sent (λ k x within. sent k x within channel) in
+    passing_sends d cluster r.window.cycle t.node slot r.window channel static guarded opened
+    (All-contains (λ (u : Sent). passes d u.node r.window channel ≡ true) (all_passed channel r.sent) t passed of_passed)
+
 pub one_sender : (b : BusState) → IsRun b → OneSenderEach b.cluster b.sealed
 one_sender b run r channel slot t of_record static guarded opened of_passed =
     let d = b.cluster in
     let outcome : IsOutcome d r = All-contains (IsOutcome d) b.sealed r (All-each (IsRecorded d b.cycles) (IsOutcome d) (λ before x h. h.1) [] b.sealed run.recorded) of_record in
     let sent : All (IsLetPass d r.window) r.sent = All-same (IsLetPass d r.window) r.sent (sent_from d r.window 0 outcome.stations) outcome.sent_is (in_all d r.window 0 outcome.stations) in
-    let passed : All (λ (u : Sent). passes d u.node r.window channel ≡ true) (all_passed channel r.sent) =
-    All-kept (passed_on channel) (λ (u : Sent). passes d u.node r.window channel ≡ true) r.sent (λ k x within. sent k x within channel) in
-    passing_sends d run.lawful r.window.cycle t.node slot r.window channel static guarded opened
-    (All-contains (λ (u : Sent). passes d u.node r.window channel ≡ true) (all_passed channel r.sent) t passed of_passed)
+    passed_sends d run.lawful r sent channel slot t static guarded opened of_passed

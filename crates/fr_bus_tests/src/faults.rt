@@ -148,7 +148,7 @@ fn what_has_no_bytes_or_no_slot_is_not_sent(rt: HostRuntime) -> Result<(), Fail>
 }
 
 #[test]
-fn a_seal_refused_for_memory_is_done_again(rt: HostRuntime) -> Result<(), Fail> {
+fn seal_succeeds_with_memory(rt: HostRuntime) -> Result<(), Fail> {
     let mut bus = babbled(rt.alloc())?;
     put_all(&mut bus, &frame()?)?;
     let mut refusal = seal_refusal(&mut bus);

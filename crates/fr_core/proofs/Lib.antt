@@ -3,6 +3,7 @@ pub mod CommitLemmas
 pub mod CaseLemmas
 pub mod ClusterLemmas
 pub mod NodeLemmas
+pub mod SentLemmas
 pub mod AgreementLemmas
 pub mod WorldLemmas
 pub mod RunLemmas
@@ -26,5 +27,6 @@ pub mod ToldLemmas
 pub mod HarmlessLemmas
 pub mod AlikeLemmas
 pub mod FollowLemmas
+pub mod SettlingLemmas
 pub mod HeadlineLemmas
 pub mod WorkedAccountLemmas

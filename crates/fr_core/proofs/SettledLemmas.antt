@@ -7,12 +7,11 @@ use Rattle.std.proofs.lemmas.Bool.{ltb-false}
 use Rattle.std.proofs.lemmas.Bool.Decides.{eqb_tells}
 use Rattle.std.proofs.lemmas.Option.{slice_get_past, slice_get_within, get_or_from_slice_get}
 use Rattle.arrayvec.specs.ArrayVec.{ArrayVec}
-use Rattle.fr_bus.specs.declared.station.Side.{Side}
-use Rattle.fr_bus.specs.declared.station.Station.{Station}
-use Rattle.fr_bus.specs.Outcome.{fate_of, transmission, sent_in, sent_of, sent_from}
+use Rattle.fr_bus.specs.Outcome.{fate_of}
 use Rattle.fr_bus.specs.Record.{Recorded, IsOutcome}
 use Rattle.fr_bus.specs.States.{BusState, IsRun, IsRecorded}
 use Rattle.fr_core.proofs.CaseLemmas.{both, both_first, both_rest}
+use Rattle.fr_core.proofs.SentLemmas.{of_all}
 use Rattle.fr_core.proofs.WalkLemmas.{get_map, some_alike, none_past}
 use Rattle.fr_core.specs.Agreeing.{Handed, Sight, handed_at, sight_at, sight_of, fetched, observed, offers_of, sights_of}
 use Rattle.fr_core.specs.Agreement.{BusView, view_for, ahead, behind, AgreesAt, IsWorld}
@@ -189,20 +188,12 @@ some_interface d is cluster agrees = by_lists is d.plans cluster.some_nodes agre
 
 -- ---- the fates that a bus records
 
-all-append : {X : Type 0} (p : X → Bool) (xs ys : List X) → list_all p xs ≡ true → list_all p ys ≡ true → list_all p (xs ++ ys) ≡ true
-all-append p [] ys e f = f
-all-append p (x ∷ xs) ys e f = both (p x) (list_all p (xs ++ ys)) (both_first (p x) (list_all p xs) e) (all-append p xs ys (both_rest (p x) (list_all p xs) e) f)
-
 due : (muted let_pass : Bool) → is_due (fate_of muted let_pass) let_pass ≡ true
 due true let_pass = refl
 due false true = refl
 due false false = refl
 
-unless : {X : Type 0} (p : X → Bool) (none : Bool) (x : X) → p x ≡ true → list_all p (cond none [] (x ∷ [])) ≡ true
-unless p true x e = refl
-unless p false x e = both (p x) true e refl
-
-lt_of : (a b : ℕ) → a < b → nat_lt a b ≡ true
+pub lt_of : (a b : ℕ) → a < b → nat_lt a b ≡ true
 lt_of a b less = by_test (nat_lt a b) refl
   where
     by_test : (t : Bool) → nat_lt a b ≡ t → t ≡ true
@@ -230,34 +221,13 @@ module _ (d : Description) (w : Opportunity) (n : ℕ) where
         | inr other ↦ or_first (node == n) _ other.0
       ]
 
-  right_one : (node : ℕ) (channel : Channel) (babble muted : Bool) (bytes : Option (ArrayVec ℕ)) → node < length d.plans
-      → list_all (is_right d n w) (transmission node channel babble (fate_of muted (passes d node w channel)) bytes) ≡ true
-  right_one node channel babble muted None within = refl
-  right_one node channel babble muted (Some bytes) within =
-      unless (is_right d n w) (length bytes.items == 0)
-      (record { node = node; channel = channel; babble = babble; bytes = bytes; fate = fate_of muted (passes d node w channel) }) (right node channel babble muted bytes within)
-
-  right_side : (node : ℕ) (channel : Channel) (side : Side) (slot : Option ℕ) → node < length d.plans → list_all (is_right d n w) (sent_in d w node channel side slot) ≡ true
-  right_side node channel side None within = refl
-  right_side node channel side (Some slot) within =
-      all-append (is_right d n w) (transmission node channel false (fate_of side.mute (passes d node w channel)) side.offer)
-      (transmission node channel true (fate_of false (passes d node w channel)) side.babble)
-      (right_one node channel false side.mute side.offer within) (right_one node channel true false side.babble within)
-
-  right_from : (node : ℕ) (ss : List Station) → node + length ss ≤ length d.plans → list_all (is_right d n w) (sent_from d w node ss) ≡ true
-  right_from node [] few = refl
-  right_from node (s ∷ ss) few =
-      let within : node < length d.plans = omega (arith, few) in
-      all-append (is_right d n w) (sent_of d w node s) (sent_from d w (node + 1) ss)
-      (all-append (is_right d n w) (sent_in d w node A s.a (slot_of w A)) (sent_in d w node B s.b (slot_of w B)) (right_side node A s.a (slot_of w A) within) (right_side node B s.b (slot_of w B) within))
-      (right_from (node + 1) ss (omega (arith, few)))
-
 outcome_right : (d : Description) (n : ℕ) (r : Recorded) → IsOutcome d r → are_right d n r ≡ true
 outcome_right d n r o =
     let as_many = o.one_each in
-    ap (list_all (is_right d n r.window)) o.sent_is ∙ right_from d r.window n 0 o.stations (omega (arith, as_many))
+    ap (list_all (is_right d n r.window)) o.sent_is
+    ∙ of_all d r.window (is_right d n r.window) (length d.plans) (right d r.window n) 0 o.stations (omega (arith, as_many))
 
-outcome_at : (d : Description) (cycles : ℕ) (before rs : List Recorded) (k : ℕ) (r : Recorded) → AllAfter (IsRecorded d cycles) before rs → slice_get rs k ≡ Some r → IsOutcome d r
+pub outcome_at : (d : Description) (cycles : ℕ) (before rs : List Recorded) (k : ℕ) (r : Recorded) → AllAfter (IsRecorded d cycles) before rs → slice_get rs k ≡ Some r → IsOutcome d r
 unfolding AllAfter
 outcome_at d cycles before [] k r all at = absurd (let none : ⊥ = cc in none)
 outcome_at d cycles before (x ∷ rs) zero r all at = subst (IsOutcome d) (some_alike x r at) all.0.1

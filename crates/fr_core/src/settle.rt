@@ -2,11 +2,14 @@
 
 ghost use Rattle.std.specs.Prelude.{◌≡◌, ◌↔◌, ◌<◌, IsTrue, IfSome, OnOk, length, slice_get, option_map};
 ghost use Rattle.std.specs.List.{list_all};
+ghost use Rattle.fr_bus.specs.States.{OneSenderEach};
+ghost use Rattle.fr_core.specs.Receivers.{Receivers};
 ghost use Rattle.fr_core.specs.Settling.{ArePlanned, PlansAgree, WindowsAgree, IsFatedAt, IsOfferedAt, IsSeenAt};
 ghost use Rattle.fr_core.specs.Settling.{is_due, is_right, are_right, Settles, EachFollows, IsBetweenWindows};
 ghost use Rattle.fr_core.specs.Settling.{DiffersInScriptsAlone};
 ghost use Rattle.fr_core.specs.Walks.{Finds, FindsNode, FindsPlace, lesser_of};
 
+use crate::legal;
 use crate::script::Script;
 use crate::tasks::other_script;
 use crate::walk::{entries_of, has_windows, interface_at, node_of, other_offer, other_sight};
@@ -309,6 +312,10 @@ fn judge(
 ///
 /// `Memory` may be answered in place of the last three and of the number of windows, where memory is refused. A world
 /// between two windows settles with its own cluster, interfaces and bus, but for the scripts.
+///
+/// Where all agrees, no static slot of a channel that the cluster guards carries two senders in the record, and a frame
+/// that a receive buffer or a queue holds from a faultless slot is one that the slot's owner committed and handed over,
+/// whatever cluster the bus was made with.
 pub fn settle(
     alloc: Global,
     cluster: &Cluster,
@@ -318,10 +325,13 @@ pub fn settle(
 ) -> Result<Settled, SettleError>
     ensures answer { Settles cluster.now interfaces.now bus.now.sealed scripts.now result }
     ensures follows { OnOk result (EachFollows cluster.now.params interfaces.now bus.now.sealed) }
+    ensures one_sender { OnOk result (OneSenderEach cluster.now bus.now.sealed) }
+    ensures receivers { OnOk result (Receivers cluster.now interfaces.now bus.now.sealed) }
     ensures between { IsBetweenWindows cluster.now interfaces.now bus.now → DiffersInScriptsAlone result }
 {
     let recorded = bus.record();
     let answer = judge(alloc, cluster, interfaces, recorded, scripts);
     let _params = cluster.params();
+    legal::known(interfaces);
     answer
 }
