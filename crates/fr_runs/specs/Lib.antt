@@ -1,0 +1,4 @@
+pub mod Striking
+pub mod Suiting
+pub mod Refusing
+pub mod Apart

@@ -1,0 +1,149 @@
+-- Whether the scripts of tasks, and the faults, suit a cluster and a run of so many cycles (own profile).
+use Rattle.std.specs.Prelude.{◌≡◌, ℕ, ◌+◌, ◌*◌, ◌<◌, ◌≤◌, ◌==◌, nat_lt, nat_le, Bool, true, false, ◌&&◌, List, length}
+use Rattle.std.specs.Prelude.{take, slice_get, Option, Some, None, is_some, IfSome, if◌then◌else◌}
+use Rattle.std.specs.List.{list_all, list_any, sum_by, AllAdjacentBelow}
+use Rattle.fr_bus.specs.declared.fault.Fault.{Fault}
+use Rattle.fr_bus.specs.declared.fault.Fault.TheVariants.{Babble, Mute, Corrupt}
+use Rattle.fr_core.specs.declared.script.Action.{Action}
+use Rattle.fr_core.specs.declared.script.Action.TheVariants.{Commit, Read, Pop}
+use Rattle.fr_core.specs.declared.script.Line.{Line}
+use Rattle.fr_core.specs.Scripts.{Scripted, is_for}
+use Rattle.fr_runs.specs.declared.fault_line.FaultCycles.{FaultCycles}
+use Rattle.fr_runs.specs.declared.fault_line.FaultCycles.TheVariants.{Every, Only}
+use Rattle.fr_runs.specs.declared.fault_line.FaultLine.{FaultLine}
+use Rattle.fr_runs.specs.declared.fault_line.FaultPlace.{FaultPlace}
+use Rattle.fr_runs.specs.declared.fault_line.FaultPlace.TheVariants.{EverySlot, Slot, Minislot}
+use Rattle.fr_schedule.specs.Descriptions.{Description}
+use Rattle.fr_slots.specs.Admission.{is_channel}
+use Rattle.fr_slots.specs.declared.plan.Buffer.{Buffer}
+use Rattle.fr_slots.specs.Faults.{transmits, words_of}
+use Rattle.fr_slots.specs.Parameters.{Parameters}
+use Rattle.fr_slots.specs.Plans.{Plan, is_receive, buffer_at}
+
+-- ---- scripts
+
+-- there is a transmit buffer, and it sends payloads of this length
+abbrev pub sends : Parameters → List ℕ → Option Buffer → Bool
+sends p payload None = false
+sends p payload (Some b) = transmits b && length payload == 2 * words_of p b
+
+-- there is a receive buffer
+abbrev pub receives : Option Buffer → Bool
+receives None = false
+receives (Some b) = is_receive b.mode
+
+-- the node has what the action is done on
+abbrev pub action_suits : Parameters → Plan → Action → Bool
+action_suits p plan (Commit buffer payload) = sends p payload (buffer_at plan buffer)
+action_suits p plan (Read buffer) = receives (buffer_at plan buffer)
+action_suits p plan Pop = is_some plan.queue
+
+-- and the run has the line's cycle
+abbrev pub line_suits : Parameters → Plan → ℕ → Line → Bool
+line_suits p plan cycles line = nat_lt line.cycle cycles && action_suits p plan line.action
+
+-- no line's cycle is below that of the line before it
+abbrev pub AreInOrder : List Line → Type 0
+AreInOrder lines = AllAdjacentBelow (λ (one : Line) (next : Line). one.cycle ≤ next.cycle) lines (length lines)
+
+-- the node has the task, and the lines suit it
+pub record SuitsPlan (p : Parameters) (cycles : ℕ) (script : Scripted) (plan : Plan) : Type 0 where
+  pub has_task : script.task < plan.tasks
+  pub lines_suit : list_all (line_suits p plan cycles) script.lines ≡ true
+  pub in_order : AreInOrder script.lines
+
+abbrev pub SuitsNode : Parameters → ℕ → Scripted → Option Plan → Type 0
+SuitsNode p cycles script None = ⊥
+SuitsNode p cycles script (Some plan) = SuitsPlan p cycles script plan
+
+-- the cluster has the node, which the script suits, and none before it is for the same task
+pub record IsScriptAfter (d : Description) (cycles : ℕ) (before : List Scripted) (script : Scripted) : Type 0 where
+  pub suits : SuitsNode d.params cycles script (slice_get d.plans script.node)
+  pub only : list_any (is_for script.node script.task) before ≡ false
+
+abbrev pub ScriptSuits : Description → ℕ → List Scripted → ℕ → Type 0
+ScriptSuits d cycles scripts i = IfSome (slice_get scripts i) (IsScriptAfter d cycles (take i scripts))
+
+-- ---- faults
+
+-- the cluster has the node of the fault, where it has one
+abbrev pub has_node : ℕ → Fault → Bool
+has_node nodes (Babble node channel bytes) = nat_lt node nodes
+has_node nodes (Mute node channel) = nat_lt node nodes
+has_node nodes (Corrupt channel bit) = true
+
+abbrev pub has_cycle : ℕ → FaultCycles → Bool
+has_cycle cycles Every = true
+has_cycle cycles (Only cycle) = nat_lt cycle cycles
+
+-- slots and minislots are numbered from 1
+abbrev pub has_place : Parameters → FaultPlace → Bool
+has_place p EverySlot = true
+has_place p (Slot number) = nat_le 1 number && nat_le number p.static_slots
+has_place p (Minislot number) = nat_le 1 number && nat_le number p.minislots
+
+-- the run has what the line names
+abbrev pub line_fits : Description → ℕ → FaultLine → Bool
+line_fits d cycles line =
+    has_node (length d.plans) line.fault && has_cycle cycles line.cycles && has_place d.params line.place
+
+-- both are of one kind, node and channel
+abbrev pub are_alike : Fault → Fault → Bool
+are_alike (Babble n c bytes) (Babble m e others) = n == m && is_channel c e
+are_alike (Babble n c bytes) (Mute m e) = false
+are_alike (Babble n c bytes) (Corrupt e other) = false
+are_alike (Mute n c) (Babble m e others) = false
+are_alike (Mute n c) (Mute m e) = n == m && is_channel c e
+are_alike (Mute n c) (Corrupt e other) = false
+are_alike (Corrupt c bit) (Babble m e others) = false
+are_alike (Corrupt c bit) (Mute m e) = false
+are_alike (Corrupt c bit) (Corrupt e other) = is_channel c e
+
+-- they have a cycle of the run in common
+abbrev pub cycles_meet : FaultCycles → FaultCycles → Bool
+cycles_meet Every other = true
+cycles_meet (Only cycle) Every = true
+cycles_meet (Only cycle) (Only other) = cycle == other
+
+-- they have a window in common, if one opens at each minislot
+abbrev pub places_meet : FaultPlace → FaultPlace → Bool
+places_meet EverySlot EverySlot = true
+places_meet EverySlot (Slot other) = true
+places_meet EverySlot (Minislot other) = false
+places_meet (Slot number) EverySlot = true
+places_meet (Slot number) (Slot other) = number == other
+places_meet (Slot number) (Minislot other) = false
+places_meet (Minislot number) EverySlot = false
+places_meet (Minislot number) (Slot other) = false
+places_meet (Minislot number) (Minislot other) = number == other
+
+-- both name a window for one kind, node and channel
+abbrev pub lines_meet : FaultLine → FaultLine → Bool
+lines_meet line other =
+    are_alike line.fault other.fault && cycles_meet line.cycles other.cycles && places_meet line.place other.place
+
+-- the line fits, and none before it names a window that it names
+pub record IsFaultAfter (d : Description) (cycles : ℕ) (before : List FaultLine) (line : FaultLine) : Type 0 where
+  pub fits : line_fits d cycles line ≡ true
+  pub only : list_any (lines_meet line) before ≡ false
+
+abbrev pub FaultSuits : Description → ℕ → List FaultLine → ℕ → Type 0
+FaultSuits d cycles faults i = IfSome (slice_get faults i) (IsFaultAfter d cycles (take i faults))
+
+-- ---- room
+
+-- the lines of all scripts for the tasks of the node
+abbrev pub lines_for : ℕ → List Scripted → ℕ
+lines_for node scripts = sum_by (λ (s : Scripted). if s.node == node then length s.lines else 0) scripts
+
+-- each window is fetched and observed, and a cycle has at most one for each static slot and minislot
+abbrev pub most_slot_entries_in : Parameters → ℕ → ℕ
+most_slot_entries_in p cycles = 2 * cycles * (p.static_slots + p.minislots)
+
+-- the journal of the node has room for its scripts and for all windows of the run
+pub record HasRoomIn (p : Parameters) (cycles : ℕ) (scripts : List Scripted) (node : ℕ) (plan : Plan) : Type 0 where
+  pub host : lines_for node scripts ≤ plan.host_entries
+  pub slot : most_slot_entries_in p cycles ≤ plan.slot_entries
+
+abbrev pub HasRoom : Description → ℕ → List Scripted → ℕ → Type 0
+HasRoom d cycles scripts n = IfSome (slice_get d.plans n) (HasRoomIn d.params cycles scripts n)

@@ -1,0 +1,94 @@
+//! Faults of a run.
+
+ghost use Rattle.std.specs.Prelude.{◌≡◌};
+ghost use Rattle.fr_runs.specs.Striking.{opens};
+
+use fr_bus::fault::Fault;
+use fr_slots::numbers::SlotId;
+use fr_slots::window::Window;
+
+/// The cycles of a run in which a fault comes (own profile).
+#[derive(Clone, Copy, Debug, PartialEq, Eq)]
+pub enum FaultCycles {
+    /// Every cycle of the run.
+    Every,
+    /// The cycle of this number, counted from 0 over the whole run.
+    Only(u16),
+}
+
+/// The windows of a cycle in which a fault comes (own profile).
+#[derive(Clone, Copy, Debug, PartialEq, Eq)]
+pub enum FaultPlace {
+    /// Every static slot.
+    EverySlot,
+    /// The static slot of this number, counted from 1.
+    Slot(u16),
+    /// The window that opens at the minislot of this number, counted from 1. Where none opens there the fault doesn't
+    /// come.
+    Minislot(u16),
+}
+
+/// A fault, and the windows of a run in which it comes (own profile).
+#[derive(Debug, Drop, PartialEq, Eq)]
+pub struct FaultLine {
+    /// What goes wrong.
+    pub fault: Fault,
+    /// In which cycles.
+    pub cycles: FaultCycles,
+    /// In which windows of such a cycle.
+    pub place: FaultPlace,
+}
+
+/// Whether the channel opens the slot of this number.
+fn opens(number: u16, slot: Option<SlotId>) -> bool
+    ensures { result ≡ opens number slot }
+{
+    match slot {
+        Some(slot) => slot.number() == number,
+        None => false,
+    }
+}
+
+impl FaultCycles {
+    ghost use Rattle.std.specs.Prelude.{◌≡◌};
+    ghost use Rattle.fr_runs.specs.Striking.{names_cycle};
+
+    /// Whether the cycle of this number of the run is one of these.
+    fn names(self, cycle: u16) -> bool
+        ensures { result ≡ names_cycle self cycle }
+    {
+        match self {
+            FaultCycles::Every => true,
+            FaultCycles::Only(only) => only == cycle,
+        }
+    }
+}
+
+impl FaultPlace {
+    ghost use Rattle.std.specs.Prelude.{◌≡◌};
+    ghost use Rattle.fr_runs.specs.Striking.{names_window};
+
+    /// Whether the window is one of these.
+    fn names(self, window: &Window) -> bool
+        ensures { result ≡ names_window self window.now }
+    {
+        match self {
+            FaultPlace::EverySlot => window.is_static(),
+            FaultPlace::Slot(number) => window.is_static() && opens(number, window.a),
+            FaultPlace::Minislot(number) => !window.is_static() && window.minislot == number,
+        }
+    }
+}
+
+impl FaultLine {
+    ghost use Rattle.std.specs.Prelude.{◌≡◌};
+    ghost use Rattle.fr_runs.specs.Striking.{strikes};
+
+    /// Whether the fault comes in this window (own profile). `cycle` is the number of the window's cycle in the run,
+    /// counted from 0 and going on after 63.
+    pub fn strikes(&self, cycle: u16, window: &Window) -> bool
+        ensures { result ≡ strikes self.now cycle window.now }
+    {
+        self.cycles.names(cycle) && self.place.names(window)
+    }
+}

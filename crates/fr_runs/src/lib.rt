@@ -1,0 +1,16 @@
+//! What a run of a cluster is asked for: the faults that come in it, and whether these and the scripts of the tasks
+//! suit the cluster.
+//!
+//! ```text
+//! check_run(&cluster, &scripts, &faults, cycles)?; // whether such a run can be had
+//! if fault_line.strikes(run_cycle, &window) {} // whether the fault comes in this window
+//! ```
+//!
+//! A chapter in parentheses is one of the FlexRay Protocol Specification 2.1, revision A, whose rule it is.
+//! *(own profile)* marks a rule of this project's own, which says nothing of the standard.
+#![tactic(auto)]
+
+pub mod check;
+pub mod fault_line;
+mod faults;
+mod scripts;

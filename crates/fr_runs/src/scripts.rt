@@ -1,0 +1,121 @@
+//! Whether scripts suit a cluster.
+
+ghost use Rattle.std.specs.Prelude.{◌≡◌, ◌↔◌, IsTrue, slice_get, option_map};
+ghost use Rattle.std.specs.List.{list_all, list_any};
+ghost use Rattle.std.specs.Option.{option_copied};
+ghost use Rattle.fr_core.specs.Scripts.{is_for};
+ghost use Rattle.fr_core.specs.Walks.{Finds};
+ghost use Rattle.fr_runs.specs.Suiting.{sends, receives, action_suits, line_suits, AreInOrder, SuitsPlan, SuitsNode};
+ghost use Rattle.fr_runs.specs.Suiting.{IsScriptAfter, ScriptSuits};
+
+use fr_core::script::{Action, Line, Script};
+use fr_frame::payload::Payload;
+use fr_schedule::cluster::Cluster;
+use fr_slots::numbers::{NodeId, TaskId};
+use fr_slots::params::Params;
+use fr_slots::plan::{Buffer, NodePlan};
+
+/// Whether there is a transmit buffer that sends payloads of this length.
+fn sends(params: &Params, payload: &Payload, buffer: Option<Buffer>) -> bool
+    ensures { result ≡ sends params.now payload.now buffer }
+{
+    match buffer {
+        Some(buffer) => {
+            buffer.transmits() && payload.as_slice().len() == 2 * usize::from(buffer.words(params))
+        }
+        None => false,
+    }
+}
+
+/// Whether there is a receive buffer.
+fn receives(buffer: Option<Buffer>) -> bool
+    ensures { result ≡ receives buffer }
+{
+    match buffer {
+        Some(buffer) => buffer.mode.is_receive(),
+        None => false,
+    }
+}
+
+/// Whether the node has what the action is done on.
+fn action_suits(params: &Params, plan: &NodePlan, action: &Action) -> bool
+    ensures { result ≡ action_suits params.now plan.now action.now }
+{
+    match action {
+        Action::Commit { buffer, payload } => sends(params, payload, plan.buffer(*buffer)),
+        Action::Read { buffer } => receives(plan.buffer(*buffer)),
+        Action::Pop => plan.queue().is_some(),
+    }
+}
+
+/// Whether the run has the line's cycle, and the node what its action is done on.
+fn line_suits(params: &Params, plan: &NodePlan, cycles: u16, line: &Line) -> bool
+    ensures { result ≡ line_suits params.now plan.now cycles line.now }
+{
+    line.cycle < cycles && action_suits(params, plan, &line.action)
+}
+
+/// Whether all lines suit the node and the run.
+fn lines_suit(params: &Params, plan: &NodePlan, cycles: u16, lines: &[Line]) -> bool
+    ensures { result ≡ list_all (line_suits params.now plan.now cycles) lines.now }
+{
+    lines
+        .iter()
+        .all(|line| line_suits(params, plan, cycles, line))
+}
+
+/// Whether no line's cycle is below that of the line before it.
+fn are_in_order(lines: &[Line]) -> bool
+    ensures { IsTrue result ↔ AreInOrder lines.now }
+{
+    lines.is_sorted_by_key(|line| line.cycle)
+}
+
+/// Whether the node has the script's task, and the lines suit it.
+fn suits_plan(params: &Params, cycles: u16, script: &Script, plan: &NodePlan) -> bool
+    ensures { IsTrue result ↔ SuitsPlan params.now cycles script.now plan.now }
+{
+    let lines = script.lines.as_slice();
+    script.task.number() < plan.tasks()
+        && lines_suit(params, plan, cycles, lines)
+        && are_in_order(lines)
+}
+
+/// Whether the cluster has the script's node, and the script suits it.
+fn suits_node(params: &Params, cycles: u16, script: &Script, plan: Option<&NodePlan>) -> bool
+    ensures { IsTrue result ↔ SuitsNode params.now cycles script.now (option_map (λ plan. plan.now) plan.entry) }
+{
+    match plan {
+        Some(plan) => suits_plan(params, cycles, script, plan),
+        None => false,
+    }
+}
+
+/// Whether one of the scripts is the task's.
+fn has_script(scripts: &[Script], node: NodeId, task: TaskId) -> bool
+    ensures { result ≡ list_any (is_for node task) scripts.now }
+{
+    scripts
+        .iter()
+        .any(|script| script.node == node && script.task == task)
+}
+
+/// Whether the script suits the cluster, and none before it is for the same task.
+fn suits_after(cluster: &Cluster, cycles: u16, before: &[Script], script: &Script) -> bool
+    ensures { IsTrue result ↔ IsScriptAfter cluster.now cycles before.now script.now }
+{
+    suits_node(cluster.params(), cycles, script, cluster.node(script.node))
+        && !has_script(before, script.node, script.task)
+}
+
+/// The first script that doesn't suit.
+pub(crate) fn other_script(cluster: &Cluster, scripts: &[Script], cycles: u16) -> Option<usize>
+    ensures { Finds (ScriptSuits cluster.now cycles scripts.now) result }
+{
+    for (place, script) in scripts.iter().enumerate() {
+        if !suits_after(cluster, cycles, &scripts[..place], script) {
+            return Some(place);
+        }
+    }
+    None
+}
