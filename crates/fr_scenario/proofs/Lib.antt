@@ -1,0 +1,5 @@
+pub mod PartLemmas
+pub mod LineLemmas
+pub mod CutLemmas
+pub mod TaskLemmas
+pub mod TextLemmas

@@ -1,0 +1,8 @@
+use Rattle.std.proofs.Common.{◌≡◌}
+use Rattle.fr_scenario.specs.Gathering.{none_yet, kept_from}
+use Rattle.fr_scenario.specs.Reading.{lines_in, read_from}
+use Rattle.fr_scenario.proofs.scenario.gathered.Given as goal
+
+-- what is kept, with what the lines left say
+abbrev pub invariant-loop-number : goal.invariant-loop-number
+invariant-loop-number l = kept_from l.gathered (read_from l.number l.left) ≡ kept_from none_yet (read_from 2 (lines_in l.text))

@@ -1,0 +1,43 @@
+-- What is kept of the lines that were read, while others may come.
+use Rattle.std.specs.Prelude.{ℕ, ◌+◌, ◌*◌, List, [], ◌∷◌, ◌++◌, replicate, slice_set, slice_index_or, Result, Ok, Err}
+use Rattle.std.specs.List.{fold}
+use Rattle.fr_core.specs.declared.script.Line.{Line}
+use Rattle.fr_core.specs.Scripts.{Scripted}
+use Rattle.fr_runs.specs.declared.fault_line.FaultLine.{FaultLine}
+use Rattle.fr_scenario.specs.Contents.{script_of, node_at, task_at, task_count}
+use Rattle.fr_scenario.specs.declared.error.ScenarioError.{ScenarioError}
+use Rattle.fr_scenario.specs.declared.spelled.SpelledLine.{SpelledLine}
+use Rattle.fr_scenario.specs.declared.spelled.SpelledLine.TheVariants.{Host, Fault as FaultOf}
+use Rattle.fr_scenario.specs.Reading.{Read}
+use Rattle.fr_slots.specs.Numbers.{most_tasks}
+
+-- the lines of each task, and the fault lines
+pub record Kept : Type 0 where
+  pub tasks : List (List Line)
+  pub faults : List FaultLine
+
+abbrev pub none_yet : Kept
+none_yet = record { tasks = replicate task_count []; faults = [] }
+
+-- where the task of a node stands
+abbrev pub place_of : ℕ → ℕ → ℕ
+place_of node task = most_tasks * node + task
+
+-- one line more of the task at this place
+abbrev pub with_task_line : ℕ → Line → List (List Line) → List (List Line)
+with_task_line place line tasks = slice_set tasks place (slice_index_or tasks place [] ++ line ∷ [])
+
+abbrev pub with_line : Kept → SpelledLine → Kept
+with_line g (Host node task line) =
+    record { tasks = with_task_line (place_of node task) line g.tasks; faults = g.faults }
+with_line g (FaultOf f) = record { tasks = g.tasks; faults = g.faults ++ f ∷ [] }
+
+-- what is kept once these lines have come too
+abbrev pub kept_from : Kept → Read → Result Kept ScenarioError
+kept_from g (Ok lines) = Ok (fold with_line g lines)
+kept_from g (Err e) = Err e
+
+-- the scripts of the tasks from this place on
+abbrev pub scripts_from : ℕ → List (List Line) → List Scripted
+scripts_from place [] = []
+scripts_from place (lines ∷ tasks) = script_of (node_at place) (task_at place) lines ++ scripts_from (place + 1) tasks

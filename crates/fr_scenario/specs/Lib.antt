@@ -1,0 +1,12 @@
+pub mod Parts
+pub mod Spelling
+pub mod PartReading
+pub mod LineReading
+pub mod Spelled
+pub mod Contents
+pub mod ScenarioText
+pub mod Reading
+pub mod Gathering
+pub mod GatheredFields
+pub mod ScenarioFields
+pub mod LeftFields

@@ -1,0 +1,94 @@
+-- What the words of a scenario's line spell.
+use Rattle.std.specs.Prelude.{ℕ, List, [], ◌∷◌, codes, Option, Some, None, if◌then◌else◌}
+use Rattle.std.specs.Str.{bytes_eq}
+use Rattle.fr_bus.specs.declared.fault.Fault.{Fault}
+use Rattle.fr_bus.specs.declared.fault.Fault.TheVariants.{Babble, Mute, Corrupt}
+use Rattle.fr_core.specs.declared.script.Action.{Action}
+use Rattle.fr_core.specs.declared.script.Action.TheVariants.{Commit, Read, Pop}
+use Rattle.fr_frame.specs.Payload.{most_frame_bytes}
+use Rattle.fr_lines.specs.PartReading.{payload_in}
+use Rattle.fr_runs.specs.declared.fault_line.FaultCycles.{FaultCycles}
+use Rattle.fr_runs.specs.declared.fault_line.FaultPlace.{FaultPlace}
+use Rattle.fr_scenario.specs.declared.spelled.SpelledLine.{SpelledLine}
+use Rattle.fr_scenario.specs.declared.spelled.SpelledLine.TheVariants.{Host, Fault as FaultOf}
+use Rattle.fr_scenario.specs.PartReading.{channel_in, run_cycle_in, cycles_in, place_in}
+use Rattle.fr_text.specs.Reading.{◌>>=◌, number_in, bytes_in}
+
+-- ---- what a task is to do
+
+-- the line of a task, whose answer isn't known
+abbrev pub host_line : ℕ → ℕ → ℕ → Action → SpelledLine
+host_line node task cycle action = Host node task (record { cycle = cycle; action = action; answer = None })
+
+unfoldable pub commit_in : List (List ℕ) → Option SpelledLine
+commit_in (node ∷ task ∷ cycle ∷ buffer ∷ payload ∷ []) = do
+  n ← number_in 16 node
+  t ← number_in 8 task
+  c ← run_cycle_in cycle
+  b ← number_in 64 buffer
+  p ← payload_in payload
+  Some (host_line n t c (Commit b p))
+commit_in words = None
+
+unfoldable pub read_in : List (List ℕ) → Option SpelledLine
+read_in (node ∷ task ∷ cycle ∷ buffer ∷ []) = do
+  n ← number_in 16 node
+  t ← number_in 8 task
+  c ← run_cycle_in cycle
+  b ← number_in 64 buffer
+  Some (host_line n t c (Read b))
+read_in words = None
+
+unfoldable pub pop_in : List (List ℕ) → Option SpelledLine
+pop_in (node ∷ task ∷ cycle ∷ []) = do
+  n ← number_in 16 node
+  t ← number_in 8 task
+  c ← run_cycle_in cycle
+  Some (host_line n t c Pop)
+pop_in words = None
+
+-- ---- faults
+
+abbrev pub fault_line : Fault → FaultCycles → FaultPlace → SpelledLine
+fault_line fault cycles place = FaultOf (record { fault = fault; cycles = cycles; place = place })
+
+unfoldable pub babble_in : List (List ℕ) → Option SpelledLine
+babble_in (node ∷ channel ∷ cycles ∷ place ∷ bytes ∷ []) = do
+  n ← number_in 16 node
+  c ← channel_in channel
+  y ← cycles_in cycles
+  p ← place_in place
+  b ← bytes_in most_frame_bytes bytes
+  Some (fault_line (Babble n c (record { items = b })) y p)
+babble_in words = None
+
+unfoldable pub mute_in : List (List ℕ) → Option SpelledLine
+mute_in (node ∷ channel ∷ cycles ∷ place ∷ []) = do
+  n ← number_in 16 node
+  c ← channel_in channel
+  y ← cycles_in cycles
+  p ← place_in place
+  Some (fault_line (Mute n c) y p)
+mute_in words = None
+
+unfoldable pub corrupt_in : List (List ℕ) → Option SpelledLine
+corrupt_in (channel ∷ cycles ∷ place ∷ bit ∷ []) = do
+  c ← channel_in channel
+  y ← cycles_in cycles
+  p ← place_in place
+  b ← number_in 65536 bit
+  Some (fault_line (Corrupt c b) y p)
+corrupt_in words = None
+
+-- ---- a line, by its first word
+
+unfoldable pub line_in : List (List ℕ) → Option SpelledLine
+line_in [] = None
+line_in (kind ∷ words) =
+    if bytes_eq kind (codes "commit") then commit_in words
+    else if bytes_eq kind (codes "read") then read_in words
+    else if bytes_eq kind (codes "pop") then pop_in words
+    else if bytes_eq kind (codes "babble") then babble_in words
+    else if bytes_eq kind (codes "mute") then mute_in words
+    else if bytes_eq kind (codes "corrupt") then corrupt_in words
+    else None

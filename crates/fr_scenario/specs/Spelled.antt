@@ -1,0 +1,68 @@
+-- What the lines of a scenario can spell.
+use Rattle.std.specs.Prelude.{◌≡◌, ℕ, ◌<◌, ◌≤◌, ◌^◌, length, None}
+use Rattle.fr_bus.specs.declared.fault.Fault.{Fault}
+use Rattle.fr_bus.specs.declared.fault.Fault.TheVariants.{Babble, Mute, Corrupt}
+use Rattle.fr_core.specs.declared.script.Action.{Action}
+use Rattle.fr_core.specs.declared.script.Action.TheVariants.{Commit, Read, Pop}
+use Rattle.fr_core.specs.declared.script.Line.{Line}
+use Rattle.fr_frame.specs.Payload.{IsPayload, most_frame_bytes}
+use Rattle.fr_journal.specs.Entries.{AreBytes}
+use Rattle.fr_runs.specs.declared.fault_line.FaultCycles.{FaultCycles}
+use Rattle.fr_runs.specs.declared.fault_line.FaultCycles.TheVariants.{Every, Only}
+use Rattle.fr_runs.specs.declared.fault_line.FaultLine.{FaultLine}
+use Rattle.fr_runs.specs.declared.fault_line.FaultPlace.{FaultPlace}
+use Rattle.fr_runs.specs.declared.fault_line.FaultPlace.TheVariants.{EverySlot, Slot, Minislot}
+use Rattle.fr_scenario.specs.declared.spelled.SpelledLine.{SpelledLine}
+use Rattle.fr_scenario.specs.declared.spelled.SpelledLine.TheVariants.{Host, Fault as FaultOf}
+
+-- a run has at most 1,024 cycles, counted from 0
+abbrev pub IsRunCycle : ℕ → Type 0
+IsRunCycle cycle = cycle < 1024
+
+-- ---- what a task is to do
+
+abbrev pub IsSpelledAction : Action → Type 0
+IsSpelledAction (Commit buffer payload) = (buffer < 64) × IsPayload payload × AreBytes payload
+IsSpelledAction (Read buffer) = buffer < 64
+IsSpelledAction Pop = Unit {0}
+
+-- nodes are 0 to 15 and tasks 0 to 7, and no answer is known
+pub record IsSpelledHost (node task : ℕ) (line : Line) : Type 0 where
+  pub node_fits : node < 16
+  pub task_fits : task < 8
+  pub cycle_fits : IsRunCycle line.cycle
+  pub action_fits : IsSpelledAction line.action
+  pub unanswered : line.answer ≡ None
+
+-- ---- faults
+
+abbrev pub IsSpelledFault : Fault → Type 0
+IsSpelledFault (Babble node channel bytes) =
+    (node < 16) × (length bytes.items ≤ most_frame_bytes) × AreBytes bytes.items
+IsSpelledFault (Mute node channel) = node < 16
+IsSpelledFault (Corrupt channel bit) = bit < 2 ^ 16
+
+abbrev pub AreSpelledCycles : FaultCycles → Type 0
+AreSpelledCycles Every = Unit {0}
+AreSpelledCycles (Only cycle) = IsRunCycle cycle
+
+-- slots and minislots are counted from 1
+pub record IsCounted (n : ℕ) : Type 0 where
+  pub from_one : 1 ≤ n
+  pub at_most : n ≤ 8000
+
+abbrev pub IsSpelledPlace : FaultPlace → Type 0
+IsSpelledPlace EverySlot = Unit {0}
+IsSpelledPlace (Slot slot) = IsCounted slot
+IsSpelledPlace (Minislot minislot) = IsCounted minislot
+
+pub record IsSpelledFaultLine (f : FaultLine) : Type 0 where
+  pub fault_fits : IsSpelledFault f.fault
+  pub cycles_fit : AreSpelledCycles f.cycles
+  pub place_fits : IsSpelledPlace f.place
+
+-- ---- a line
+
+abbrev pub IsSpelledLine : SpelledLine → Type 0
+IsSpelledLine (Host node task line) = IsSpelledHost node task line
+IsSpelledLine (FaultOf f) = IsSpelledFaultLine f

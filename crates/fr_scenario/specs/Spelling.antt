@@ -1,0 +1,43 @@
+-- The lines of a scenario, each as its words.
+use Rattle.std.specs.Prelude.{ℕ, List, [], ◌∷◌, codes}
+use Rattle.std.specs.Fmt.{decimal}
+use Rattle.fr_bus.specs.declared.fault.Fault.{Fault}
+use Rattle.fr_bus.specs.declared.fault.Fault.TheVariants.{Babble, Mute, Corrupt}
+use Rattle.fr_core.specs.declared.script.Action.{Action}
+use Rattle.fr_core.specs.declared.script.Action.TheVariants.{Commit, Read, Pop}
+use Rattle.fr_core.specs.declared.script.Line.{Line}
+use Rattle.fr_runs.specs.declared.fault_line.FaultLine.{FaultLine}
+use Rattle.fr_scenario.specs.declared.spelled.SpelledLine.{SpelledLine}
+use Rattle.fr_scenario.specs.declared.spelled.SpelledLine.TheVariants.{Host, Fault as FaultOf}
+use Rattle.fr_scenario.specs.Parts.{channel_word, cycles_word, place_word}
+use Rattle.fr_text.specs.Spelling.{hex_text}
+
+-- ---- what a task is to do
+
+abbrev pub action_words : List ℕ → List ℕ → List ℕ → Action → List (List ℕ)
+action_words node task cycle (Commit buffer payload) =
+    codes "commit" ∷ node ∷ task ∷ cycle ∷ decimal buffer ∷ hex_text payload ∷ []
+action_words node task cycle (Read buffer) = codes "read" ∷ node ∷ task ∷ cycle ∷ decimal buffer ∷ []
+action_words node task cycle Pop = codes "pop" ∷ node ∷ task ∷ cycle ∷ []
+
+-- its answer isn't spelled
+abbrev pub host_words : ℕ → ℕ → Line → List (List ℕ)
+host_words node task line = action_words (decimal node) (decimal task) (decimal line.cycle) line.action
+
+-- ---- faults
+
+abbrev pub fault_words : List ℕ → List ℕ → Fault → List (List ℕ)
+fault_words cycles place (Babble node channel bytes) =
+    codes "babble" ∷ decimal node ∷ channel_word channel ∷ cycles ∷ place ∷ hex_text bytes.items ∷ []
+fault_words cycles place (Mute node channel) = codes "mute" ∷ decimal node ∷ channel_word channel ∷ cycles ∷ place ∷ []
+fault_words cycles place (Corrupt channel bit) =
+    codes "corrupt" ∷ channel_word channel ∷ cycles ∷ place ∷ decimal bit ∷ []
+
+abbrev pub fault_line_words : FaultLine → List (List ℕ)
+fault_line_words f = fault_words (cycles_word f.cycles) (place_word f.place) f.fault
+
+-- ---- a line
+
+abbrev pub line_words : SpelledLine → List (List ℕ)
+line_words (Host node task line) = host_words node task line
+line_words (FaultOf f) = fault_line_words f

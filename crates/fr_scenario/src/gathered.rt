@@ -1,0 +1,153 @@
+//! What is kept of a scenario's lines while they are read.
+ghost use Rattle.std.specs.Prelude.{◌≡◌, ◌<◌, [], map, replicate, IfOk, OnOk, vec_len};
+ghost use Rattle.fr_scenario.specs.Contents.{node_at, task_at, task_count};
+ghost use Rattle.fr_scenario.specs.Gathering.{place_of, with_task_line, scripts_from};
+
+use crate::spelled::SpelledLine;
+use fr_core::script::{Line, Script};
+use fr_runs::fault_line::FaultLine;
+use fr_slots::numbers::{NODES, NodeId, TASKS, TaskId};
+use std::alloc::{AllocError, Global};
+use std::marker::Model;
+use std::mem;
+
+/// How many tasks a node can have.
+const TASKS_OF_NODE: usize = TASKS as usize;
+
+/// How many tasks all nodes can have.
+const TASK_COUNT: usize = NODES as usize * TASKS_OF_NODE;
+
+/// The lines of each task, by node and then task, and the fault lines.
+#[derive(Drop)]
+pub(crate) struct Gathered {
+    tasks: Vec<Vec<Line>>,
+    faults: Vec<FaultLine>,
+}
+
+impl Model for Gathered {
+    ghost use Rattle.fr_scenario.specs.Gathering.{Kept};
+
+    ghost Value = { Kept };
+
+    ghost use Rattle.fr_scenario.specs.GatheredFields.{kept_in, HasAllTasks};
+
+    ghost view = { kept_in };
+
+    ghost invariant = { HasAllTasks };
+}
+
+/// Where the task of the node stands among all.
+fn place_of(node: NodeId, task: TaskId) -> usize
+    ensures place { result ≡ place_of node task }
+    ensures within { result < task_count }
+{
+    TASKS_OF_NODE * usize::from(node.number()) + usize::from(task.number())
+}
+
+/// The node of the task at this place.
+fn node_at(place: usize) -> NodeId
+    requires { place < task_count }
+    ensures { result ≡ node_at place }
+{
+    match NodeId::new((place / TASKS_OF_NODE) as u8) {
+        Some(node) => node,
+        None => unreachable!(),
+    }
+}
+
+/// Which task of its node stands at this place.
+fn task_at(place: usize) -> TaskId
+    requires { place < task_count }
+    ensures { result ≡ task_at place }
+{
+    match TaskId::new((place % TASKS_OF_NODE) as u8) {
+        Some(task) => task,
+        None => unreachable!(),
+    }
+}
+
+/// Tasks without lines.
+fn idle_tasks(alloc: Global) -> Result<Vec<Vec<Line>>, AllocError>
+    ensures tasks { IfOk result (λ tasks. map (λ lines. lines.items) tasks.items ≡ replicate task_count []) }
+    ensures len { IfOk result (λ tasks. vec_len tasks ≡ task_count) }
+{
+    let mut tasks = Vec::with_capacity(alloc, TASK_COUNT)?;
+    for _ in 0..TASK_COUNT {
+        tasks.push(Vec::new(alloc))?;
+    }
+    Ok(tasks)
+}
+
+/// Gives the task at this place one line more.
+fn add_task_line(tasks: &mut Vec<Vec<Line>>, place: usize, line: Line) -> Result<(), AllocError>
+    requires { place < vec_len tasks.old }
+    ensures tasks { OnOk result (map (λ lines. lines.items) tasks.new.items
+        ≡ with_task_line place line (map (λ lines. lines.items) tasks.old.items)) }
+    ensures len { vec_len tasks.new ≡ vec_len tasks.old }
+{
+    let lines = &mut tasks[place];
+    lines.push(line)?;
+    Ok(())
+}
+
+/// The scripts of the tasks that have lines.
+fn scripts_of(alloc: Global, tasks: Vec<Vec<Line>>) -> Result<Vec<Script>, AllocError>
+    requires { vec_len tasks ≡ task_count }
+    ensures { IfOk result (λ scripts. scripts.items ≡ scripts_from 0 (map (λ lines. lines.items) tasks.items)) }
+{
+    let mut tasks = tasks;
+    let mut scripts = Vec::new(alloc);
+    for place in 0..TASK_COUNT {
+        let lines = mem::replace(&mut tasks[place], Vec::new(alloc));
+        if !lines.is_empty() {
+            scripts.push(Script {
+                node: node_at(place),
+                task: task_at(place),
+                lines,
+            })?;
+        }
+    }
+    Ok(scripts)
+}
+
+impl Gathered {
+    ghost use Rattle.std.specs.Prelude.{◌≡◌, OnOk, IfOk};
+    ghost use Rattle.fr_scenario.specs.Gathering.{none_yet, with_line, scripts_from};
+
+    /// What is kept of no lines.
+    pub(crate) fn new(alloc: Global) -> Result<Gathered, AllocError>
+        ensures { IfOk result (λ gathered. gathered ≡ none_yet) }
+    {
+        Ok(Gathered {
+            tasks: idle_tasks(alloc)?,
+            faults: Vec::new(alloc),
+        })
+    }
+
+    /// Keeps one line more.
+    pub(crate) fn add(&mut self, line: SpelledLine) -> Result<(), AllocError>
+        ensures { OnOk result (self.new ≡ with_line self.old line) }
+    {
+        match line {
+            SpelledLine::Host { node, task, line } => add_task_line(
+                &mut self.tasks,
+                place_of(node, task),
+                line,
+            ),
+            SpelledLine::Fault(fault) => {
+                self.faults.push(fault)?;
+                Ok(())
+            }
+        }
+    }
+
+    /// The scripts, by node and then task, and the fault lines.
+    pub(crate) fn finish(self, alloc: Global) -> Result<(Vec<Script>, Vec<FaultLine>), AllocError>
+        ensures scripts { IfOk result (λ made. made.0.items ≡ scripts_from 0 self.tasks) }
+        ensures faults { IfOk result (λ made. made.1.items ≡ self.faults) }
+    {
+        let Gathered { tasks, faults } = self;
+        let scripts = scripts_of(alloc, tasks)?;
+        Ok((scripts, faults))
+    }
+}

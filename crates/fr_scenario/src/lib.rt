@@ -1,0 +1,19 @@
+//! Scenarios: what the tasks of a cluster do in a run and which faults come in it, as a text (own profile).
+//!
+//! ```text
+//! let scenario = Scenario::from_text(alloc, "frscenario 1\npop 0 1 2\nmute 2 A * s*\nend\n")?;
+//! scenario.scripts(); // what each task is to do, by node and then task
+//! scenario.faults(); // the fault lines, in their order
+//! ```
+//!
+//! A chapter in parentheses is one of the FlexRay Protocol Specification 2.1, revision A, whose rule it is.
+//! *(own profile)* marks a rule of this project's own, which says nothing of the standard.
+#![tactic(auto)]
+
+pub mod error;
+mod gathered;
+mod left;
+mod lines;
+mod parts;
+pub mod scenario;
+mod spelled;

@@ -1,0 +1,204 @@
+//! The lines between the first one and `end`.
+ghost use Rattle.std.specs.Prelude.{◌≡◌};
+ghost use Rattle.fr_text.specs.Spaces.{words_of};
+ghost use Rattle.fr_scenario.specs.LineReading.{commit_in, read_in, pop_in, babble_in, mute_in, corrupt_in, line_in};
+
+use crate::parts::{
+    buffer_of, channel_of, cycles_of, node_of, payload_of, place_of, run_cycle_of, task_of,
+};
+use crate::spelled::SpelledLine;
+use fr_bus::fault::Fault;
+use fr_core::script::{Action, Line};
+use fr_frame::frame::FRAME_BYTES;
+use fr_runs::fault_line::FaultLine;
+use fr_text::hexes::bytes_of;
+use fr_text::numbers::number_of;
+use fr_text::words::Words;
+
+/// The commit that the words spell.
+#[tactic(auto, unfolding(crate::specs::LineReading::commit_in))]
+fn commit_of(words: &mut Words<'_>) -> Option<SpelledLine>
+    ensures { result ≡ commit_in words.old }
+{
+    let node = words.next_word()?;
+    let task = words.next_word()?;
+    let cycle = words.next_word()?;
+    let buffer = words.next_word()?;
+    let payload = words.next_word()?;
+    if words.next_word().is_some() {
+        return None;
+    }
+    let node = node_of(node)?;
+    let task = task_of(task)?;
+    let cycle = run_cycle_of(cycle)?;
+    let buffer = buffer_of(buffer)?;
+    let payload = payload_of(payload)?;
+    Some(SpelledLine::Host {
+        node,
+        task,
+        line: Line {
+            cycle,
+            action: Action::Commit { buffer, payload },
+            answer: None,
+        },
+    })
+}
+
+/// The read that the words spell.
+#[tactic(auto, unfolding(crate::specs::LineReading::read_in))]
+fn read_of(words: &mut Words<'_>) -> Option<SpelledLine>
+    ensures { result ≡ read_in words.old }
+{
+    let node = words.next_word()?;
+    let task = words.next_word()?;
+    let cycle = words.next_word()?;
+    let buffer = words.next_word()?;
+    if words.next_word().is_some() {
+        return None;
+    }
+    let node = node_of(node)?;
+    let task = task_of(task)?;
+    let cycle = run_cycle_of(cycle)?;
+    let buffer = buffer_of(buffer)?;
+    Some(SpelledLine::Host {
+        node,
+        task,
+        line: Line {
+            cycle,
+            action: Action::Read { buffer },
+            answer: None,
+        },
+    })
+}
+
+/// The pop that the words spell.
+#[tactic(auto, unfolding(crate::specs::LineReading::pop_in))]
+fn pop_of(words: &mut Words<'_>) -> Option<SpelledLine>
+    ensures { result ≡ pop_in words.old }
+{
+    let node = words.next_word()?;
+    let task = words.next_word()?;
+    let cycle = words.next_word()?;
+    if words.next_word().is_some() {
+        return None;
+    }
+    let node = node_of(node)?;
+    let task = task_of(task)?;
+    let cycle = run_cycle_of(cycle)?;
+    Some(SpelledLine::Host {
+        node,
+        task,
+        line: Line {
+            cycle,
+            action: Action::Pop,
+            answer: None,
+        },
+    })
+}
+
+/// The babble that the words spell.
+#[tactic(auto, unfolding(crate::specs::LineReading::babble_in))]
+fn babble_of(words: &mut Words<'_>) -> Option<SpelledLine>
+    ensures { result ≡ babble_in words.old }
+{
+    let node = words.next_word()?;
+    let channel = words.next_word()?;
+    let cycles = words.next_word()?;
+    let place = words.next_word()?;
+    let bytes = words.next_word()?;
+    if words.next_word().is_some() {
+        return None;
+    }
+    let node = node_of(node)?;
+    let channel = channel_of(channel)?;
+    let cycles = cycles_of(cycles)?;
+    let place = place_of(place)?;
+    let bytes = bytes_of::<FRAME_BYTES>(bytes)?;
+    Some(SpelledLine::Fault(FaultLine {
+        fault: Fault::Babble {
+            node,
+            channel,
+            bytes,
+        },
+        cycles,
+        place,
+    }))
+}
+
+/// The mute that the words spell.
+#[tactic(auto, unfolding(crate::specs::LineReading::mute_in))]
+fn mute_of(words: &mut Words<'_>) -> Option<SpelledLine>
+    ensures { result ≡ mute_in words.old }
+{
+    let node = words.next_word()?;
+    let channel = words.next_word()?;
+    let cycles = words.next_word()?;
+    let place = words.next_word()?;
+    if words.next_word().is_some() {
+        return None;
+    }
+    let node = node_of(node)?;
+    let channel = channel_of(channel)?;
+    let cycles = cycles_of(cycles)?;
+    let place = place_of(place)?;
+    Some(SpelledLine::Fault(FaultLine {
+        fault: Fault::Mute { node, channel },
+        cycles,
+        place,
+    }))
+}
+
+/// The corruption that the words spell.
+#[tactic(auto, unfolding(crate::specs::LineReading::corrupt_in))]
+fn corrupt_of(words: &mut Words<'_>) -> Option<SpelledLine>
+    ensures { result ≡ corrupt_in words.old }
+{
+    let channel = words.next_word()?;
+    let cycles = words.next_word()?;
+    let place = words.next_word()?;
+    let bit = words.next_word()?;
+    if words.next_word().is_some() {
+        return None;
+    }
+    let channel = channel_of(channel)?;
+    let cycles = cycles_of(cycles)?;
+    let place = place_of(place)?;
+    let bit = number_of(bit, 65536)?;
+    Some(SpelledLine::Fault(FaultLine {
+        fault: Fault::Corrupt {
+            channel,
+            bit: bit as u16,
+        },
+        cycles,
+        place,
+    }))
+}
+
+/// What the line, which is given without its line feed, says. `None` where it has no form of the format or a number out
+/// of its range.
+#[tactic(auto, unfolding(crate::specs::LineReading::line_in))]
+pub(crate) fn line_of(line: &[u8]) -> Option<SpelledLine>
+    ensures { result ≡ line_in (words_of line.now) }
+{
+    let mut words = Words::new(line);
+    let kind = words.next_word()?;
+    if kind == b"commit".as_slice() {
+        return commit_of(&mut words);
+    }
+    if kind == b"read".as_slice() {
+        return read_of(&mut words);
+    }
+    if kind == b"pop".as_slice() {
+        return pop_of(&mut words);
+    }
+    if kind == b"babble".as_slice() {
+        return babble_of(&mut words);
+    }
+    if kind == b"mute".as_slice() {
+        return mute_of(&mut words);
+    }
+    if kind == b"corrupt".as_slice() {
+        return corrupt_of(&mut words);
+    }
+    None
+}

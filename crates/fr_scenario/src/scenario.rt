@@ -1,0 +1,134 @@
+//! A scenario, and the text that spells it.
+ghost use Rattle.std.specs.Prelude.{◌≡◌, Ok, Err, IfOk, IfErr};
+ghost use Rattle.fr_scenario.specs.declared.error.ScenarioError.TheVariants as error;
+ghost use Rattle.fr_scenario.specs.Gathering.{none_yet, kept_from};
+ghost use Rattle.fr_scenario.specs.Reading.{lines_in, read_from};
+
+use crate::error::ScenarioError;
+use crate::gathered::Gathered;
+use crate::left::{LAST_LINE, Left};
+use crate::lines::line_of;
+use fr_core::script::Script;
+use fr_runs::fault_line::FaultLine;
+use std::alloc::Global;
+use std::marker::Model;
+
+/// What the tasks of a cluster are to do in a run, and which faults come in it (own profile).
+#[derive(Drop)]
+pub struct Scenario {
+    scripts: Vec<Script>,
+    faults: Vec<FaultLine>,
+}
+
+impl Model for Scenario {
+    ghost use Rattle.fr_scenario.specs.Contents.{Contents};
+
+    ghost Value = { Contents };
+
+    ghost use Rattle.fr_scenario.specs.ScenarioFields.{contents_in, HasNoAnswers};
+
+    ghost view = { contents_in };
+
+    ghost invariant = { HasNoAnswers };
+}
+
+/// What the lines after the first one say.
+fn gathered(alloc: Global, text: &[u8]) -> Result<Gathered, ScenarioError>
+    ensures found { IfOk result (λ gathered. kept_from none_yet (read_from 2 (lines_in text.now)) ≡ Ok gathered) }
+    ensures refused { IfErr result (λ e. ¬ (e ≡ error.Memory) → read_from 2 (lines_in text.now) ≡ Err e) }
+{
+    let mut gathered = Gathered::new(alloc)?;
+    let mut left = Left::new(text);
+    for number in 2..LAST_LINE + 1 {
+        let line = left.next_line(number)?;
+        if line == b"end".as_slice() {
+            return if left.is_empty() {
+                Ok(gathered)
+            } else {
+                Err(ScenarioError::BadLine(number + 1))
+            };
+        }
+        let Some(line) = line_of(line) else {
+            return Err(ScenarioError::BadLine(number));
+        };
+        gathered.add(line)?;
+    }
+    if left.is_empty() {
+        Err(ScenarioError::Truncated)
+    } else {
+        Err(ScenarioError::TooManyLines)
+    }
+}
+
+impl Scenario {
+    ghost use Rattle.std.specs.Prelude.{◌≡◌, Ok, Err, Some, IfOk, IfErr, ◌⊎◌};
+    ghost use Rattle.fr_scenario.specs.Contents.{Contents, AreUnanswered};
+    ghost use Rattle.fr_scenario.specs.declared.error.ScenarioError.TheVariants as error;
+    ghost use Rattle.fr_scenario.specs.Reading.{scenario_in, first_fault};
+    ghost use Rattle.fr_scenario.specs.ScenarioText.{IsScenarioText};
+
+    /// The scenario that a text spells.
+    fn read(alloc: Global, text: &str) -> Result<Scenario, ScenarioError>
+        ensures { ¬ (result ≡ Err error.Memory) → result ≡ scenario_in text.now }
+    {
+        let Some(rest) = text.as_bytes().strip_prefix(b"frscenario 1\n".as_slice()) else {
+            return Err(ScenarioError::BadMagic);
+        };
+        let gathered = gathered(alloc, rest)?;
+        let (scripts, faults) = gathered.finish(alloc)?;
+        Ok(Scenario { scripts, faults })
+    }
+
+    /// The scenario that a text spells (own profile).
+    ///
+    /// The first line is `frscenario 1`, and the last one `end`; each line ends with a line feed and has at most 1200
+    /// bytes before it, and there are at most 4096 of them. Between those two stand, in any order:
+    ///
+    /// ```text
+    /// commit NODE TASK CYCLE BUFFER HEX
+    /// read NODE TASK CYCLE BUFFER
+    /// pop NODE TASK CYCLE
+    /// babble NODE CHANNEL CYCLES PLACE HEX
+    /// mute NODE CHANNEL CYCLES PLACE
+    /// corrupt CHANNEL CYCLES PLACE BIT
+    /// ```
+    ///
+    /// Words are separated by one space. A number is decimal without sign and leading zeros: a node is 0 to 15, a task
+    /// 0 to 7, a cycle 0 to 1023, a buffer 0 to 63, a bit 0 to 65535. CYCLES is a cycle, or `*` for every one; CHANNEL
+    /// is `A` or `B`; PLACE is `s*` for every static slot, `sN` for the static slot N or `mN` for the minislot N, each
+    /// 1 to 8000. HEX is `x` and two lower-case digits for each byte: of a commit an even number, at most 254, and of a
+    /// babble at most 262.
+    ///
+    /// The first line at fault is answered: `BadMagic` where the first line is another or isn't whole; `BadLine` for a
+    /// line of no form, for a number out of its range, for a line that is too long, and for any byte after `end`;
+    /// `TooManyLines` for the first byte of line 4097, whatever follows; and `Truncated` where the text ends before the
+    /// line feed of `end`. `Memory` comes where memory is refused.
+    pub fn from_text(alloc: Global, text: &str) -> Result<Scenario, ScenarioError>
+        // What is accepted is spelled so, and has these scripts and fault lines.
+        ensures found { IfOk result (IsScenarioText text.now) }
+        // What is spelled so is accepted as that, unless memory runs out.
+        ensures only { (s : Contents) → IsScenarioText text.now s → (result ≡ Ok s) ⊎ (result ≡ Err error.Memory) }
+        // A refusal tells the first fault of the text,
+        ensures refused { IfErr result (λ e. (e ≡ error.Memory) ⊎ (first_fault text.now ≡ Some e)) }
+        // which is the text of no scenario.
+        ensures hopeless { IfErr result (λ e. (e ≡ error.Memory)
+            ⊎ ((s : Contents) → ¬ IsScenarioText text.now s)) }
+    {
+        Scenario::read(alloc, text)
+    }
+
+    /// What each task is to do: one script for each task that has lines, by node and then task. No line has an answer.
+    pub fn scripts(&self) -> &[Script]
+        ensures value { result.now ≡ self.now.scripts }
+        ensures unanswered { AreUnanswered result.now }
+    {
+        self.scripts.as_slice()
+    }
+
+    /// The fault lines, in the order of the text.
+    pub fn faults(&self) -> &[FaultLine]
+        ensures { result.now ≡ self.now.faults }
+    {
+        self.faults.as_slice()
+    }
+}
