@@ -1,0 +1,8 @@
+-- What a task's pass is seen as (own profile).
+use Rattle.std.specs.Prelude.{ℕ}
+
+pub record Pass : Type 0 where
+  -- the task whose calls are made with it
+  pub task : ℕ
+  -- how many commits were accepted that were made with it
+  pub commits : ℕ

@@ -1,0 +1,276 @@
+//! The bus behind one lock, and what waits for its phases.
+
+use crate::gate::{Actor, Gate, Side, pass};
+use fr_bus::bus::Bus;
+use fr_bus::error::{BusError, Phase};
+use fr_bus::fault::Fault;
+use fr_interface::interface::Offer;
+use fr_slots::numbers::NodeId;
+use fr_slots::window::Window;
+use fr_status::seen::Seen;
+use std::sync::atomic::{AtomicU32, Ordering};
+use std::sync::{Condvar, Mutex, MutexGuard, Wait};
+use std::thread;
+use thiserror::Error;
+
+/// How often a call that isn't due looks again, and lets other threads run in between, before it sleeps. A window takes
+/// some ten microseconds, and to be woken takes as long.
+const LOOKS: u32 = 200;
+
+/// Why a call of a wire is refused (own profile).
+#[derive(Clone, Copy, Debug, PartialEq, Eq, Error)]
+pub enum WireError {
+    /// The bus refuses the call.
+    #[error("Bus {0}")]
+    Bus(BusError),
+    /// The wire was stopped.
+    #[error("Stopped")]
+    Stopped,
+}
+
+/// A call, by what it waits for.
+#[derive(Clone, Copy)]
+enum Call {
+    /// A look or a put of the node: the open window collects.
+    Offer(NodeId),
+    /// An inject: the open window collects.
+    Inject,
+    /// A seal: all have put.
+    Seal,
+    /// A take of the node: the open window is sealed.
+    Take(NodeId),
+    /// An advance: all have taken.
+    Advance,
+}
+
+/// What lies behind a wire's lock.
+#[derive(Drop)]
+struct Wired {
+    bus: Bus,
+    stopped: bool,
+}
+
+impl Wired {
+    /// Whether the cluster has the node.
+    fn has_node(&self, node: NodeId) -> bool {
+        node.number() < self.bus.nodes()
+    }
+
+    /// Whether the call needn't wait. Nothing waits once the run is over or the wire was stopped, and no call of a node
+    /// that the cluster doesn't have.
+    fn is_due(&self, call: Call) -> bool {
+        let phase = self.bus.phase();
+        if self.stopped || phase == Phase::Finished {
+            return true;
+        }
+        match call {
+            Call::Offer(node) => phase == Phase::Collect || !self.has_node(node),
+            Call::Inject => phase == Phase::Collect,
+            Call::Seal => phase == Phase::Collect && self.bus.all_put(),
+            Call::Take(node) => phase == Phase::Sealed || !self.has_node(node),
+            Call::Advance => phase == Phase::Sealed && self.bus.all_taken(),
+        }
+    }
+}
+
+/// What some calls wait for.
+#[derive(Drop)]
+struct Signal {
+    /// How often it was given, up to a wrap.
+    given: AtomicU32,
+    sleepers: Condvar,
+}
+
+impl Signal {
+    /// A signal that wasn't given yet.
+    fn new() -> Signal {
+        Signal {
+            given: AtomicU32::new(0),
+            sleepers: Condvar::new(),
+        }
+    }
+
+    /// Gives it, to those that look and to those that sleep.
+    fn give(&self) {
+        self.given.fetch_add(1, Ordering::Release);
+        self.sleepers.notify_all();
+    }
+
+    /// How often it was given.
+    fn count(&self) -> u32 {
+        self.given.load(Ordering::Acquire)
+    }
+
+    /// Lets other threads run until it is given once more than so often, for a while.
+    fn look_out(&self, before: u32) {
+        for _look in 0..LOOKS {
+            if self.count() != before {
+                return;
+            }
+            thread::yield_now();
+        }
+    }
+}
+
+/// The bus, where controllers and whoever moves it on make their calls, each under the one lock (own profile).
+///
+/// Whenever the lock is free the bus is one that its own calls lead to: no static slot of a guarded channel carries two
+/// senders. Each call waits until its phase is there, and never once the run is over. After `stop` each answers
+/// `Stopped`. A look, put or take of a node that the cluster doesn't have waits for nothing.
+#[derive(Drop)]
+pub struct Wire {
+    lock: Mutex<Wired>,
+    /// A window opened or was sealed, or the wire was stopped.
+    for_nodes: Signal,
+    /// All have put or taken, or the wire was stopped.
+    for_bus: Signal,
+}
+
+impl Wire {
+    /// The wire of a bus.
+    pub fn new(bus: Bus) -> Wire {
+        Wire {
+            lock: Mutex::new(Wired {
+                bus,
+                stopped: false,
+            }),
+            for_nodes: Signal::new(),
+            for_bus: Signal::new(),
+        }
+    }
+
+    /// Looks out for the signal, if the call isn't due.
+    fn look_out<R: Wait>(&self, rt: &R, signal: &Signal, call: Call) {
+        let wired = self.lock.lock(rt);
+        let before = signal.count();
+        let due = wired.is_due(call);
+        drop(wired);
+        if !due {
+            signal.look_out(before);
+        }
+    }
+
+    /// The bus under its lock, once the call needn't wait.
+    fn ready<R: Wait>(
+        &self,
+        rt: &R,
+        signal: &Signal,
+        call: Call,
+    ) -> Result<MutexGuard<'_, Wired>, WireError> {
+        self.look_out(rt, signal, call);
+        let wired = signal
+            .sleepers
+            .wait_while(rt, self.lock.lock(rt), |wired| !wired.is_due(call));
+        if wired.stopped {
+            Err(WireError::Stopped)
+        } else {
+            Ok(wired)
+        }
+    }
+
+    /// The open window, once it collects, and `None` once the run is over.
+    ///
+    /// Refused with `Stopped`, and with `Bus(UnknownNode)` at once for a node that the cluster doesn't have.
+    pub fn next<R: Wait>(&self, rt: &R, node: NodeId) -> Result<Option<Window>, WireError> {
+        let wired = self.ready(rt, &self.for_nodes, Call::Offer(node))?;
+        if wired.has_node(node) {
+            Ok(wired.bus.collecting())
+        } else {
+            Err(WireError::Bus(BusError::UnknownNode))
+        }
+    }
+
+    /// The bus's put, once the open window collects. Refused with `Stopped`, and as the bus's is.
+    pub fn put<R: Wait>(
+        &self,
+        rt: &R,
+        node: NodeId,
+        number: u32,
+        offer: &Offer,
+    ) -> Result<(), WireError> {
+        let mut wired = self.ready(rt, &self.for_nodes, Call::Offer(node))?;
+        let answer = wired.bus.put(node, number, offer);
+        let all = answer.is_ok() && wired.bus.all_put();
+        drop(wired);
+        if all {
+            self.for_bus.give();
+        }
+        answer.map_err(|error| WireError::Bus(error))
+    }
+
+    /// The bus's inject, once the open window collects. Refused with `Stopped`, and as the bus's is.
+    pub fn inject<R: Wait>(&self, rt: &R, fault: Fault) -> Result<(), WireError> {
+        let mut wired = self.ready(rt, &self.for_nodes, Call::Inject)?;
+        let answer = wired.bus.inject(fault);
+        answer.map_err(|error| WireError::Bus(error))
+    }
+
+    /// The bus's seal, once all have put. Refused with `Stopped`, and as the bus's is.
+    ///
+    /// It passes the gate before it waits, and before it answers.
+    pub fn seal<R: Wait, G: Gate>(&self, rt: &R, gate: &G) -> Result<(), WireError> {
+        pass(gate, Actor::Bus, Side::Before);
+        let answer = self.seal_all(rt);
+        pass(gate, Actor::Bus, Side::After);
+        answer
+    }
+
+    /// The bus's seal, once all have put.
+    fn seal_all<R: Wait>(&self, rt: &R) -> Result<(), WireError> {
+        let mut wired = self.ready(rt, &self.for_bus, Call::Seal)?;
+        let answer = wired.bus.seal();
+        drop(wired);
+        if answer.is_ok() {
+            self.for_nodes.give();
+        }
+        answer.map_err(|error| WireError::Bus(error))
+    }
+
+    /// The bus's take, once the open window is sealed. Refused with `Stopped`, and as the bus's is.
+    pub fn take<R: Wait>(
+        &self,
+        rt: &R,
+        node: NodeId,
+        number: u32,
+    ) -> Result<(Seen, Seen), WireError> {
+        let mut wired = self.ready(rt, &self.for_nodes, Call::Take(node))?;
+        let answer = wired.bus.take(node, number);
+        let all = answer.is_ok() && wired.bus.all_taken();
+        drop(wired);
+        if all {
+            self.for_bus.give();
+        }
+        answer.map_err(|error| WireError::Bus(error))
+    }
+
+    /// The bus's advance, once all have taken. Refused with `Stopped`, and as the bus's is.
+    pub fn advance<R: Wait>(&self, rt: &R) -> Result<(), WireError> {
+        let mut wired = self.ready(rt, &self.for_bus, Call::Advance)?;
+        let answer = wired.bus.advance();
+        let over = wired.bus.phase() == Phase::Finished;
+        drop(wired);
+        if answer.is_ok() {
+            self.for_nodes.give();
+        }
+        if over {
+            self.for_bus.give();
+        }
+        answer.map_err(|error| WireError::Bus(error))
+    }
+
+    /// From now on each call answers `Stopped`, those that wait at once. The bus stays as it is.
+    pub fn stop<R: Wait>(&self, rt: &R) {
+        let mut wired = self.lock.lock(rt);
+        wired.stopped = true;
+        drop(wired);
+        self.for_nodes.give();
+        self.for_bus.give();
+    }
+
+    /// The bus.
+    pub fn close(self) -> Bus {
+        let Wire { lock, .. } = self;
+        let Wired { bus, stopped: _ } = lock.into_inner();
+        bus
+    }
+}

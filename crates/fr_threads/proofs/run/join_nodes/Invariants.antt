@@ -1,0 +1,14 @@
+use Rattle.std.proofs.Common.{◌≡◌, ◌+◌, ◌≤◌, vec_len, length, map}
+use Rattle.std.specs.Vec.{vec_capacity}
+use Rattle.fr_core.specs.Commits.{commits_of}
+use Rattle.fr_threads.proofs.run.join_nodes.Given as goal
+
+abbrev pub invariant-loop-handle : goal.invariant-loop-handle
+invariant-loop-handle g l =
+    (vec_len l.nodes.interfaces ≤ vec_len l.initial.nodes.interfaces + length l.yielded)
+    × (vec_len l.nodes.commits ≤ vec_len l.initial.nodes.commits + length l.yielded)
+    × (vec_len l.nodes.answers ≤ vec_len l.initial.nodes.answers + length l.yielded)
+    × (vec_capacity l.nodes.interfaces ≡ vec_capacity l.initial.nodes.interfaces)
+    × (vec_capacity l.nodes.commits ≡ vec_capacity l.initial.nodes.commits)
+    × (vec_capacity l.nodes.answers ≡ vec_capacity l.initial.nodes.answers)
+    × (l.nodes.commits.items ≡ map commits_of l.nodes.interfaces.items)

@@ -1,0 +1,82 @@
+-- What a run in threads answers (own profile).
+use Rattle.std.specs.Prelude.{◌≡◌, ℕ, List, length, map, Option, Some, None, IsSome, Result, Ok, Err}
+use Rattle.std.specs.List.{All}
+use Rattle.fr_bus.specs.declared.error.Phase.TheVariants.{Finished}
+use Rattle.fr_bus.specs.States.{OneSenderEach}
+use Rattle.fr_bus.specs.Windows.{cycles_begun}
+use Rattle.fr_core.specs.Commits.{commits_of}
+use Rattle.fr_core.specs.declared.script.Line.{Line}
+use Rattle.fr_core.specs.Receivers.{Receivers}
+use Rattle.fr_core.specs.Scripts.{Scripted}
+use Rattle.fr_core.specs.Settling.{Agrees}
+use Rattle.fr_runs.specs.declared.check.RunRefusal.{RunRefusal}
+use Rattle.fr_runs.specs.declared.check.RunRefusal.TheVariants as refusal
+use Rattle.fr_runs.specs.declared.fault_line.FaultLine.{FaultLine}
+use Rattle.fr_runs.specs.Refusing.{Refuses}
+use Rattle.fr_schedule.specs.Descriptions.{Description}
+use Rattle.fr_threads.specs.declared.error.RunError.{RunError}
+use Rattle.fr_threads.specs.declared.error.RunError.TheVariants.{BadCycles, BadScript, BadFault, NoRoom, Host, Slot}
+use Rattle.fr_threads.specs.declared.error.RunError.TheVariants.{Bus, Thread, Settle, Memory}
+use Rattle.fr_threads.specs.declared.run.Run.{Run}
+
+-- ---- scripts with answers
+
+-- the line without its answer
+abbrev pub bare : Line → Line
+bare line = record line { answer = None }
+
+-- the script without its answers
+abbrev pub bare_script : Scripted → Scripted
+bare_script s = record s { lines = map bare s.lines }
+
+abbrev pub IsAnswered : Line → Type 0
+IsAnswered line = IsSome line.answer
+
+-- these are the given scripts, line by line, and every line has an answer
+pub record AreAnswered (given scripts : List Scripted) : Type 0 where
+  pub same_lines : map bare_script scripts ≡ map bare_script given
+  pub answered : All (λ (s : Scripted). All IsAnswered s.lines) scripts
+
+-- ---- refusals
+
+-- why the run can't be had, where the error says that
+abbrev pub refusal_of : RunError → Option RunRefusal
+refusal_of BadCycles = Some refusal.BadCycles
+refusal_of (BadScript place) = Some (refusal.BadScript place)
+refusal_of (BadFault place) = Some (refusal.BadFault place)
+refusal_of (NoRoom node) = Some (refusal.NoRoom node)
+refusal_of (Host e) = None
+refusal_of (Slot e) = None
+refusal_of (Bus e) = None
+refusal_of Thread = None
+refusal_of (Settle e) = None
+refusal_of Memory = None
+
+abbrev pub refusal_told : Result Run RunError → Option RunRefusal
+refusal_told (Ok run) = None
+refusal_told (Err e) = refusal_of e
+
+-- The run is refused exactly where it can't be had, and as that is told.
+abbrev pub RefusesRun : Description → List Scripted → List FaultLine → ℕ → Result Run RunError → Type 0
+RefusesRun d scripts faults cycles answer = Refuses d scripts faults cycles (refusal_told answer)
+
+-- ---- a run
+
+-- This is what a run of the cluster with these scripts and so many cycles leaves.
+pub record IsRunOf (d : Description) (given : List Scripted) (cycles : ℕ) (run : Run) : Type 0 where
+  -- the interfaces are those of the cluster's nodes, and their journals and the scripts agree with the record
+  pub agrees : Agrees d run.interfaces.items run.bus.sealed run.scripts.items
+  -- all windows of the record were settled
+  pub windows : run.settled.windows ≡ length run.bus.sealed
+  -- from a faultless slot receivers hold what its owner committed
+  pub receivers : Receivers d run.interfaces.items run.bus.sealed
+  -- no static slot of a guarded channel carried two senders
+  pub one_sender : OneSenderEach d run.bus.sealed
+  -- the shares of each node's tasks count the commits of its interface
+  pub commits : run.commits.items ≡ map commits_of run.interfaces.items
+  -- the bus came to its end
+  pub finished : run.bus.phase ≡ Finished
+  -- the record has so many windows of static slot 1
+  pub cycles_done : cycles_begun run.bus.sealed ≡ cycles
+  -- the scripts are the given ones, and every line has an answer
+  pub scripts : AreAnswered given run.scripts.items

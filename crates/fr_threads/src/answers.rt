@@ -1,0 +1,106 @@
+//! The given scripts, with the answers that the tasks got.
+
+ghost use Rattle.std.specs.Prelude.{◌≡◌, IfOk, IsSome, map};
+ghost use Rattle.std.specs.List.{All};
+ghost use Rattle.fr_threads.specs.Running.{bare, bare_script, IsAnswered, AreAnswered};
+
+use crate::failure::Failure;
+use fr_core::event::Reply;
+use fr_core::script::{Action, Line, Script};
+use std::alloc::Global;
+
+/// The same action.
+fn duplicate_action(action: &Action) -> Action
+    ensures { result ≡ action.now }
+{
+    match action {
+        Action::Commit { buffer, payload } => Action::Commit {
+            buffer: *buffer,
+            payload: payload.duplicate(),
+        },
+        Action::Read { buffer } => Action::Read { buffer: *buffer },
+        Action::Pop => Action::Pop,
+    }
+}
+
+/// The same reply.
+fn duplicate_reply(reply: &Reply) -> Reply
+    ensures { result ≡ reply.now }
+{
+    match reply {
+        Reply::Committed(receipt) => Reply::Committed(*receipt),
+        Reply::Frame(Some(frame)) => Reply::Frame(Some(frame.duplicate())),
+        Reply::Frame(None) => Reply::Frame(None),
+        Reply::Window(window) => Reply::Window(*window),
+        Reply::Done => Reply::Done,
+    }
+}
+
+/// The line, with this answer.
+fn answered_line(line: &Line, reply: &Reply) -> Line
+    ensures given { bare result ≡ bare line.now }
+    ensures answered { result.answer ≡ Some reply.now }
+{
+    Line {
+        cycle: line.cycle,
+        action: duplicate_action(&line.action),
+        answer: Some(duplicate_reply(reply)),
+    }
+}
+
+/// The lines, with these answers, one for each.
+fn answered_lines(alloc: Global, lines: &[Line], replies: &[Reply]) -> Result<Vec<Line>, Failure>
+    ensures given { IfOk result (λ list. map bare list.items ≡ map bare lines.now) }
+    ensures answered { IfOk result (λ list. All IsAnswered list.items) }
+{
+    if lines.len() != replies.len() {
+        return Err(Failure::Thread);
+    }
+    let mut list = Vec::with_capacity(alloc, lines.len())?;
+    for place in 0..lines.len() {
+        list.push_reserved(answered_line(&lines[place], &replies[place]));
+    }
+    Ok(list)
+}
+
+/// The answers that the script's task got.
+fn replies_to<'a>(script: &Script, answers: &'a [Vec<Vec<Reply>>]) -> Option<&'a [Reply]> {
+    let tasks = answers.get(usize::from(script.node.number()))?;
+    let replies = tasks.get(usize::from(script.task.number()))?;
+    Some(replies.as_slice())
+}
+
+/// The script, with the answers that its task got.
+fn answered_script(
+    alloc: Global,
+    script: &Script,
+    answers: &[Vec<Vec<Reply>>],
+) -> Result<Script, Failure>
+    ensures given { IfOk result (λ s. bare_script s ≡ bare_script script.now) }
+    ensures answered { IfOk result (λ s. All IsAnswered s.lines) }
+{
+    let Some(replies) = replies_to(script, answers) else {
+        return Err(Failure::Thread);
+    };
+    let lines = answered_lines(alloc, script.lines.as_slice(), replies)?;
+    Ok(Script {
+        node: script.node,
+        task: script.task,
+        lines,
+    })
+}
+
+/// The scripts, with the answers that the tasks of each node got.
+pub(crate) fn answered(
+    alloc: Global,
+    scripts: &[Script],
+    answers: &[Vec<Vec<Reply>>],
+) -> Result<Vec<Script>, Failure>
+    ensures { IfOk result (λ list. AreAnswered scripts.now list.items) }
+{
+    let mut list = Vec::with_capacity(alloc, scripts.len())?;
+    for script in scripts {
+        list.push_reserved(answered_script(alloc, script, answers)?);
+    }
+    Ok(list)
+}

@@ -1,0 +1,73 @@
+//! Why a run is refused, or fails.
+
+ghost use Rattle.std.specs.Prelude.{◌≡◌, Some, None};
+ghost use Rattle.fr_threads.specs.Running.{refusal_of};
+
+use crate::failure::Failure;
+use fr_bus::error::BusError;
+use fr_core::settle::SettleError;
+use fr_interface::errors::{HostError, SlotError};
+use fr_runs::check::RunRefusal;
+use fr_slots::numbers::NodeId;
+use thiserror::Error;
+
+/// Why a run is refused, or fails (own profile).
+#[derive(Clone, Copy, Debug, PartialEq, Eq, Error)]
+pub enum RunError {
+    /// The number of cycles is 0 or above 1024.
+    #[error("BadCycles")]
+    BadCycles,
+    /// The script of this place, from 0, doesn't suit the cluster.
+    #[error("BadScript {0}")]
+    BadScript(usize),
+    /// The fault line of this place, from 0, doesn't suit the cluster.
+    #[error("BadFault {0}")]
+    BadFault(usize),
+    /// The journal of this node has no room for the run.
+    #[error("NoRoom {0}")]
+    NoRoom(NodeId),
+    /// An interface refused the call of a task.
+    #[error("Host {0:?}")]
+    Host(HostError),
+    /// An interface refused the call of its controller.
+    #[error("Slot {0:?}")]
+    Slot(SlotError),
+    /// The bus refused a call.
+    #[error("Bus {0}")]
+    Bus(BusError),
+    /// A thread couldn't be started, or the bus didn't come to its end.
+    #[error("Thread")]
+    Thread,
+    /// What the threads left doesn't agree.
+    #[error("Settle {0}")]
+    Settle(SettleError),
+    /// Memory was refused.
+    #[error("Memory")]
+    Memory,
+}
+
+/// The refusal as an error.
+pub(crate) fn refused(refusal: RunRefusal) -> RunError
+    ensures { refusal_of result ≡ Some refusal }
+{
+    match refusal {
+        RunRefusal::BadCycles => RunError::BadCycles,
+        RunRefusal::BadScript(place) => RunError::BadScript(place),
+        RunRefusal::BadFault(place) => RunError::BadFault(place),
+        RunRefusal::NoRoom(node) => RunError::NoRoom(node),
+    }
+}
+
+/// The failure as an error. A run in which every thread was stopped has none that failed, and didn't come to its end.
+pub(crate) fn failed(failure: Failure) -> RunError
+    ensures { refusal_of result ≡ None }
+{
+    match failure {
+        Failure::Host(error) => RunError::Host(error),
+        Failure::Slot(error) => RunError::Slot(error),
+        Failure::Bus(error) => RunError::Bus(error),
+        Failure::Thread | Failure::Stopped => RunError::Thread,
+        Failure::Settle(error) => RunError::Settle(error),
+        Failure::Memory => RunError::Memory,
+    }
+}

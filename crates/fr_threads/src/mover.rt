@@ -1,0 +1,116 @@
+//! The thread that moves the bus on.
+
+ghost use Rattle.std.specs.Prelude.{◌≡◌, ◌<◌};
+
+use crate::failure::Failure;
+use crate::shared::{Shared, opens_cycle};
+use fr_bus::fault::Fault;
+use fr_desks::gate::Gate;
+use fr_desks::wire::{Wire, WireError};
+use fr_frame::frame::Bytes;
+use fr_runs::fault_line::FaultLine;
+use fr_slots::numbers::NodeId;
+use fr_slots::window::Window;
+use std::sync::Wait;
+
+/// The same bytes.
+fn duplicate_bytes(bytes: &Bytes) -> Bytes
+    ensures { result ≡ bytes.now }
+{
+    let mut copy = Bytes::new();
+    let outcome = copy.try_extend_from_slice(bytes.as_slice());
+    let fits = outcome.is_ok();
+    prove!(fits);
+    copy
+}
+
+/// The same fault.
+fn duplicate_fault(fault: &Fault) -> Fault
+    ensures { result ≡ fault.now }
+{
+    match fault {
+        Fault::Babble {
+            node,
+            channel,
+            bytes,
+        } => Fault::Babble {
+            node: *node,
+            channel: *channel,
+            bytes: duplicate_bytes(bytes),
+        },
+        Fault::Mute { node, channel } => Fault::Mute {
+            node: *node,
+            channel: *channel,
+        },
+        Fault::Corrupt { channel, bit } => Fault::Corrupt {
+            channel: *channel,
+            bit: *bit,
+        },
+    }
+}
+
+/// The node of this number.
+fn node_of(number: u8) -> NodeId
+    requires { number < 16 }
+    ensures { result ≡ number }
+{
+    match NodeId::new(number) {
+        Some(node) => node,
+        None => unreachable!(),
+    }
+}
+
+/// Injects the faults that come in this window, which lies in the run's cycle of this number.
+fn inject_all<R: Wait>(
+    rt: &R,
+    wire: &Wire,
+    faults: &[FaultLine],
+    cycle: u16,
+    window: &Window,
+) -> Result<(), WireError> {
+    for line in faults {
+        if line.strikes(cycle, window) {
+            wire.inject(rt, duplicate_fault(&line.fault))?;
+        }
+    }
+    Ok(())
+}
+
+/// Moves the bus on from window to window, up to the end of the run.
+fn move_on<R: Wait, G: Gate>(
+    rt: &R,
+    wire: &Wire,
+    faults: &[FaultLine],
+    gate: &G,
+) -> Result<(), WireError> {
+    let mut begun = 0u16;
+    for _ in rt.forever() {
+        // A look changes nothing, and each node sees the same window.
+        let Some(window) = wire.next(rt, node_of(0))? else {
+            return Ok(());
+        };
+        if opens_cycle(&window) {
+            begun = begun.saturating_add(1);
+        }
+        inject_all(rt, wire, faults, begun.saturating_sub(1), &window)?;
+        wire.seal(rt, gate)?;
+        wire.advance(rt)?;
+    }
+    unreachable!()
+}
+
+/// The thread of the bus. Where it fails the run is stopped.
+pub(crate) fn run_bus<R: Wait, G: Gate>(
+    rt: &R,
+    shared: &Shared,
+    faults: &[FaultLine],
+    gate: &G,
+) -> Result<(), Failure> {
+    match move_on(rt, &shared.wire, faults, gate) {
+        Ok(()) => Ok(()),
+        Err(error) => {
+            shared.stop(rt);
+            Err(Failure::from(error))
+        }
+    }
+}

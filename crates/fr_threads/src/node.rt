@@ -1,0 +1,264 @@
+//! The thread of a node: its controller, and its tasks in a scope of their own.
+
+ghost use Rattle.std.specs.Prelude.{◌≡◌, ◌+◌, ◌≤◌, [], IfOk, OnOk, vec_len};
+ghost use Rattle.std.specs.Vec.{vec_capacity};
+ghost use Rattle.fr_core.specs.Commits.{commits_of};
+ghost use Rattle.fr_ledger.specs.Posts.{parts_for};
+
+use crate::failure::{Failure, told_of};
+use crate::shared::{Shared, opens_cycle};
+use crate::task::{TaskDone, lines_of, run_task};
+use fr_core::event::Reply;
+use fr_core::script::Script;
+use fr_desks::desk::{Desk, TaskPass};
+use fr_desks::gate::Gate;
+use fr_interface::interface::Interface;
+use fr_ledger::books::{Share, gather};
+use fr_schedule::cluster::Cluster;
+use fr_slots::numbers::NodeId;
+use std::alloc::Global;
+use std::marker::Brand;
+use std::sync::Wait;
+use std::sync::ledger::{Blank, Ledger};
+use std::thread;
+use std::thread::{JoinHandle, Scope, Threads};
+
+/// What a node leaves: its interface, the posts of all its shares, which are the interface's commits, and the answers
+/// that each of its tasks got.
+#[derive(Drop)]
+pub(crate) struct NodeDone {
+    pub interface: Interface,
+    pub commits: u64,
+    pub answers: Vec<Vec<Reply>>,
+    pub ghost counted: { commits ≡ commits_of interface },
+}
+
+/// What a node's tasks leave, in their order.
+#[derive(Drop)]
+struct TasksDone<L: Ledger> {
+    shares: Vec<Share<L>>,
+    answers: Vec<Vec<Reply>>,
+}
+
+/// Does all that the controller does in the run.
+fn control<L: Ledger, R: Wait, G: Gate>(
+    rt: &R,
+    desk: &Desk<L>,
+    shared: &Shared,
+    node: NodeId,
+    gate: &G,
+) -> Result<(), Failure> {
+    let mut begun = 0u16;
+    for _ in rt.forever() {
+        let Some(window) = shared.wire.next(rt, node)? else {
+            return Ok(());
+        };
+        if opens_cycle(&window) {
+            shared.wait_done(rt, begun)?;
+            begun = begun.saturating_add(1);
+        }
+        let number = window.number;
+        let offer = desk
+            .fetch(rt, gate, &window)
+            .map_err(|error| Failure::Slot(error))?;
+        shared.wire.put(rt, node, number, &offer)?;
+        let (a, b) = shared.wire.take(rt, node, number)?;
+        desk.observe(rt, gate, number, &a, &b)
+            .map_err(|error| Failure::Slot(error))?;
+    }
+    unreachable!()
+}
+
+/// Starts the thread of each task. Where one can't be started those before it run.
+fn start_tasks<'s, E, L: Ledger + Send + Sync, R: Wait + Sync, G: Gate + Sync>(
+    scope: &'s Scope<'s, E>,
+    rt: &'s R,
+    alloc: Global,
+    desk: &'s Desk<L>,
+    shared: &'s Shared,
+    scripts: &'s [Script],
+    node: NodeId,
+    gate: &'s G,
+    passes: Vec<TaskPass<L>>,
+    running: &mut Vec<JoinHandle<TaskDone<L>>>,
+) -> Result<(), Failure>
+    requires { vec_len running.old + vec_len passes ≤ vec_capacity running.old }
+    ensures few { vec_len running.new ≤ vec_len running.old + vec_len passes }
+    ensures all { OnOk result (vec_len running.new ≡ vec_len running.old + vec_len passes) }
+{
+    for pass in passes {
+        let lines = lines_of(scripts, node, pass.task());
+        match scope.spawn(move || run_task(rt, alloc, desk, shared, lines, gate, pass)) {
+            Ok(handle) => running.push_reserved(handle),
+            Err(_) => return Err(Failure::Thread),
+        }
+    }
+    Ok(())
+}
+
+/// Joins the tasks, and answers which failure of theirs is to be told. There is room for what they leave.
+fn join_tasks<L: Ledger, R: Threads>(
+    rt: &R,
+    running: Vec<JoinHandle<TaskDone<L>>>,
+    done: &mut TasksDone<L>,
+) -> Option<Failure>
+    requires shares { vec_len done.old.shares + vec_len running ≤ vec_capacity done.old.shares }
+    requires answers { vec_len done.old.answers + vec_len running ≤ vec_capacity done.old.answers }
+    ensures { vec_len done.new.shares ≡ vec_len done.old.shares + vec_len running }
+{
+    let mut told = None;
+    for handle in running {
+        let TaskDone { share, answers } = handle.join(rt);
+        done.shares.push_reserved(share);
+        match answers {
+            Ok(answers) => done.answers.push_reserved(answers),
+            Err(failure) => told = Some(told_of(told, failure)),
+        }
+    }
+    told
+}
+
+/// Runs the node's tasks and its controller, and joins them. Where one of them fails the run is stopped.
+fn serve<'s, E, L: Ledger + Send + Sync, R: Threads + Wait + Sync, G: Gate + Sync>(
+    scope: &'s Scope<'s, E>,
+    rt: &'s R,
+    alloc: Global,
+    desk: &'s Desk<L>,
+    shared: &'s Shared,
+    scripts: &'s [Script],
+    node: NodeId,
+    gate: &'s G,
+    passes: Vec<TaskPass<L>>,
+) -> Result<TasksDone<L>, Failure>
+    ensures { IfOk result (λ done. vec_len done.shares ≡ vec_len passes) }
+{
+    let mut done = TasksDone {
+        shares: Vec::with_capacity(alloc, passes.len())?,
+        answers: Vec::with_capacity(alloc, passes.len())?,
+    };
+    let mut running = Vec::with_capacity(alloc, passes.len())?;
+    let started = start_tasks(
+        scope,
+        rt,
+        alloc,
+        desk,
+        shared,
+        scripts,
+        node,
+        gate,
+        passes,
+        &mut running,
+    );
+    let ended = match started {
+        Ok(()) => control(rt, desk, shared, node, gate),
+        Err(failure) => Err(failure),
+    };
+    if ended.is_err() {
+        shared.stop(rt);
+    }
+    let told = join_tasks(rt, running, &mut done);
+    match ended {
+        Ok(()) => match told {
+            Some(failure) => Err(failure),
+            None => Ok(done),
+        },
+        Err(failure) => Err(told_of(told, failure)),
+    }
+}
+
+/// Runs the node's tasks and its controller in a scope.
+fn run_in_scope<L: Ledger + Send + Sync, R: Threads + Wait + Sync, G: Gate + Sync>(
+    rt: &R,
+    alloc: Global,
+    desk: &Desk<L>,
+    shared: &Shared,
+    scripts: &[Script],
+    node: NodeId,
+    gate: &G,
+    passes: Vec<TaskPass<L>>,
+) -> Result<TasksDone<L>, Failure>
+    ensures { IfOk result (λ done. vec_len done.shares ≡ vec_len passes) }
+{
+    thread::scope(
+        thread::scope_env(),
+        rt,
+        |scope| -> Result<TasksDone<L>, Failure>
+            ensures { IfOk result (λ done. vec_len done.shares ≡ vec_len passes) }
+        { serve(scope, rt, alloc, desk, shared, scripts, node, gate, passes) },
+    )
+}
+
+/// Opens the node's desk, runs its tasks and its controller, closes the desk and gathers the shares.
+fn run_desk<L: Ledger + Send + Sync, R: Threads + Wait + Sync, G: Gate + Sync>(
+    rt: &R,
+    alloc: Global,
+    blank: Blank,
+    interface: Interface,
+    shared: &Shared,
+    scripts: &[Script],
+    node: NodeId,
+    gate: &G,
+) -> Result<NodeDone, Failure>
+    requires name { blank.name ≡ L.name }
+    requires parts { blank.parts ≡ L.parts }
+    requires one_each { blank.parts ≡ parts_for interface.plan.tasks }
+    requires fresh { interface.entries ≡ [] }
+{
+    let (desk, passes) = Desk::<L>::open(alloc, blank, node, interface)?;
+    let ended = run_in_scope(rt, alloc, &desk, shared, scripts, node, gate, passes);
+    let (interface, mut book, own) = desk.close();
+    let TasksDone { shares, answers } = ended?;
+    let commits = gather(&mut book, own, shares);
+    Ok(NodeDone {
+        interface,
+        commits,
+        answers,
+    })
+}
+
+/// Makes the interface of the node of this number, and runs the node with a ledger of its own.
+fn run_ledger<R: Threads + Wait + Sync, G: Gate + Sync>(
+    rt: &R,
+    alloc: Global,
+    shared: &Shared,
+    cluster: &Cluster,
+    scripts: &[Script],
+    number: u8,
+    gate: &G,
+) -> Result<NodeDone, Failure> {
+    let Some(node) = NodeId::new(number) else {
+        return Err(Failure::Thread);
+    };
+    let Some(plan) = cluster.node(node) else {
+        return Err(Failure::Thread);
+    };
+    let interface = Interface::new(alloc, cluster.params(), plan)?;
+    let parts = u64::from(interface.plan().tasks()) + 1;
+    run_desk::<Brand, R, G>(
+        rt,
+        alloc,
+        Blank::new(parts),
+        interface,
+        shared,
+        scripts,
+        node,
+        gate,
+    )
+}
+
+/// The thread of the node of this number. Where it fails the run is stopped.
+pub(crate) fn run_node<R: Threads + Wait + Sync, G: Gate + Sync>(
+    rt: &R,
+    alloc: Global,
+    shared: &Shared,
+    cluster: &Cluster,
+    scripts: &[Script],
+    number: u8,
+    gate: &G,
+) -> Result<NodeDone, Failure> {
+    let done = run_ledger(rt, alloc, shared, cluster, scripts, number, gate);
+    if done.is_err() {
+        shared.stop(rt);
+    }
+    done
+}

@@ -1,0 +1,65 @@
+//! What all threads of a run share.
+
+ghost use Rattle.std.specs.Prelude.{◌≡◌};
+ghost use Rattle.fr_bus.specs.Windows.{opens_cycle};
+
+use crate::failure::Failure;
+use crate::pace::Pace;
+use fr_desks::wire::Wire;
+use fr_slots::window::Window;
+use std::sync::Wait;
+
+/// Whether a cycle begins with the window.
+pub(crate) fn opens_cycle(window: &Window) -> bool
+    ensures { result ≡ opens_cycle window.now }
+{
+    window.is_static() && window.a.is_some_and(|slot| slot.number() == 1)
+}
+
+/// What all threads of a run share: the bus, and in a stepped run its pace.
+#[derive(Drop)]
+pub(crate) struct Shared {
+    pub wire: Wire,
+    pub pace: Option<Pace>,
+}
+
+impl Shared {
+    /// Waits, as a task that has lines in the cycle, until these are due.
+    pub(crate) fn wait_due<R: Wait>(&self, rt: &R, cycle: u16) -> Result<(), Failure> {
+        match &self.pace {
+            Some(pace) => if pace.wait_due(rt, cycle) {
+                Ok(())
+            } else {
+                Err(Failure::Stopped)
+            },
+            None => Ok(()),
+        }
+    }
+
+    /// Tells that a task has done all its lines of the cycle that came due last.
+    pub(crate) fn tell_done<R: Wait>(&self, rt: &R) {
+        if let Some(pace) = &self.pace {
+            pace.tell_done(rt);
+        }
+    }
+
+    /// Waits, as a controller that is to begin the cycle, until all lines of the cycle are done.
+    pub(crate) fn wait_done<R: Wait>(&self, rt: &R, cycle: u16) -> Result<(), Failure> {
+        match &self.pace {
+            Some(pace) => if pace.wait_done(rt, cycle) {
+                Ok(())
+            } else {
+                Err(Failure::Stopped)
+            },
+            None => Ok(()),
+        }
+    }
+
+    /// Has each thread end at its next call that may wait.
+    pub(crate) fn stop<R: Wait>(&self, rt: &R) {
+        self.wire.stop(rt);
+        if let Some(pace) = &self.pace {
+            pace.stop(rt);
+        }
+    }
+}

@@ -1,0 +1,105 @@
+//! The thread of a task.
+
+use crate::failure::Failure;
+use crate::shared::Shared;
+use fr_core::event::Reply;
+use fr_core::script::{Action, Line, Script};
+use fr_desks::desk::{Desk, TaskPass};
+use fr_desks::gate::Gate;
+use fr_interface::errors::HostError;
+use fr_ledger::books::Share;
+use fr_slots::numbers::{NodeId, TaskId};
+use std::alloc::Global;
+use std::sync::Wait;
+use std::sync::ledger::Ledger;
+
+/// What a task leaves: its share, and the answers that it got in the order of its lines, if it has done all of them.
+#[derive(Drop)]
+pub(crate) struct TaskDone<L: Ledger> {
+    pub share: Share<L>,
+    pub answers: Result<Vec<Reply>, Failure>,
+}
+
+/// The lines of the task's script, if it has one.
+pub(crate) fn lines_of(scripts: &[Script], node: NodeId, task: TaskId) -> &[Line] {
+    for script in scripts {
+        if script.node == node && script.task == task {
+            return script.lines.as_slice();
+        }
+    }
+    &[]
+}
+
+/// Does one line.
+fn do_line<L: Ledger, R: Wait, G: Gate>(
+    rt: &R,
+    desk: &Desk<L>,
+    gate: &G,
+    me: &mut TaskPass<L>,
+    action: &Action,
+) -> Result<Reply, HostError> {
+    match action {
+        Action::Commit { buffer, payload } => {
+            let receipt = desk.commit(rt, gate, me, *buffer, payload)?;
+            Ok(Reply::Committed(receipt))
+        }
+        Action::Read { buffer } => {
+            let frame = desk.read(rt, gate, me, *buffer)?;
+            Ok(Reply::Frame(frame))
+        }
+        Action::Pop => {
+            let frame = desk.pop(rt, gate, me)?;
+            Ok(Reply::Frame(frame))
+        }
+    }
+}
+
+/// Does the lines, those of a cycle once they are due.
+fn do_lines<L: Ledger, R: Wait, G: Gate>(
+    rt: &R,
+    alloc: Global,
+    desk: &Desk<L>,
+    shared: &Shared,
+    lines: &[Line],
+    gate: &G,
+    me: &mut TaskPass<L>,
+) -> Result<Vec<Reply>, Failure> {
+    let mut answers = Vec::with_capacity(alloc, lines.len())?;
+    let mut begun = None;
+    for line in lines {
+        if begun != Some(line.cycle) {
+            if begun.is_some() {
+                shared.tell_done(rt);
+            }
+            shared.wait_due(rt, line.cycle)?;
+            begun = Some(line.cycle);
+        }
+        match do_line(rt, desk, gate, me, &line.action) {
+            Ok(reply) => answers.push_reserved(reply),
+            Err(error) => return Err(Failure::Host(error)),
+        }
+    }
+    if begun.is_some() {
+        shared.tell_done(rt);
+    }
+    Ok(answers)
+}
+
+/// The thread of a task. Where it fails the run is stopped.
+pub(crate) fn run_task<L: Ledger, R: Wait, G: Gate>(
+    rt: &R,
+    alloc: Global,
+    desk: &Desk<L>,
+    shared: &Shared,
+    lines: &[Line],
+    gate: &G,
+    pass: TaskPass<L>,
+) -> TaskDone<L> {
+    let mut me = pass;
+    let answers = do_lines(rt, alloc, desk, shared, lines, gate, &mut me);
+    if answers.is_err() {
+        shared.stop(rt);
+    }
+    let share = me.into_share();
+    TaskDone { share, answers }
+}

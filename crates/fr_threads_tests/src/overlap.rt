@@ -1,0 +1,110 @@
+//! Whether threads really overlap: gates that hold one actor until another has come far enough, which only another
+//! thread can bring about.
+
+use crate::asked::{babbles, scripts, three_nodes};
+use crate::hold::{Hold, controller_point, task_point};
+use fr_desks::gate::Side;
+use fr_threads::run::run_threads;
+use std::alloc::Global;
+use std::sync::Wait;
+use std::test::Fail;
+use std::thread::Threads;
+
+/// Whether a run of four cycles comes to its end while the gate holds an actor until another has come far enough.
+fn overlaps<R: Threads + Wait + Sync>(
+    rt: &R,
+    alloc: Global,
+    stepped: bool,
+    gate: &Hold,
+) -> Result<bool, Fail> {
+    let cluster = three_nodes(alloc)?;
+    let scripts = scripts(alloc)?;
+    let faults = babbles()?;
+    let run = run_threads(
+        rt,
+        alloc,
+        &cluster,
+        scripts.as_slice(),
+        &faults,
+        4,
+        stepped,
+        gate,
+    )?;
+    Ok(gate.was_kept() && run.settled.windows == 28)
+}
+
+/// Whether a task of a node, held at this side of its first call, has the other task go first.
+fn tasks_overlap<R: Threads + Wait + Sync>(
+    rt: &R,
+    alloc: Global,
+    stepped: bool,
+    side: Side,
+    held: [u8; 2],
+    other: [u8; 2],
+) -> Result<bool, Fail> {
+    let [node, task] = held;
+    let [other_node, other_task] = other;
+    let gate = Hold::new(
+        task_point(node, task, side)?,
+        task_point(other_node, other_task, Side::After)?,
+    );
+    overlaps(rt, alloc, stepped, &gate)
+}
+
+/// Whether a node's controller, held before its first call, has the other node's go first.
+fn controllers_overlap<R: Threads + Wait + Sync>(
+    rt: &R,
+    alloc: Global,
+    held: u8,
+    other: u8,
+) -> Result<bool, Fail> {
+    let gate = Hold::new(
+        controller_point(held, Side::Before)?,
+        controller_point(other, Side::After)?,
+    );
+    overlaps(rt, alloc, true, &gate)
+}
+
+#[test]
+fn two_tasks_really_overlap(rt: HostRuntime) -> Result<(), Fail> {
+    let alloc = rt.alloc();
+    let overlap = [
+        tasks_overlap(&rt, alloc, true, Side::Before, [0, 0], [1, 0])?,
+        tasks_overlap(&rt, alloc, true, Side::Before, [1, 0], [0, 0])?,
+    ];
+    assert_eq!(rt; overlap, [true, true]);
+    Ok(())
+}
+
+#[test]
+fn two_controllers_really_overlap(rt: HostRuntime) -> Result<(), Fail> {
+    let alloc = rt.alloc();
+    let overlap = [
+        controllers_overlap(&rt, alloc, 0, 1)?,
+        controllers_overlap(&rt, alloc, 1, 0)?,
+    ];
+    assert_eq!(rt; overlap, [true, true]);
+    Ok(())
+}
+
+#[test]
+fn a_held_lock_holds_no_other_node(rt: HostRuntime) -> Result<(), Fail> {
+    let alloc = rt.alloc();
+    let overlap = [
+        tasks_overlap(&rt, alloc, true, Side::Inside, [0, 0], [1, 0])?,
+        tasks_overlap(&rt, alloc, true, Side::Inside, [1, 0], [0, 0])?,
+    ];
+    assert_eq!(rt; overlap, [true, true]);
+    Ok(())
+}
+
+#[test]
+fn two_tasks_of_one_node_really_overlap(rt: HostRuntime) -> Result<(), Fail> {
+    let alloc = rt.alloc();
+    let overlap = [
+        tasks_overlap(&rt, alloc, false, Side::Before, [0, 0], [0, 1])?,
+        tasks_overlap(&rt, alloc, false, Side::Before, [0, 1], [0, 0])?,
+    ];
+    assert_eq!(rt; overlap, [true, true]);
+    Ok(())
+}
