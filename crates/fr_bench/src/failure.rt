@@ -5,6 +5,7 @@ ghost use Rattle.fr_bench.specs.declared.failure.Failure.TheVariants as failure;
 
 use fr_commands::error::BenchError;
 use fr_orders::command::OrderError;
+use fr_outcome::error::OutcomeError;
 use fr_trace::error::TraceError;
 use thiserror::Error;
 
@@ -24,6 +25,9 @@ pub enum Failure {
     /// Another input was refused, or couldn't be read, or the output couldn't be written.
     #[error("refused {0}")]
     Text(#[from] BenchError),
+    /// A run was refused, or failed.
+    #[error("refused {0}")]
+    Run(#[from] OutcomeError),
 }
 
 impl Failure {
@@ -33,7 +37,7 @@ impl Failure {
     {
         match self {
             Failure::Usage => 2,
-            Failure::Memory | Failure::Audit(_) | Failure::Text(_) => 1,
+            Failure::Memory | Failure::Audit(_) | Failure::Text(_) | Failure::Run(_) => 1,
         }
     }
 }

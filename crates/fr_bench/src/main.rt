@@ -10,6 +10,9 @@
 //! fr_bench check cluster.toml      the parameters of a cluster, or the first fault of its file
 //! fr_bench plan cluster.toml       who sends where, and when each channel is open to each node
 //! fr_bench midpoint < numbers      the fault-tolerant midpoint of numbers
+//! fr_bench run cluster.toml scenario --cycles 4
+//!                                  the reports of all nodes after a run in which tasks, controllers and the
+//!                                  bus are threads
 //! ```
 //!
 //! A chapter in parentheses is one of the FlexRay Protocol Specification 2.1, revision A, whose rule it is.
@@ -21,14 +24,19 @@ mod failure;
 
 use failure::Failure;
 use fr_commands::check::check_text;
+use fr_commands::cluster_file::cluster_of;
 use fr_commands::error::BenchError;
 use fr_commands::midpoint::midpoint_text;
 use fr_commands::plan::plan_text;
 use fr_orders::command::{Order, OrderError};
 use fr_orders::order::order;
+use fr_outcome::error::OutcomeError;
+use fr_outcome::outcome::run_cluster;
 use std::alloc::{AllocError, Global};
 use std::process::ExitCode;
 use std::rt::{Env, Files};
+use std::sync::Wait;
+use std::thread::Threads;
 use std::{env, fs, io};
 
 /// The words after the program's name, as the system gives them. A word that isn't UTF-8 names no
@@ -55,8 +63,30 @@ fn opened<R: Files>(rt: &R, path: &str) -> Result<R::File, BenchError> {
     }
 }
 
+/// Runs the cluster of the one file with the scenario of the other, which is opened once the cluster is accepted.
+fn run_files<R: Files + Print + AllocGlobal + Threads + Wait + Sync>(
+    rt: &R,
+    cluster: &str,
+    scenario: &str,
+    cycles: u16,
+    free: bool,
+) -> Result<(), OutcomeError> {
+    let alloc = rt.alloc();
+    let cluster = cluster_of(alloc, &mut opened(rt, cluster)?)?;
+    let mut file = opened(rt, scenario)?;
+    run_cluster(
+        rt,
+        alloc,
+        &cluster,
+        &mut file,
+        cycles,
+        free,
+        &mut io::writer(rt),
+    )
+}
+
 /// Does the order.
-fn carry_out<R: Files + Input + Print + AllocGlobal>(
+fn carry_out<R: Files + Input + Print + AllocGlobal + Threads + Wait + Sync>(
     rt: &R,
     order: Order<'_>,
 ) -> Result<(), Failure> {
@@ -73,11 +103,19 @@ fn carry_out<R: Files + Input + Print + AllocGlobal>(
             Ok(plan_text(alloc, &mut file, &mut output)?)
         }
         Order::Midpoint => Ok(midpoint_text(alloc, &mut rt.reader(), &mut output)?),
+        Order::Run {
+            cluster,
+            scenario,
+            cycles,
+            free,
+        } => Ok(run_files(rt, cluster, scenario, cycles, free)?),
     }
 }
 
 /// Does what the words ask for.
-fn run<R: Env + Files + Input + Print + AllocGlobal>(rt: &R) -> Result<(), Failure> {
+fn run<R: Env + Files + Input + Print + AllocGlobal + Threads + Wait + Sync>(
+    rt: &R,
+) -> Result<(), Failure> {
     let words = words_given(rt)?;
     let texts: Vec<&str> = texts_of(rt.alloc(), &words)?;
     carry_out(rt, order(rt.alloc(), texts.as_slice())?)

@@ -31,10 +31,10 @@ abbrev pub guard_line : ℕ → Channel → Span → List ℕ
 guard_line node channel span =
     line_text (codes "guard" ∷ decimal node ∷ letter_of channel ∷ decimal span.0 ∷ decimal span.1 ∷ [])
 
--- the texts of the nodes with these plans, of which the first has this number, one after another
-unfoldable pub of_nodes : (ℕ → Plan → List ℕ) → ℕ → List Plan → List ℕ
+-- the texts of the nodes of which these are in their order, and the first has this number, one after another
+unfoldable pub of_nodes : {X : Type 0} → (ℕ → X → List ℕ) → ℕ → List X → List ℕ
 of_nodes text node [] = []
-of_nodes text node (plan ∷ plans) = text node plan ++ of_nodes text (node + 1) plans
+of_nodes text node (x ∷ xs) = text node x ++ of_nodes text (node + 1) xs
 
 -- ---- the owners of the static slots
 

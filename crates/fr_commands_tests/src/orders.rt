@@ -23,6 +23,25 @@ fn each_command_is_an_order(rt: HostRuntime) -> Result<(), Fail> {
 }
 
 #[test]
+fn a_run_has_its_files_cycles_and_flag(rt: HostRuntime) -> Result<(), Fail> {
+    let words = ["run", "c", "s", "--cycles", "4", "--free"];
+    let wanted = Order::Run {
+        cluster: "c",
+        scenario: "s",
+        cycles: 4,
+        free: true,
+    };
+    assert_eq!(rt; order(rt.alloc(), &words)?, wanted);
+    Ok(())
+}
+
+#[test]
+fn a_run_of_1025_cycles_is_usage(rt: HostRuntime) {
+    let words = ["run", "c", "s", "--cycles", "1025"];
+    assert_eq!(rt; order(rt.alloc(), &words).err(), Some(OrderError::Usage));
+}
+
+#[test]
 fn other_words_are_usage(rt: HostRuntime) {
     let answers = [
         order(rt.alloc(), &[]).err(),

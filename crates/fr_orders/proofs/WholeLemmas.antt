@@ -2,7 +2,7 @@
 -- value that a walk over the words of a command keeps is one of the words.
 use Rattle.std.proofs.Common.{◌≡◌, ◌∙◌, ◌<◌, ◌&&◌, ◌++◌, ◌∷◌, [], ℕ, zero, suc, List, length, Bool, cond, true, false}
 use Rattle.std.proofs.Common.{not, Option, Some, None, option_map, is_some, true≢false, ◌||◌, fold, refl, sym, subst}
-use Rattle.std.proofs.Common.{arith, inl, inr, codes}
+use Rattle.std.proofs.Common.{arith, inl, inr, codes, ◌⊎◌}
 use Rattle.std.specs.Prelude.{IfSome, option_and_then, slice_get, drop}
 use Rattle.std.specs.Option.{option_map_or}
 use Rattle.std.specs.List.{find, slice_index_or}
@@ -23,7 +23,7 @@ use Rattle.clap.specs.Takes.{is_given}
 use Rattle.clap.specs.Faults.{level_fault, check_fault, entered_fault}
 use Rattle.clap.specs.Kinds.{Kinds, or_else, check_kinds}
 use Rattle.clap.specs.declared.parser.matches.ValueSource.{ValueSource}
-use Rattle.fr_orders.specs.Orders.{IsWhole, the_commands, the_file}
+use Rattle.fr_orders.specs.Orders.{IsNamed, IsWhole, LacksRun, has_run_by, the_commands, the_file, word_in}
 
 -- ---- rows with values
 
@@ -222,26 +222,38 @@ check_takes = record { rules_are = refl; checks = λ rows. refl }
 plan_takes : TakesFile (sub 2)
 plan_takes = record { rules_are = refl; checks = λ rows. refl }
 
-met : (p : Text × List Text) (a c q m : Bool)
-    → is_some (option_map (λ s. rows_at s p.1) (cond a (Some (sub 0)) (cond c (Some (sub 1)) (cond q (Some (sub 2)) (cond m (Some (sub 3)) None))))) ≡ true
-    → option_map_or (λ s. level_fault s [] nothing_held p.1 false []) (cond a (Some (sub 0)) (cond c (Some (sub 1)) (cond q (Some (sub 2)) (cond m (Some (sub 3)) None)))) [] ≡ []
-    → IsWhole (option_map (λ s. rows_at s p.1) (cond a (Some (sub 0)) (cond c (Some (sub 1)) (cond q (Some (sub 2)) (cond m (Some (sub 3)) None)))))
-met p true c q m has below = inl (inl refl)
-met p false true q m has below = inr (inl refl, has_file (sub 1) p.1 check_takes (no_level_fault (sub 1) [] nothing_held p.1 false [] below).1)
-met p false false true m has below = inr (inr refl, has_file (sub 2) p.1 plan_takes (no_level_fault (sub 2) [] nothing_held p.1 false [] below).1)
-met p false false false true has below = inl (inr refl)
-met p false false false false has below = cc
+-- a run that is entered has all that it needs, or lacks it
+run_or_not : (entered : Option (Text × List Row)) → IsNamed (codes "run") entered → IsWhole entered ⊎ LacksRun entered
+run_or_not entered named = by (has_run_by (word_in entered)) refl
+  where
+    by : (b : Bool) → has_run_by (word_in entered) ≡ b → IsWhole entered ⊎ LacksRun entered
+    by true e = inl (inr (inr (named, e)))
+    by false e = inr (named, e)
+
+abbrev met_at : Text × List Text → (a c q m r : Bool) → Option Shape
+met_at p a c q m r = cond a (Some (sub 0)) (cond c (Some (sub 1)) (cond q (Some (sub 2)) (cond m (Some (sub 3)) (cond r (Some (sub 4)) None))))
+
+met : (p : Text × List Text) (a c q m r : Bool)
+    → is_some (option_map (λ s. rows_at s p.1) (met_at p a c q m r)) ≡ true
+    → option_map_or (λ s. level_fault s [] nothing_held p.1 false []) (met_at p a c q m r) [] ≡ []
+    → IsWhole (option_map (λ s. rows_at s p.1) (met_at p a c q m r)) ⊎ LacksRun (option_map (λ s. rows_at s p.1) (met_at p a c q m r))
+met p true c q m r has below = inl (inl (inl refl))
+met p false true q m r has below = inl (inr (inl (inl refl, has_file (sub 1) p.1 check_takes (no_level_fault (sub 1) [] nothing_held p.1 false [] below).1)))
+met p false false true m r has below = inl (inr (inl (inr refl, has_file (sub 2) p.1 plan_takes (no_level_fault (sub 2) [] nothing_held p.1 false [] below).1)))
+met p false false false true r has below = inl (inl (inr refl))
+met p false false false false true has below = run_or_not (Some (rows_at (sub 4) p.1)) refl
+met p false false false false false has below = cc
 
 whole_at : (stop : Option (Text × List Text)) → is_some (entered (built the_commands) stop) ≡ true → entered_fault (built the_commands) stop ≡ []
-    → IsWhole (entered (built the_commands) stop)
+    → IsWhole (entered (built the_commands) stop) ⊎ LacksRun (entered (built the_commands) stop)
 whole_at None has below = cc
-whole_at (Some p) has below = met p _ _ _ _ has below
+whole_at (Some p) has below = met p _ _ _ _ _ has below
 
 requires_one : (has : Bool) → check_kinds (not has && (false && false)) (not has && true) false ≡ [] → has ≡ true
 requires_one true e = refl
 requires_one false e = cc
 
-pub whole : (words : List Text) → fault_of the_commands words ≡ [] → IsWhole (subcommand_of the_commands words)
+pub whole : (words : List Text) → fault_of the_commands words ≡ [] → IsWhole (subcommand_of the_commands words) ⊎ LacksRun (subcommand_of the_commands words)
 whole words e =
     let parts = no_level_fault (built the_commands).top (names_of (built the_commands)) nothing_held words _ _ e in
     whole_at (walk (built the_commands).top.rules (names_of (built the_commands)) nothing_held words).stopped (requires_one _ parts.1) parts.0

@@ -19,6 +19,17 @@ pub enum Order<'a> {
     Plan(&'a str),
     /// Read numbers on standard input and print their fault-tolerant midpoint.
     Midpoint,
+    /// Run the cluster with what a scenario asks of it, and print each node's report.
+    Run {
+        /// The name of the cluster file.
+        cluster: &'a str,
+        /// The name of the scenario file.
+        scenario: &'a str,
+        /// The number of cycles, 1 to 1024.
+        cycles: u16,
+        /// Whether tasks do their lines at any moment, and not each in its cycle.
+        free: bool,
+    },
 }
 
 /// Why words give no order (own profile).

@@ -3,6 +3,7 @@
 //! ```text
 //! order(alloc, &["audit"])?; // Order::Audit
 //! order(alloc, &["plan", "cluster.toml"])?; // Order::Plan("cluster.toml")
+//! order(alloc, &["run", "cluster.toml", "scenario", "--cycles", "4"])?; // Order::Run
 //! order(alloc, &["audit", "trace"]); // Err(OrderError::Usage)
 //! ```
 //!

@@ -1,11 +1,13 @@
 //! Reads the words after the program's name.
-ghost use Rattle.std.specs.Prelude.{◌≡◌, IfOk, IfSome, IsSome, false, map};
-ghost use Rattle.clap.specs.Words.{app_of, subcommand_rows_of};
+ghost use Rattle.std.specs.Prelude.{◌≡◌, IfOk, IfSome, IsSome, true, false, map};
+ghost use Rattle.clap.specs.Words.{app_of, first_value, found_of, subcommand_rows_of};
 ghost use Rattle.clap.specs.declared.builder.command.Command.TheViews.{out-Command};
-ghost use Rattle.fr_orders.specs.Orders.{IsAnswer, IsOrder, IsWhole, bare, with_file, the_commands};
+ghost use Rattle.fr_orders.specs.Orders.{IsAnswer, IsOrder, IsRunBy, IsWhole, bare, cycles_in, has_run_by, run_command};
+ghost use Rattle.fr_orders.specs.Orders.{with_file, the_commands};
 
 use crate::command::{Order, OrderError};
-use clap::{Arg, ArgMatches, Command};
+use clap::{Arg, ArgAction, ArgMatches, Command};
+use fr_text::numbers::number_of;
 use std::alloc::{AllocError, Global};
 
 /// A command of this name with a file.
@@ -15,6 +17,20 @@ fn of_file<'a>(alloc: Global, name: &'a str) -> Result<Command<'a>, AllocError>
 {
     let file = Arg::new(alloc, "FILE").required(true);
     Command::new(alloc, name).arg(file)
+}
+
+/// The command `run`, with its two files, the number of cycles and the flag.
+fn run_command<'a>(alloc: Global) -> Result<Command<'a>, AllocError>
+    ensures app { IfOk result (λ c. app_of c ≡ run_command) }
+    ensures local { IfOk result (λ c. (out-Command c).has_globals ≡ false) }
+{
+    let scenario = Arg::new(alloc, "SCENARIO").required(true);
+    let cycles = Arg::new(alloc, "cycles").long("cycles").required(true);
+    let free = Arg::new(alloc, "free")
+        .long("free")
+        .action(ArgAction::SetTrue);
+    let files = of_file(alloc, "run")?.arg(scenario)?;
+    files.arg(cycles)?.arg(free)
 }
 
 /// The program, with no command yet.
@@ -35,7 +51,31 @@ fn commands<'a>(alloc: Global) -> Result<Command<'a>, AllocError>
     let first = program(alloc).subcommand(Command::new(alloc, "audit"))?;
     let second = first.subcommand(of_file(alloc, "check")?)?;
     let third = second.subcommand(of_file(alloc, "plan")?)?;
-    third.subcommand(Command::new(alloc, "midpoint"))
+    let fourth = third.subcommand(Command::new(alloc, "midpoint"))?;
+    fourth.subcommand(run_command(alloc)?)
+}
+
+/// The number of cycles that a word is: 1 to 1024, without a leading zero.
+fn cycles_of(word: &str) -> Option<u16>
+    ensures { result ≡ cycles_in word.now }
+{
+    match number_of(word.as_bytes(), 1025) {
+        Some(0) | None => None,
+        Some(cycles) => Some(cycles as u16),
+    }
+}
+
+/// The run that the arguments of its command ask for.
+fn run_in<'a>(arguments: &ArgMatches<'a>) -> Option<Order<'a>>
+    ensures told { IfSome result (IsRunBy (first_value (found_of arguments.now))) }
+    ensures whole { has_run_by (first_value (found_of arguments.now)) ≡ true → IsSome result }
+{
+    Some(Order::Run {
+        cluster: arguments.get_str("FILE")?,
+        scenario: arguments.get_str("SCENARIO")?,
+        cycles: cycles_of(arguments.get_str("cycles")?)?,
+        free: arguments.get_str("free") == Some("true"),
+    })
 }
 
 /// The order that the command's name and arguments stand for.
@@ -49,6 +89,7 @@ fn order_in<'a>(matches: &ArgMatches<'a>) -> Option<Order<'a>>
         "check" => Some(Order::Check(arguments.get_str("FILE")?)),
         "plan" => Some(Order::Plan(arguments.get_str("FILE")?)),
         "midpoint" => Some(Order::Midpoint),
+        "run" => run_in(arguments),
         _ => None,
     }
 }
@@ -56,7 +97,8 @@ fn order_in<'a>(matches: &ArgMatches<'a>) -> Option<Order<'a>>
 /// The order that the words after the program's name give (own profile).
 ///
 /// Refused with `Memory` where memory for the parse was refused, and else with `Usage` for all words
-/// that are no command. A call for help is no command.
+/// that are no command. A call for help is no command, nor is a run whose number of cycles isn't 1 to 1024, or has a
+/// leading zero.
 pub fn order<'a>(alloc: Global, words: &'a [&'a str]) -> Result<Order<'a>, OrderError>
     ensures { IsAnswer (map (λ word. word.now) words.now) result }
 {

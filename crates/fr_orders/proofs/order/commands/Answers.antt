@@ -1,7 +1,7 @@
 use Rattle.std.proofs.Common.{rules, ap, ap₂, codes, ◌≡◌, ◌∙◌}
 use Rattle.std.proofs.lemmas.Result.{IfOk-weaker}
 use Rattle.clap.specs.Words.{App, app_of, with_subcommand}
-use Rattle.fr_orders.specs.Orders.{bare, named, with_file, two_commands, three_commands}
+use Rattle.fr_orders.specs.Orders.{bare, four_commands, named, run_command, with_file, two_commands, three_commands}
 use Rattle.fr_orders.proofs.order.commands.Goals as goal
 
 pub returns : goal.returns
@@ -15,4 +15,7 @@ returns c =
     let plan_is : app_of c.in_ok-of_file-2.field-0 ≡ with_file (codes "plan") = search rules in
     let third : app_of c.in_ok-third.third ≡ three_commands =
     c.in_ok-third.ensures.shape (search rules) ∙ ap₂ with_subcommand second (ap top plan_is) in
-    IfOk-weaker c.subcommand-4.result _ _ (λ m h. h.shape (search rules) ∙ ap₂ with_subcommand third (ap top c.new-2.ensures.app)) c.subcommand-4.ensures
+    let fourth : app_of c.in_ok-fourth.fourth ≡ four_commands =
+    c.in_ok-fourth.ensures.shape (search rules) ∙ ap₂ with_subcommand third (ap top c.new-2.ensures.app) in
+    let run_is : app_of c.in_ok-run_command.field-0 ≡ run_command = search rules in
+    IfOk-weaker c.subcommand-5.result _ _ (λ m h. h.shape (search rules) ∙ ap₂ with_subcommand fourth (ap top run_is)) c.subcommand-5.ensures

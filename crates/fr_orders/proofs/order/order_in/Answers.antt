@@ -1,8 +1,9 @@
 use Rattle.std.proofs.Common.{rules, sym, codes, ◌≡◌, ◌∙◌, Some, None}
 use Rattle.clap.proofs.WalkLemmas.{first_value-rows}
-use Rattle.clap.specs.Words.{first_of, found_of, rows_of, subcommand_rows_of}
-use Rattle.fr_orders.specs.Orders.{IsNamed, file_in}
-use Rattle.fr_orders.proofs.OrderLemmas.{check_has_file, file_of_rows, none_has_none, plan_has_file}
+use Rattle.clap.specs.Words.{Text, first_of, first_value, found_of, rows_of, subcommand_rows_of}
+use Rattle.fr_orders.specs.Orders.{IsNamed, file_in, word_in}
+use Rattle.fr_orders.proofs.OrderLemmas.{check_has_file, file_of_rows, has_run_alike, none_has_none, plan_has_file}
+use Rattle.fr_orders.proofs.OrderLemmas.{run_has_all, run_told, word_of_rows}
 use Rattle.fr_orders.proofs.order.order_in.Goals as goal
 
 pub returns-in_ok-get_str-in-check-clause-told : goal.returns-in_ok-get_str-in-check-clause-told
@@ -34,3 +35,21 @@ returns-in_err-get_str-in-plan-clause-whole c h =
     let file : file_in entered ≡ None = file_of_rows entered rows (search rules) ∙ first in
     let named : IsNamed (codes "plan") entered = search rules in
     absurd (none_has_none (file_in entered) file (plan_has_file entered named h))
+
+pub returns-in-run-clause-told : goal.returns-in-run-clause-told
+returns-in-run-clause-told c =
+    let entered = subcommand_rows_of c.args.matches.now in
+    let found = found_of c.in_ok-name.arguments.now in
+    let named : IsNamed (codes "run") entered = search rules in
+    let words : (id : Text) → first_value found id ≡ word_in entered id =
+    λ id. first_value-rows found id ∙ sym (word_of_rows entered (rows_of found) id (search rules)) in
+    run_told entered (first_value found) c.run_in.result named words c.run_in.ensures.told
+
+pub returns-in-run-clause-whole : goal.returns-in-run-clause-whole
+returns-in-run-clause-whole c h =
+    let entered = subcommand_rows_of c.args.matches.now in
+    let found = found_of c.in_ok-name.arguments.now in
+    let named : IsNamed (codes "run") entered = search rules in
+    let words : (id : Text) → first_value found id ≡ word_in entered id =
+    λ id. first_value-rows found id ∙ sym (word_of_rows entered (rows_of found) id (search rules)) in
+    c.run_in.ensures.whole (has_run_alike (first_value found) (word_in entered) words ∙ run_has_all entered named h)

@@ -1,0 +1,47 @@
+//! Why the outcome of a run isn't printed.
+ghost use Rattle.std.specs.Prelude.{◌≡◌};
+ghost use Rattle.fr_outcome.specs.declared.error.OutcomeError.TheVariants as refusal;
+
+use fr_commands::error::BenchError;
+use fr_scenario::error::ScenarioError;
+use fr_threads::error::RunError;
+use thiserror::Error;
+
+/// Why `run` hasn't printed the outcome of a run (own profile). Printed, it is the error's name, and for an error of a
+/// crate below the names and values of that error.
+#[derive(Clone, Copy, Debug, Drop, PartialEq, Eq, Error)]
+pub enum OutcomeError {
+    /// The cluster file is refused, an input couldn't be read or was too long, or the output couldn't be written.
+    #[error("{0}")]
+    Text(BenchError),
+    /// The scenario file is refused.
+    #[error("{0}")]
+    Scenario(ScenarioError),
+    /// The run is refused, or failed.
+    #[error("{0}")]
+    Run(RunError),
+}
+
+impl From<BenchError> for OutcomeError {
+    ghost from_gives = { λ error given. given ≡ refusal.Text error };
+
+    fn from(error: BenchError) -> OutcomeError {
+        OutcomeError::Text(error)
+    }
+}
+
+impl From<ScenarioError> for OutcomeError {
+    ghost from_gives = { λ error given. given ≡ refusal.Scenario error };
+
+    fn from(error: ScenarioError) -> OutcomeError {
+        OutcomeError::Scenario(error)
+    }
+}
+
+impl From<RunError> for OutcomeError {
+    ghost from_gives = { λ error given. given ≡ refusal.Run error };
+
+    fn from(error: RunError) -> OutcomeError {
+        OutcomeError::Run(error)
+    }
+}
