@@ -1,4 +1,5 @@
-//! Worked traces with the answers that the format gives, and readers and writers that fail.
+//! Worked traces with the answers that the format gives, in pieces too, and readers and writers that fail. Other refusals
+//! of traces are tried by `scripts/commands`.
 
 ghost use Rattle.std.specs.Prelude.{◌<◌};
 
@@ -221,29 +222,6 @@ fn a_trace_gives_its_report(rt: HostRuntime) -> Result<(), Fail> {
 }
 
 #[test]
-fn an_empty_buffer_holds_nothing(rt: HostRuntime) -> Result<(), Fail> {
-    let mut report = Vec::with_capacity(rt.alloc(), 64)?;
-    let mut lines = LINES;
-    lines[5] = b"end\n";
-    audit(rt.alloc(), &mut reader(&lines[..6]), &mut report)?;
-    let told = b"rx 0 - -\nA 0 0 0 0 0\nB 0 0 0 0 0\n";
-    assert_eq!(rt; report.as_slice(), told.as_slice());
-    Ok(())
-}
-
-#[test]
-fn a_plan_without_buffers_has_the_channels_lines(rt: HostRuntime) -> Result<(), Fail> {
-    let mut report = Vec::with_capacity(rt.alloc(), 64)?;
-    let mut lines = LINES;
-    lines[3] = b"begin\n";
-    lines[4] = b"end\n";
-    audit(rt.alloc(), &mut reader(&lines[..5]), &mut report)?;
-    let told = b"A 0 0 0 0 0\nB 0 0 0 0 0\n";
-    assert_eq!(rt; report.as_slice(), told.as_slice());
-    Ok(())
-}
-
-#[test]
 fn a_trace_that_is_cut_is_truncated(rt: HostRuntime) {
     let mut lines = LINES;
     assert_eq!(rt; refusals(rt.alloc(), &[]), all(TraceError::BadMagic));
@@ -290,28 +268,6 @@ fn a_changed_line_is_refused(rt: HostRuntime) {
     assert_eq!(rt; refusals(rt.alloc(), &lines), all(TraceError::BadLine(8)));
 }
 
-#[test]
-fn a_line_out_of_its_ranges_is_no_line(rt: HostRuntime) {
-    let mut lines = LINES;
-    lines[6] = b"fetch 99999999999 0 0 2 2 - -\n";
-    assert_eq!(rt; refusals(rt.alloc(), &lines), all(TraceError::BadLine(7)));
-}
-
-#[test]
-fn an_offer_of_a_commit_is_a_wrong_answer(rt: HostRuntime) {
-    let mut lines = LINES;
-    lines[6] = b"fetch 0 0 0 2 2 0 -\n";
-    assert_eq!(rt;
-        refusals(rt.alloc(), &lines),
-        all(TraceError::WrongAnswer(7))
-    );
-    lines[6] = b"fetch 0 0 0 2 2 - null\n";
-    assert_eq!(rt;
-        refusals(rt.alloc(), &lines),
-        all(TraceError::WrongAnswer(7))
-    );
-}
-
 /// The report of these lines as one text that comes in pieces of this size.
 fn reported(alloc: Global, lines: &[&[u8]], size: usize) -> Result<Vec<u8>, Fail>
     requires { 0 < size }
@@ -342,8 +298,6 @@ fn pieces_of_each_size_give_one_report(rt: HostRuntime) -> Result<(), Fail> {
     Ok(())
 }
 
-// Several buffers and the queue.
-
 /// The lines of a trace in which a queue of two frames loses the first of three, and pops the others.
 const QUEUE: [&[u8]; 14] = [
     b"frtrace 1\n",
@@ -361,87 +315,6 @@ const QUEUE: [&[u8]; 14] = [
     b"pop 0 -\n",
     b"end\n",
 ];
-
-#[test]
-fn a_full_queue_loses_its_oldest_frame(rt: HostRuntime) -> Result<(), Fail> {
-    let mut report = Vec::with_capacity(rt.alloc(), 64)?;
-    audit(rt.alloc(), &mut reader(&QUEUE), &mut report)?;
-    let told = b"rx 0 - -\nqueue 0 1\nA 2 0 0 0 0\nB 1 0 0 0 1\n";
-    assert_eq!(rt; report.as_slice(), told.as_slice());
-    assert_eq!(rt; refusals(rt.alloc(), &QUEUE), [None; 3]);
-    Ok(())
-}
-
-#[test]
-fn several_buffers_give_their_report(rt: HostRuntime) -> Result<(), Fail> {
-    let mut report = Vec::with_capacity(rt.alloc(), 128)?;
-    audit(rt.alloc(), &mut reader(&SEVERAL_BUFFERS), &mut report)?;
-    let told: [&[u8]; 8] = [
-        b"tx 0 3 1 1 1\n",
-        b"tx 1 1 1 0 0\n",
-        b"tx 2 1 1 0 0\n",
-        b"rx 3 28:B x20b00002\n",
-        b"rx 4 16:B x70017002\n",
-        b"queue 0 1\n",
-        b"A 4 0 0 0 0\n",
-        b"B 4 1 0 1 1\n",
-    ];
-    assert_eq!(rt; report.as_slice(), joined(rt.alloc(), &told)?.as_slice());
-    assert_eq!(rt; refusals(rt.alloc(), &SEVERAL_BUFFERS), [None; 3]);
-    Ok(())
-}
-
-#[test]
-fn a_pop_is_what_the_queue_gives(rt: HostRuntime) {
-    let mut lines = QUEUE;
-    lines[10] = b"pop 0 1:A\n";
-    assert_eq!(rt;
-        refusals(rt.alloc(), &lines),
-        all(TraceError::WrongAnswer(11))
-    );
-    let mut lines = LINES;
-    lines[5] = b"pop 0 -\n";
-    assert_eq!(rt; refusals(rt.alloc(), &lines), all(TraceError::Refused(6)));
-}
-
-#[test]
-fn a_plan_has_at_most_64_buffers_and_one_queue(rt: HostRuntime) {
-    let mut lines = [b"rx 1 A 0 1\n".as_slice(); 68];
-    lines[0] = THREE_COMMITS[0];
-    lines[1] = THREE_COMMITS[1];
-    lines[2] = THREE_COMMITS[2];
-    assert_eq!(rt;
-        refusals(rt.alloc(), &lines[..67]),
-        all(TraceError::Truncated)
-    );
-    assert_eq!(rt; refusals(rt.alloc(), &lines), all(TraceError::BadLine(68)));
-    let mut lines = QUEUE;
-    lines[5] = lines[4];
-    assert_eq!(rt; refusals(rt.alloc(), &lines), all(TraceError::BadLine(6)));
-}
-
-#[test]
-fn ownership_lines_come_before_buffers_and_buffers_before_the_queue(rt: HostRuntime) {
-    let mut lines = QUEUE;
-    lines.swap(3, 4);
-    assert_eq!(rt; refusals(rt.alloc(), &lines), all(TraceError::BadLine(5)));
-    let mut lines = QUEUE;
-    lines[3] = lines[4];
-    lines[4] = b"own 1 A 0 0\n";
-    assert_eq!(rt; refusals(rt.alloc(), &lines), all(TraceError::BadLine(5)));
-}
-
-// Transmit buffers.
-
-#[test]
-fn commits_are_told_by_their_fates(rt: HostRuntime) -> Result<(), Fail> {
-    let mut report = Vec::with_capacity(rt.alloc(), 64)?;
-    audit(rt.alloc(), &mut reader(&THREE_COMMITS), &mut report)?;
-    let told = b"tx 0 3 1 1 1\nA 0 0 0 0 0\nB 0 0 0 0 0\n";
-    assert_eq!(rt; report.as_slice(), told.as_slice());
-    assert_eq!(rt; refusals(rt.alloc(), &THREE_COMMITS), [None; 3]);
-    Ok(())
-}
 
 /// The trace that is written of the interface that these lines leave.
 fn written(alloc: Global, lines: &[&[u8]]) -> Result<Vec<u8>, Fail> {
@@ -473,90 +346,6 @@ fn a_trace_that_cannot_be_written_is_write(rt: HostRuntime) -> Result<(), Fail> 
         assert_eq!(rt; answer, Err(TraceError::Write));
     }
     Ok(())
-}
-
-#[test]
-fn a_plan_with_a_fault_is_refused_at_begin(rt: HostRuntime) {
-    let mut lines = THREE_COMMITS;
-    lines[3] = b"own 2 A 0 0\n";
-    assert_eq!(rt; refusals(rt.alloc(), &lines), all(TraceError::Refused(6)));
-    lines[3] = b"own 4 A 0 0\n";
-    assert_eq!(rt; refusals(rt.alloc(), &lines), all(TraceError::Refused(6)));
-    let mut lines = THREE_COMMITS;
-    lines[4] = b"tx event 1 A 0 1 1 0\n";
-    assert_eq!(rt; refusals(rt.alloc(), &lines), all(TraceError::Refused(6)));
-}
-
-#[test]
-fn a_line_of_a_plan_has_its_place_and_range(rt: HostRuntime) {
-    for wrong in [
-        b"own 1 A 0 1\n".as_slice(),
-        b"own 1024 A 0 0\n",
-        b"own 0 A 0 0\n",
-        b"own 1 C 0 0\n",
-    ] {
-        let mut lines = THREE_COMMITS;
-        lines[3] = wrong;
-        assert_eq!(rt; refusals(rt.alloc(), &lines), all(TraceError::BadLine(4)));
-    }
-    for wrong in [
-        b"tx receive 1 A 0 1 - 0\n".as_slice(),
-        b"tx event 1 A 0 3 - 0\n",
-        b"tx event 1 A 0 1 128 0\n",
-        b"tx event 1 A 0 1 - 2\n",
-        b"tx event 1 A 0 1 -\n",
-    ] {
-        let mut lines = THREE_COMMITS;
-        lines[4] = wrong;
-        assert_eq!(rt; refusals(rt.alloc(), &lines), all(TraceError::BadLine(5)));
-    }
-    let mut lines = THREE_COMMITS;
-    lines.swap(3, 4);
-    assert_eq!(rt; refusals(rt.alloc(), &lines), all(TraceError::BadLine(5)));
-}
-
-#[test]
-fn a_plan_has_at_most_64_ownership_lines(rt: HostRuntime) {
-    let mut lines = [b"own 1 A 0 0\n".as_slice(); 68];
-    lines[0] = THREE_COMMITS[0];
-    lines[1] = THREE_COMMITS[1];
-    lines[2] = THREE_COMMITS[2];
-    assert_eq!(rt;
-        refusals(rt.alloc(), &lines[..67]),
-        all(TraceError::Truncated)
-    );
-    assert_eq!(rt; refusals(rt.alloc(), &lines), all(TraceError::BadLine(68)));
-}
-
-#[test]
-fn a_commit_is_a_payload_of_its_buffers_length(rt: HostRuntime) {
-    let mut lines = THREE_COMMITS;
-    lines[6] = b"commit 0 0 x00\n";
-    assert_eq!(rt; refusals(rt.alloc(), &lines), all(TraceError::BadLine(7)));
-    lines[6] = b"commit 0 0 x00010002\n";
-    assert_eq!(rt; refusals(rt.alloc(), &lines), all(TraceError::Refused(7)));
-    lines[6] = b"commit 0 1 x0001\n";
-    assert_eq!(rt; refusals(rt.alloc(), &lines), all(TraceError::Refused(7)));
-    lines[6] = b"read 0 0 -\n";
-    assert_eq!(rt; refusals(rt.alloc(), &lines), all(TraceError::Refused(7)));
-}
-
-#[test]
-fn an_offer_is_what_the_call_answers(rt: HostRuntime) {
-    for wrong in [
-        b"fetch 0 0 0 1 1 0 -\n".as_slice(),
-        b"fetch 0 0 0 1 1 null -\n",
-        b"fetch 0 0 0 1 1 - -\n",
-        b"fetch 0 0 0 1 1 1 1\n",
-        b"fetch 0 0 0 1 1 7 -\n",
-    ] {
-        let mut lines = THREE_COMMITS;
-        lines[8] = wrong;
-        assert_eq!(rt;
-            refusals(rt.alloc(), &lines),
-            all(TraceError::WrongAnswer(9))
-        );
-    }
 }
 
 #[test]
