@@ -1,6 +1,8 @@
 //! Faults of a window.
 
-use fr_frame::frame::Bytes;
+ghost use Rattle.std.specs.Prelude.{◌≡◌};
+
+use fr_frame::frame::{Bytes, duplicate_bytes};
 use fr_slots::channel::Channel;
 use fr_slots::numbers::NodeId;
 
@@ -24,4 +26,31 @@ pub enum Fault {
         channel: Channel,
         bit: u16,
     },
+}
+
+impl Fault {
+    /// A copy of the fault.
+    pub fn duplicate(&self) -> Fault
+        ensures { result ≡ self.now }
+    {
+        match self {
+            Fault::Babble {
+                node,
+                channel,
+                bytes,
+            } => Fault::Babble {
+                node: *node,
+                channel: *channel,
+                bytes: duplicate_bytes(bytes),
+            },
+            Fault::Mute { node, channel } => Fault::Mute {
+                node: *node,
+                channel: *channel,
+            },
+            Fault::Corrupt { channel, bit } => Fault::Corrupt {
+                channel: *channel,
+                bit: *bit,
+            },
+        }
+    }
 }

@@ -13,7 +13,7 @@ ghost use Rattle.fr_guardian.specs.Guarding.{passes};
 ghost use Rattle.fr_slots.specs.Windows.{slot_of};
 
 use crate::station::{Side, Station};
-use fr_frame::frame::Bytes;
+use fr_frame::frame::{Bytes, duplicate_bytes};
 use fr_guardian::guardian::Guardian;
 use fr_slots::channel::Channel;
 use fr_slots::numbers::NodeId;
@@ -72,23 +72,12 @@ impl Model for Sealed {
     ghost view = { recorded_in };
 }
 
-/// A copy of the bytes.
-fn duplicate(bytes: &Bytes) -> Bytes
-    ensures { result ≡ bytes.now }
-{
-    let mut copy = Bytes::new();
-    let outcome = copy.try_extend_from_slice(bytes.as_slice());
-    let fits = outcome.is_ok();
-    prove!(fits);
-    copy
-}
-
 /// A copy of the bytes, if there are any.
 pub(crate) fn duplicate_option(bytes: &Option<Bytes>) -> Option<Bytes>
     ensures { result ≡ bytes.now }
 {
     match bytes {
-        Some(bytes) => Some(duplicate(bytes)),
+        Some(bytes) => Some(duplicate_bytes(bytes)),
         None => None,
     }
 }
@@ -123,7 +112,7 @@ fn add(
     if bytes.len() == 0 {
         return Ok(());
     }
-    let bytes = duplicate(bytes);
+    let bytes = duplicate_bytes(bytes);
     list.push(Sent {
         node,
         channel,
@@ -208,17 +197,6 @@ fn count_offered(stations: &[Station]) -> usize
     count
 }
 
-/// The node of this number.
-fn node_of(number: usize) -> NodeId
-    requires { number < 16 }
-    ensures { result ≡ number }
-{
-    match NodeId::new(number as u8) {
-        Some(node) => node,
-        None => unreachable!(),
-    }
-}
-
 /// What all nodes send. The list has room for these alone, so no transmission is moved as it grows.
 pub(crate) fn all_sent(
     alloc: Global,
@@ -231,7 +209,13 @@ pub(crate) fn all_sent(
 {
     let mut list = Vec::with_capacity(alloc, count_offered(stations))?;
     for (number, station) in stations.iter().enumerate() {
-        add_station(&mut list, guardian, window, node_of(number), station)?;
+        add_station(
+            &mut list,
+            guardian,
+            window,
+            NodeId::from_number(number as u8),
+            station,
+        )?;
     }
     Ok(list)
 }
@@ -315,7 +299,7 @@ fn turn_bit(bytes: &mut Bytes, bit: u16)
 fn corrupted(bytes: &Bytes, corrupt: Option<u16>) -> Bytes
     ensures { result ≡ corrupted bytes.now corrupt }
 {
-    let mut copy = duplicate(bytes);
+    let mut copy = duplicate_bytes(bytes);
     if let Some(bit) = corrupt {
         turn_bit(&mut copy, bit);
     }

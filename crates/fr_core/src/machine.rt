@@ -12,7 +12,6 @@ use crate::event::{Event, Reply};
 use fr_bus::bus::Bus;
 use fr_bus::error::BusError;
 use fr_bus::fault::Fault;
-use fr_frame::frame::Bytes;
 use fr_frame::payload::Payload;
 use fr_interface::errors::InterfaceError;
 use fr_interface::interface::Interface;
@@ -70,42 +69,6 @@ fn idle_controllers(alloc: Global, count: usize) -> Result<Vec<Carried>, AllocEr
         list.push(Carried::Idle)?;
     }
     Ok(list)
-}
-
-/// The same bytes.
-fn duplicate_bytes(bytes: &Bytes) -> Bytes
-    ensures { result ≡ bytes.now }
-{
-    let mut copy = Bytes::new();
-    let outcome = copy.try_extend_from_slice(bytes.as_slice());
-    let fits = outcome.is_ok();
-    prove!(fits);
-    copy
-}
-
-/// The same fault.
-fn duplicate_fault(fault: &Fault) -> Fault
-    ensures { result ≡ fault.now }
-{
-    match fault {
-        Fault::Babble {
-            node,
-            channel,
-            bytes,
-        } => Fault::Babble {
-            node: *node,
-            channel: *channel,
-            bytes: duplicate_bytes(bytes),
-        },
-        Fault::Mute { node, channel } => Fault::Mute {
-            node: *node,
-            channel: *channel,
-        },
-        Fault::Corrupt { channel, bit } => Fault::Corrupt {
-            channel: *channel,
-            bit: *bit,
-        },
-    }
 }
 
 impl Machine {
@@ -279,7 +242,7 @@ impl Machine {
     fn inject(&mut self, fault: &Fault) -> Result<Reply, StepError>
         ensures { Steps self.old (event.Inject fault.now) result self.new }
     {
-        self.bus.inject(duplicate_fault(fault))?;
+        self.bus.inject(fault.duplicate())?;
         Ok(Reply::Done)
     }
 

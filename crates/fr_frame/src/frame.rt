@@ -18,6 +18,17 @@ pub const FRAME_BYTES: usize = HEADER_BYTES + PAYLOAD_BYTES + TRAILER_BYTES;
 /// What is sent on a channel in one slot: at most the bytes of the longest frame.
 pub type Bytes = ArrayVec<u8, FRAME_BYTES>;
 
+/// A copy of the bytes.
+pub fn duplicate_bytes(bytes: &Bytes) -> Bytes
+    ensures { result ≡ bytes.now }
+{
+    let mut copy = Bytes::new();
+    let outcome = copy.try_extend_from_slice(bytes.as_slice());
+    let fits = outcome.is_ok();
+    prove!(fits);
+    copy
+}
+
 /// What a frame says (chapter 4).
 #[derive(Debug, Drop, PartialEq, Eq)]
 pub struct Frame {

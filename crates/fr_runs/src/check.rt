@@ -81,23 +81,12 @@ fn has_room(cluster: &Cluster, cycles: u16, scripts: &[Script], node: NodeId) ->
     }
 }
 
-/// The node of this number.
-fn node_of(number: u8) -> NodeId
-    requires { number < 16 }
-    ensures { result ≡ number }
-{
-    match NodeId::new(number) {
-        Some(node) => node,
-        None => unreachable!(),
-    }
-}
-
 /// The first node whose journal hasn't the room.
 fn full_node(cluster: &Cluster, scripts: &[Script], cycles: u16) -> Option<NodeId>
     ensures { Finds (HasRoom cluster.now cycles scripts.now) result }
 {
     for number in 0..cluster.nodes() {
-        let node = node_of(number);
+        let node = NodeId::from_number(number);
         if !has_room(cluster, cycles, scripts, node) {
             return Some(node);
         }

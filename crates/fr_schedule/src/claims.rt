@@ -3,7 +3,6 @@
 ghost use Rattle.std.specs.Prelude.{◌≡◌, ◌≤◌, ◌++◌, length, map, IfOk, OnOk};
 ghost use Rattle.fr_schedule.specs.Claims.{claim_of, claims_from, filters_by};
 
-use crate::file::node_of;
 use arrayvec::ArrayVec;
 use fr_slots::fault::{own_filters, transmit_filters};
 use fr_slots::filter::Filter;
@@ -62,7 +61,11 @@ pub(crate) fn claims_of(
     let mut claims = Vec::new(alloc);
     for (number, plan) in plans.iter().enumerate() {
         let filters = filters_by(lines, plan);
-        add_claims(&mut claims, node_of(number), filters.as_slice())?;
+        add_claims(
+            &mut claims,
+            NodeId::from_number(number as u8),
+            filters.as_slice(),
+        )?;
     }
     Ok(claims)
 }

@@ -8,7 +8,6 @@ ghost use Rattle.fr_schedule.specs.RuleFaults.{fault_by, taken_fault, overlap_fa
 ghost use Rattle.fr_slots.specs.Sharing.{IsFirst, is_shared, own_filters, transmit_filters};
 
 use crate::error::ConfigError;
-use crate::file::node_of;
 use fr_slots::numbers::NodeId;
 use fr_slots::params::Params;
 use fr_slots::plan::NodePlan;
@@ -82,7 +81,7 @@ fn first_by(rule: Rule, params: &Params, plans: &[NodePlan]) -> Option<ConfigErr
     ensures { result ≡ first_by (fault_by rule params.now) plans.now }
 {
     for (number, plan) in plans.iter().enumerate() {
-        if let Some(fault) = fault_by(rule, params, node_of(number), plan) {
+        if let Some(fault) = fault_by(rule, params, NodeId::from_number(number as u8), plan) {
             return Some(fault);
         }
     }

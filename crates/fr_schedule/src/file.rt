@@ -90,17 +90,6 @@ pub(crate) fn nodes_in(root: &Table) -> Option<&[Value]>
     }
 }
 
-/// The node of this number.
-pub(crate) fn node_of(number: usize) -> NodeId
-    requires { number < 16 }
-    ensures { result ≡ number }
-{
-    match NodeId::new(number as u8) {
-        Some(node) => node,
-        None => unreachable!(),
-    }
-}
-
 /// The buffer that the value gives.
 fn buffer_read(
     params: &Params,
@@ -179,7 +168,7 @@ pub(crate) fn plans_of(
 {
     let mut plans = Vec::new(alloc);
     for (number, value) in values.iter().enumerate() {
-        let plan = lawful_plan(params, node_of(number), value)?;
+        let plan = lawful_plan(params, NodeId::from_number(number as u8), value)?;
         if plans.push(plan).is_err() {
             return Err(ConfigError::Memory);
         }

@@ -184,6 +184,14 @@ impl NodeId {
         }
     }
 
+    /// The node of a number that is known to name one.
+    pub fn from_number(number: u8) -> NodeId
+        requires { number < 16 }
+        ensures { result ≡ number }
+    {
+        NodeId(number)
+    }
+
     /// The node as a number, 0 to 15.
     pub fn number(self) -> u8
         ensures value { result ≡ self }
@@ -231,6 +239,14 @@ impl TaskId {
         } else {
             None
         }
+    }
+
+    /// The task of a number that is known to name one.
+    pub fn from_number(number: u8) -> TaskId
+        requires { number < 8 }
+        ensures { result ≡ number }
+    {
+        TaskId(number)
     }
 
     /// The task as a number, 0 to 7.

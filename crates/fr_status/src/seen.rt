@@ -2,7 +2,7 @@
 
 ghost use Rattle.std.specs.Prelude.{◌≡◌};
 
-use fr_frame::frame::Bytes;
+use fr_frame::frame::{Bytes, duplicate_bytes};
 
 /// What a node sees on a channel in one slot, of the transmissions that came through (own profile).
 #[derive(Debug, Drop, PartialEq, Eq)]
@@ -35,15 +35,4 @@ impl Seen {
             Seen::Bytes(bytes) => Seen::Bytes(duplicate_bytes(bytes)),
         }
     }
-}
-
-/// A copy of the bytes.
-fn duplicate_bytes(bytes: &Bytes) -> Bytes
-    ensures { result ≡ bytes.now }
-{
-    let mut copy = Bytes::new();
-    let outcome = copy.try_extend_from_slice(bytes.as_slice());
-    let fits = outcome.is_ok();
-    prove!(fits);
-    copy
 }

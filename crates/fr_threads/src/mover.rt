@@ -4,61 +4,12 @@ ghost use Rattle.std.specs.Prelude.{◌≡◌, ◌<◌};
 
 use crate::failure::Failure;
 use crate::shared::{Shared, opens_cycle};
-use fr_bus::fault::Fault;
 use fr_desks::gate::Gate;
 use fr_desks::wire::{Wire, WireError};
-use fr_frame::frame::Bytes;
 use fr_runs::fault_line::FaultLine;
 use fr_slots::numbers::NodeId;
 use fr_slots::window::Window;
 use std::sync::Wait;
-
-/// The same bytes.
-fn duplicate_bytes(bytes: &Bytes) -> Bytes
-    ensures { result ≡ bytes.now }
-{
-    let mut copy = Bytes::new();
-    let outcome = copy.try_extend_from_slice(bytes.as_slice());
-    let fits = outcome.is_ok();
-    prove!(fits);
-    copy
-}
-
-/// The same fault.
-fn duplicate_fault(fault: &Fault) -> Fault
-    ensures { result ≡ fault.now }
-{
-    match fault {
-        Fault::Babble {
-            node,
-            channel,
-            bytes,
-        } => Fault::Babble {
-            node: *node,
-            channel: *channel,
-            bytes: duplicate_bytes(bytes),
-        },
-        Fault::Mute { node, channel } => Fault::Mute {
-            node: *node,
-            channel: *channel,
-        },
-        Fault::Corrupt { channel, bit } => Fault::Corrupt {
-            channel: *channel,
-            bit: *bit,
-        },
-    }
-}
-
-/// The node of this number.
-fn node_of(number: u8) -> NodeId
-    requires { number < 16 }
-    ensures { result ≡ number }
-{
-    match NodeId::new(number) {
-        Some(node) => node,
-        None => unreachable!(),
-    }
-}
 
 /// Injects the faults that come in this window, which lies in the run's cycle of this number.
 fn inject_all<R: Wait>(
@@ -70,7 +21,7 @@ fn inject_all<R: Wait>(
 ) -> Result<(), WireError> {
     for line in faults {
         if line.strikes(cycle, window) {
-            wire.inject(rt, duplicate_fault(&line.fault))?;
+            wire.inject(rt, line.fault.duplicate())?;
         }
     }
     Ok(())
@@ -86,7 +37,7 @@ fn move_on<R: Wait, G: Gate>(
     let mut begun = 0u16;
     for _ in rt.forever() {
         // A look changes nothing, and each node sees the same window.
-        let Some(window) = wire.next(rt, node_of(0))? else {
+        let Some(window) = wire.next(rt, NodeId::from_number(0))? else {
             return Ok(());
         };
         if opens_cycle(&window) {
