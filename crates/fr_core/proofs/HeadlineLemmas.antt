@@ -3,7 +3,7 @@ use Rattle.std.proofs.Common.{◌≡◌, List, subst}
 use Rattle.std.specs.List.{All}
 use Rattle.fr_bus.specs.States.{BusState, IsRun, OneSenderEach}
 use Rattle.fr_core.specs.Agreement.{IsWorld}
-use Rattle.fr_core.specs.Commits.{AreAccounted}
+use Rattle.fr_interface.specs.Commits.{AreAccounted}
 use Rattle.fr_core.specs.Headline.{Headline, WorldsAlike}
 use Rattle.fr_core.specs.Worlds.{WorldState}
 use Rattle.fr_core.proofs.FollowLemmas.{world_receivers, world_harmless, worlds_alike}

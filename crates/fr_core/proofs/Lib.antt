@@ -1,4 +1,3 @@
-pub mod AccountLemmas
 pub mod CommitLemmas
 pub mod CaseLemmas
 pub mod ClusterLemmas

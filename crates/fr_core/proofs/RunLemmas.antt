@@ -4,7 +4,7 @@ use Rattle.std.specs.Result.{is_ok}
 use Rattle.std.proofs.lemmas.List.Sums.{sum_by_push}
 use Rattle.fr_core.proofs.ClusterLemmas.{steps_cluster}
 use Rattle.fr_core.proofs.CommitLemmas.{step_counts}
-use Rattle.fr_core.specs.Commits.{commits_of}
+use Rattle.fr_interface.specs.Commits.{commits_of}
 use Rattle.fr_core.specs.declared.event.Event.{Event}
 use Rattle.fr_core.specs.Runs.{Answer, StepsAll, IsRunOf, commits_accepted}
 use Rattle.fr_core.specs.Steps.{Steps}

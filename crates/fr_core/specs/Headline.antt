@@ -4,7 +4,7 @@ use Rattle.std.specs.List.{All}
 use Rattle.fr_bus.specs.States.{IsRun, OneSenderEach}
 use Rattle.fr_core.specs.Accounts.{IsHarmless, AreAlike}
 use Rattle.fr_core.specs.Agreement.{IsWorld}
-use Rattle.fr_core.specs.Commits.{AreAccounted}
+use Rattle.fr_interface.specs.Commits.{AreAccounted}
 use Rattle.fr_core.specs.Receivers.{Receivers}
 use Rattle.fr_core.specs.Worlds.{WorldState}
 use Rattle.fr_interface.specs.State.{IsLegalInterface}

@@ -2,7 +2,6 @@ pub mod Worlds
 pub mod Agreeing
 pub mod Agreement
 pub mod Steps
-pub mod Commits
 pub mod Runs
 pub mod Receivers
 pub mod Accounts

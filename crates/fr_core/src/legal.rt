@@ -1,7 +1,7 @@
 //! What interfaces keep, told of all of them together.
 
 ghost use Rattle.std.specs.List.{All};
-ghost use Rattle.fr_core.specs.Commits.{AreAccounted};
+ghost use Rattle.fr_interface.specs.Commits.{AreAccounted};
 ghost use Rattle.fr_interface.specs.State.{IsLegalInterface};
 
 use fr_interface::interface::Interface;

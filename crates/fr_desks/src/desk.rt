@@ -4,7 +4,7 @@ ghost use Rattle.std.specs.Prelude.{◌≡◌, ◌+◌, ◌<◌, ℕ, [], length
 ghost use Rattle.std.specs.Prelude.{option_map};
 ghost use Rattle.std.specs.List.{All};
 ghost use Rattle.std.specs.Result.{result_err};
-ghost use Rattle.fr_core.specs.Commits.{commits_of, AreAccounted};
+ghost use Rattle.fr_interface.specs.Commits.{commits_of, AreAccounted};
 ghost use Rattle.fr_desks.specs.Passes.{Pass};
 ghost use Rattle.fr_interface.specs.State.{with_entry, read_entry, pop_entry, fetch_entry, oldest_of, commit_refusal};
 ghost use Rattle.fr_interface.specs.State.{read_refusal, pop_refusal, fetch_refusal, observe_refusal, received_by};
@@ -151,17 +151,6 @@ impl<L: Ledger> Counted<L> {
     }
 }
 
-/// The task of this number.
-fn task_of(number: u8) -> TaskId
-    requires { number < 8 }
-    ensures { result ≡ number }
-{
-    match TaskId::new(number) {
-        Some(task) => task,
-        None => unreachable!(),
-    }
-}
-
 /// A node's desk, where the node's tasks and its controller make their calls, each under the one lock (own profile).
 ///
 /// Whenever the lock is free the interface is legal, and a book beside it counts its commits. Which calls were made,
@@ -199,7 +188,7 @@ impl<L: Ledger> Desk<L> {
             let Some(share) = shares.pop() else {
                 unreachable!()
             };
-            let task = task_of(number);
+            let task = TaskId::from_number(number);
             passes.push_reserved(TaskPass { task, share });
         }
         let desk = Desk {

@@ -1,3 +1,4 @@
+pub mod AccountLemmas
 pub mod AnswerLemmas
 pub mod ChangeLemmas
 pub mod CounterLemmas

@@ -1,3 +1,4 @@
+pub mod Commits
 pub mod Handing
 pub mod InterfaceFields
 pub mod Known

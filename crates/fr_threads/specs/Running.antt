@@ -4,7 +4,7 @@ use Rattle.std.specs.List.{All}
 use Rattle.fr_bus.specs.declared.error.Phase.TheVariants.{Finished}
 use Rattle.fr_bus.specs.States.{OneSenderEach}
 use Rattle.fr_bus.specs.Windows.{cycles_begun}
-use Rattle.fr_core.specs.Commits.{commits_of}
+use Rattle.fr_interface.specs.Commits.{commits_of}
 use Rattle.fr_core.specs.declared.script.Line.{Line}
 use Rattle.fr_core.specs.Receivers.{Receivers}
 use Rattle.fr_core.specs.Scripts.{Scripted}

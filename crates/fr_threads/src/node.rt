@@ -2,7 +2,7 @@
 
 ghost use Rattle.std.specs.Prelude.{◌≡◌, ◌+◌, ◌≤◌, [], IfOk, OnOk, vec_len};
 ghost use Rattle.std.specs.Vec.{vec_capacity};
-ghost use Rattle.fr_core.specs.Commits.{commits_of};
+ghost use Rattle.fr_interface.specs.Commits.{commits_of};
 ghost use Rattle.fr_ledger.specs.Posts.{parts_for};
 
 use crate::failure::{Failure, told_of};

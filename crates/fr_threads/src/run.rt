@@ -3,7 +3,7 @@
 ghost use Rattle.std.specs.Prelude.{◌≡◌, ◌+◌, ◌≤◌, ◌<◌, IfOk, OnOk, vec_len, length, map};
 ghost use Rattle.std.specs.Vec.{vec_capacity};
 ghost use Rattle.fr_bus.specs.Windows.{cycles_begun};
-ghost use Rattle.fr_core.specs.Commits.{commits_of};
+ghost use Rattle.fr_interface.specs.Commits.{commits_of};
 ghost use Rattle.fr_threads.specs.Running.{IsRunOf, RefusesRun};
 
 use crate::answers::answered;

@@ -1,4 +1,4 @@
-use Rattle.fr_core.proofs.AccountLemmas.{all_accounted}
+use Rattle.fr_interface.proofs.AccountLemmas.{all_accounted}
 use Rattle.fr_core.proofs.legal.known.Goals as goal
 
 pub returns-clause-accounted : goal.returns-clause-accounted

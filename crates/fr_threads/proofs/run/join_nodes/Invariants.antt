@@ -1,6 +1,6 @@
 use Rattle.std.proofs.Common.{◌≡◌, ◌+◌, ◌≤◌, vec_len, length, map}
 use Rattle.std.specs.Vec.{vec_capacity}
-use Rattle.fr_core.specs.Commits.{commits_of}
+use Rattle.fr_interface.specs.Commits.{commits_of}
 use Rattle.fr_threads.proofs.run.join_nodes.Given as goal
 
 abbrev pub invariant-loop-handle : goal.invariant-loop-handle

@@ -1,4 +1,4 @@
-use Rattle.fr_core.proofs.AccountLemmas.{accounted}
+use Rattle.fr_interface.proofs.AccountLemmas.{accounted}
 use Rattle.fr_desks.proofs.desk.Desk.close.Goals as goal
 
 pub returns-clause-accounted : goal.returns-clause-accounted

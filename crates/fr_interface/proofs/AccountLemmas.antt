@@ -6,7 +6,7 @@ use Rattle.std.specs.Prelude.{count_by, IsSomeAnd, slice_get}
 use Rattle.std.specs.List.{sum_by, range_with_len, All}
 use Rattle.std.proofs.lemmas.List.Sums.{sum_by-cons}
 use Rattle.std.proofs.lemmas.Option.{slice_get_within}
-use Rattle.fr_core.specs.Commits.{is_commit, met_on, AreAccounted}
+use Rattle.fr_interface.specs.Commits.{is_commit, met_on, AreAccounted}
 use Rattle.fr_interface.specs.State.{State, IsLegalInterface}
 use Rattle.fr_journal.proofs.TallyLemmas.{fates_fill}
 use Rattle.fr_journal.specs.declared.entry.Entry.{Entry}
