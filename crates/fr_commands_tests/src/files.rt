@@ -3,19 +3,13 @@
 use fr_commands::check::check_text;
 use fr_commands::error::BenchError;
 use fr_commands::plan::plan_text;
-use fr_params::error::ParamError;
-use fr_schedule::error::ConfigError;
-use fr_slots::channel::Channel;
-use fr_slots::numbers::SlotId;
-use fr_slots::params::Key;
-use fr_testing::Broken;
 use std::alloc::Global;
 use std::test::Fail;
 
-/// The parameters of the three-node cluster's file, with its length of the cycle left open.
+/// The parameters of the three-node cluster's file.
 const GUARD_AND_PARAMS: &str = "guard = \"A\"\n\n[params]\nstatic_slots = 3\nminislots = 4\n\
 static_words = 1\nstatic_mt = 20\nminislot_mt = 5\nsymbol_mt = 0\nnit_mt = 10\nidle = 0\n\
-words_per_minislot = 5\n";
+words_per_minislot = 5\ncycle_mt = 90\n";
 
 /// The nodes of the three-node cluster's file.
 const NODES: &str = "\n[[node]]\ntasks = 2\n\
@@ -37,9 +31,6 @@ buffer = [\n\
   {kind = \"event\", slot = 4, channels = \"A\", words = 1},\n\
   {kind = \"receive\", slot = 2, channels = \"AB\"},\n\
 ]\n";
-
-/// A node that owns a slot which another owns already.
-const FURTHER_OWNER: &str = "\n[[node]]\nown = [{slot = 1, channels = \"AB\"}]\n";
 
 /// What `plan` writes for the three-node cluster.
 const PLAN: &[u8] = b"slot 1 A 0\n\
@@ -77,7 +68,7 @@ fn planned(alloc: Global, mut file: &[u8]) -> Result<Vec<u8>, BenchError> {
 
 #[test]
 fn check_writes_the_parameters(rt: HostRuntime) -> Result<(), Fail> {
-    let file = format!(in rt.alloc(); "{GUARD_AND_PARAMS}cycle_mt = 90\n{NODES}")?;
+    let file = format!(in rt.alloc(); "{GUARD_AND_PARAMS}{NODES}")?;
     let line = checked(rt.alloc(), file.as_str().as_bytes())?;
     assert_eq!(rt;
         line.as_slice(),
@@ -88,74 +79,8 @@ fn check_writes_the_parameters(rt: HostRuntime) -> Result<(), Fail> {
 
 #[test]
 fn plan_writes_senders_and_windows(rt: HostRuntime) -> Result<(), Fail> {
-    let file = format!(in rt.alloc(); "{GUARD_AND_PARAMS}cycle_mt = 90\n{NODES}")?;
+    let file = format!(in rt.alloc(); "{GUARD_AND_PARAMS}{NODES}")?;
     let text = planned(rt.alloc(), file.as_str().as_bytes())?;
     assert_eq!(rt; text.as_slice(), PLAN);
-    Ok(())
-}
-
-#[test]
-fn the_first_fault_of_a_file_is_told(rt: HostRuntime) -> Result<(), Fail> {
-    let taken = format!(in rt.alloc(); "{GUARD_AND_PARAMS}cycle_mt = 90\n{NODES}{FURTHER_OWNER}")?;
-    let longer = format!(in rt.alloc(); "{GUARD_AND_PARAMS}cycle_mt = 91\n")?;
-    let bare = format!(in rt.alloc(); "{GUARD_AND_PARAMS}cycle_mt = 90\n")?;
-    let slot = SlotId::new(1).ok_or("no slot")?;
-    let wanted = [
-        ConfigError::SlotTaken(slot, Channel::A),
-        ConfigError::Params(ParamError::CycleSum),
-        ConfigError::TooManyNodes,
-    ];
-    let refused = [
-        checked(rt.alloc(), taken.as_str().as_bytes()).err(),
-        checked(rt.alloc(), longer.as_str().as_bytes()).err(),
-        checked(rt.alloc(), bare.as_str().as_bytes()).err(),
-    ];
-    assert_eq!(rt;
-        refused,
-        wanted.map(|fault| Some(BenchError::Config(fault)))
-    );
-    Ok(())
-}
-
-/// The first key of `params` isn't there.
-fn first_key_missing() -> Option<BenchError> {
-    let missing = ParamError::Missing(Key::StaticSlots);
-    Some(BenchError::Config(ConfigError::Params(missing)))
-}
-
-#[test]
-fn a_file_without_params_misses_the_first_key(rt: HostRuntime) {
-    for file in [b"".as_slice(), b"params = 1\n", b"[[params]]\nidle = 0\n"] {
-        assert_eq!(rt; checked(rt.alloc(), file).err(), first_key_missing());
-    }
-}
-
-#[test]
-fn what_is_no_toml_is_toml(rt: HostRuntime) {
-    for file in [b"params".as_slice(), b"# \xff\n"] {
-        assert_eq!(rt;
-            planned(rt.alloc(), file).err(),
-            Some(BenchError::Config(ConfigError::Toml))
-        );
-    }
-}
-
-#[test]
-fn commands_tell_that_reading_failed(rt: HostRuntime) {
-    let mut output = Vec::new(rt.alloc());
-    let answers = [
-        check_text(rt.alloc(), &mut Broken, &mut output).err(),
-        plan_text(rt.alloc(), &mut Broken, &mut output).err(),
-    ];
-    assert_eq!(rt; answers, [Some(BenchError::Read); 2]);
-}
-
-#[test]
-fn commands_tell_that_writing_failed(rt: HostRuntime) -> Result<(), Fail> {
-    let file = format!(in rt.alloc(); "{GUARD_AND_PARAMS}cycle_mt = 90\n{NODES}")?;
-    let (mut first, mut second) = (file.as_str().as_bytes(), file.as_str().as_bytes());
-    let checked = check_text(rt.alloc(), &mut first, &mut Broken).err();
-    let planned = plan_text(rt.alloc(), &mut second, &mut Broken).err();
-    assert_eq!(rt; [checked, planned], [Some(BenchError::Write); 2]);
     Ok(())
 }

@@ -1,9 +1,7 @@
-//! The tests of the program's words and of what its commands do with a text.
+//! The tests of what commands do with a text, also where memory is refused. `scripts/commands` tries them on many more.
 #![tactic(auto)]
 
 #[cfg(test)]
 mod files;
 #[cfg(test)]
 mod midpoints;
-#[cfg(test)]
-mod orders;

@@ -3,18 +3,16 @@
 use crate::parts::interface;
 use fr_frame::frame::Bytes;
 use fr_frame::payload::Payload;
-use fr_interface::errors::{HostError, SlotError};
 use fr_interface::interface::{Interface, Offer, Receipt};
 use fr_interface::source::Source;
-use fr_journal::entry::{Entry, Offered};
 use fr_journal::fate::Tally;
 use fr_slots::channel::Channels;
 use fr_slots::filter::{CycleFilter, Filter};
-use fr_slots::numbers::{Cycle, TaskId};
+use fr_slots::numbers::Cycle;
 use fr_slots::plan::{Buffer, Mode, NodePlan, Own};
 use fr_slots::window::Window;
 use fr_status::seen::Seen;
-use fr_testing::{DATA_ON_A, DATA_ON_B, ONE_WORD_CYCLE, SMALL_CYCLE, frame_bytes, slot, task};
+use fr_testing::{DATA_ON_A, DATA_ON_B, ONE_WORD_CYCLE, frame_bytes, slot, task};
 use std::alloc::Global;
 use std::test::Fail;
 
@@ -57,21 +55,6 @@ fn slot_two(number: u8) -> Result<Window, Fail> {
     Ok(Window::fixed(u32::from(number), cycle, slot(2)?))
 }
 
-/// Fetches and observes static slot 2 in the cycle of this number.
-fn observed(interface: &mut Interface, number: u8) -> Result<(), Fail> {
-    interface.fetch(&slot_two(number)?)?;
-    interface.observe(u32::from(number), &Seen::Own, &Seen::Own)?;
-    Ok(())
-}
-
-/// What the fetch at this entry handed out on channel A.
-fn fetched(interface: &Interface, entry: u32) -> Result<Offered, Fail> {
-    match interface.journal().get(entry) {
-        Some(Entry::Fetch { a, .. }) => Ok(a),
-        _ => Err(Fail::from("no fetch")),
-    }
-}
-
 fn tally(committed: u32, sent: u32, overwritten: u32, pending: u32) -> Option<Tally> {
     Some(Tally {
         committed,
@@ -91,51 +74,11 @@ fn three_commits(alloc: Global, mode: Mode) -> Result<Interface, Fail> {
     Ok(interface)
 }
 
-/// The same, and two further windows.
-fn three_windows(alloc: Global, mode: Mode) -> Result<Interface, Fail> {
-    let mut interface = three_commits(alloc, mode)?;
-    interface.observe(0, &Seen::Own, &Seen::Own)?;
-    observed(&mut interface, 1)?;
-    interface.fetch(&slot_two(2)?)?;
-    Ok(interface)
-}
-
-/// What the fetches of the three windows handed out, and what became of the commits.
-fn outcome(alloc: Global, mode: Mode) -> Result<([Offered; 3], Option<Tally>), Fail> {
-    let interface = three_windows(alloc, mode)?;
-    let offered = [
-        fetched(&interface, 2)?,
-        fetched(&interface, 5)?,
-        fetched(&interface, 7)?,
-    ];
-    Ok((offered, interface.tally(0)))
-}
-
-#[test]
-fn an_event_commit_is_sent_once(rt: HostRuntime) -> Result<(), Fail> {
-    let offered = [Offered::Data(1), Offered::Data(3), Offered::Null];
-    assert_eq!(rt;
-        outcome(rt.alloc(), Mode::Event)?,
-        (offered, tally(3, 2, 1, 0))
-    );
-    Ok(())
-}
-
 #[test]
 fn a_commit_after_a_sent_one_is_pending(rt: HostRuntime) -> Result<(), Fail> {
     let interface = three_commits(rt.alloc(), Mode::Event)?;
     let seen = (interface.tally(0), interface.held(0));
     assert_eq!(rt; seen, (tally(3, 1, 1, 1), Some(Source::Commit(3))));
-    Ok(())
-}
-
-#[test]
-fn a_state_commit_is_sent_again(rt: HostRuntime) -> Result<(), Fail> {
-    let offered = [Offered::Data(1), Offered::Data(3), Offered::Data(3)];
-    assert_eq!(rt;
-        outcome(rt.alloc(), Mode::State)?,
-        (offered, tally(3, 2, 1, 0))
-    );
     Ok(())
 }
 
@@ -156,110 +99,5 @@ fn an_offer_is_the_spelled_frame(rt: HostRuntime) -> Result<(), Fail> {
         [first.a, first.b, second.a],
         [sent(&DATA_ON_A)?, sent(&DATA_ON_B)?, sent(&NULL_ON_A)?]
     );
-    Ok(())
-}
-
-/// What is offered to slot 8 on channel A at minislot 5, by the latest minislot there.
-fn offered_at_five(alloc: Global, latest: u16) -> Result<(Offered, Option<Tally>), Fail> {
-    let mut plan = NodePlan::new(1, [latest, 0], 8, 8)?;
-    plan.add_buffer(Buffer {
-        mode: Mode::Event,
-        filter: Filter {
-            slot: slot(8)?,
-            channels: Channels::A,
-            cycles: CycleFilter::default(),
-        },
-        words: Some(4),
-        preamble: false,
-    })?;
-    let mut interface = interface(alloc, SMALL_CYCLE, &plan)?;
-    interface.commit(task(0)?, 0, &payload(&[1; 8])?)?;
-    let window = Window::dynamic(0, Cycle::from_bits(0), 5, Some(slot(8)?), None);
-    interface.fetch(&window.ok_or("no window")?)?;
-    Ok((fetched(&interface, 1)?, interface.tally(0)))
-}
-
-#[test]
-fn a_transmission_begins_at_the_latest_minislot(rt: HostRuntime) -> Result<(), Fail> {
-    let sent = (Offered::Data(0), tally(1, 1, 0, 0));
-    let pending = (Offered::Nothing, tally(1, 0, 0, 1));
-    for (latest, wanted) in [(5, sent), (4, pending), (0, pending)] {
-        assert_eq!(rt; offered_at_five(rt.alloc(), latest)?, wanted);
-    }
-    Ok(())
-}
-
-/// What a commit to a buffer is refused for.
-fn commit_refusal(
-    interface: &mut Interface,
-    number: u8,
-    buffer: u8,
-    word: &Payload,
-) -> Option<HostError> {
-    let Some(task) = TaskId::new(number) else {
-        return Some(HostError::UnknownTask);
-    };
-    interface.commit(task, buffer, word).err()
-}
-
-#[test]
-fn full_host_entries_stop_the_host_alone(rt: HostRuntime) -> Result<(), Fail> {
-    let mut interface = interface(rt.alloc(), ONE_WORD_CYCLE, &sender(Mode::Event, 2)?)?;
-    let word = payload(&[0, 1])?;
-    let answers = [
-        commit_refusal(&mut interface, 0, 0, &word),
-        commit_refusal(&mut interface, 0, 0, &word),
-        commit_refusal(&mut interface, 0, 0, &word),
-    ];
-    assert_eq!(rt; answers, [None, None, Some(HostError::HostFull)]);
-    observed(&mut interface, 0)?;
-    assert_eq!(rt; interface.journal().len(), 4);
-    Ok(())
-}
-
-#[test]
-fn commits_that_are_refused(rt: HostRuntime) -> Result<(), Fail> {
-    let mut plan = sender(Mode::Event, 8)?;
-    plan.add_buffer(Buffer::default())?;
-    let mut interface = interface(rt.alloc(), ONE_WORD_CYCLE, &plan)?;
-    let two_words = payload(&[0, 1, 0, 2])?;
-    let answers = [
-        commit_refusal(&mut interface, 1, 2, &two_words),
-        commit_refusal(&mut interface, 0, 2, &two_words),
-        commit_refusal(&mut interface, 0, 1, &two_words),
-        commit_refusal(&mut interface, 0, 0, &two_words),
-        interface.read(task(0)?, 0).err(),
-    ];
-    let wanted = [
-        HostError::UnknownTask,
-        HostError::UnknownBuffer,
-        HostError::NotTransmit,
-        HostError::WrongLength,
-        HostError::NotReceive,
-    ];
-    assert_eq!(rt; answers, wanted.map(Some));
-    let left = (
-        interface.tally(1),
-        interface.tally(2),
-        interface.journal().len(),
-    );
-    assert_eq!(rt; left, (None, None, 0));
-    Ok(())
-}
-
-#[test]
-fn a_fetch_needs_room_for_its_observe(rt: HostRuntime) -> Result<(), Fail> {
-    let mut plan = NodePlan::new(1, [0, 0], 1, 3)?;
-    plan.add_own(Own {
-        slot: slot(2)?,
-        channels: Channels::A,
-        sync: true,
-        startup: false,
-    })?;
-    let mut interface = interface(rt.alloc(), ONE_WORD_CYCLE, &plan)?;
-    interface.fetch(&slot_two(0)?)?;
-    interface.observe(0, &Seen::Own, &Seen::Silence)?;
-    assert_eq!(rt; fetched(&interface, 0)?, Offered::Null);
-    assert_eq!(rt; interface.fetch(&slot_two(1)?), Err(SlotError::SlotFull));
     Ok(())
 }

@@ -121,17 +121,3 @@ fn bytes_that_are_no_frame(rt: HostRuntime) {
     ];
     assert_eq!(rt; refusals, wanted.map(Some));
 }
-
-#[test]
-fn a_payload_keeps_its_bytes(rt: HostRuntime) -> Result<(), Fail> {
-    let payload = Payload::from_slice(&[0x0a, 0x0b])?;
-    assert_eq!(rt; payload.duplicate().as_slice(), [0x0a, 0x0b].as_slice());
-    Ok(())
-}
-
-#[test]
-fn a_payload_of_zeros_has_whole_words(rt: HostRuntime) {
-    assert_eq!(rt; Payload::zeros(2).as_slice(), [0; 4].as_slice());
-    let lengths = [Payload::zeros(127), Payload::default()].map(|payload| payload.as_slice().len());
-    assert_eq!(rt; lengths, [254, 0]);
-}

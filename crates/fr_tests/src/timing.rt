@@ -59,20 +59,6 @@ fn macroticks_of_the_small_cycle(rt: HostRuntime) -> Result<(), Fail> {
 }
 
 #[test]
-fn places_that_the_small_cycle_has_not(rt: HostRuntime) -> Result<(), Fail> {
-    let params = Params::new(SMALL_CYCLE)?;
-    let macroticks = [
-        start_of(&params, in_static_slot(4, 0)?),
-        start_of(&params, in_static_slot(3, 20)?),
-        start_of(&params, in_minislot(0, 0)),
-        start_of(&params, in_minislot(11, 0)),
-        start_of(&params, Place::Idle { offset: u32::MAX }),
-    ];
-    assert_eq!(rt; macroticks, [None; 5]);
-    Ok(())
-}
-
-#[test]
 fn the_symbol_window_stands_between_its_neighbours(rt: HostRuntime) -> Result<(), Fail> {
     let without_minislots = Params::new([3, 0, 1, 20, 5, 4, 6, 70, 1, 4])?;
     let without_symbols = Params::new([3, 4, 1, 20, 5, 0, 10, 90, 0, 5])?;
@@ -83,25 +69,9 @@ fn the_symbol_window_stands_between_its_neighbours(rt: HostRuntime) -> Result<()
 }
 
 #[test]
-fn a_symbol_window_without_macroticks_is_no_place(rt: HostRuntime) -> Result<(), Fail> {
-    let params = Params::new([3, 4, 1, 20, 5, 0, 10, 90, 0, 5])?;
-    assert_eq!(rt; start_of(&params, Place::Symbol { offset: 0 }), None);
-    Ok(())
-}
-
-#[test]
 fn the_longest_cycle_ends_in_idle_time(rt: HostRuntime) -> Result<(), Fail> {
     let params = Params::new([4, 8000, 127, 500, 2, 1000, 1000, 20000, 2, 127])?;
     let places = [19999, 20000, u32::MAX].map(|macrotick| locate(&params, macrotick));
     assert_eq!(rt; places, [Some(Place::Idle { offset: 999 }), None, None]);
-    Ok(())
-}
-
-#[test]
-fn the_last_minislot_of_the_longest_cycle_begins_before_the_symbol_window(
-    rt: HostRuntime,
-) -> Result<(), Fail> {
-    let params = Params::new([4, 8000, 127, 500, 2, 1000, 1000, 20000, 2, 127])?;
-    assert_eq!(rt; start_of(&params, in_minislot(8000, 1)), Some(17999));
     Ok(())
 }

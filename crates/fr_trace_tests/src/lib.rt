@@ -1,7 +1,5 @@
-//! The tests of lines and whole traces.
+//! The tests of whole traces: in pieces, by readers and writers that fail, and as they are written.
 #![tactic(auto)]
 
-#[cfg(test)]
-mod lines;
 #[cfg(test)]
 mod trace;

@@ -1,0 +1,111 @@
+"""Checks of cluster files, each with one fault or at the border of one."""
+from .runner import EXAMPLES, refused
+
+SMALL_CYCLE = """[params]
+static_slots = 3
+minislots = 10
+static_words = 1
+static_mt = 20
+minislot_mt = 5
+symbol_mt = 4
+nit_mt = 6
+cycle_mt = 120
+idle = 1
+words_per_minislot = 4
+"""
+SMALL = b"params 3 10 1 20 5 4 6 120 1 4\n", b"", 0
+
+
+BOUNDS = {
+    "static_slots": (2, 1023), "minislots": (0, 8000), "static_words": (0, 127), "static_mt": (1, 1000), "minislot_mt": (1, 100),
+    "symbol_mt": (0, 1000), "nit_mt": (1, 1000), "cycle_mt": (4, 20000), "idle": (0, 2), "words_per_minislot": (1, 127),
+}
+"""The least and the greatest value of each parameter."""
+
+
+class Clusters:
+    """Cluster files, each with one fault or at the border of one."""
+
+    def __init__(self, runs, folder):
+        self.runs, self.path = runs, folder / "cluster.toml"
+        self.three = (EXAMPLES / "three-nodes/cluster.toml").read_text()
+
+    def check(self, name, text, wanted):
+        self.path.write_text(text)
+        self.runs.check(f"check where {name}", ["check", self.path], wanted)
+
+    def node(self, name, node, wanted):
+        """The same of the small cycle with this one node."""
+        self.check(name, f"{SMALL_CYCLE}[[node]]\n{node}\n", wanted)
+
+    def files(self):
+        self.check("the file is no TOML", "guard =", refused("Toml"))
+        self.check("the parameters are no table", "guard = 1\nparams = 7", refused("Params Missing static_slots"))
+        self.check("the last parameter is missing", SMALL_CYCLE.replace("words_per_minislot = 4\n", "[[node]]\n"),
+                   refused("Params Missing words_per_minislot"))
+        self.check("a parameter is no number", SMALL_CYCLE.replace("idle = 1", "idle = true"), refused("Params NotANumber idle"))
+        self.check("a parameter is out of range", SMALL_CYCLE.replace("idle = 1", "idle = -1"), refused("Params OutOfRange idle"))
+        self.check("the guard is no channels", f'guard = "BA"\n{SMALL_CYCLE}', refused("BadGuard"))
+        self.check("there is no node", SMALL_CYCLE, refused("TooManyNodes"))
+        self.check("the node is a table", f"{SMALL_CYCLE}[node]\n", refused("TooManyNodes"))
+        self.check("there are 17 nodes", SMALL_CYCLE + "[[node]]\n" * 17, refused("TooManyNodes"))
+        self.check("the second node is a number", f"node = [{{}}, 1]\n{SMALL_CYCLE}", refused("BadNode 1"))
+
+    def nodes(self):
+        bad = refused("BadNode 0")
+        self.node("a node has 9 tasks", "tasks = 9", bad)
+        self.node("a number of tasks is a float", "tasks = 1.0", bad)
+        self.node("a latest minislot isn't there", "latest_b = 11", bad)
+        self.node("a slot that is owned isn't static", 'own = [{slot = 4, channels = "A"}]', bad)
+        self.node("a startup frame is no sync frame", 'own = [{slot = 1, channels = "A", startup = true}]', bad)
+        self.node("a queue goes backwards", 'queue = {capacity = 1, first = 5, last = 4, channels = "A"}', bad)
+        self.node("a buffer is no table", 'buffer = [{kind = "none"}, 7]', bad)
+        receive = '{kind = "receive", slot = 9, channels = "A"'
+        self.node("a buffer has no kind", f'buffer = [{receive}}}, {{kind = "none"}}]', refused("BadBuffer 0 1"))
+        self.node("keys without a meaning are there", f'buffer = [{receive}, preamble = 1, words = "x"}}]', SMALL)
+        state = 'buffer = [{kind = "state", slot = 1, channels = "A", words = 500}]'
+        self.node("such keys are there in a static slot", f'own = [{{slot = 1, channels = "A", base = "x"}}]\n{state}', SMALL)
+
+    def faults(self):
+        """Faults among the lines of all nodes."""
+        own, buffer = "own = [{slot = 2,", '  {kind = "receive", slot = 2, channels = "A"},\n'
+        self.check("a slot has two owners", self.three.replace(own, 'own = [{slot = 1, channels = "AB"}, {slot = 2,'),
+                   refused("SlotTaken 1 A"))
+        third = '  {kind = "event", slot = 4, channels = "A", base = 1, repetition = 2, words = 1},\n'
+        self.check("a divided slot overlaps", self.three.replace(buffer, buffer + third), refused("Overlap 4 A 1"))
+        state = 'buffer = [{kind = "state", slot = 2, channels = "AB"}]'
+        self.node("a slot is owned on one channel", f'own = [{{slot = 2, channels = "A"}}]\n{state}', refused("NotOwned 0 0"))
+        halves = 'own = [{slot = 2, channels = "A"}, {slot = 2, channels = "B"}]'
+        self.node("a slot is owned by two lines", f"{halves}\n{state}", SMALL)
+        both = 'buffer = [{kind = "state", slot = 9, channels = "AB", words = 0}]'
+        self.node("a dynamic buffer is for both channels", both, refused("DynamicBoth 0 0"))
+        late = 'buffer = [{kind = "event", slot = 8, channels = "A", words = 4}]'
+        self.node("four words begin at the tenth minislot", f"latest_a = 10\n{late}", refused("TooLong 0 0"))
+        self.node("four words begin at the ninth", f"latest_a = 9\n{late}", SMALL)
+
+    def parameters(self):
+        """Each parameter just below its least value and just above its greatest, and a file that has none of the keys."""
+        self.check("there is no parameter", "guard = \"A\"\n[params]\n", refused("Params Missing static_slots"))
+        self.check("the cycle isn't filled", SMALL_CYCLE.replace("cycle_mt = 120", "cycle_mt = 121"), refused("Params CycleSum"))
+        for value in ("3.0", '"3"', "true"):
+            self.check(f"the static slots are {value}", SMALL_CYCLE.replace("static_slots = 3", f"static_slots = {value}"),
+                       refused("Params NotANumber static_slots"))
+        for key, (least, greatest) in BOUNDS.items():
+            line = next(line for line in SMALL_CYCLE.splitlines() if line.startswith(f"{key} "))
+            for value in (least - 1, greatest + 1):
+                self.check(f"{key} is {value}", SMALL_CYCLE.replace(line, f"{key} = {value}"), refused(f"Params OutOfRange {key}"))
+
+    def kinds(self):
+        """A node with a fault of each kind: one kind after another is told and taken away."""
+        buffers = [
+            '{kind = "event", slot = 7, channels = "B", words = 127}', '{kind = "event", slot = 6, channels = "A", words = 1}',
+            '{kind = "event", slot = 6, channels = "AB", words = 1}', '{kind = "event", slot = 1, channels = "A"}',
+        ]
+        latest, twice = "latest_a = 10\nlatest_b = 10\n", 'own = [{slot = 3, channels = "A"}, {slot = 3, channels = "A"}]\n'
+        both, alone = buffers[:3], [*buffers[:2], buffers[2].replace("AB", "A")]
+        for told, own, left in (("SlotTaken 3 A", twice, buffers), ("NotOwned 0 3", "", buffers), ("DynamicBoth 0 2", "", both),
+                                ("Overlap 6 A 0", "", alone), ("TooLong 0 0", "", buffers[:2])):
+            self.node(f"the first fault is {told}", f"{latest}{own}buffer = [{', '.join(left)}]", refused(told))
+        halves = '{kind = "event", slot = 4, channels = "A", base = %d, repetition = %d, words = 1}'
+        for one, other, wanted in (((0, 2), (3, 4), SMALL), ((0, 1), (1, 2), refused("Overlap 4 A 1")), ((1, 2), (3, 4), refused("Overlap 4 A 3"))):
+            self.node(f"one slot is for {one} and {other}", f"buffer = [{halves % one}, {halves % other}]", wanted)

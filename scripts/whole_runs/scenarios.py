@@ -1,0 +1,168 @@
+"""Runs: scenario texts that are refused, and runs of the three-node cluster."""
+from .runner import EXAMPLES, refused, run
+
+
+class Scenarios:
+    """Scenario files that are refused, or at the border of it."""
+
+    def __init__(self, runs, folder):
+        self.runs, self.path = runs, folder / "scenario"
+
+    def check(self, name, text, error):
+        self.path.write_text(text)
+        words = ["run", "three-nodes/cluster.toml", self.path, "--cycles", "4"]
+        self.runs.check(f"run where {name}", words, refused(error))
+
+    def line(self, line, error="BadLine 2"):
+        self.check(f"the line is {line!r}", f"frscenario 1\n{line}\nend\n", error)
+
+    def texts(self):
+        for text in ("", "frscenario 1", "frscenario 9\nend\n", "frscenario 1 \nend\n", "frscenario 1\r\nend\n",
+                     "\nfrscenario 1\nend\n", "x" * 1201):
+            self.check(f"the scenario is {text[:30]!r}", text, "BadMagic")
+        for rest in ("", "end", "pop 0 0 0", "pop 0 0 0\n", "no line"):
+            self.check(f"it ends in {rest!r}", f"frscenario 1\n{rest}", "Truncated")
+        for rest in ("\n", "x", "end\n"):
+            self.check(f"{rest!r} stands after the end", f"frscenario 1\nend\n{rest}", "BadLine 3")
+        self.check("the third line is at fault", "frscenario 1\npop 0 0 0\npop 0\nnothing\nend\n", "BadLine 3")
+
+    def lines(self):
+        for line in ("commit 16 0 0 0 x", "commit 0 8 0 0 x", "commit 0 0 1024 0 x", "commit 0 0 0 64 x", "read 0 0 0 64",
+                     "pop 0 0 1024", "pop 0 00 0", "commit 0 0 0 0 x0A0b", "commit 0 0 0 0 x0a", "commit 0 0 0 0 0a0b",
+                     f"commit 0 0 0 0 x{'00' * 256}", "mute 16 A * s*", "mute 0 AB * s*", "mute 0 A 1024 s*", "mute 0 A * s0",
+                     "mute 0 A * s8001", "mute 0 A * m*", "mute 0 A * m0", "mute 0 A * 1", "corrupt A * s1 65536",
+                     "babble 0 A 0 s1 x0", "babble 0 A 0 s1  x00", "babble 0 A 0 s1 x00 ", f"babble 0 A 0 s1 x{'00' * 263}",
+                     "withdraw 0 0 0 0", " pop 0 0 0", "pop 0 0 0\r"):
+            self.line(line)
+        self.line("commit 15 7 1023 63 x", "BadScript 0")
+        self.line("babble 15 A 1023 m8000 x", "BadFault 0")
+        self.line("corrupt B 1023 s8000 65535", "BadFault 0")
+
+    def limits(self):
+        most = "frscenario 1\n" + "mute 0 A 0 s1\n" * 4094
+        self.check("the end is line 4096", f"{most}end\n", "BadFault 1")
+        self.check("a byte stands after it", f"{most}end\nx", "BadLine 4097")
+        more = f"{most}mute 0 A 0 s1\n"
+        for rest in ("end\n", "end", "\n", "x", "x" * 1201):
+            self.check(f"line 4097 is {rest[:5]!r}", f"{more}{rest}", "TooManyLines")
+        self.check("4096 lines have no end", more, "Truncated")
+        self.check("a line has 1200 bytes", f"frscenario 1\n{'x' * 1200}", "Truncated")
+        self.check("a line has 1201 bytes", f"frscenario 1\n{'x' * 1201}", "BadLine 2")
+
+
+class Scenes:
+    """Runs of the three-node cluster, changed, with the babbling scenario, changed."""
+
+    def __init__(self, runs, folder):
+        self.runs, self.folder = runs, folder
+        self.cluster = (EXAMPLES / "three-nodes/cluster.toml").read_text()
+        self.scenario = (EXAMPLES / "three-nodes/scenario").read_text()
+        self.outcome = (EXAMPLES / "three-nodes/outcome-of-4-cycles").read_text()
+        self.quiet = "".join(line for line in self.scenario.splitlines(True) if not line.startswith("babble"))
+        self.one_commit = "frscenario 1\ncommit 0 0 0 0 x0a0b\nend\n"
+
+    def words(self, cluster, scenario, cycles=4):
+        (self.folder / "cluster.toml").write_text(cluster)
+        (self.folder / "scenario").write_text(scenario)
+        return ["run", self.folder / "cluster.toml", self.folder / "scenario", "--cycles", str(cycles)]
+
+    def check(self, name, wanted, cluster=None, scenario=None, cycles=4):
+        words = self.words(cluster or self.cluster, self.scenario if scenario is None else scenario, cycles)
+        self.runs.check(name, words, wanted)
+
+    def told(self, name, lines, cluster=None, scenario=None):
+        """That a run is done, and that these are the lines of these nodes, beside others."""
+        words = self.words(cluster or self.cluster, scenario or self.scenario)
+        self.compare_lines(name, words, lines, lambda told, line: told == line)
+
+    def compare_lines(self, name, words, lines, are_same):
+        """That the run is done, and that each of these lines is the same as one that its node has."""
+        got, errors, status = run([self.runs.program, *words])
+        nodes = dict(enumerate(part.splitlines()[1:] for part in got.decode().split("node ")[1:]))
+        missing = [(node, line) for node, line in lines if not any(are_same(told, line) for told in nodes.get(node, []))]
+        self.runs.compare(name, (missing, errors, status), ([], b"", 0))
+
+    def with_line(self, line, scenario=None):
+        return (scenario or self.scenario).replace("end\n", f"{line}\nend\n")
+
+
+def scenes(runs, folder):
+    scenes = Scenes(runs, folder)
+    tasks = "[[node]]\ntasks = 2\nown = [{slot = 1"
+    for entries, wanted in ((55, refused("NoRoom 0")), (56, (scenes.outcome.encode(), b"", 0))):
+        cluster = scenes.cluster.replace(tasks, tasks.replace("own", f"slot_entries = {entries}\nown"))
+        scenes.check(f"run with {entries} slot entries", wanted, cluster=cluster)
+    refusals = {
+        "commit 0 2 0 0 x0a0b": "BadScript 2", "mute 0 A 4 s1": "BadFault 2", "babble 2 A 0 s1 x01": "BadFault 2",
+        "read 3 0 0 0": "BadScript 6", "commit 0 0 0 1 x0a0b": "BadScript 0", "commit 0 0 1 0 x0a": "BadLine 13",
+        "corrupt A * m5 1": "BadFault 2", "mute 0 A * s4": "BadFault 2", "pop 0 1 1": "BadScript 1",
+        "commit 0 0 4 0 x0a0b": "BadScript 0", "commit 0 0 1 0 x0a0b0c0d": "BadScript 0", "read 0 0 0 1": "settled",
+        "commit 0 0 1 2 x0a0b": "BadScript 0", "commit 0 0 1 0 x": "BadScript 0", "read 0 0 1 0": "BadScript 0",
+        "pop 1 0 3": "BadScript 2", "pop 0 1 2": "settled", "mute 3 A 0 s1": "BadFault 2", "mute 0 A * s*": "settled",
+        "babble 2 A 3 s2 x": "BadFault 2", "babble 2 A * m1 x00": "settled", "babble 1 A * s* x00": "settled",
+        "corrupt A 0 s4 1": "BadFault 2", "corrupt B 3 m4 1": "settled",
+    }
+    for line, error in refusals.items():
+        if error == "settled":
+            scenes.told(f"run with {line}", [], scenario=scenes.with_line(line))
+        else:
+            scenes.check(f"run with {line}", refused(error), scenario=scenes.with_line(line))
+    twice = scenes.with_line("corrupt A 3 s1 7", scenes.with_line("corrupt B 3 s1 3", scenes.with_line("corrupt A * s* 3")))
+    scenes.check("run with two corrupt bits", refused("BadFault 4"), scenario=twice)
+    scenes.check("run of a bad script and a bad fault", refused("BadScript 6"),
+                 scenario=scenes.with_line("pop 3 0 0", scenes.with_line("mute 3 A * s*")))
+    scenes.check("run of another version", refused("BadMagic"), scenario="frscenario 9\nend\n")
+    scenes.check("run of an empty scenario file", refused("BadMagic"), scenario="")
+    scenes.check("run of a scenario without its end", refused("Truncated"), scenario="frscenario 1\n")
+    scenes.check("run of a bad cluster", refused("Params CycleSum"), scenes.cluster.replace("cycle_mt = 90", "cycle_mt = 91"))
+    few = scenes.cluster.replace("[[node]]\ntasks = 2\nown = [{slot = 1", "[[node]]\ntasks = 2\nhost_entries = 2\nown = [{slot = 1")
+    scenes.check("run of three lines with room for two", refused("NoRoom 0"), cluster=few)
+    babbles(scenes)
+    faults(scenes)
+    long_runs(scenes)
+    free_runs(scenes)
+
+
+def babbles(scenes):
+    """Babble everywhere, on a guarded channel and on one that isn't."""
+    a, b = "A 8 0 0 0 0", "B 4 0 0 0 0"
+    quiet = [(0, b), (1, b), (2, "B 8 0 0 0 0"), (1, "rx 2 31:B x0c0d"), (2, a)]
+    scenes.told("run without babble", quiet, scenario=scenes.quiet)
+    unguarded = scenes.cluster.replace('guard = "A"', 'guard = "none"')
+    lines = [(0, "rx 1 - -"), (0, "A 3 8 0 0 4"), (1, "rx 1 - -"), (1, "A 3 8 0 0 4"), (2, "rx 1 - -"), (2, "A 0 0 0 0 8")]
+    scenes.told("run without guardians", lines, cluster=unguarded)
+    long = scenes.with_line(f"babble 1 A 0 m4 x{'00' * 20}", scenes.quiet)
+    scenes.told("run with a babble that overruns", [(0, "A 7 0 0 1 0"), (2, "A 8 0 0 1 0"), (1, b)], scenario=long)
+    longer = scenes.with_line(f"babble 2 B * s3 x{'00' * 11}", scenes.quiet)
+    scenes.told("run with a babble longer than a slot", [(0, "B 4 0 0 4 0"), (1, "B 4 0 0 4 0")], scenario=longer)
+
+
+def faults(scenes):
+    """One commit of node 0 in slot 1, and one fault in its window."""
+    muted = scenes.with_line("mute 0 A 0 s1", scenes.one_commit)
+    scenes.told("run with a muted owner", [(0, "tx 0 1 1 0 0"), (1, "rx 1 - -"), (1, "rx 2 1:B x0a0b")], scenario=muted)
+    babbles = scenes.with_line("babble 0 A 0 s1 x20010346809999e937d0", muted)
+    lines = [(0, "tx 0 1 1 0 0"), (1, "rx 1 1:A x9999"), (1, "rx 2 1:B x0a0b")]
+    scenes.told("run with a muted owner that babbles a frame", lines, scenario=babbles)
+    corrupt = scenes.with_line("corrupt A 0 s1 40", scenes.one_commit)
+    lines = [(1, "rx 1 - -"), (1, "rx 2 1:B x0a0b"), (1, "A 3 1 0 0 0"), (1, "B 4 0 0 0 0"), (2, "A 7 1 0 0 0")]
+    scenes.told("run with a corrupt bit", lines, scenario=corrupt)
+    beyond = scenes.with_line("corrupt A 0 s1 999", scenes.one_commit)
+    scenes.told("run with a bit after the frame", [(1, "rx 1 1:A x0a0b"), (1, "rx 2 1:B x0a0b")], scenario=beyond)
+
+
+def long_runs(scenes):
+    """Cycles of a run go on after 63: lines and faults of cycle 65 come in it, and those of cycle 0 not in cycle 64."""
+    scenario = "frscenario 1\ncommit 0 0 65 0 x0a0b\ncorrupt A 0 s1 40\ncorrupt A 65 s2 40\nmute 0 B 65 s1\nend\n"
+    lines = [(0, "tx 0 1 1 0 0"), (0, "A 65 1 0 0 0"), (0, "B 66 0 0 0 0"), (1, "rx 1 911:A x0a0b"), (1, "rx 2 - -"),
+             (1, "A 65 1 0 0 0"), (1, "B 65 0 0 0 0"), (2, "A 130 2 0 0 0"), (2, "B 131 0 0 0 0"), (2, "windows 462")]
+    words = scenes.words(scenes.cluster, scenario, 66)
+    scenes.compare_lines("run of 66 cycles", words, lines, lambda told, line: told == line)
+
+
+def free_runs(scenes):
+    """Counts that no order of the tasks changes."""
+    lines = [(0, "tx 0 2 "), (1, "tx 0 2 "), (2, "tx 0 3 "), (2, "A 8 0 0 0 0"), (2, "windows 28"), (2, "settled")]
+    for _ in range(3):
+        words = [*scenes.words(scenes.cluster, scenes.scenario), "--free"]
+        scenes.compare_lines("a free run", words, lines, lambda told, front: told.startswith(front))
