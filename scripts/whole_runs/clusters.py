@@ -109,3 +109,42 @@ class Clusters:
         halves = '{kind = "event", slot = 4, channels = "A", base = %d, repetition = %d, words = 1}'
         for one, other, wanted in (((0, 2), (3, 4), SMALL), ((0, 1), (1, 2), refused("Overlap 4 A 1")), ((1, 2), (3, 4), refused("Overlap 4 A 3"))):
             self.node(f"one slot is for {one} and {other}", f"buffer = [{halves % one}, {halves % other}]", wanted)
+
+    def full_cycle(self):
+        """A cycle of 1,023 static slots that 16 nodes own in turn, and a buffer for the last dynamic slot in the last cycle."""
+        slots, length, nodes = 1023, 10, 16
+        segment = slots * length
+        lines = ["[params]", f"static_slots = {slots}", "minislots = 1100", "static_words = 0", f"static_mt = {length}", "minislot_mt = 2",
+                 "symbol_mt = 0", "nit_mt = 10", f"cycle_mt = {segment + 2210}", "idle = 0", "words_per_minislot = 1"]
+        for node in range(nodes):
+            owned = ", ".join(f'{{slot = {slot}, channels = "AB"}}' for slot in range(node + 1, slots + 1, nodes))
+            lines += ["[[node]]", f"own = [{owned}]"]
+        lines += ["latest_b = 1090", 'buffer = [{kind = "event", slot = 2047, channels = "B", base = 63, repetition = 64, words = 0}]']
+        wanted = [f"slot {slot} {channel} {(slot - 1) % nodes}" for slot in range(1, slots + 1) for channel in "AB"]
+        wanted.append("dynamic 2047 B 15 63 64")
+        for node in range(nodes):
+            opened = [((slot - 1) * length, slot * length) for slot in range(node + 1, slots + 1, nodes)]
+            dynamic = segment, segment + 2200
+            if opened[-1][1] == segment:
+                dynamic = opened.pop()[0], dynamic[1]
+            wanted += [f"guard {node} {channel} {start} {end}" for channel in "AB" for start, end in [*opened, dynamic]]
+        self.path.write_text("".join(f"{line}\n" for line in lines))
+        told = "".join(f"{line}\n" for line in wanted).encode()
+        self.runs.check("plan of a full cycle", ["plan", self.path], (told, b"", 0))
+
+    def windows(self):
+        """When the channels are open to a node that owns slots 1 and 2 of three, or slot 3."""
+        first, last = 'own = [{slot = 1, channels = "AB"}, {slot = 2, channels = "AB"}]', 'own = [{slot = 3, channels = "A"}]'
+        apart = ["slot 1 A 0", "slot 1 B 0", "slot 2 A 0", "slot 2 B 0"]
+        short = SMALL_CYCLE.replace("minislots = 10", "minislots = 0").replace("cycle_mt = 120", "cycle_mt = 70")
+        for name, text, wanted in (
+            ("two slots touch", f"{SMALL_CYCLE}[[node]]\n{first}\n",
+             [*apart, "guard 0 A 0 40", "guard 0 A 60 110", "guard 0 B 0 40", "guard 0 B 60 110"]),
+            ("a slot touches the dynamic segment", f"{SMALL_CYCLE}[[node]]\n{last}\n", ["slot 3 A 0", "guard 0 A 40 110", "guard 0 B 60 110"]),
+            ("channel B isn't guarded", f'guard = "A"\n{SMALL_CYCLE}[[node]]\n{first}\n',
+             [*apart, "guard 0 A 0 40", "guard 0 A 60 110", "guard 0 B 0 110"]),
+            ("there are no minislots", f"{short}[[node]]\n{first}\n", [*apart, "guard 0 A 0 40", "guard 0 B 0 40"]),
+        ):
+            self.path.write_text(text)
+            told = "".join(f"{line}\n" for line in wanted).encode()
+            self.runs.check(f"plan where {name}", ["plan", self.path], (told, b"", 0))

@@ -131,5 +131,3 @@ fn main(rt: HostRuntime) -> ExitCode {
     }
 }
 
-#[cfg(test)]
-mod tests;

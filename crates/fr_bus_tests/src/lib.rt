@@ -1,13 +1,9 @@
-//! The tests of the cluster file and of the bus.
+//! The tests of the bus.
 #![tactic(auto)]
 
 #[cfg(test)]
 mod faults;
 #[cfg(test)]
 mod runs;
-#[cfg(test)]
-mod schedule;
-#[cfg(test)]
-mod schedule_full;
 #[cfg(test)]
 mod steps;

@@ -15,5 +15,3 @@
 
 pub mod guardian;
 mod intervals;
-#[cfg(test)]
-mod tests;
