@@ -1,12 +1,10 @@
-//! What the tests of several crates ask for: numbers that are known to be in range, worked cycles and worked frames,
-//! and a reader and writer that fails.
+//! What the tests of several crates ask for: numbers that are known to be in range, worked cycles and worked frames.
 #![tactic(auto)]
 
 ghost use Rattle.std.specs.Prelude.{◌≡◌, IfOk};
 
 use fr_frame::frame::Bytes;
 use fr_slots::numbers::{Cycle, NodeId, SlotId, TaskId};
-use std::io::{self, Read, Write};
 use std::test::Fail;
 
 /// A cycle of 120 macroticks, with ten minislots of four words and a symbol window.
@@ -57,24 +55,4 @@ pub fn frame_bytes(list: &[u8]) -> Result<Bytes, Fail>
     let mut bytes = Bytes::new();
     bytes.try_extend_from_slice(list)?;
     Ok(bytes)
-}
-
-/// A reader and writer that fails.
-#[derive(Drop)]
-pub struct Broken;
-
-impl Read for Broken {
-    fn read(&mut self, _buf: &mut [u8]) -> io::Result<usize> {
-        Err(io::Error::from(io::ErrorKind::Other))
-    }
-}
-
-impl Write for Broken {
-    fn write(&mut self, _buf: &[u8]) -> io::Result<usize> {
-        Err(io::Error::from(io::ErrorKind::Other))
-    }
-
-    fn flush(&mut self) -> io::Result<()> {
-        Ok(())
-    }
 }
