@@ -3,3 +3,4 @@ pub mod Spelling
 pub mod PartReading
 pub mod Reading
 pub mod Spelled
+pub mod Bare

@@ -1,20 +1,23 @@
 //! The lines of entries.
-ghost use Rattle.std.specs.Prelude.{◌≡◌, Some, IfSome};
+ghost use Rattle.std.specs.Prelude.{◌≡◌, Some, IfSome, option_map};
 ghost use Rattle.fr_journal.specs.declared.entry.Entry.{Entry};
 ghost use Rattle.fr_text.specs.Spaces.{words_of, line_of};
+ghost use Rattle.fr_lines.specs.Bare.{with_bytes};
+ghost use Rattle.fr_lines.specs.declared.bare.EntryBytes.{EntryBytes};
 ghost use Rattle.fr_lines.specs.Reading.{commit_in, read_in, pop_in, fetch_in, observe_in, entry_in};
 ghost use Rattle.fr_lines.specs.Spelled.{IsSpelledEntry};
 ghost use Rattle.fr_lines.specs.Spelling.{entry_words};
 
-use crate::parts::{from_of, offered_of, payload_of, seen_of, task_of, window_of};
+use crate::bare::{BareEntry, EntryBytes, with_bytes};
+use crate::parts::{from_of, offered_of, payload_into, seen_into, task_of, window_of};
 use fr_journal::entry::Entry;
 use fr_text::numbers::number_of;
 use fr_text::words::Words;
 
 /// The commit that the words spell.
 #[tactic(auto, unfolding(crate::specs::Reading::commit_in))]
-fn commit_of(words: &mut Words<'_>) -> Option<Entry>
-    ensures { result ≡ commit_in words.old }
+fn commit_of(words: &mut Words<'_>, bytes: &mut EntryBytes) -> Option<BareEntry>
+    ensures { option_map (with_bytes bytes.new) result ≡ commit_in words.old }
 {
     let task = words.next_word()?;
     let buffer = words.next_word()?;
@@ -24,18 +27,19 @@ fn commit_of(words: &mut Words<'_>) -> Option<Entry>
     }
     let task = task_of(task)?;
     let buffer = number_of(buffer, 64)?;
-    let payload = payload_of(payload)?;
-    Some(Entry::Commit {
+    if !payload_into(payload, &mut bytes.payload) {
+        return None;
+    }
+    Some(BareEntry::Commit {
         task,
         buffer: buffer as u8,
-        payload,
     })
 }
 
 /// The read that the words spell.
 #[tactic(auto, unfolding(crate::specs::Reading::read_in))]
-fn read_of(words: &mut Words<'_>) -> Option<Entry>
-    ensures { result ≡ read_in words.old }
+fn read_of(words: &mut Words<'_>) -> Option<BareEntry>
+    ensures { (bytes : EntryBytes) → option_map (with_bytes bytes) result ≡ read_in words.old }
 {
     let task = words.next_word()?;
     let buffer = words.next_word()?;
@@ -46,7 +50,7 @@ fn read_of(words: &mut Words<'_>) -> Option<Entry>
     let task = task_of(task)?;
     let buffer = number_of(buffer, 64)?;
     let from = from_of(from)?;
-    Some(Entry::Read {
+    Some(BareEntry::Read {
         task,
         buffer: buffer as u8,
         from,
@@ -55,8 +59,8 @@ fn read_of(words: &mut Words<'_>) -> Option<Entry>
 
 /// The pop that the words spell.
 #[tactic(auto, unfolding(crate::specs::Reading::pop_in))]
-fn pop_of(words: &mut Words<'_>) -> Option<Entry>
-    ensures { result ≡ pop_in words.old }
+fn pop_of(words: &mut Words<'_>) -> Option<BareEntry>
+    ensures { (bytes : EntryBytes) → option_map (with_bytes bytes) result ≡ pop_in words.old }
 {
     let task = words.next_word()?;
     let from = words.next_word()?;
@@ -65,13 +69,13 @@ fn pop_of(words: &mut Words<'_>) -> Option<Entry>
     }
     let task = task_of(task)?;
     let from = from_of(from)?;
-    Some(Entry::Pop { task, from })
+    Some(BareEntry::Pop { task, from })
 }
 
 /// The fetch that the words spell.
 #[tactic(auto, unfolding(crate::specs::Reading::fetch_in))]
-fn fetch_of(words: &mut Words<'_>) -> Option<Entry>
-    ensures { result ≡ fetch_in words.old }
+fn fetch_of(words: &mut Words<'_>) -> Option<BareEntry>
+    ensures { (bytes : EntryBytes) → option_map (with_bytes bytes) result ≡ fetch_in words.old }
 {
     let number = words.next_word()?;
     let cycle = words.next_word()?;
@@ -86,13 +90,13 @@ fn fetch_of(words: &mut Words<'_>) -> Option<Entry>
     let window = window_of(number, cycle, minislot, slot_a, slot_b)?;
     let a = offered_of(offer_a)?;
     let b = offered_of(offer_b)?;
-    Some(Entry::Fetch { window, a, b })
+    Some(BareEntry::Fetch { window, a, b })
 }
 
 /// The observe that the words spell.
 #[tactic(auto, unfolding(crate::specs::Reading::observe_in))]
-fn observe_of(words: &mut Words<'_>) -> Option<Entry>
-    ensures { result ≡ observe_in words.old }
+fn observe_of(words: &mut Words<'_>, bytes: &mut EntryBytes) -> Option<BareEntry>
+    ensures { option_map (with_bytes bytes.new) result ≡ observe_in words.old }
 {
     let window = words.next_word()?;
     let seen_a = words.next_word()?;
@@ -101,29 +105,46 @@ fn observe_of(words: &mut Words<'_>) -> Option<Entry>
         return None;
     }
     let window = number_of(window, 1 << 32)?;
-    let a = seen_of(seen_a)?;
-    let b = seen_of(seen_b)?;
-    Some(Entry::Observe {
+    if !seen_into(seen_a, &mut bytes.a) || !seen_into(seen_b, &mut bytes.b) {
+        return None;
+    }
+    Some(BareEntry::Observe {
         window: window as u32,
-        a,
-        b,
     })
 }
 
 /// The entry that the line spells, by its first word.
 #[tactic(auto, unfolding(crate::specs::Reading::entry_in))]
-fn parsed(line: &[u8]) -> Option<Entry>
-    ensures { result ≡ entry_in (words_of line.now) }
+fn parsed(line: &[u8], bytes: &mut EntryBytes) -> Option<BareEntry>
+    ensures { option_map (with_bytes bytes.new) result ≡ entry_in (words_of line.now) }
 {
     let mut words = Words::new(line);
-    match words.next_word()? {
-        b"commit" => commit_of(&mut words),
-        b"read" => read_of(&mut words),
-        b"pop" => pop_of(&mut words),
-        b"fetch" => fetch_of(&mut words),
-        b"see" => observe_of(&mut words),
-        _ => None,
+    let kind = words.next_word()?;
+    if kind == b"commit".as_slice() {
+        return commit_of(&mut words, bytes);
     }
+    if kind == b"read".as_slice() {
+        return read_of(&mut words);
+    }
+    if kind == b"pop".as_slice() {
+        return pop_of(&mut words);
+    }
+    if kind == b"fetch".as_slice() {
+        return fetch_of(&mut words);
+    }
+    if kind == b"see".as_slice() {
+        return observe_of(&mut words, bytes);
+    }
+    None
+}
+
+/// The same with its bytes.
+fn parsed_whole(line: &[u8]) -> Option<Entry>
+    ensures { result ≡ entry_in (words_of line.now) }
+{
+    let mut bytes = EntryBytes::new();
+    let bare = parsed(line, &mut bytes)?;
+    Some(with_bytes(bare, bytes))
 }
 
 /// The entry of a line `commit`, `read`, `pop`, `fetch` or `see`.
@@ -139,5 +160,13 @@ pub fn entry_of(line: &[u8]) -> Option<Entry>
     ensures only { (e : Entry) → IsSpelledEntry e → line.now ≡ line_of (entry_words e) → result ≡ Some e }
     ensures exact { result ≡ entry_in (words_of line.now) }
 {
-    parsed(line)
+    parsed_whole(line)
+}
+
+/// The same entry, without its bytes, which are read in place of those before. Where it is `None`, what they are isn't
+/// told.
+pub fn entry_into(line: &[u8], bytes: &mut EntryBytes) -> Option<BareEntry>
+    ensures { option_map (with_bytes bytes.new) result ≡ entry_in (words_of line.now) }
+{
+    parsed(line, bytes)
 }

@@ -14,6 +14,7 @@
 //! *(own profile)* marks a rule of this project's own, which says nothing of the standard.
 #![tactic(auto)]
 
+pub mod bare;
 pub mod buffers;
 pub mod entries;
 pub mod nodes;

@@ -1,11 +1,12 @@
 //! The parts of which lines are made.
 ghost use Rattle.std.specs.Prelude.{◌≡◌, ◌<◌, ◌^◌};
-ghost use Rattle.fr_text.specs.Reading.{number_in};
+ghost use Rattle.fr_text.specs.Reading.{number_in, read_as};
 ghost use Rattle.fr_lines.specs.PartReading.{slot_in, optional_slot_in, channels_in, cycles_in, filter_in, flag_in};
 ghost use Rattle.fr_lines.specs.PartReading.{mode_in, size_in, payload_in, channel_in, origin_in, from_in};
 ghost use Rattle.fr_lines.specs.PartReading.{offered_in, seen_bytes_in, seen_in, same_slot, window_of, window_in};
 
-use fr_frame::frame::FRAME_BYTES;
+use arrayvec::ArrayVec;
+use fr_frame::frame::Bytes;
 use fr_frame::payload::{PAYLOAD_BYTES, Payload};
 use fr_journal::entry::{Offered, Origin};
 use fr_slots::channel::{Channel, Channels};
@@ -14,7 +15,7 @@ use fr_slots::numbers::{Cycle, SlotId, TaskId};
 use fr_slots::plan::Mode;
 use fr_slots::window::Window;
 use fr_status::seen::Seen;
-use fr_text::hexes::bytes_of;
+use fr_text::hexes::bytes_into;
 use fr_text::numbers::number_of;
 
 /// The task that the word spells, 0 to 7.
@@ -132,13 +133,20 @@ pub(crate) fn size_of(word: &[u8]) -> Option<Option<u8>>
     }
 }
 
-/// The payload that the word spells.
+/// Reads the payload that the word spells in place of what the payload was. Says whether it could.
 #[tactic(auto, unfolding(crate::specs::PartReading::payload_in))]
-pub(crate) fn payload_of(word: &[u8]) -> Option<Payload>
-    ensures { result ≡ payload_in word.now }
+pub(crate) fn payload_into(word: &[u8], payload: &mut Payload) -> bool
+    ensures { read_as result payload.new ≡ payload_in word.now }
 {
-    let bytes = bytes_of::<PAYLOAD_BYTES>(word)?;
-    Payload::from_slice(bytes.as_slice()).ok()
+    let mut bytes = ArrayVec::new();
+    if !bytes_into::<PAYLOAD_BYTES>(word, &mut bytes) {
+        return false;
+    }
+    let Ok(read) = Payload::from_slice(bytes.as_slice()) else {
+        return false;
+    };
+    *payload = read;
+    true
 }
 
 /// The channel that stands after the number of an entry.
@@ -196,36 +204,46 @@ pub(crate) fn offered_of(word: &[u8]) -> Option<Offered>
     }
 }
 
-/// The bytes that the word spells, as what was seen.
+/// Reads the bytes that the word spells as what was seen, where bytes were seen before, in place of these.
 #[tactic(auto, unfolding(crate::specs::PartReading::seen_bytes_in))]
-fn seen_bytes_of(word: &[u8]) -> Option<Seen>
-    ensures { result ≡ seen_bytes_in word.now }
+fn seen_bytes_into(word: &[u8], seen: &mut Seen) -> bool
+    ensures { read_as result seen.new ≡ seen_bytes_in word.now }
 {
-    let bytes = bytes_of::<FRAME_BYTES>(word)?;
-    Some(Seen::Bytes(bytes))
+    if let Seen::Bytes(bytes) = seen {
+        return bytes_into(word, bytes);
+    }
+    let mut bytes = Bytes::new();
+    let is_read = bytes_into(word, &mut bytes);
+    *seen = Seen::Bytes(bytes);
+    is_read
 }
 
-/// What the word says that was seen on a channel.
+/// Reads what the word says that was seen on a channel in place of what was seen before. Says whether it could.
 #[tactic(auto, unfolding(crate::specs::PartReading::seen_in))]
-pub(crate) fn seen_of(word: &[u8]) -> Option<Seen>
-    ensures { result ≡ seen_in word.now }
+pub(crate) fn seen_into(word: &[u8], seen: &mut Seen) -> bool
+    ensures { read_as result seen.new ≡ seen_in word.now }
 {
     if word == b"-".as_slice() {
-        return Some(Seen::Silence);
+        *seen = Seen::Silence;
+        return true;
     }
     if word == b"own".as_slice() {
-        return Some(Seen::Own);
+        *seen = Seen::Own;
+        return true;
     }
     if word == b"conflict".as_slice() {
-        return Some(Seen::Conflict);
+        *seen = Seen::Conflict;
+        return true;
     }
     if word == b"noise".as_slice() {
-        return Some(Seen::Noise);
+        *seen = Seen::Noise;
+        return true;
     }
     if word == b"overrun".as_slice() {
-        return Some(Seen::Overrun);
+        *seen = Seen::Overrun;
+        return true;
     }
-    seen_bytes_of(word)
+    seen_bytes_into(word, seen)
 }
 
 /// The window of these numbers: at minislot 0 the static slot that both channels open.

@@ -6,6 +6,7 @@ use Rattle.std.proofs.lemmas.Bool.{le-leb, cases_lt, lt-ltb}
 use Rattle.std.proofs.lemmas.List.{get_or-set_same, get_or-set_other}
 use Rattle.std.proofs.lemmas.Nat.{or_shifted}
 use Rattle.std.proofs.lemmas.Slice.Eq.{bytes_eq-Decides}
+use Rattle.std.specs.Simd.{first_chunks}
 use Rattle.hex.proofs.HexLemmas.{length-encode_with, decode_of-encode_lower, decode_of-ok}
 use Rattle.hex.specs.Hex.{decode_of, encode_lower, encode_with, lower_digits, IsBytes}
 use Rattle.fr_text.specs.Reading.{bytes_as}
@@ -81,6 +82,19 @@ places_spelled (b ∷ bs) (d ∷ e ∷ digits) (suc k) is lt =
     let high : suc (suc (2 * k)) ≡ 2 * suc k = omega arith in
     let low : suc (suc (2 * k + 1)) ≡ 2 * suc k + 1 = omega arith in
     (rest.0 ∙ ap (λ (n : ℕ). get_or (d ∷ e ∷ digits) n 0) high, rest.1 ∙ ap (λ (n : ℕ). get_or (d ∷ e ∷ digits) n 0) low)
+
+-- a pair of digits stands at its place
+pub pair_at : (count place : ℕ) (digits default : List ℕ) → place < count → 2 * count ≤ length digits
+    → get_or (first_chunks 2 count digits) place default ≡ get_or digits (2 * place) 0 ∷ get_or digits (2 * place + 1) 0 ∷ []
+pair_at zero place digits default lt long = absurd (omega arith)
+pair_at (suc count) place [] default lt long = absurd (omega arith)
+pair_at (suc count) place (d ∷ []) default lt long = absurd (omega arith)
+pair_at (suc count) zero (d ∷ e ∷ digits) default lt long = refl
+pair_at (suc count) (suc place) (d ∷ e ∷ digits) default lt long =
+    let rest = pair_at count place digits default (omega arith) (omega arith) in
+    let high : suc (suc (2 * place)) ≡ 2 * suc place = omega arith in
+    let low : suc (suc (2 * place + 1)) ≡ 2 * suc place + 1 = omega arith in
+    rest ∙ (λ i. get_or (d ∷ e ∷ digits) (high i) 0 ∷ get_or (d ∷ e ∷ digits) (low i) 0 ∷ [])
 
 -- what is spelled is found, and where nothing is spelled nothing is
 pub bytes_found : (most : ℕ) (digits bs : List ℕ) → IsBytes bs → encode_lower bs ≡ digits → length bs ≤ most → bytes_as most digits (decode_of digits) ≡ Some bs

@@ -1,5 +1,5 @@
 -- The numbers and bytes that words spell. Each has one spelling.
-use Rattle.std.specs.Prelude.{ℕ, ◌==◌, nat_lt, nat_le, ◌&&◌, List, [], ◌∷◌, length, Option, Some, None, Result, Ok, Err}
+use Rattle.std.specs.Prelude.{ℕ, ◌==◌, nat_lt, nat_le, Bool, true, false, ◌&&◌, List, [], ◌∷◌, length, Option, Some, None, Result, Ok, Err}
 use Rattle.std.specs.Prelude.{if◌then◌else◌}
 use Rattle.std.specs.Fmt.{decimal}
 use Rattle.std.specs.Str.{bytes_eq}
@@ -12,6 +12,11 @@ infixl 10 ◌>>=◌
 abbrev pub ◌>>=◌ : {A B : Type 0} → Option A → (A → Option B) → Option B
 None >>= f = None
 (Some x) >>= f = f x
+
+-- what was read in place of what was there, where it could be
+abbrev pub read_as : {A : Type 0} → Bool → A → Option A
+read_as true x = Some x
+read_as false x = None
 
 -- the number below the bound that is spelled so
 unfoldable pub number_in : ℕ → List ℕ → Option ℕ

@@ -1,7 +1,7 @@
 //! The bytes that words spell: the letter `x`, and two lower-case hexadecimal digits for each byte.
 ghost use Rattle.std.specs.Prelude.{ℕ, ◌≡◌, ◌<◌, ◌≤◌, length, option_map, slice_index};
 ghost use Rattle.fr_text.specs.Writing.{Writes};
-ghost use Rattle.fr_text.specs.Reading.{bytes_in, bytes_as};
+ghost use Rattle.fr_text.specs.Reading.{bytes_in, bytes_as, read_as};
 ghost use Rattle.fr_text.specs.Spelling.{hex_text};
 ghost use Rattle.hex.specs.Hex.{decode_of, lower_digits};
 
@@ -31,40 +31,62 @@ fn digit_value(digit: u8) -> u8
     }
 }
 
-/// The bytes that the digits spell, in lower case.
-fn digits_of<const N: usize>(digits: &[u8]) -> Option<ArrayVec<u8, N>>
+/// Reads the bytes that the digits spell, in lower case, in place of what the bytes were. Says whether it could.
+///
+/// The digits are taken in pairs, and none is answered early, so that the compiler reads many of them at once.
+fn digits_into<const N: usize>(digits: &[u8], bytes: &mut ArrayVec<u8, N>) -> bool
     requires { N ≤ MOST_BYTES }
-    ensures { option_map (λ p. p.items) result ≡ bytes_as N digits.now (decode_of digits.now) }
+    ensures { read_as result bytes.new.items ≡ bytes_as N digits.now (decode_of digits.now) }
 {
     let count = digits.len() / 2;
     if count > N || digits.len() % 2 == 1 {
-        return None;
+        return false;
     }
+    let (pairs, _) = digits.as_chunks::<2>();
     let mut room = [0u8; N];
     let mut plain = true;
     for place in 0..count {
-        let high = digit_value(digits[2 * place]);
-        let low = digit_value(digits[2 * place + 1]);
+        let [first, second] = pairs[place];
+        let high = digit_value(first);
+        let low = digit_value(second);
         plain &= high < 16;
         plain &= low < 16;
         room[place] = high << 4 | low;
     }
     if !plain {
-        return None;
+        return false;
     }
-    ArrayVec::try_from(&room[..count]).ok()
+    bytes.clear();
+    bytes.try_extend_from_slice(&room[..count]).is_ok()
+}
+
+/// Reads the bytes that the word spells in place of what the bytes were: the letter `x`, and two lower-case digits for
+/// each byte. Says whether it could: it can't where the word, which may be empty, is no such spelling, or where it has
+/// more than `N` bytes, and then what the bytes are isn't told. `N` is at most `MOST_BYTES`.
+#[tactic(auto, unfolding(crate::specs::Reading::bytes_in))]
+pub fn bytes_into<const N: usize>(word: &[u8], bytes: &mut ArrayVec<u8, N>) -> bool
+    requires { N ≤ MOST_BYTES }
+    ensures { read_as result bytes.new.items ≡ bytes_in N word.now }
+{
+    let Some((mark, digits)) = word.split_first() else {
+        return false;
+    };
+    if *mark == b'x' {
+        digits_into(digits, bytes)
+    } else {
+        false
+    }
 }
 
 /// The bytes that the word spells: the letter `x`, and two lower-case digits for each byte. `None` where the word,
 /// which may be empty, is no such spelling, or where it has more than `N` bytes. `N` is at most `MOST_BYTES`.
-#[tactic(auto, unfolding(crate::specs::Reading::bytes_in))]
 pub fn bytes_of<const N: usize>(word: &[u8]) -> Option<ArrayVec<u8, N>>
     requires { N ≤ MOST_BYTES }
     ensures { option_map (λ p. p.items) result ≡ bytes_in N word.now }
 {
-    let (mark, digits) = word.split_first()?;
-    if *mark == b'x' {
-        digits_of(digits)
+    let mut bytes = ArrayVec::new();
+    if bytes_into(word, &mut bytes) {
+        Some(bytes)
     } else {
         None
     }

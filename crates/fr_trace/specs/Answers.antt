@@ -57,6 +57,11 @@ same_answer (Pop task made) (Pop t told) = same_origin made told
 same_answer (Fetch window made_a made_b) (Fetch w told_a told_b) = same_offered made_a told_a && same_offered made_b told_b
 same_answer made told = true
 
+-- the entry of a call, if there is one, has the answers that the trace tells
+abbrev pub entry_answers : Option Entry → Entry → Bool
+entry_answers None told = false
+entry_answers (Some made) told = same_answer made told
+
 -- the answers that the trace tells are those of the call
 abbrev pub is_answered : State → Entry → Bool
 is_answered s e = same_answer (made_by s e) e

@@ -16,7 +16,8 @@ use crate::error::TraceError;
 use crate::replay::replay;
 use arrayvec::ArrayVec;
 use fr_interface::interface::Interface;
-use fr_lines::entries::entry_of;
+use fr_lines::bare::EntryBytes;
+use fr_lines::entries::entry_into;
 use fr_lines::nodes::node_of;
 use fr_lines::parameters::params_of;
 use fr_lines::plan_lines::{PlanLine, plan_line_of};
@@ -189,12 +190,16 @@ fn plan_line(
 }
 
 /// A line of the journal. The interface makes its call in place.
-fn entry_line(interface: &mut Interface, line: &[u8]) -> Result<(), TraceError>
+fn entry_line(
+    interface: &mut Interface,
+    bytes: &mut EntryBytes,
+    line: &[u8],
+) -> Result<(), TraceError>
     ensures { GivesPhase (λ done. body interface.new) result (after_entry interface.old (entry_in (words_of line.now))) }
 {
     let number = lines_of(interface) + 5;
-    match &entry_of(line) {
-        Some(entry) => replay(interface, entry, number),
+    match entry_into(line, bytes) {
+        Some(entry) => replay(interface, &entry, bytes, number),
         None => Err(TraceError::BadLine(number)),
     }
 }
@@ -242,13 +247,18 @@ fn move_on(alloc: Global, phase: &mut Phase, line: &[u8]) -> Result<(), TraceErr
 }
 
 /// Takes a whole line. What stands before it is gone where it is refused.
-fn pass_line(alloc: Global, phase: &mut Phase, line: &[u8]) -> Result<(), TraceError>
+fn pass_line(
+    alloc: Global,
+    phase: &mut Phase,
+    bytes: &mut EntryBytes,
+    line: &[u8],
+) -> Result<(), TraceError>
     ensures { GivesUnless (IsBegin (phase_of phase.old) line.now) (λ done. phase_of phase.new) result
         (take_line (phase_of phase.old) line.now) }
 {
     if line != b"end".as_slice() {
         if let Phase::Body(interface) = phase {
-            return entry_line(interface, line);
+            return entry_line(interface, bytes, line);
         }
     }
     move_on(alloc, phase, line)
@@ -270,6 +280,8 @@ pub struct Auditor {
     alloc: Global,
     phase: Phase,
     line: ArrayVec<u8, LINE>,
+    /// The bytes of the entry that was read last, so that none is handed on by value.
+    bytes: EntryBytes,
     fault: Option<TraceError>,
 }
 
@@ -299,6 +311,7 @@ impl Auditor {
             alloc,
             phase: Phase::Magic,
             line: ArrayVec::new(),
+            bytes: EntryBytes::new(),
             fault: None,
         }
     }
@@ -311,7 +324,7 @@ impl Auditor {
         if self.fault.is_some() {
             return;
         }
-        self.fault = pass_line(self.alloc, &mut self.phase, line).err();
+        self.fault = pass_line(self.alloc, &mut self.phase, &mut self.bytes, line).err();
     }
 
     /// Takes bytes of one line.

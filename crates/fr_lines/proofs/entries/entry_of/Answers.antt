@@ -17,10 +17,10 @@ fits None line h = tt
 fits (Some e) line h = entry_fits (words_of line) e (sym h)
 
 pub returns-clause-found : goal.returns-clause-found
-returns-clause-found c = found c.parsed.result c.args.line.now c.parsed.ensures
+returns-clause-found c = found c.parsed_whole.result c.args.line.now c.parsed_whole.ensures
 
 pub returns-clause-fits : goal.returns-clause-fits
-returns-clause-fits c = fits c.parsed.result c.args.line.now c.parsed.ensures
+returns-clause-fits c = fits c.parsed_whole.result c.args.line.now c.parsed_whole.ensures
 
 pub returns-clause-only : goal.returns-clause-only
-returns-clause-only c e is text = c.parsed.ensures ∙ ap (λ l. entry_in (words_of l)) text ∙ entry_line_again e is
+returns-clause-only c e is text = c.parsed_whole.ensures ∙ ap (λ l. entry_in (words_of l)) text ∙ entry_line_again e is

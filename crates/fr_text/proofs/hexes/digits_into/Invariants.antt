@@ -1,7 +1,7 @@
 use Rattle.std.proofs.Common.{◌≡◌, ℕ, ◌<◌, List, length, true}
 use Rattle.hex.specs.Hex.{encode_lower, IsBytes}
 use Rattle.fr_text.proofs.DigitLemmas.{SpelledAt}
-use Rattle.fr_text.proofs.hexes.digits_of.Given as goal
+use Rattle.fr_text.proofs.hexes.digits_into.Given as goal
 
 -- The room has the bytes of the digits so far where all of them are plain, and those of bytes are.
 abbrev pub invariant-loop-place : goal.invariant-loop-place

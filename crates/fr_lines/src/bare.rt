@@ -1,0 +1,83 @@
+//! Entries without their bytes, which stand in a place of their own that one line after another is read into.
+ghost use Rattle.std.specs.Prelude.{◌≡◌};
+ghost use Rattle.fr_lines.specs.Bare.{with_bytes};
+
+use fr_frame::payload::Payload;
+use fr_journal::entry::{Entry, Offered, Origin};
+use fr_slots::numbers::TaskId;
+use fr_slots::window::Window;
+use fr_status::seen::Seen;
+
+/// An entry of a journal without what was committed or seen (own profile).
+#[derive(Clone, Copy, Debug, PartialEq, Eq)]
+pub enum BareEntry {
+    /// A task gave a payload to a transmit buffer.
+    Commit {
+        task: TaskId,
+        buffer: u8,
+    },
+    /// A task read a receive buffer, and got the frame of this origin, or none.
+    Read {
+        task: TaskId,
+        buffer: u8,
+        from: Option<Origin>,
+    },
+    /// A task took the oldest frame of the receive queue, which had this origin, or got none.
+    Pop {
+        task: TaskId,
+        from: Option<Origin>,
+    },
+    /// The controller opened a window, and handed this to the bus.
+    Fetch {
+        window: Window,
+        a: Offered,
+        b: Offered,
+    },
+    /// The controller closed the window of this number.
+    Observe {
+        window: u32,
+    },
+}
+
+/// What was committed or seen by the entry that was read last. What an entry has no use for is left from those before.
+#[derive(Debug, Drop)]
+pub struct EntryBytes {
+    /// What was committed.
+    pub payload: Payload,
+    /// What was seen on channel A.
+    pub a: Seen,
+    /// What was seen on channel B.
+    pub b: Seen,
+}
+
+impl EntryBytes {
+    /// The place before an entry was read.
+    pub fn new() -> EntryBytes {
+        EntryBytes {
+            payload: Payload::default(),
+            a: Seen::Silence,
+            b: Seen::Silence,
+        }
+    }
+}
+
+/// The entry with these bytes.
+pub(crate) fn with_bytes(bare: BareEntry, bytes: EntryBytes) -> Entry
+    ensures { result ≡ with_bytes bytes bare }
+{
+    match bare {
+        BareEntry::Commit { task, buffer } => Entry::Commit {
+            task,
+            buffer,
+            payload: bytes.payload,
+        },
+        BareEntry::Read { task, buffer, from } => Entry::Read { task, buffer, from },
+        BareEntry::Pop { task, from } => Entry::Pop { task, from },
+        BareEntry::Fetch { window, a, b } => Entry::Fetch { window, a, b },
+        BareEntry::Observe { window } => Entry::Observe {
+            window,
+            a: bytes.a,
+            b: bytes.b,
+        },
+    }
+}
