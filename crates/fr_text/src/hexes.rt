@@ -33,7 +33,8 @@ fn digit_value(digit: u8) -> u8
 
 /// Reads the bytes that the digits spell, in lower case, in place of what the bytes were. Says whether it could.
 ///
-/// The digits are taken in pairs, and none is answered early, so that the compiler reads many of them at once.
+/// The digits are taken in pairs, each as a value of its own, and none is answered early: so the compiler reads many
+/// of them at once.
 fn digits_into<const N: usize>(digits: &[u8], bytes: &mut ArrayVec<u8, N>) -> bool
     requires { N ≤ MOST_BYTES }
     ensures { read_as result bytes.new.items ≡ bytes_as N digits.now (decode_of digits.now) }
@@ -46,7 +47,8 @@ fn digits_into<const N: usize>(digits: &[u8], bytes: &mut ArrayVec<u8, N>) -> bo
     let mut room = [0u8; N];
     let mut plain = true;
     for place in 0..count {
-        let [first, second] = pairs[place];
+        let pair = pairs[place];
+        let [first, second] = pair;
         let high = digit_value(first);
         let low = digit_value(second);
         plain &= high < 16;
