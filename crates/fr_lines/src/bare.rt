@@ -1,4 +1,5 @@
 //! Entries without their bytes, which stand in a place of their own that one line after another is read into.
+
 ghost use Rattle.std.specs.Prelude.{◌≡◌};
 ghost use Rattle.fr_lines.specs.Bare.{with_bytes};
 
