@@ -1,15 +1,15 @@
--- What is read of a scenario, and that what is written is the outcome of a run with it.
+-- What is read of a scenario, that what is written is the outcome of a run with it, and that a
+-- run is refused as that with its contents.
 use Rattle.std.proofs.Common.{◌≡◌, ◌⊎◌, ℕ, List, Option, Some, None, Result, Ok, Err, refl, subst, inl, inr}
-use Rattle.std.specs.Prelude.{IfSome, IfErr}
+use Rattle.std.specs.Prelude.{IfSome}
 use Rattle.std.specs.Io.KnownBytes.{Appends}
 use Rattle.std.specs.Str.{IsUtf8}
-use Rattle.fr_commands.specs.declared.error.BenchError.{BenchError}
-use Rattle.fr_commands.specs.declared.error.BenchError.TheVariants as bench
-use Rattle.fr_commands.specs.Inputs.{IsReadUpTo}
 use Rattle.fr_outcome.specs.declared.error.OutcomeError.{OutcomeError}
 use Rattle.fr_outcome.specs.declared.error.OutcomeError.TheVariants as refusal
-use Rattle.fr_outcome.specs.Outcomes.{IsRefused, IsShort, IsScenarioIn, IsScenarioOf, IsOutcome, Adds}
+use Rattle.fr_outcome.specs.Outcomes.{IsRefused, IsShort, IsScenarioIn, IsScenarioOf, Adds, RunIsRefused}
 use Rattle.fr_outcome.specs.OutcomeText.{outcome_text}
+use Rattle.fr_runs.specs.declared.check.RunRefusal.{RunRefusal}
+use Rattle.fr_runs.specs.Refusing.{Refuses}
 use Rattle.fr_scenario.specs.Contents.{Contents}
 use Rattle.fr_scenario.specs.declared.error.ScenarioError.{ScenarioError}
 use Rattle.fr_scenario.specs.declared.error.ScenarioError.TheVariants as scenario
@@ -44,3 +44,10 @@ printed d cycles (Some t) old new contents run of_text is_run written = (
   record { contents = contents; spelled = of_text.1; run = run; is_run = is_run; outcome_is = refl },
   written,
 )
+
+-- the run with the scenario that the text is, is refused as the run with its contents
+pub run_refused : (d : Description) (cycles : ℕ) (text : Option (List ℕ)) (contents : Contents) (told : Option RunRefusal)
+    → IfSome text (λ t. IsScenarioOf t (Ok contents)) → Refuses d contents.scripts contents.faults cycles told
+    → IfSome text (λ t. RunIsRefused d cycles t told)
+run_refused d cycles None contents told of_text refuses = tt
+run_refused d cycles (Some t) contents told of_text refuses = (of_text.0, (contents, of_text.1, refuses))

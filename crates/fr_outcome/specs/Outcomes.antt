@@ -2,11 +2,14 @@
 use Rattle.std.specs.Prelude.{⊤, ◌≡◌, ◌<◌, ◌≤◌, ◌⊎◌, ℕ, List, length, Option, Some, None, IfSome, Result, Ok, Err}
 use Rattle.std.specs.Io.KnownBytes.{Appends}
 use Rattle.std.specs.Str.{IsUtf8}
+use Rattle.fr_commands.specs.ClusterFiles.{IsClusterOf}
 use Rattle.fr_commands.specs.declared.error.BenchError.{BenchError}
 use Rattle.fr_commands.specs.declared.error.BenchError.TheVariants as bench
 use Rattle.fr_outcome.specs.declared.error.OutcomeError.{OutcomeError}
 use Rattle.fr_outcome.specs.declared.error.OutcomeError.TheVariants as refusal
 use Rattle.fr_outcome.specs.OutcomeText.{outcome_text}
+use Rattle.fr_runs.specs.declared.check.RunRefusal.{RunRefusal}
+use Rattle.fr_runs.specs.Refusing.{Refuses}
 use Rattle.fr_scenario.specs.Contents.{Contents}
 use Rattle.fr_scenario.specs.declared.error.ScenarioError.{ScenarioError}
 use Rattle.fr_scenario.specs.declared.error.ScenarioError.TheVariants as scenario
@@ -14,7 +17,7 @@ use Rattle.fr_scenario.specs.Reading.{first_fault}
 use Rattle.fr_scenario.specs.ScenarioText.{IsScenarioText}
 use Rattle.fr_schedule.specs.Descriptions.{Description}
 use Rattle.fr_threads.specs.declared.run.Run.{Run}
-use Rattle.fr_threads.specs.Running.{IsRunOf}
+use Rattle.fr_threads.specs.Running.{IsRunOf, refusal_of}
 
 -- ---- the scenario of a text
 
@@ -64,3 +67,41 @@ abbrev pub Prints : Description → ℕ → Option (List ℕ) → Option (List �
 Prints d cycles text old new (Ok done) = IfSome text (Adds d cycles old new)
 Prints d cycles text old new (Err (refusal.Text bench.Write)) = ⊤
 Prints d cycles text old new (Err e) = new ≡ old
+
+-- ---- why nothing was written
+
+-- the text is that of a scenario, and the cluster's run with it is refused so, or can be had
+abbrev pub RunIsRefused : Description → ℕ → List ℕ → Option RunRefusal → Type 0
+RunIsRefused d cycles text refused =
+    IsShort text
+    × ((contents : Contents) × IsScenarioText text contents × Refuses d contents.scripts contents.faults cycles refused)
+
+-- The text of the scenario is refused so, or the run with it, or neither is. Of a failing reader and of want of memory
+-- nothing is said, nor of a failure that threads met in a run that can be had.
+abbrev pub Answers : Description → ℕ → List ℕ → Result (Unit {0}) OutcomeError → Type 0
+Answers d cycles text (Ok done) = RunIsRefused d cycles text None
+Answers d cycles text (Err (refusal.Run e)) = RunIsRefused d cycles text (refusal_of e)
+Answers d cycles text (Err (refusal.Scenario e)) = IsShort text × IsRefused text e
+Answers d cycles text (Err (refusal.Text bench.TooLong)) = 1048576 < length text
+Answers d cycles text (Err (refusal.Text bench.Write)) = RunIsRefused d cycles text None
+Answers d cycles text (Err (refusal.Text bench.Read)) = ⊤
+Answers d cycles text (Err (refusal.Text bench.Memory)) = ⊤
+Answers d cycles text (Err e) = ⊥
+
+-- ---- a cluster file and a scenario
+
+-- The cluster file is refused so, and neither is a byte of the scenario read nor anything written.
+pub record IsFileRefused (file text rest old new : Option (List ℕ)) (answer : Result (Unit {0}) OutcomeError) : Type 0 where
+  pub error : BenchError
+  pub refused : IfSome file (λ bytes. IsClusterOf bytes (Err error))
+  pub answer_is : answer ≡ Err (refusal.Text error)
+  pub unread : rest ≡ text
+  pub unwritten : new ≡ old
+
+-- The cluster file describes a cluster, with which this is what `run` does.
+pub record IsFileRun (file : Option (List ℕ)) (cycles : ℕ) (text old new : Option (List ℕ)) (answer : Result (Unit {0}) OutcomeError)
+    : Type 0 where
+  pub cluster : Description
+  pub described : IfSome file (λ bytes. IsClusterOf bytes (Ok cluster))
+  pub printed : Prints cluster cycles text old new answer
+  pub answered : IfSome text (λ bytes. Answers cluster cycles bytes answer)

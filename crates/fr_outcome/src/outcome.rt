@@ -1,6 +1,6 @@
 //! `fr_bench run`.
-ghost use Rattle.std.specs.Prelude.{IfSome, OnOk, ◌≡◌};
-ghost use Rattle.fr_outcome.specs.Outcomes.{IsScenarioIn, IsScenarioOf, Prints};
+ghost use Rattle.std.specs.Prelude.{IfSome, OnOk, ◌≡◌, ◌⊎◌};
+ghost use Rattle.fr_outcome.specs.Outcomes.{IsScenarioIn, IsScenarioOf, Prints, Answers, IsFileRefused, IsFileRun};
 
 use crate::error::OutcomeError;
 use crate::text::write_outcome;
@@ -62,13 +62,14 @@ pub fn run_cluster<T: Threads + Wait + Sync, R: Read, W: Write>(
     free: bool,
     writer: &mut W,
 ) -> Result<(), OutcomeError>
-    ensures { Prints
+    ensures written { Prints
         cluster.now
         cycles
         (R.remaining reader.old)
         (W.contents writer.old)
         (W.contents writer.new)
         result }
+    ensures refused { IfSome (R.remaining reader.old) (λ text. Answers cluster.now cycles text result) }
 {
     let scenario = scenario_of(alloc, reader)?;
     let scripts = scenario.scripts();
@@ -95,7 +96,22 @@ pub fn run_text<T: Threads + Wait + Sync, F: Read, R: Read, W: Write>(
     cycles: u16,
     free: bool,
     writer: &mut W,
-) -> Result<(), OutcomeError> {
+) -> Result<(), OutcomeError>
+    ensures { IsFileRefused
+        (F.remaining file.old)
+        (R.remaining reader.old)
+        (R.remaining reader.new)
+        (W.contents writer.old)
+        (W.contents writer.new)
+        result
+        ⊎ IsFileRun
+        (F.remaining file.old)
+        cycles
+        (R.remaining reader.old)
+        (W.contents writer.old)
+        (W.contents writer.new)
+        result }
+{
     let cluster = cluster_of(alloc, file)?;
     run_cluster(rt, alloc, &cluster, reader, cycles, free, writer)
 }
