@@ -139,14 +139,18 @@ impl Wire {
         }
     }
 
-    /// Looks out for the signal, if the call isn't due.
-    fn look_out<R: Wait>(&self, rt: &R, signal: &Signal, call: Call) {
+    /// The bus under its lock, if the call is due. Else how often the signal was given before it can be.
+    fn due<R: Wait>(
+        &self,
+        rt: &R,
+        signal: &Signal,
+        call: Call,
+    ) -> Result<MutexGuard<'_, Wired>, u32> {
         let wired = self.lock.lock(rt);
-        let before = signal.count();
-        let due = wired.is_due(call);
-        drop(wired);
-        if !due {
-            signal.look_out(before);
+        if wired.is_due(call) {
+            Ok(wired)
+        } else {
+            Err(signal.count())
         }
     }
 
@@ -157,10 +161,15 @@ impl Wire {
         signal: &Signal,
         call: Call,
     ) -> Result<MutexGuard<'_, Wired>, WireError> {
-        self.look_out(rt, signal, call);
-        let wired = signal
-            .sleepers
-            .wait_while(rt, self.lock.lock(rt), |wired| !wired.is_due(call));
+        let wired = match self.due(rt, signal, call) {
+            Ok(wired) => wired,
+            Err(before) => {
+                signal.look_out(before);
+                signal
+                    .sleepers
+                    .wait_while(rt, self.lock.lock(rt), |wired| !wired.is_due(call))
+            }
+        };
         if wired.stopped {
             Err(WireError::Stopped)
         } else {
