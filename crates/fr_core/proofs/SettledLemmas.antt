@@ -1,5 +1,5 @@
 -- What a settling tells: the windows of lists that agree, where a first failure stands, and what a world gives.
-use Rattle.std.proofs.Common.{◌≡◌, ◌<◌, ◌≤◌, ℕ, zero, suc, ◌+◌, Bool, true, false, not, cond, ◌&&◌, ◌||◌, List, [], ◌∷◌, ◌++◌, length, map, Option, Some, None, refl, sym, ap, subst, ◌∙◌, arith, get_or, inl, inr}
+use Rattle.std.proofs.Common.{◌≡◌, ◌<◌, ◌≤◌, ℕ, zero, suc, Bool, true, false, not, ◌&&◌, ◌||◌, List, [], ◌∷◌, ◌++◌, length, map, Option, Some, None, refl, sym, ap, subst, ◌∙◌, arith, get_or, inl, inr}
 use Rattle.std.specs.Prelude.{slice_get, option_map, option_to_list, nat_lt, ◌==◌, Result, Ok, Err, IfSome, OnOk}
 use Rattle.std.specs.List.{list_all}
 use Rattle.std.proofs.lemmas.List.{append-nil, length-map, length-append, map-append}
@@ -12,7 +12,7 @@ use Rattle.fr_bus.specs.Record.{Recorded, IsOutcome}
 use Rattle.fr_bus.specs.States.{BusState, IsRun, IsRecorded}
 use Rattle.fr_core.proofs.CaseLemmas.{both, both_first, both_rest}
 use Rattle.fr_core.proofs.SentLemmas.{of_all}
-use Rattle.fr_core.proofs.WalkLemmas.{get_map, some_alike, none_past}
+use Rattle.fr_core.proofs.WalkLemmas.{get_map, some_alike, none_past, same_places}
 use Rattle.fr_core.specs.Agreeing.{Handed, Sight, handed_at, sight_at, sight_of, fetched, observed, offers_of, sights_of}
 use Rattle.fr_core.specs.Agreement.{BusView, view_for, ahead, behind, AgreesAt, IsWorld}
 use Rattle.fr_core.specs.declared.carried.Carried.{Carried}
@@ -31,12 +31,11 @@ use Rattle.fr_journal.specs.OpenWindow.{open_window}
 use Rattle.fr_schedule.specs.Clusters.{IsCluster}
 use Rattle.fr_schedule.specs.Descriptions.{Description}
 use Rattle.fr_slots.specs.declared.channel.Channel.{Channel}
-use Rattle.fr_slots.specs.declared.channel.Channel.TheVariants.{A, B}
 use Rattle.fr_slots.specs.History.{AllAfter, each_after}
 use Rattle.fr_slots.specs.Numbers.{last_node}
 use Rattle.fr_slots.specs.Parameters.{Parameters}
 use Rattle.fr_slots.specs.Plans.{Plan}
-use Rattle.fr_slots.specs.Windows.{Opportunity, slot_of}
+use Rattle.fr_slots.specs.Windows.{Opportunity}
 
 -- ---- the windows of lists
 
@@ -147,13 +146,6 @@ few_windows rs s h =
     omega (arith, same, few_after fetches_at one_fetch [] s.entries)
 
 -- ---- what follows from an agreement
-
-same_places : {X : Type 0} (xs ys : List X) → ((k : ℕ) → slice_get xs k ≡ slice_get ys k) → xs ≡ ys
-same_places [] [] same = refl
-same_places [] (y ∷ ys) same = absurd (let none : ⊥ = (let clash : None ≡ Some y = same 0 in cc) in none)
-same_places (x ∷ xs) [] same = absurd (let none : ⊥ = (let clash : Some x ≡ None = same 0 in cc) in none)
-same_places (x ∷ xs) (y ∷ ys) same =
-    ap (λ z. z ∷ xs) (some_alike x y (same 0)) ∙ ap (λ zs. y ∷ zs) (same_places xs ys (λ k. same (suc k)))
 
 planned_few : (p : Parameters) (s : State) (o : Option State) (plans : List Plan) (n : ℕ) → o ≡ Some s → ArePlanned p o (slice_get plans n) → n < length plans
 planned_few p s o plans n at is = by_plan (slice_get plans n) refl (subst (λ x. ArePlanned p x (slice_get plans n)) at is)

@@ -2,7 +2,7 @@
 -- whatever cluster the bus was made with.
 use Rattle.std.proofs.Common.{◌≡◌, ◌<◌, ◌≤◌, ℕ, Bool, true, false, not, ◌&&◌, ◌||◌, List, [], ◌∷◌, length, Some, refl}
 use Rattle.std.proofs.Common.{ap, subst, ◌∙◌, arith, ◌+◌}
-use Rattle.std.specs.Prelude.{slice_get, nat_lt, ◌==◌, Result, Ok, Err, OnOk, All, Contains}
+use Rattle.std.specs.Prelude.{slice_get, nat_lt, ◌==◌, Result, Ok, Err, OnOk, All}
 use Rattle.std.specs.List.{list_all}
 use Rattle.std.proofs.lemmas.Bool.{eq-eqb, ltb-true}
 use Rattle.std.proofs.lemmas.List.Elements.{All-nil, All-cons}
@@ -11,7 +11,7 @@ use Rattle.fr_bus.proofs.SenderLemmas.{IsLetPass, passed_sends, channel_case}
 use Rattle.fr_bus.specs.declared.outcome.Fate.{Fate}
 use Rattle.fr_bus.specs.declared.outcome.Fate.TheVariants.{Passed, Blocked, Muted}
 use Rattle.fr_bus.specs.declared.outcome.Sent.{Sent}
-use Rattle.fr_bus.specs.Outcome.{is_passed, passed_on}
+use Rattle.fr_bus.specs.Outcome.{is_passed}
 use Rattle.fr_bus.specs.Record.{Recorded, IsOutcome}
 use Rattle.fr_bus.specs.States.{BusState, IsRun, OneSenderEach}
 use Rattle.fr_core.proofs.CaseLemmas.{both, both_first, both_rest}

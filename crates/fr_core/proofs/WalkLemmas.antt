@@ -1,43 +1,88 @@
--- One step further along a journal, beside a list that it is compared with.
-use Rattle.std.proofs.Common.{◌≡◌, Bool, true, false, ◌<◌, ◌≤◌, ℕ, zero, suc, ◌+◌, List, [], ◌∷◌, ◌++◌, length, Option, Some, None, refl, sym, ap, subst, ◌∙◌, arith, take, drop, append_assoc}
-use Rattle.std.specs.Prelude.{slice_get, option_to_list}
-use Rattle.std.proofs.lemmas.List.{take_more, take_all, append-nil, length-take-le, take_at, take-append-drop, length-map}
-use Rattle.std.proofs.lemmas.Option.{slice_get_past, slice_get_within, get_or_from_slice_get}
-use Rattle.std.specs.Prelude.{option_map, map, nat_lt, if◌then◌else◌}
+-- One entry further along a journal, beside the record.
+use Rattle.std.proofs.Common.{◌≡◌, Bool, true, false, ◌&&◌, ◌<◌, ◌≤◌, ◌↔◌, ℕ, zero, suc, ◌+◌, List, [], ◌∷◌, ◌++◌, length, map, Option, Some, None, refl, sym, ap, subst, ◌∙◌, arith, take, drop, append_assoc, inl, inr}
+use Rattle.std.specs.Prelude.{slice_get, option_to_list, option_map, nat_lt, if◌then◌else◌, IsTrue, is_none}
+use Rattle.std.specs.Option.{option_and_then, option_or}
 use Rattle.std.proofs.lemmas.Bool.{ltb-true, ltb-false}
-use Rattle.std.specs.Option.{option_and_then}
+use Rattle.std.proofs.lemmas.Bool.Decides.{eqb_tells}
+use Rattle.std.proofs.lemmas.List.{take_more, take_all, append-nil, length-append, length-map, take-append-drop}
+use Rattle.std.proofs.lemmas.Option.{slice_get_past, slice_get_within, get_or_from_slice_get}
 use Rattle.fr_bus.specs.Record.{Recorded}
-use Rattle.fr_core.specs.Agreeing.{handed_at, sight_at, Sight, sight_of}
-use Rattle.fr_core.specs.Settling.{fetched_window, observed_window, fetches_at, observes_at}
-use Rattle.fr_core.specs.Walks.{IsFirstDifference, FindsDifference, IsAsFar, handed_by, saw, opened_after, opened_past}
+use Rattle.fr_core.specs.Agreeing.{Sight, sight_of, handed_at, sight_at, offers_of, sights_of}
+use Rattle.fr_core.specs.declared.walk.Fetches.{Fetches}
+use Rattle.fr_core.specs.declared.walk.Observes.{Observes}
+use Rattle.fr_core.specs.Settling.{HasWindows, fetches_at, observes_at, windows_fetched, windows_observed, windows_of}
+use Rattle.fr_core.specs.Walks.{Finds, FindsBelow, FindsNext, IsCompared, AreFetches, FetchesNext, AreObserves, SightsNext, ObservesNext}
+use Rattle.fr_core.specs.Walks.{handed_by, opened_after, sight_in, is_nothing, is_silent}
 use Rattle.fr_interface.specs.Handing.{offered_on, bytes_in_entry, bytes_handed}
 use Rattle.fr_interface.specs.State.{State}
 use Rattle.fr_journal.proofs.OpenWindowLemmas.{open_window-snoc}
 use Rattle.fr_journal.specs.declared.entry.Entry.{Entry}
 use Rattle.fr_journal.specs.declared.entry.Entry.TheVariants.{Commit, Read, Pop, Fetch, Observe}
-use Rattle.fr_journal.specs.Offers.{frame_with, bytes_of}
+use Rattle.fr_journal.specs.declared.entry.Offered.{Offered}
+use Rattle.fr_journal.specs.declared.entry.Offered.TheVariants.{Nothing, Null, Data}
+use Rattle.fr_journal.specs.Offers.{frame_with, frame_of_offer, bytes_of}
 use Rattle.fr_journal.specs.OpenWindow.{open_window}
 use Rattle.fr_slots.specs.declared.channel.Channel.{Channel}
 use Rattle.fr_slots.specs.declared.channel.Channel.TheVariants.{A, B}
-use Rattle.fr_slots.specs.Windows.{Opportunity}
+use Rattle.fr_slots.specs.Parameters.{Parameters}
+use Rattle.fr_slots.specs.Plans.{Plan}
+use Rattle.fr_slots.specs.Windows.{Opportunity, slot_of}
 use Rattle.fr_slots.proofs.HistoryLemmas.{each_after-snoc}
 use Rattle.fr_slots.specs.History.{each_after, last_after}
 
--- what stands for an element that may not be there
-abbrev pub given : {X A : Type 0} → (List X → X → List A) → List X → Option X → List A
-given f before None = []
-given f before (Some x) = f before x
+-- ---- places of lists
+
+pub some_alike : {X : Type 0} (x y : X) → ◌≡◌ {A = Option X} (Some x) (Some y) → x ≡ y
+some_alike x y e = cc
 
 pub none_past : {X : Type 0} (xs : List X) (k : ℕ) → k < length xs → slice_get xs k ≡ None → ⊥
 none_past [] k below none = omega (arith, below)
 none_past (x ∷ xs) zero below none = cc
 none_past (x ∷ xs) (suc k) below none = none_past xs k (omega (arith, below)) none
 
-pub get_after : {X : Type 0} (xs : List X) (y : X) (more : List X) (k : ℕ) → length xs ≡ k → slice_get (xs ++ y ∷ more) k ≡ Some y
+get_after : {X : Type 0} (xs : List X) (y : X) (more : List X) (k : ℕ) → length xs ≡ k → slice_get (xs ++ y ∷ more) k ≡ Some y
 get_after [] y more zero long = refl
 get_after [] y more (suc k) long = absurd (let none : ⊥ = omega (arith, long) in none)
 get_after (x ∷ xs) y more zero long = absurd (let none : ⊥ = omega (arith, long) in none)
 get_after (x ∷ xs) y more (suc k) long = get_after xs y more k (omega (arith, long))
+
+pub get_map : {X Y : Type 0} (f : X → Y) (xs : List X) (k : ℕ) → slice_get (map f xs) k ≡ option_map f (slice_get xs k)
+get_map f [] k = refl
+get_map f (x ∷ xs) zero = refl
+get_map f (x ∷ xs) (suc k) = get_map f xs k
+
+pub same_places : {X : Type 0} (xs ys : List X) → ((k : ℕ) → slice_get xs k ≡ slice_get ys k) → xs ≡ ys
+same_places [] [] same = refl
+same_places [] (y ∷ ys) same = absurd (let none : ⊥ = (let clash : None ≡ Some y = same 0 in cc) in none)
+same_places (x ∷ xs) [] same = absurd (let none : ⊥ = (let clash : Some x ≡ None = same 0 in cc) in none)
+same_places (x ∷ xs) (y ∷ ys) same =
+    ap (λ z. z ∷ xs) (some_alike x y (same 0)) ∙ ap (λ zs. y ∷ zs) (same_places xs ys (λ k. same (suc k)))
+
+-- ---- searches
+
+-- those before this place, and this place
+pub next_below : (P : ℕ → Type 0) (Same : Type 0) (place : ℕ) (o r : Option ℕ) → (Same → P place) → (P place → Same)
+    → FindsBelow place P o → FindsNext Same place o r → FindsBelow (place + 1) P r
+next_below P Same place (Some j) r to from first next = subst (FindsBelow (place + 1) P) (sym next) first
+next_below P Same place None None to from below next = λ n few.
+    elim (eqb_tells n place) [
+      | inl is ↦ subst P (sym is.1) (to next)
+      | inr other ↦ below n (let less : n < place = omega (arith, few, other.1) in less)
+    ]
+next_below P Same place None (Some j) to from below next =
+    let is = next.0 in
+    record {
+      fails = λ holds. next.1 (from (subst P is holds));
+      before = λ m few. below m (omega (arith, few, is));
+    }
+
+-- a test in place of what it tells
+pub next_told : (P : Type 0) (b : Bool) (place : ℕ) (o r : Option ℕ) → (IsTrue b ↔ P) → FindsNext (IsTrue b) place o r → FindsNext P place o r
+next_told P b place (Some j) r told next = next
+next_told P b place None None told next = told.0 next
+next_told P b place None (Some j) told next = (next.0, λ holds. next.1 (told.1 holds))
+
+-- ---- what entries give
 
 module _ {X A : Type 0} (f : List X → X → List A) where
   nil : each_after f [] [] ≡ []
@@ -60,141 +105,166 @@ module _ {X A : Type 0} (f : List X → X → List A) where
             ∙ append_assoc (each_after f [] before) (f before x) later.0,
       )
 
-  pub some_rest : (xs : List X) (k : ℕ) → (more : List A) × (each_after f [] xs ≡ each_after f [] (take k xs) ++ more)
+  some_rest : (xs : List X) (k : ℕ) → (more : List A) × (each_after f [] xs ≡ each_after f [] (take k xs) ++ more)
   some_rest xs k =
       let all = rest (take k xs) (drop k xs) in
       (all.0, ap (each_after f []) (sym (take-append-drop k xs)) ∙ all.1)
 
-  pub as_far_first : (xs : List X) (ys : List A) → IsAsFar f xs ys 0 0
-  as_far_first xs ys = record { within = omega arith; same = nil }
+  module _ (xs : List X) (k place : ℕ) (x : X) (at : slice_get xs k ≡ Some x) (many : length (each_after f [] (take k xs)) ≡ place) where
+    pub as_many_past : f (take k xs) x ≡ [] → length (each_after f [] (take (k + 1) xs)) ≡ place
+    as_many_past is =
+        ap length (step xs k x at ∙ ap (λ l. each_after f [] (take k xs) ++ l) is ∙ append-nil (each_after f [] (take k xs))) ∙ many
 
-  pub gives : (xs : List X) (k : ℕ) (o : Option A) → k < length xs → given f (take k xs) (slice_get xs k) ≡ option_to_list o
-      → each_after f [] (take (k + 1) xs) ≡ each_after f [] (take k xs) ++ option_to_list o
-  gives xs k o below is = by_place (slice_get xs k) refl is
+    module _ (y : A) (is : f (take k xs) x ≡ y ∷ []) where
+      one_more : each_after f [] (take (k + 1) xs) ≡ each_after f [] (take k xs) ++ y ∷ []
+      one_more = step xs k x at ∙ ap (λ l. each_after f [] (take k xs) ++ l) is
+
+      pub as_many_on : length (each_after f [] (take (k + 1) xs)) ≡ place + 1
+      as_many_on = ap length one_more ∙ length-append (each_after f [] (take k xs)) (y ∷ []) ∙ ap (λ m. m + 1) many
+
+      -- what the entry gives stands at the place of all that entries give
+      pub stands : slice_get (each_after f [] xs) place ≡ Some y
+      stands =
+          let more = some_rest xs (k + 1) in
+          ap (λ l. slice_get l place) (more.1 ∙ ap (λ l. l ++ more.0) one_more ∙ append_assoc (each_after f [] (take k xs)) (y ∷ []) more.0)
+          ∙ get_after (each_after f [] (take k xs)) y more.0 place many
+
+  pub as_many_all : (xs : List X) (place : ℕ) → length (each_after f [] (take (length xs) xs)) ≡ place → length (each_after f [] xs) ≡ place
+  as_many_all xs place many = ap (λ l. length (each_after f [] l)) (sym (take_all (length xs) xs (omega arith))) ∙ many
+
+-- ---- beside the record
+
+module _ {X A : Type 0} (f : List X → X → List A) (xs : List X) (g : Recorded → A) (rs : List Recorded) where
+  pub compared_first : IsCompared f xs (map g rs) 0 0 None
+  compared_first = record { as_many = ap length (nil f); few = omega arith; finds = λ n below. absurd (omega (arith, below)) }
+
+  module _ (k place : ℕ) (found : Option ℕ) (x : X) (at : slice_get xs k ≡ Some x) (far : IsCompared f xs (map g rs) k place found) where
+    pub compared_past : f (take k xs) x ≡ [] → IsCompared f xs (map g rs) (k + 1) place found
+    compared_past is =
+        let few = far.few in
+        record { as_many = as_many_past f xs k place x at far.as_many is; few = omega (arith, few); finds = far.finds }
+
+    pub compared_on : (y : A) (next : Option ℕ) → f (take k xs) x ≡ y ∷ [] → FindsNext (option_map g (slice_get rs place) ≡ Some y) place found next
+        → IsCompared f xs (map g rs) (k + 1) (place + 1) next
+    compared_on y next is told =
+        let few = far.few in
+        let here : slice_get (each_after f [] xs) place ≡ Some y = stands f xs k place x at far.as_many y is in
+        record {
+          as_many = as_many_on f xs k place x at far.as_many y is;
+          few = omega (arith, few);
+          finds = next_below (λ j. slice_get (each_after f [] xs) j ≡ slice_get (map g rs) j) (option_map g (slice_get rs place) ≡ Some y) place found next
+              (λ same. here ∙ sym same ∙ sym (get_map g rs place)) (λ same. sym (get_map g rs place) ∙ sym same ∙ here) far.finds told;
+        }
+
+  pub finds_rest : (k place : ℕ) (found r : Option ℕ) → k ≡ length xs → IsCompared f xs (map g rs) k place found
+      → r ≡ option_or found (if nat_lt place (length rs) then Some place else None) → Finds (λ j. slice_get (each_after f [] xs) j ≡ slice_get (map g rs) j) r
+  finds_rest k place found r end far is =
+      let whole : IsCompared f xs (map g rs) (length xs) place found = subst (λ m. IsCompared f xs (map g rs) m place found) end far in
+      by_found found (nat_lt place (length rs)) refl (as_many_all f xs place whole.as_many) whole.finds is
     where
-      by_place : (p : Option X) → slice_get xs k ≡ p → given f (take k xs) p ≡ option_to_list o
-          → each_after f [] (take (k + 1) xs) ≡ each_after f [] (take k xs) ++ option_to_list o
-      by_place None at is = absurd (none_past xs k below at)
-      by_place (Some x) at is = step xs k x at ∙ ap (λ l. each_after f [] (take k xs) ++ l) is
+      by_found : (o : Option ℕ) (b : Bool) → nat_lt place (length rs) ≡ b → length (each_after f [] xs) ≡ place
+          → FindsBelow place (λ j. slice_get (each_after f [] xs) j ≡ slice_get (map g rs) j) o
+          → r ≡ option_or o (if b then Some place else None) → Finds (λ j. slice_get (each_after f [] xs) j ≡ slice_get (map g rs) j) r
+      by_found (Some j) b test long first is = subst (Finds (λ j. slice_get (each_after f [] xs) j ≡ slice_get (map g rs) j)) (sym is) first
+      by_found None true test long below is =
+          let short : place < length rs = ltb-true place (length rs) test in
+          let rows : length (map g rs) ≡ length rs = length-map rs g in
+          subst (Finds (λ j. slice_get (each_after f [] xs) j ≡ slice_get (map g rs) j)) (sym is)
+          (record {
+            fails = λ same. none_past (map g rs) place (omega (arith, short, rows)) (sym same ∙ slice_get_past (each_after f [] xs) place (omega (arith, long)));
+            before = below;
+          })
+      by_found None false test long below is =
+          let great : length rs ≤ place = ltb-false place (length rs) test in
+          let rows : length (map g rs) ≡ length rs = length-map rs g in
+          subst (Finds (λ j. slice_get (each_after f [] xs) j ≡ slice_get (map g rs) j)) (sym is) (λ n. by_place n (nat_lt n place) refl great rows below)
+        where
+          by_place : (n : ℕ) (t : Bool) → nat_lt n place ≡ t → length rs ≤ place → length (map g rs) ≡ length rs
+              → ((m : ℕ) → m < place → slice_get (each_after f [] xs) m ≡ slice_get (map g rs) m) → slice_get (each_after f [] xs) n ≡ slice_get (map g rs) n
+          by_place n true test great rows below = below n (ltb-true n place test)
+          by_place n false test great rows below =
+              let past : place ≤ n = ltb-false n place test in
+              slice_get_past (each_after f [] xs) n (omega (arith, long, past)) ∙ sym (slice_get_past (map g rs) n (omega (arith, great, rows, past)))
 
-  module _ (xs : List X) (ys : List A) (k place : ℕ) (below : k < length xs) (far : IsAsFar f xs ys k place) where
-    -- nothing is given
-    pub as_far_past : given f (take k xs) (slice_get xs k) ≡ option_to_list None → IsAsFar f xs ys (k + 1) place
-    as_far_past is = record { within = far.within; same = gives xs k None below is ∙ append-nil (each_after f [] (take k xs)) ∙ far.same }
+-- ---- fetches
 
-    -- what is given is what stands at the place
-    pub as_far_more : (y : A) → given f (take k xs) (slice_get xs k) ≡ option_to_list (Some y) → slice_get ys place ≡ Some y → IsAsFar f xs ys (k + 1) (place + 1)
-    as_far_more y is at =
-        let within : place < length ys = slice_get_within ys place y at in
-        record {
-          within = omega (arith, within);
-          same = gives xs k (Some y) below is ∙ ap (λ l. l ++ y ∷ []) far.same
-              ∙ sym (take_more ys place y within ∙ ap (λ z. take place ys ++ z ∷ []) (get_or_from_slice_get ys place y y at));
-        }
+pub silent_nothing : (p : Parameters) (plan : Plan) (before : List Entry) (channel : Channel) (o : Option Entry) (e : Entry) → o ≡ Some e → is_silent channel e ≡ true
+    → option_and_then (bytes_in_entry p plan before channel) o ≡ None
+silent_nothing p plan before channel o e at silent = ap (option_and_then (bytes_in_entry p plan before channel)) at ∙ by_entry e silent
+  where
+    no_frame : (w : Opportunity) (slot : Option ℕ) → option_and_then (λ n. frame_of_offer p plan before w channel n Nothing) slot ≡ None
+    no_frame w None = refl
+    no_frame w (Some slot) = refl
 
-    -- it is something else
-    pub differs_here : (y : A) → given f (take k xs) (slice_get xs k) ≡ option_to_list (Some y) → ¬ (slice_get ys place ≡ Some y) → IsFirstDifference (each_after f [] xs) ys place
-    differs_here y is other =
-        let more = some_rest xs (k + 1) in
-        let all : each_after f [] xs ≡ (take place ys ++ y ∷ []) ++ more.0 =
-        more.1 ∙ ap (λ l. l ++ more.0) (gives xs k (Some y) below is ∙ ap (λ l. l ++ y ∷ []) far.same) in
-        let long : length (take place ys) ≡ place = length-take-le place ys far.within in
-        let joined : (take place ys ++ y ∷ []) ++ more.0 ≡ take place ys ++ y ∷ more.0 = append_assoc (take place ys) (y ∷ []) more.0 in
-        record {
-          same_before = ap (take place) (all ∙ joined) ∙ take_at (take place ys) (y ∷ more.0) place long;
-          differ = λ same. other (sym same ∙ ap (λ l. slice_get l place) (all ∙ joined) ∙ get_after (take place ys) y more.0 place long);
-        }
+    by_offer : (w : Opportunity) (o : Offered) → is_nothing o ≡ true → bytes_of channel (frame_with p plan before w channel o) ≡ None
+    by_offer w Nothing is = ap (bytes_of channel) (no_frame w (slot_of w channel))
+    by_offer w Null is = absurd (let none : ⊥ = cc in none)
+    by_offer w (Data commit) is = absurd (let none : ⊥ = cc in none)
 
-  pub differs_short : (xs : List X) (ys : List A) (place : ℕ) → IsAsFar f xs ys (length xs) place → place < length ys → IsFirstDifference (each_after f [] xs) ys place
-  differs_short xs ys place far short =
-      let all : each_after f [] xs ≡ take place ys = ap (each_after f []) (sym (take_all (length xs) xs (omega arith))) ∙ far.same in
-      let long : length (take place ys) ≡ place = length-take-le place ys far.within in
-      record {
-        same_before = ap (take place) all ∙ take_all place (take place ys) (omega (arith, long));
-        differ = λ same. none_past ys place short (sym same ∙ ap (λ l. slice_get l place) all ∙ slice_get_past (take place ys) place (omega (arith, long)));
-      }
+    by_entry : (x : Entry) → is_silent channel x ≡ true → bytes_in_entry p plan before channel x ≡ None
+    by_entry (Commit task buffer payload) is = refl
+    by_entry (Read task buffer from) is = refl
+    by_entry (Pop task from) is = refl
+    by_entry (Fetch window a b) is = by_offer window (offered_on channel a b) is
+    by_entry (Observe number a b) is = refl
 
-  pub differs_nowhere : (xs : List X) (ys : List A) (place : ℕ) → IsAsFar f xs ys (length xs) place → length ys ≤ place → each_after f [] xs ≡ ys
-  differs_nowhere xs ys place far all =
-      ap (each_after f []) (sym (take_all (length xs) xs (omega arith))) ∙ far.same ∙ take_all place ys all
-
--- ---- one entry, by what stands at the place
-
-pub some_alike : {X : Type 0} (x y : X) → ◌≡◌ {A = Option X} (Some x) (Some y) → x ≡ y
-some_alike x y e = cc
-
-module _ {X A : Type 0} (f : List X → X → List A) (xs : List X) (ys : List A) (k place : ℕ) (r : Option A) where
-  module _ (below : k < length xs) (far : IsAsFar f xs ys k place) (gives : given f (take k xs) (slice_get xs k) ≡ option_to_list r) where
-    pub walk_past : r ≡ None → IsAsFar f xs ys (k + 1) place
-    walk_past none = as_far_past f xs ys k place below far (gives ∙ ap option_to_list none)
-
-    pub walk_on : (y z : A) → r ≡ Some y → slice_get ys place ≡ Some z → z ≡ y → IsAsFar f xs ys (k + 1) (place + 1)
-    walk_on y z is at same = as_far_more f xs ys k place below far y (gives ∙ ap option_to_list is) (at ∙ ap Some same)
-
-    pub walk_beyond : (y : A) → r ≡ Some y → slice_get ys place ≡ None → IsFirstDifference (each_after f [] xs) ys place
-    walk_beyond y is at = differs_here f xs ys k place below far y (gives ∙ ap option_to_list is)
-        (λ same. let none : None ≡ Some y = sym at ∙ same in absurd (let clash : ⊥ = cc in clash))
-
-    pub walk_apart : (y z : A) → r ≡ Some y → slice_get ys place ≡ Some z → ¬ (z ≡ y) → IsFirstDifference (each_after f [] xs) ys place
-    walk_apart y z is at other = differs_here f xs ys k place below far y (gives ∙ ap option_to_list is)
-        (λ same. other (some_alike z y (sym at ∙ same)))
-
-pub get_map : {X Y : Type 0} (f : X → Y) (xs : List X) (k : ℕ) → slice_get (map f xs) k ≡ option_map f (slice_get xs k)
-get_map f [] k = refl
-get_map f (x ∷ xs) zero = refl
-get_map f (x ∷ xs) (suc k) = get_map f xs k
-
--- ---- what entries give
-
-pub fetch_given : (before : List Entry) (o : Option Entry) → given fetches_at before o ≡ option_to_list (option_and_then fetched_window o)
-fetch_given before None = refl
-fetch_given before (Some e) = refl
-
-pub fetches_are : (es : List Entry) (k : ℕ) (o : Option Entry) (r : Option Opportunity) → r ≡ option_and_then fetched_window o → o ≡ slice_get es k
-    → given fetches_at (take k es) (slice_get es k) ≡ option_to_list r
-fetches_are es k o r told at = fetch_given (take k es) (slice_get es k) ∙ ap (λ p. option_to_list (option_and_then fetched_window p)) (sym at) ∙ ap option_to_list (sym told)
-
-pub observe_given : (before : List Entry) (o : Option Entry) → given observes_at before o ≡ option_to_list (option_and_then (observed_window (open_window before)) o)
-observe_given before None = refl
-observe_given before (Some e) = refl
-
-handed_in : (s : State) (k : ℕ) (e : Entry) → slice_get s.entries k ≡ Some e
-    → handed_at s.params s.plan (take k s.entries) e ≡ option_to_list (option_map (handed_by s k) (fetched_window e))
-handed_in s k (Commit task buffer payload) at = refl
-handed_in s k (Read task buffer from) at = refl
-handed_in s k (Pop task from) at = refl
-handed_in s k (Fetch window a b) at =
+handed_in : (s : State) (k : ℕ) (window : Opportunity) (a b : Offered) → slice_get s.entries k ≡ Some (Fetch window a b)
+    → handed_at s.params s.plan (take k s.entries) (Fetch window a b) ≡ handed_by s k window ∷ []
+handed_in s k window a b at =
     let on : (channel : Channel) → bytes_handed s k channel ≡ bytes_of channel (frame_with s.params s.plan (take k s.entries) window channel (offered_on channel a b)) =
     λ channel. ap (option_and_then (bytes_in_entry s.params s.plan (take k s.entries) channel)) at in
     let e = on A in
     let g = on B in
     rw (e, g) refl
-handed_in s k (Observe number a b) at = refl
 
-pub handed_given : (s : State) (k : ℕ) (o : Option Entry) → slice_get s.entries k ≡ o
-    → given (handed_at s.params s.plan) (take k s.entries) o ≡ option_to_list (option_map (handed_by s k) (option_and_then fetched_window o))
-handed_given s k None at = refl
-handed_given s k (Some e) at = handed_in s k e at
+module _ (s : State) (n : ℕ) (rs : List Recorded) where
+  pub fetches_first : AreFetches s n rs 0 (record { count = 0; window = None; offer = None })
+  fetches_first = record {
+    windows = compared_first fetches_at s.entries (λ (r : Recorded). r.window) rs;
+    offers = compared_first (handed_at s.params s.plan) s.entries (offers_of n) rs;
+  }
 
-sight_in : (before : List Entry) (e : Entry) → sight_at before e ≡ option_to_list (option_and_then (λ w. saw w e) (observed_window (open_window before) e))
-sight_in before (Commit task buffer payload) = refl
-sight_in before (Read task buffer from) = refl
-sight_in before (Pop task from) = refl
-sight_in before (Fetch window a b) = refl
-sight_in before (Observe number a b) = by_window (open_window before)
+  module _ (k : ℕ) (x : Fetches) (far : AreFetches s n rs k x) where
+    none_more : (e : Entry) (y : Fetches) → slice_get s.entries k ≡ Some e → fetches_at (take k s.entries) e ≡ [] → handed_at s.params s.plan (take k s.entries) e ≡ []
+        → y ≡ x → AreFetches s n rs (k + 1) y
+    none_more e y at no_window no_offer same = subst (AreFetches s n rs (k + 1)) (sym same)
+        (record {
+          windows = compared_past fetches_at s.entries (λ (r : Recorded). r.window) rs k x.count x.window e at far.windows no_window;
+          offers = compared_past (handed_at s.params s.plan) s.entries (offers_of n) rs k x.count x.offer e at far.offers no_offer;
+        })
+
+    pub fetches_on : (e : Entry) (y : Fetches) → slice_get s.entries k ≡ Some e → FetchesNext s n rs k x e y → AreFetches s n rs (k + 1) y
+    fetches_on (Commit task buffer payload) y at next = none_more (Commit task buffer payload) y at refl refl next
+    fetches_on (Read task buffer from) y at next = none_more (Read task buffer from) y at refl refl next
+    fetches_on (Pop task from) y at next = none_more (Pop task from) y at refl refl next
+    fetches_on (Observe number a b) y at next = none_more (Observe number a b) y at refl refl next
+    fetches_on (Fetch window a b) y at next = record {
+      windows = subst (λ m. IsCompared fetches_at s.entries (windows_of rs) (k + 1) m y.window) (sym next.0)
+          (compared_on fetches_at s.entries (λ (r : Recorded). r.window) rs k x.count x.window (Fetch window a b) at far.windows window y.window refl next.1);
+      offers = subst (λ m. IsCompared (handed_at s.params s.plan) s.entries (map (offers_of n) rs) (k + 1) m y.offer) (sym next.0)
+          (compared_on (handed_at s.params s.plan) s.entries (offers_of n) rs k x.count x.offer (Fetch window a b) at far.offers (handed_by s k window) y.offer
+          (handed_in s k window a b at) next.2);
+    }
+
+-- ---- observes
+
+sight_given : (before : List Entry) (e : Entry) → sight_at before e ≡ option_to_list (sight_in (open_window before) e)
+sight_given before (Commit task buffer payload) = refl
+sight_given before (Read task buffer from) = refl
+sight_given before (Pop task from) = refl
+sight_given before (Fetch window a b) = refl
+sight_given before (Observe number a b) = refl
+
+window_given : (before : List Entry) (e : Entry) → observes_at before e ≡ option_to_list (option_map (λ (x : Sight). x.window) (sight_in (open_window before) e))
+window_given before (Commit task buffer payload) = refl
+window_given before (Read task buffer from) = refl
+window_given before (Pop task from) = refl
+window_given before (Fetch window a b) = refl
+window_given before (Observe number a b) = by_window (open_window before)
   where
-    by_window : (w : Option Opportunity) → option_to_list (option_map (sight_of a b) w) ≡ option_to_list (option_and_then (λ x. Some (sight_of a b x)) w)
+    by_window : (w : Option Opportunity) → option_to_list w ≡ option_to_list (option_map (λ (x : Sight). x.window) (option_map (sight_of a b) w))
     by_window None = refl
     by_window (Some x) = refl
-
-abbrev pub saw_at : Option Opportunity → Option Entry → Option Sight
-saw_at opened o = option_and_then (λ w. option_and_then (saw w) o) (option_and_then (observed_window opened) o)
-
-pub sight_given : (before : List Entry) (o : Option Entry) → given sight_at before o ≡ option_to_list (saw_at (open_window before) o)
-sight_given before None = refl
-sight_given before (Some e) = sight_in before e
-
--- ---- the window that is open
 
 opened-snoc : (before : List Entry) (e : Entry) → open_window (before ++ e ∷ []) ≡ opened_after (open_window before) e
 opened-snoc before (Commit task buffer payload) = open_window-snoc before (Commit task buffer payload)
@@ -203,81 +273,58 @@ opened-snoc before (Pop task from) = open_window-snoc before (Pop task from)
 opened-snoc before (Fetch window a b) = open_window-snoc before (Fetch window a b)
 opened-snoc before (Observe number a b) = open_window-snoc before (Observe number a b)
 
-pub opened_nil : open_window [] ≡ None
+opened_nil : open_window [] ≡ None
 unfolding last_after
 opened_nil = refl
 
-pub opened_more : (xs : List Entry) (k : ℕ) → k < length xs → open_window (take (k + 1) xs) ≡ opened_past (open_window (take k xs)) (slice_get xs k)
-opened_more xs k below = by_place (slice_get xs k) refl
-  where
-    by_place : (o : Option Entry) → slice_get xs k ≡ o → open_window (take (k + 1) xs) ≡ opened_past (open_window (take k xs)) o
-    by_place None at = absurd (none_past xs k below at)
-    by_place (Some e) at =
-        ap open_window (take_more xs k e below ∙ ap (λ y. take k xs ++ y ∷ []) (get_or_from_slice_get xs k e e at)) ∙ opened-snoc (take k xs) e
+opened_more : (xs : List Entry) (k : ℕ) (e : Entry) → slice_get xs k ≡ Some e → open_window (take (k + 1) xs) ≡ opened_after (open_window (take k xs)) e
+opened_more xs k e at =
+    ap open_window (take_more xs k e (slice_get_within xs k e at) ∙ ap (λ y. take k xs ++ y ∷ []) (get_or_from_slice_get xs k e e at)) ∙ opened-snoc (take k xs) e
 
--- ---- beside the record
+module _ (p : Parameters) (s : State) (n : ℕ) (rs : List Recorded) where
+  pub observes_first : AreObserves p s n rs 0 (record { count = 0; opened = None; window = None; sight = None })
+  observes_first = record {
+    opened = sym opened_nil;
+    windows = compared_first observes_at s.entries (λ (r : Recorded). r.window) rs;
+    sights = compared_first sight_at s.entries (sights_of p n) rs;
+  }
 
-module _ {A : Type 0} (g : Recorded → A) (rs : List Recorded) where
-  pub row_at : (place : ℕ) (r : Recorded) → Some r ≡ slice_get rs place → slice_get (map g rs) place ≡ Some (g r)
-  row_at place r at = get_map g rs place ∙ ap (option_map g) (sym at)
-
-  pub no_row : (place : ℕ) → None ≡ slice_get rs place → slice_get (map g rs) place ≡ None
-  no_row place at = get_map g rs place ∙ ap (option_map g) (sym at)
-
-  pub finds_rest : {X : Type 0} (f : List X → X → List A) (xs : List X) (k place : ℕ) (r : Option ℕ) → k ≤ length xs → length xs ≤ k → IsAsFar f xs (map g rs) k place
-      → r ≡ (if nat_lt place (length rs) then Some place else None) → FindsDifference (each_after f [] xs) (map g rs) r
-  finds_rest f xs k place r below above far is =
-      let end : k ≡ length xs = omega (arith, below, above) in
-      let whole : IsAsFar f xs (map g rs) (length xs) place = subst (λ m. IsAsFar f xs (map g rs) m place) end far in
-      let long : length (map g rs) ≡ length rs = length-map rs g in
-      by_test (nat_lt place (length rs)) refl whole long is
+  pub observes_on : (k : ℕ) (x : Observes) (e : Entry) (y : Observes) → AreObserves p s n rs k x → slice_get s.entries k ≡ Some e → ObservesNext p n rs x e y
+      → AreObserves p s n rs (k + 1) y
+  observes_on k x e y far at next =
+      let opened : y.opened ≡ open_window (take (k + 1) s.entries) =
+      next.opened ∙ ap (λ w. opened_after w e) far.opened ∙ sym (opened_more s.entries k e at) in
+      by_sight (sight_in x.opened e) opened
+      (sight_given (take k s.entries) e ∙ ap (λ w. option_to_list (sight_in w e)) (sym far.opened))
+      (window_given (take k s.entries) e ∙ ap (λ w. option_to_list (option_map (λ (z : Sight). z.window) (sight_in w e))) (sym far.opened)) next.sights
     where
-      by_test : (b : Bool) → nat_lt place (length rs) ≡ b → IsAsFar f xs (map g rs) (length xs) place → length (map g rs) ≡ length rs
-          → r ≡ (if b then Some place else None) → FindsDifference (each_after f [] xs) (map g rs) r
-      by_test true test whole long is =
-          subst (FindsDifference (each_after f [] xs) (map g rs)) (sym is)
-          (differs_short f xs (map g rs) place whole (let small : place < length rs = ltb-true place (length rs) test in omega (arith, small, long)))
-      by_test false test whole long is =
-          subst (FindsDifference (each_after f [] xs) (map g rs)) (sym is)
-          (differs_nowhere f xs (map g rs) place whole (let great : length rs ≤ place = ltb-false place (length rs) test in omega (arith, great, long)))
+      by_sight : (o : Option Sight) → y.opened ≡ open_window (take (k + 1) s.entries) → sight_at (take k s.entries) e ≡ option_to_list o
+          → observes_at (take k s.entries) e ≡ option_to_list (option_map (λ (z : Sight). z.window) o) → SightsNext p n rs x o y → AreObserves p s n rs (k + 1) y
+      by_sight None opened sight window told = record {
+        opened = opened;
+        windows = subst (λ m. IsCompared observes_at s.entries (windows_of rs) (k + 1) m y.window) (sym told.0)
+            (subst (IsCompared observes_at s.entries (windows_of rs) (k + 1) x.count) (sym told.1)
+            (compared_past observes_at s.entries (λ (r : Recorded). r.window) rs k x.count x.window e at far.windows window));
+        sights = subst (λ m. IsCompared sight_at s.entries (map (sights_of p n) rs) (k + 1) m y.sight) (sym told.0)
+            (subst (IsCompared sight_at s.entries (map (sights_of p n) rs) (k + 1) x.count) (sym told.2)
+            (compared_past sight_at s.entries (sights_of p n) rs k x.count x.sight e at far.sights sight));
+      }
+      by_sight (Some z) opened sight window told = record {
+        opened = opened;
+        windows = subst (λ m. IsCompared observes_at s.entries (windows_of rs) (k + 1) m y.window) (sym told.0)
+            (compared_on observes_at s.entries (λ (r : Recorded). r.window) rs k x.count x.window e at far.windows z.window y.window window told.1);
+        sights = subst (λ m. IsCompared sight_at s.entries (map (sights_of p n) rs) (k + 1) m y.sight) (sym told.0)
+            (compared_on sight_at s.entries (sights_of p n) rs k x.count x.sight e at far.sights z y.sight sight told.2);
+      }
 
-pub observes_are : (es : List Entry) (k : ℕ) (opened : Option Opportunity) (o : Option Entry) (r : Option Opportunity) → opened ≡ open_window (take k es)
-    → r ≡ option_and_then (observed_window opened) o → o ≡ slice_get es k → given observes_at (take k es) (slice_get es k) ≡ option_to_list r
-observes_are es k opened o r opening told at =
-    observe_given (take k es) (slice_get es k)
-    ∙ ap (λ w. option_to_list (option_and_then (observed_window w) (slice_get es k))) (sym opening)
-    ∙ ap (λ p. option_to_list (option_and_then (observed_window opened) p)) (sym at) ∙ ap option_to_list (sym told)
+-- ---- windows of both
 
-pub handed_are : (s : State) (k : ℕ) (o : Option Entry) (r : Option Opportunity) → r ≡ option_and_then fetched_window o → o ≡ slice_get s.entries k
-    → given (handed_at s.params s.plan) (take k s.entries) (slice_get s.entries k) ≡ option_to_list (option_map (handed_by s k) r)
-handed_are s k o r told at =
-    handed_given s k (slice_get s.entries k) refl
-    ∙ ap (λ p. option_to_list (option_map (handed_by s k) (option_and_then fetched_window p))) (sym at) ∙ ap (λ p. option_to_list (option_map (handed_by s k) p)) (sym told)
-
--- what was seen in the window that this is
-abbrev pub sighted : Option Opportunity → Option Entry → Option Sight
-sighted w o = option_and_then (λ x. option_and_then (saw x) o) w
-
-pub sights_are : (es : List Entry) (k : ℕ) (opened : Option Opportunity) (o : Option Entry) (r : Option Opportunity) → opened ≡ open_window (take k es)
-    → r ≡ option_and_then (observed_window opened) o → o ≡ slice_get es k → given sight_at (take k es) (slice_get es k) ≡ option_to_list (sighted r o)
-sights_are es k opened o r opening told at =
-    sight_given (take k es) (slice_get es k)
-    ∙ ap (λ w. option_to_list (sighted (option_and_then (observed_window w) (slice_get es k)) (slice_get es k))) (sym opening)
-    ∙ ap (λ p. option_to_list (sighted (option_and_then (observed_window opened) p) p)) (sym at) ∙ ap (λ w. option_to_list (sighted w o)) (sym told)
-
--- an observe saw something of the window that it observed
-pub saw_some : (o : Option Entry) (opened : Option Opportunity) (w : Opportunity) → option_and_then (observed_window opened) o ≡ Some w → (x : Sight) × (option_and_then (saw w) o ≡ Some x)
-saw_some None opened w is = absurd (let none : ⊥ = cc in none)
-saw_some (Some (Commit task buffer payload)) opened w is = absurd (let none : ⊥ = cc in none)
-saw_some (Some (Read task buffer from)) opened w is = absurd (let none : ⊥ = cc in none)
-saw_some (Some (Pop task from)) opened w is = absurd (let none : ⊥ = cc in none)
-saw_some (Some (Fetch window a b)) opened w is = absurd (let none : ⊥ = cc in none)
-saw_some (Some (Observe number a b)) opened w is = (sight_of a b w, refl)
-
-pub opened_on : (es : List Entry) (k : ℕ) (opened now : Option Opportunity) (o : Option Entry) → k < length es → opened ≡ open_window (take k es) → now ≡ opened_past opened o
-    → o ≡ slice_get es k → now ≡ open_window (take (k + 1) es)
-opened_on es k opened now o below opening told at =
-    told ∙ ap (λ w. opened_past w o) opening ∙ ap (opened_past (open_window (take k es))) at ∙ sym (opened_more es k below)
-
-pub differ_lists : {X : Type 0} (xs ys : List X) (k : ℕ) → IsFirstDifference xs ys k → ¬ (xs ≡ ys)
-differ_lists xs ys k first same = first.differ (ap (λ zs. slice_get zs k) same)
+pub windows_told : (rs : List Recorded) (s : State) (a b : Option ℕ) (has : Bool) → has ≡ (is_none a && is_none b)
+    → Finds (λ j. slice_get (windows_fetched s) j ≡ slice_get (windows_of rs) j) a → Finds (λ j. slice_get (windows_observed s) j ≡ slice_get (windows_of rs) j) b
+    → IsTrue has ↔ HasWindows rs s
+windows_told rs s None None has is fetches observes =
+    (λ yes. record { fetches = same_places (windows_fetched s) (windows_of rs) fetches; observes = same_places (windows_observed s) (windows_of rs) observes }, λ windows. is)
+windows_told rs s (Some j) b has is first observes =
+    (λ yes. absurd (let none : ⊥ = cc in none), λ windows. absurd (first.fails (ap (λ l. slice_get l j) windows.fetches)))
+windows_told rs s None (Some j) has is fetches first =
+    (λ yes. absurd (let none : ⊥ = cc in none), λ windows. absurd (first.fails (ap (λ l. slice_get l j) windows.observes)))

@@ -4,9 +4,7 @@ use Rattle.std.proofs.Common.{length-set}
 use Rattle.std.specs.Prelude.{Result, Ok, Err}
 use Rattle.std.proofs.lemmas.List.{length-map, length-replicate}
 use Rattle.std.proofs.Math.Seq.{map-set_same}
-use Rattle.fr_bus.specs.declared.fault.Fault.{Fault}
-use Rattle.fr_bus.specs.declared.fault.Fault.TheVariants.{Babble, Mute, Corrupt}
-use Rattle.fr_bus.specs.States.{BusState, inject_done, sealed_with, collecting_of}
+use Rattle.fr_bus.specs.States.{BusState, collecting_of}
 use Rattle.fr_core.proofs.AgreementLemmas.{keeps_done, agreement_opens}
 use Rattle.fr_core.proofs.ClusterLemmas.{inject_cluster, seal_cluster}
 use Rattle.fr_core.specs.Agreement.{Agreement, IsWorld}
@@ -23,7 +21,6 @@ use Rattle.fr_core.specs.Worlds.{WorldState, interface_at, carried_at, no_interf
 use Rattle.fr_core.specs.Worlds.{without_entries}
 use Rattle.fr_interface.specs.State.{State}
 use Rattle.fr_schedule.specs.Descriptions.{Description}
-use Rattle.fr_slots.specs.declared.channel.Channel.TheVariants.{A, B}
 use Rattle.fr_slots.specs.Parameters.{Parameters}
 use Rattle.fr_slots.specs.Plans.{Plan}
 use Rattle.fr_slots.specs.Windows.{Opportunity}

@@ -1,17 +1,33 @@
--- How far a walk along a journal has come, beside a list that it is compared with.
-use Rattle.std.specs.Prelude.{◌≡◌, ℕ, min, ◌≤◌, List, [], length, take, slice_get, Option, Some, None}
-use Rattle.fr_core.specs.Agreeing.{Handed, Sight, sight_of}
+-- How far a walk along the journal of a node has come, beside the record and the scripts, and what it found.
+use Rattle.std.specs.Prelude.{◌≡◌, ℕ, ◌+◌, ◌<◌, ◌≤◌, ◌==◌, nat_lt, ◌↔◌, IsTrue, Bool, true, false, ◌&&◌, ◌||◌, if◌then◌else◌, List, [], length, map, take, replicate, slice_get}
+use Rattle.std.specs.Prelude.{Option, Some, None, option_map, IfSome}
+use Rattle.std.specs.List.{list_any}
+use Rattle.fr_bus.specs.Record.{Recorded}
+use Rattle.fr_core.specs.Agreeing.{Handed, Sight, sight_of, handed_at, sight_at, offers_of, sights_of}
+use Rattle.fr_core.specs.declared.event.Reply.TheVariants.{Committed}
+use Rattle.fr_core.specs.declared.script.Action.TheVariants as action
 use Rattle.fr_core.specs.declared.script.Deed.{Deed}
 use Rattle.fr_core.specs.declared.script.Line.{Line}
-use Rattle.fr_core.specs.Scripts.{IsLine}
-use Rattle.fr_core.specs.Settling.{IsFirst, EachNode, EachTask}
-use Rattle.fr_interface.specs.Handing.{bytes_handed}
+use Rattle.fr_core.specs.declared.settle.Differences.{Differences}
+use Rattle.fr_core.specs.declared.tasks.Course.{Course}
+use Rattle.fr_core.specs.declared.walk.Fetches.{Fetches}
+use Rattle.fr_core.specs.declared.walk.Findings.{Findings}
+use Rattle.fr_core.specs.declared.walk.Observes.{Observes}
+use Rattle.fr_core.specs.Scripts.{Scripted, IsLine, AreLines, ScriptAgrees, is_for, deed, deed_at, deeds_of, deeds_in, frame_reply}
+use Rattle.fr_core.specs.Settling.{IsFirst, EachTask, IfThere, HasWindows, WindowsAgree, IsHandedAt, IsShownAt}
+use Rattle.fr_core.specs.Settling.{fetches_at, observes_at, windows_of}
+use Rattle.fr_interface.specs.Handing.{bytes_handed, offered_on}
 use Rattle.fr_interface.specs.State.{State}
 use Rattle.fr_journal.specs.declared.entry.Entry.{Entry}
 use Rattle.fr_journal.specs.declared.entry.Entry.TheVariants.{Commit, Read, Pop, Fetch, Observe}
+use Rattle.fr_journal.specs.declared.entry.Offered.{Offered}
+use Rattle.fr_journal.specs.declared.entry.Offered.TheVariants.{Nothing, Null, Data}
+use Rattle.fr_journal.specs.OpenWindow.{open_window}
+use Rattle.fr_slots.specs.declared.channel.Channel.{Channel}
 use Rattle.fr_slots.specs.declared.channel.Channel.TheVariants.{A, B}
 use Rattle.fr_slots.specs.History.{each_after}
-use Rattle.fr_slots.specs.Numbers.{last_node, last_task}
+use Rattle.fr_slots.specs.Numbers.{last_node, last_task, most_tasks}
+use Rattle.fr_slots.specs.Parameters.{Parameters}
 use Rattle.fr_slots.specs.Windows.{Opportunity}
 
 -- ---- searches
@@ -21,66 +37,70 @@ abbrev pub Finds : (ℕ → Type 0) → Option ℕ → Type 0
 Finds P None = (n : ℕ) → P n
 Finds P (Some n) = IsFirst P n
 
-abbrev pub FindsNode : (ℕ → Type 0) → Option ℕ → Type 0
-FindsNode P None = EachNode P
-FindsNode P (Some n) = IsFirst P n
+-- none fails below the number, or this is the first that does
+abbrev pub FindsBelow : ℕ → (ℕ → Type 0) → Option ℕ → Type 0
+FindsBelow upto P None = (n : ℕ) → n < upto → P n
+FindsBelow upto P (Some n) = IsFirst P n
+
+-- what was found before a place is still found after it, and otherwise the place itself where it fails
+abbrev pub FindsNext : Type 0 → ℕ → Option ℕ → Option ℕ → Type 0
+FindsNext Same place (Some k) next = next ≡ Some k
+FindsNext Same place None None = Same
+FindsNext Same place None (Some k) = (k ≡ place) × ¬ Same
 
 abbrev pub FindsTask : (ℕ → Type 0) → Option ℕ → Type 0
 FindsTask P None = EachTask P
 FindsTask P (Some task) = (task ≤ last_task) × IsFirst P task
 
--- the first node, and of that node the first place
+-- of the nodes below the number, the first node that fails, and of that node the first place
+abbrev pub FindsPlaceBelow : ℕ → (ℕ → ℕ → Type 0) → Option (ℕ × ℕ) → Type 0
+FindsPlaceBelow upto P None = (n : ℕ) → n < upto → (k : ℕ) → P n k
+FindsPlaceBelow upto P (Some found) =
+    (found.0 ≤ last_node) × IsFirst (λ n. (k : ℕ) → P n k) found.0 × IsFirst (P found.0) found.1
+
+-- of all nodes
 abbrev pub FindsPlace : (ℕ → ℕ → Type 0) → Option (ℕ × ℕ) → Type 0
-FindsPlace P None = EachNode (λ n. (k : ℕ) → P n k)
-FindsPlace P (Some found) = (found.0 ≤ last_node) × IsFirst (λ n. (k : ℕ) → P n k) found.0 × IsFirst (P found.0) found.1
+FindsPlace P found = FindsPlaceBelow (last_node + 1) P found
 
--- the first node, and of that node the first task
-abbrev pub FindsScript : (ℕ → ℕ → Type 0) → Option (ℕ × ℕ) → Type 0
-FindsScript P None = EachNode (λ n. EachTask (P n))
-FindsScript P (Some found) = IsFirst (λ n. EachTask (P n)) found.0 × IsFirst (P found.0) found.1
+-- of the nodes below the number, the first node that fails, and of that node the first task
+abbrev pub FindsScriptBelow : ℕ → (ℕ → ℕ → Type 0) → Option (ℕ × ℕ) → Type 0
+FindsScriptBelow upto P None = (n : ℕ) → n < upto → EachTask (P n)
+FindsScriptBelow upto P (Some found) = IsFirst (λ n. EachTask (P n)) found.0 × IsFirst (P found.0) found.1
 
-abbrev pub lesser_of : Option ℕ → Option ℕ → Option ℕ
-lesser_of None y = y
-lesser_of (Some x) None = Some x
-lesser_of (Some x) (Some y) = Some (min x y)
+-- what was found of a node before, and otherwise what is found of this one
+abbrev pub found_or : Option (ℕ × ℕ) → ℕ → Option ℕ → Option (ℕ × ℕ)
+found_or (Some found) node here = Some found
+found_or None node None = None
+found_or None node (Some here) = Some (node, here)
 
--- the first place at which two lists differ
-pub record IsFirstDifference {X : Type 0} (xs ys : List X) (k : ℕ) : Type 0 where
-  pub same_before : take k xs ≡ take k ys
-  pub differ : ¬ (slice_get xs k ≡ slice_get ys k)
+-- that of the lesser node, and of the same node that of the lesser place
+abbrev pub is_before : ℕ × ℕ → ℕ × ℕ → Bool
+is_before x y = nat_lt x.0 y.0 || (x.0 == y.0 && nat_lt x.1 y.1)
 
-abbrev pub FindsDifference : {X : Type 0} → List X → List X → Option ℕ → Type 0
-FindsDifference xs ys None = xs ≡ ys
-FindsDifference xs ys (Some k) = IsFirstDifference xs ys k
+abbrev pub earlier : Option (ℕ × ℕ) → Option (ℕ × ℕ) → Option (ℕ × ℕ)
+earlier None y = y
+earlier (Some x) None = Some x
+earlier (Some x) (Some y) = if is_before y x then Some y else Some x
 
--- ---- walks
-
--- what the first k give is the list up to this place
-pub record IsAsFar {X A : Type 0} (f : List X → X → List A) (xs : List X) (ys : List A) (k place : ℕ) : Type 0 where
-  pub within : place ≤ length ys
-  pub same : each_after f [] (take k xs) ≡ take place ys
-
--- what the first k give is what the lines up to this place say
-pub record IsScriptedAsFar (f : List Entry → Entry → List Deed) (xs : List Entry) (lines : List Line) (k place : ℕ) : Type 0 where
-  pub within : place ≤ length lines
-  pub as_many : length (each_after f [] (take k xs)) ≡ place
-  pub each : (j : ℕ) (line : Line) (d : Deed) → slice_get lines j ≡ Some line
-      → slice_get (each_after f [] (take k xs)) j ≡ Some d → IsLine line d
-
--- ---- entry by entry
+-- ---- what an entry adds
 
 -- what the fetch of this number handed over, where it opened this window
 abbrev pub handed_by : State → ℕ → Opportunity → Handed
 handed_by s number window =
     record { window = window; a = bytes_handed s number A; b = bytes_handed s number B }
 
--- what an entry saw of this window
-abbrev pub saw : Opportunity → Entry → Option Sight
-saw window (Commit task buffer payload) = None
-saw window (Read task buffer from) = None
-saw window (Pop task from) = None
-saw window (Fetch w a b) = None
-saw window (Observe number a b) = Some (sight_of a b window)
+abbrev pub is_nothing : Offered → Bool
+is_nothing Nothing = true
+is_nothing Null = false
+is_nothing (Data commit) = false
+
+-- the entry handed nothing over on the channel
+abbrev pub is_silent : Channel → Entry → Bool
+is_silent channel (Commit task buffer payload) = true
+is_silent channel (Read task buffer from) = true
+is_silent channel (Pop task from) = true
+is_silent channel (Fetch window a b) = is_nothing (offered_on channel a b)
+is_silent channel (Observe number a b) = true
 
 -- the window that is open after an entry, where this one is open before it
 abbrev pub opened_after : Option Opportunity → Entry → Option Opportunity
@@ -90,6 +110,146 @@ opened_after opened (Pop task from) = opened
 opened_after opened (Fetch window a b) = Some window
 opened_after opened (Observe number a b) = None
 
-abbrev pub opened_past : Option Opportunity → Option Entry → Option Opportunity
-opened_past opened None = opened
-opened_past opened (Some e) = opened_after opened e
+-- what an entry saw, where this window is open before it
+abbrev pub sight_in : Option Opportunity → Entry → Option Sight
+sight_in opened (Commit task buffer payload) = None
+sight_in opened (Read task buffer from) = None
+sight_in opened (Pop task from) = None
+sight_in opened (Fetch window a b) = None
+sight_in opened (Observe number a b) = option_map (sight_of a b) opened
+
+-- what the entry of this number did, and for which task
+abbrev pub done_by : State → ℕ → Entry → Option (ℕ × Deed)
+done_by s number (Commit t buffer payload) =
+    Some (t, deed (action.Commit buffer payload) (Committed (record { task = t; entry = number })))
+done_by s number (Read t buffer from) = Some (t, deed (action.Read buffer) (frame_reply s from))
+done_by s number (Pop t from) = Some (t, deed action.Pop (frame_reply s from))
+done_by s number (Fetch window a b) = None
+done_by s number (Observe window a b) = None
+
+-- ---- fetches and observes
+
+-- the window at this place of the record
+abbrev pub window_at : List Recorded → ℕ → Option Opportunity
+window_at rs place = option_map (λ (r : Recorded). r.window) (slice_get rs place)
+
+-- How far what the entries give was compared with a list, after so many entries: how many these gave, and the first
+-- place at which both differ.
+pub record IsCompared {X A : Type 0} (f : List X → X → List A) (xs : List X) (ys : List A) (k place : ℕ) (found : Option ℕ) : Type 0 where
+  pub as_many : length (each_after f [] (take k xs)) ≡ place
+  pub few : place ≤ k
+  pub finds : FindsBelow place (λ j. slice_get (each_after f [] xs) j ≡ slice_get ys j) found
+
+-- what was found of the fetches among so many entries
+pub record AreFetches (s : State) (n : ℕ) (rs : List Recorded) (k : ℕ) (x : Fetches) : Type 0 where
+  pub windows : IsCompared fetches_at s.entries (windows_of rs) k x.count x.window
+  pub offers : IsCompared (handed_at s.params s.plan) s.entries (map (offers_of n) rs) k x.count x.offer
+
+-- what the entry of this number adds
+abbrev pub FetchesNext : State → ℕ → List Recorded → ℕ → Fetches → Entry → Fetches → Type 0
+FetchesNext s n rs k x (Commit task buffer payload) y = y ≡ x
+FetchesNext s n rs k x (Read task buffer from) y = y ≡ x
+FetchesNext s n rs k x (Pop task from) y = y ≡ x
+FetchesNext s n rs k x (Fetch window a b) y =
+    (y.count ≡ x.count + 1)
+    × FindsNext (window_at rs x.count ≡ Some window) x.count x.window y.window
+    × FindsNext (option_map (offers_of n) (slice_get rs x.count) ≡ Some (handed_by s k window)) x.count x.offer y.offer
+FetchesNext s n rs k x (Observe number a b) y = y ≡ x
+
+-- what was found of the observes among so many entries
+pub record AreObserves (p : Parameters) (s : State) (n : ℕ) (rs : List Recorded) (k : ℕ) (x : Observes) : Type 0 where
+  pub opened : x.opened ≡ open_window (take k s.entries)
+  pub windows : IsCompared observes_at s.entries (windows_of rs) k x.count x.window
+  pub sights : IsCompared sight_at s.entries (map (sights_of p n) rs) k x.count x.sight
+
+-- what is found with what an entry saw, if it saw something
+abbrev pub SightsNext : Parameters → ℕ → List Recorded → Observes → Option Sight → Observes → Type 0
+SightsNext p n rs x None y = (y.count ≡ x.count) × (y.window ≡ x.window) × (y.sight ≡ x.sight)
+SightsNext p n rs x (Some sight) y =
+    (y.count ≡ x.count + 1)
+    × FindsNext (window_at rs x.count ≡ Some sight.window) x.count x.window y.window
+    × FindsNext (option_map (sights_of p n) (slice_get rs x.count) ≡ Some sight) x.count x.sight y.sight
+
+pub record ObservesNext (p : Parameters) (n : ℕ) (rs : List Recorded) (x : Observes) (e : Entry) (y : Observes) : Type 0 where
+  pub opened : y.opened ≡ opened_after x.opened e
+  pub sights : SightsNext p n rs x (sight_in x.opened e) y
+
+-- ---- tasks
+
+-- the line is there, and is what was done
+abbrev pub HasLine : Option Line → Deed → Type 0
+HasLine None d = ⊥
+HasLine (Some line) d = IsLine line d
+
+-- the script at this place, if it is the task's, has what was done as its line at that place
+abbrev pub HasLineAt : List Scripted → ℕ → ℕ → ℕ → Deed → ℕ → Type 0
+HasLineAt scripts n task j d k =
+    IfSome (slice_get scripts k) (λ script. is_for n task script ≡ true → HasLine (slice_get script.lines j) d)
+
+-- so does each script
+abbrev pub HaveLines : List Scripted → ℕ → ℕ → ℕ → Deed → Type 0
+HaveLines scripts n task j d = (k : ℕ) → HasLineAt scripts n task j d k
+
+-- each script that is given for the task has what it did at this place
+abbrev pub FitsAt : List Scripted → ℕ → ℕ → List Deed → ℕ → Type 0
+FitsAt scripts n task deeds j = (d : Deed) → slice_get deeds j ≡ Some d → HaveLines scripts n task j d
+
+-- how far the task has come beside its scripts after so many entries
+pub record IsCourse (s : State) (scripts : List Scripted) (n task k : ℕ) (x : Course) : Type 0 where
+  pub as_many : length (each_after (deed_at s task) [] (take k s.entries)) ≡ x.deeds
+  pub few : x.deeds ≤ k
+  pub fits : IsTrue x.agrees ↔ ((j : ℕ) → j < x.deeds → FitsAt scripts n task (deeds_of s task) j)
+
+-- the courses of all tasks
+pub record AreCourses (s : State) (scripts : List Scripted) (n k : ℕ) (xs : List Course) : Type 0 where
+  pub as_many : length xs ≡ most_tasks
+  pub each : (task : ℕ) (x : Course) → slice_get xs task ≡ Some x → IsCourse s scripts n task k x
+
+-- what becomes of a task's course with what it did
+pub record CourseNext (scripts : List Scripted) (n task : ℕ) (d : Deed) (x y : Course) : Type 0 where
+  pub deeds : y.deeds ≡ x.deeds + 1
+  pub agrees : IsTrue y.agrees ↔ (IsTrue x.agrees × HaveLines scripts n task x.deeds d)
+
+-- how far the task has come beside its scripts once it did all that it did
+pub record IsWhole (scripts : List Scripted) (n task : ℕ) (deeds : List Deed) (x : Course) : Type 0 where
+  pub as_many : length deeds ≡ x.deeds
+  pub fits : IsTrue x.agrees ↔ ((j : ℕ) → j < x.deeds → FitsAt scripts n task deeds j)
+
+abbrev pub IsAsLongAt : List Scripted → ℕ → ℕ → ℕ → ℕ → Type 0
+IsAsLongAt scripts n task deeds k =
+    IfSome (slice_get scripts k) (λ script. is_for n task script ≡ true → length script.lines ≡ deeds)
+
+-- the course of a task that did its scripts
+pub record Suits (scripts : List Scripted) (n task : ℕ) (x : Course) : Type 0 where
+  pub agrees : IsTrue x.agrees
+  pub given : (k : ℕ) → IsAsLongAt scripts n task x.deeds k
+  pub missing : list_any (is_for n task) scripts ≡ false → x.deeds ≡ 0
+
+-- tasks that did nothing
+abbrev pub new_courses : List Course
+new_courses = replicate most_tasks (record { deeds = 0; agrees = true })
+
+-- of the task of this number
+abbrev pub SuitsAt : List Scripted → ℕ → List Course → ℕ → Type 0
+SuitsAt scripts n xs task = (x : Course) → slice_get xs task ≡ Some x → Suits scripts n task x
+
+-- each script that is given for the task has the lines that it did, and without a script it did nothing
+pub record AreScripts (scripts : List Scripted) (n task : ℕ) (deeds : List Deed) : Type 0 where
+  pub given : (k : ℕ) → IfSome (slice_get scripts k) (λ script. is_for n task script ≡ true → AreLines script.lines deeds)
+  pub missing : list_any (is_for n task) scripts ≡ false → deeds ≡ []
+
+-- ---- nodes
+
+-- what is found of a node, whose interface may not be there
+pub record AreFindings (p : Parameters) (o : Option State) (rs : List Recorded) (given : List Scripted) (n : ℕ) (x : Findings) : Type 0 where
+  pub windows : IsTrue x.has_windows ↔ IfThere o (HasWindows rs)
+  pub offers : Finds (λ k. IfThere o (IsHandedAt rs n k)) x.offer
+  pub sights : Finds (λ k. IfThere o (IsShownAt p rs n k)) x.sight
+  pub scripts : FindsTask (λ task. AreScripts given n task (deeds_in o task)) x.task
+
+-- what is found of the nodes below the number
+pub record AreDifferences (p : Parameters) (is : List State) (rs : List Recorded) (given : List Scripted) (upto : ℕ) (x : Differences) : Type 0 where
+  pub windows : FindsBelow upto (WindowsAgree is rs) x.window
+  pub offers : FindsPlaceBelow upto (λ n k. IfThere (slice_get is n) (IsHandedAt rs n k)) x.offer
+  pub sights : FindsPlaceBelow upto (λ n k. IfThere (slice_get is n) (IsShownAt p rs n k)) x.sight
+  pub scripts : FindsScriptBelow upto (ScriptAgrees is given) x.script

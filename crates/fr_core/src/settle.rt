@@ -1,18 +1,18 @@
 //! Whether a cluster, interfaces, a record and scripts agree.
 
-ghost use Rattle.std.specs.Prelude.{◌≡◌, ◌↔◌, ◌<◌, IsTrue, IfSome, OnOk, length, slice_get, option_map};
+ghost use Rattle.std.specs.Prelude.{◌≡◌, ◌↔◌, ◌<◌, ◌+◌, IsTrue, IfSome, OnOk, length, slice_get, option_map};
 ghost use Rattle.std.specs.List.{list_all};
 ghost use Rattle.fr_bus.specs.States.{OneSenderEach};
 ghost use Rattle.fr_core.specs.Receivers.{Receivers};
-ghost use Rattle.fr_core.specs.Settling.{ArePlanned, PlansAgree, WindowsAgree, IsFatedAt, IsOfferedAt, IsSeenAt};
+ghost use Rattle.fr_core.specs.Settling.{ArePlanned, PlansAgree, WindowsAgree, IsFatedAt};
 ghost use Rattle.fr_core.specs.Settling.{is_due, is_right, are_right, Settles, EachFollows, IsBetweenWindows};
 ghost use Rattle.fr_core.specs.Settling.{DiffersInScriptsAlone};
-ghost use Rattle.fr_core.specs.Walks.{Finds, FindsNode, FindsPlace, lesser_of};
+ghost use Rattle.fr_core.specs.Walks.{Finds, FindsNext, FindsPlace, AreDifferences, earlier, found_or};
+ghost use Rattle.fr_slots.specs.Numbers.{last_node};
 
 use crate::legal;
 use crate::script::Script;
-use crate::tasks::other_script;
-use crate::walk::{entries_of, has_windows, interface_at, node_of, other_offer, other_sight};
+use crate::walk::{entries_of, find_at, interface_at, node_of};
 use fr_bus::bus::Bus;
 use fr_bus::outcome::{Fate, Sealed, Sent};
 use fr_guardian::guardian::Guardian;
@@ -57,6 +57,20 @@ pub enum SettleError {
     Memory,
 }
 
+/// What differs first of each kind that a walk along the journals finds: the first node, and of that node the first
+/// place in the record or the first task.
+#[derive(Clone, Copy)]
+pub(crate) struct Differences {
+    /// The node whose windows aren't the record's.
+    pub window: Option<NodeId>,
+    /// Where a node handed over something else than the record has of it.
+    pub offer: Option<(NodeId, usize)>,
+    /// Where a node saw something else than the record lets it see.
+    pub sight: Option<(NodeId, usize)>,
+    /// The task that didn't do its scripts.
+    pub script: Option<(NodeId, TaskId)>,
+}
+
 /// Whether interface and node are both there, with the same parameters and the same plan, or neither is.
 fn are_planned(params: &Params, interface: Option<&Interface>, plan: Option<&NodePlan>) -> bool
     ensures { IsTrue result
@@ -87,28 +101,6 @@ fn other_plan(cluster: &Cluster, interfaces: &[Interface]) -> Option<usize>
         let interface = interface_at(interfaces, place);
         if !are_planned(cluster.params(), interface, plan_at(plans, place)) {
             return Some(place);
-        }
-    }
-    None
-}
-
-/// Whether the node's windows are the record's, if its interface is there.
-fn windows_agree(interfaces: &[Interface], place: usize, recorded: &[Sealed]) -> bool
-    ensures { IsTrue result ↔ WindowsAgree interfaces.now recorded.now place }
-{
-    match interface_at(interfaces, place) {
-        Some(interface) => has_windows(interface, recorded),
-        None => true,
-    }
-}
-
-/// The first node whose windows aren't the record's.
-fn other_windows(interfaces: &[Interface], recorded: &[Sealed]) -> Option<NodeId>
-    ensures { FindsNode (WindowsAgree interfaces.now recorded.now) result }
-{
-    for number in 0..NODES {
-        if !windows_agree(interfaces, usize::from(number), recorded) {
-            return Some(node_of(number));
         }
     }
     None
@@ -161,80 +153,103 @@ fn other_fate(guardian: &Guardian, node: NodeId, recorded: &[Sealed]) -> Option<
     None
 }
 
-/// The lesser of both.
-fn lesser(one: Option<usize>, other: Option<usize>) -> Option<usize>
-    ensures { result ≡ lesser_of one other }
+/// The first node with a transmission that isn't right, and the first place at which it has one.
+fn other_fates(guardian: &Guardian, recorded: &[Sealed]) -> Option<(NodeId, usize)>
+    ensures { FindsPlace (IsFatedAt guardian.now recorded.now) result }
+{
+    for number in 0..NODES {
+        let node = node_of(number);
+        if let Some(place) = other_fate(guardian, node, recorded) {
+            return Some((node, place));
+        }
+    }
+    None
+}
+
+/// That of the lesser node, and of the same node that of the lesser place.
+fn earlier(one: Option<(NodeId, usize)>, other: Option<(NodeId, usize)>) -> Option<(NodeId, usize)>
+    ensures { result ≡ earlier one other }
 {
     match (one, other) {
-        (Some(one), Some(other)) => Some(one.min(other)),
         (None, other) => other,
         (one, None) => one,
-    }
-}
-
-/// The first place at which the node's offers or fates differ.
-fn offers_differ(
-    guardian: &Guardian,
-    interfaces: &[Interface],
-    node: NodeId,
-    recorded: &[Sealed],
-) -> Option<usize>
-    ensures { Finds (IsOfferedAt guardian.now recorded.now node (slice_get interfaces.now node)) result }
-{
-    let fate = other_fate(guardian, node, recorded);
-    match interface_at(interfaces, usize::from(node.number())) {
-        Some(interface) => lesser(other_offer(interface, node, recorded), fate),
-        None => fate,
-    }
-}
-
-/// The first node whose offers or fates differ, and the first place at which they do.
-fn other_offers(
-    guardian: &Guardian,
-    interfaces: &[Interface],
-    recorded: &[Sealed],
-) -> Option<(NodeId, usize)>
-    ensures { FindsPlace (λ n. IsOfferedAt guardian.now recorded.now n (slice_get interfaces.now n)) result }
-{
-    for number in 0..NODES {
-        let node = node_of(number);
-        if let Some(place) = offers_differ(guardian, interfaces, node, recorded) {
-            return Some((node, place));
+        (Some(one), Some(other)) => {
+            let (node, same) = (one.0.number(), other.0.number());
+            if same < node || (same == node && other.1 < one.1) {
+                Some(other)
+            } else {
+                Some(one)
+            }
         }
     }
-    None
 }
 
-/// The first place at which the node saw something else than the record lets it see.
-fn sights_differ(
-    cluster: &Cluster,
-    interfaces: &[Interface],
-    node: NodeId,
-    recorded: &[Sealed],
-) -> Option<usize>
-    ensures { Finds (IsSeenAt cluster.now recorded.now node (slice_get interfaces.now node)) result }
+/// The node, if its windows differ and no node was found before it.
+fn or_node(found: Option<NodeId>, node: NodeId, agrees: bool) -> Option<NodeId>
+    ensures { FindsNext (IsTrue agrees) node found result }
 {
-    match interface_at(interfaces, usize::from(node.number())) {
-        Some(interface) => other_sight(interface, cluster.params(), node, recorded),
-        None => None,
+    match found {
+        Some(found) => Some(found),
+        None => { if agrees { None } else { Some(node) } }
     }
 }
 
-/// The first node that saw something else than the record lets it see, and the first place at which it did.
-fn other_sights(
-    cluster: &Cluster,
+/// The node and its place, if it has one and no node was found before it.
+fn or_place(
+    found: Option<(NodeId, usize)>,
+    node: NodeId,
+    here: Option<usize>,
+) -> Option<(NodeId, usize)>
+    ensures { result ≡ found_or found node here }
+{
+    match (found, here) {
+        (Some(found), _) => Some(found),
+        (None, Some(here)) => Some((node, here)),
+        (None, None) => None,
+    }
+}
+
+/// The node and its task, if it has one and no node was found before it.
+fn or_task(
+    found: Option<(NodeId, TaskId)>,
+    node: NodeId,
+    here: Option<TaskId>,
+) -> Option<(NodeId, TaskId)>
+    ensures { result ≡ found_or found node here }
+{
+    match (found, here) {
+        (Some(found), _) => Some(found),
+        (None, Some(here)) => Some((node, here)),
+        (None, None) => None,
+    }
+}
+
+/// What differs first of each kind, where each journal is walked once.
+fn find_differences(
+    params: &Params,
     interfaces: &[Interface],
     recorded: &[Sealed],
-) -> Option<(NodeId, usize)>
-    ensures { FindsPlace (λ n. IsSeenAt cluster.now recorded.now n (slice_get interfaces.now n)) result }
+    scripts: &[Script],
+) -> Differences
+    ensures { AreDifferences params.now interfaces.now recorded.now scripts.now (last_node + 1) result }
 {
+    let mut all = Differences {
+        window: None,
+        offer: None,
+        sight: None,
+        script: None,
+    };
     for number in 0..NODES {
         let node = node_of(number);
-        if let Some(place) = sights_differ(cluster, interfaces, node, recorded) {
-            return Some((node, place));
-        }
+        let found = find_at(interfaces, params, node, recorded, scripts);
+        all = Differences {
+            window: or_node(all.window, node, found.has_windows),
+            offer: or_place(all.offer, node, found.offer),
+            sight: or_place(all.sight, node, found.sight),
+            script: or_task(all.script, node, found.task),
+        };
     }
-    None
+    all
 }
 
 /// The number of the window at this place of the record.
@@ -272,21 +287,27 @@ fn judge(
     if let Some(place) = other_plan(cluster, interfaces) {
         return Err(SettleError::PlanDiffers(place));
     }
-    if let Some(node) = other_windows(interfaces, recorded) {
+    let Differences {
+        window,
+        offer,
+        sight,
+        script,
+    } = find_differences(cluster.params(), interfaces, recorded, scripts);
+    if let Some(node) = window {
         return Err(SettleError::WindowsDiffer(node));
     }
     let Ok(guardian) = Guardian::new(alloc, cluster) else {
         return Err(SettleError::Memory);
     };
-    if let Some(found) = other_offers(&guardian, interfaces, recorded) {
+    if let Some(found) = earlier(offer, other_fates(&guardian, recorded)) {
         let number = number_at(recorded, found.1);
         return Err(SettleError::OfferDiffers(found.0, number));
     }
-    if let Some(found) = other_sights(cluster, interfaces, recorded) {
+    if let Some(found) = sight {
         let number = number_at(recorded, found.1);
         return Err(SettleError::SeenDiffers(found.0, number));
     }
-    if let Some(found) = other_script(interfaces, scripts) {
+    if let Some(found) = script {
         return Err(SettleError::ScriptDiffers(found.0, found.1));
     }
     let _params = cluster.params();

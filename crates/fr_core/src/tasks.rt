@@ -1,18 +1,43 @@
 //! What tasks did, beside their scripts.
 
-ghost use Rattle.std.specs.Prelude.{◌≡◌, ◌↔◌, ◌<◌, IsTrue, IfSome, [], false, slice_get, option_map, ℕ};
+ghost use Rattle.std.specs.Prelude.{◌≡◌, ◌↔◌, ◌<◌, ◌+◌, IsTrue, IfSome, Some, slice_get, option_map, ℕ};
 ghost use Rattle.std.specs.List.{list_any};
-ghost use Rattle.std.specs.Option.{option_and_then, option_copied};
-ghost use Rattle.fr_core.specs.Scripts.{deed_in, frame_reply, deeds_of, deeds_at, IsLine, AreLines, is_for, IsScript, IsScriptAt};
-ghost use Rattle.fr_core.specs.Scripts.{ScriptAgrees};
-ghost use Rattle.fr_core.specs.Walks.{FindsTask, FindsScript};
+ghost use Rattle.std.specs.Option.{option_copied};
+ghost use Rattle.fr_core.specs.Scripts.{frame_reply, IsLine, is_for};
+ghost use Rattle.fr_core.specs.Walks.{FindsTask, done_by, HasLine, HasLineAt, HaveLines, AreCourses, CourseNext};
+ghost use Rattle.fr_core.specs.Walks.{IsAsLongAt, Suits, SuitsAt, new_courses};
+ghost use Rattle.fr_slots.specs.Numbers.{most_entries};
 
 use crate::event::Reply;
 use crate::script::{Action, Deed, Line, Script};
-use crate::walk::{entries_of, entry_at, interface_at, node_of};
 use fr_interface::interface::{Interface, Receipt};
 use fr_journal::entry::{Entry, Origin};
-use fr_slots::numbers::{NODES, NodeId, TASKS, TaskId};
+use fr_slots::numbers::{NodeId, TASKS, TaskId};
+
+/// How many tasks a node has at most.
+const COUNT: usize = TASKS as usize;
+
+/// How far a task has come beside the scripts that are given for it.
+#[derive(Clone, Copy)]
+pub(crate) struct Course {
+    /// How much it did.
+    pub deeds: usize,
+    /// Whether each of its scripts has that as its first lines.
+    pub agrees: bool,
+}
+
+/// The courses of all tasks of a node.
+pub(crate) type Courses = [Course; COUNT];
+
+/// The courses of tasks that did nothing.
+pub(crate) fn new_courses() -> Courses
+    ensures { result ≡ new_courses }
+{
+    [Course {
+        deeds: 0,
+        agrees: true,
+    }; COUNT]
+}
 
 /// The answer that names where a frame comes from: that frame, or nothing.
 fn frame_reply(interface: &Interface, from: Option<Origin>) -> Reply
@@ -24,11 +49,11 @@ fn frame_reply(interface: &Interface, from: Option<Origin>) -> Reply
     }
 }
 
-/// What the task did by the entry of this number, if it is the task's.
-fn deed_in(interface: &Interface, task: TaskId, number: u32, entry: &Option<Entry>) -> Option<Deed>
-    ensures { result ≡ option_and_then (deed_in interface.now task number) entry.now }
+/// What the entry of this number did, and for which task, if it is the host's.
+fn done_by(interface: &Interface, number: u32, entry: &Entry) -> Option<(TaskId, Deed)>
+    ensures { result ≡ done_by interface.now number entry.now }
 {
-    let (doer, action, answer) = match entry.as_ref()? {
+    let (task, action, answer) = match entry {
         Entry::Commit {
             task,
             buffer,
@@ -51,11 +76,7 @@ fn deed_in(interface: &Interface, task: TaskId, number: u32, entry: &Option<Entr
         Entry::Pop { task, from } => (*task, Action::Pop, frame_reply(interface, *from)),
         Entry::Fetch { .. } | Entry::Observe { .. } => return None,
     };
-    if doer == task {
-        Some(Deed { action, answer })
-    } else {
-        None
-    }
+    Some((task, Deed { action, answer }))
 }
 
 /// Whether the line has no answer, or this one.
@@ -82,42 +103,14 @@ fn line_at(lines: &[Line], place: usize) -> Option<&Line>
     lines.get(place)
 }
 
-/// Whether the lines are what the task did, one by one.
-fn are_lines(interface: &Interface, task: TaskId, lines: &[Line]) -> bool
-    ensures { IsTrue result ↔ AreLines lines.now (deeds_of interface.now task) }
+/// Whether the line at this place is there, and is what was done.
+fn has_line(lines: &[Line], place: usize, deed: &Deed) -> bool
+    ensures { IsTrue result ↔ HasLine (slice_get lines.now place) deed.now }
 {
-    let mut place = 0;
-    for number in 0..entries_of(interface) {
-        let Some(deed) = deed_in(interface, task, number, &entry_at(interface, number)) else {
-            continue;
-        };
-        let Some(line) = line_at(lines, place) else {
-            return false;
-        };
-        if !is_line(line, &deed) {
-            return false;
-        }
-        place += 1;
+    match line_at(lines, place) {
+        Some(line) => is_line(line, deed),
+        None => false,
     }
-    place == lines.len()
-}
-
-/// Whether the lines are what the task did; a node that isn't there did nothing.
-fn are_done(interfaces: &[Interface], node: NodeId, task: TaskId, lines: &[Line]) -> bool
-    ensures { IsTrue result ↔ AreLines lines.now (deeds_at interfaces.now node task) }
-{
-    match interface_at(interfaces, usize::from(node.number())) {
-        Some(interface) => are_lines(interface, task, lines),
-        None => lines.is_empty(),
-    }
-}
-
-/// Whether the task did nothing.
-#[tactic(auto, using(crate::proofs::ScriptLemmas::none_done, crate::proofs::ScriptLemmas::nothing_done))]
-fn did_nothing(interfaces: &[Interface], node: NodeId, task: TaskId) -> bool
-    ensures { IsTrue result ↔ (deeds_at interfaces.now node task ≡ []) }
-{
-    are_done(interfaces, node, task, &[])
 }
 
 /// Whether a script is given for the task.
@@ -134,53 +127,105 @@ fn script_at(scripts: &[Script], place: usize) -> Option<&Script>
     scripts.get(place)
 }
 
-/// Whether the script, if it is the task's, has the lines that the task did.
-fn is_script(interfaces: &[Interface], script: &Script, node: NodeId, task: TaskId) -> bool
-    ensures { IsTrue result ↔ IsScript interfaces.now node task script.now }
-{
-    !script.is_for(node, task) || are_done(interfaces, node, task, script.lines.as_slice())
-}
-
-/// Whether the script at this place, if it is the task's, has the lines that the task did.
-fn is_script_at(
-    interfaces: &[Interface],
+/// Whether the script of this place, if it is the task's, has what was done as its line at this place.
+fn has_line_at(
     scripts: &[Script],
-    place: usize,
+    given: usize,
     node: NodeId,
     task: TaskId,
+    place: usize,
+    deed: &Deed,
 ) -> bool
-    ensures { IsTrue result ↔ IsScriptAt interfaces.now scripts.now node task place }
+    ensures { IsTrue result ↔ HasLineAt scripts.now node task place deed.now given }
 {
-    match script_at(scripts, place) {
-        Some(script) => is_script(interfaces, script, node, task),
+    match script_at(scripts, given) {
+        Some(script) => {
+            !script.is_for(node, task) || has_line(script.lines.as_slice(), place, deed)
+        }
         None => true,
     }
 }
 
-/// Whether each script that is given for the task has the lines that the task did.
-fn are_scripts(interfaces: &[Interface], scripts: &[Script], node: NodeId, task: TaskId) -> bool
-    ensures { IsTrue result ↔ ((k : ℕ) → IsScriptAt interfaces.now scripts.now node task k) }
+/// Whether each script of the task has what was done as its line at this place.
+fn have_lines(scripts: &[Script], node: NodeId, task: TaskId, place: usize, deed: &Deed) -> bool
+    ensures { IsTrue result ↔ HaveLines scripts.now node task place deed.now }
 {
-    for place in 0..scripts.len() {
-        if !is_script_at(interfaces, scripts, place, node, task) {
+    for given in 0..scripts.len() {
+        if !has_line_at(scripts, given, node, task, place, deed) {
             return false;
         }
     }
     true
 }
 
-/// Whether the task did nothing, if no script is given for it.
-fn is_idle_without(interfaces: &[Interface], scripts: &[Script], node: NodeId, task: TaskId) -> bool
-    ensures { IsTrue result ↔ (list_any (is_for node task) scripts.now ≡ false → deeds_at interfaces.now node task ≡ []) }
+/// The course of the task with this deed, where this is the course before it.
+fn course_past(
+    scripts: &[Script],
+    node: NodeId,
+    task: TaskId,
+    deed: &Deed,
+    course: Course,
+) -> Course
+    requires { course.deeds < most_entries }
+    ensures { CourseNext scripts.now node task deed.now course result }
 {
-    has_script(scripts, node, task) || did_nothing(interfaces, node, task)
+    let place = course.deeds;
+    Course {
+        deeds: place + 1,
+        agrees: course.agrees && have_lines(scripts, node, task, place, deed),
+    }
 }
 
-/// Whether what the task did is its script; without a script it did nothing.
-fn script_agrees(interfaces: &[Interface], scripts: &[Script], node: NodeId, task: TaskId) -> bool
-    ensures { IsTrue result ↔ ScriptAgrees interfaces.now scripts.now node task }
+/// The courses with the entry of this number, where these are the courses before it.
+pub(crate) fn courses_past(
+    interface: &Interface,
+    node: NodeId,
+    scripts: &[Script],
+    number: u32,
+    entry: &Entry,
+    courses: &mut Courses,
+)
+    requires few { number < most_entries }
+    requires here { slice_get interface.now.entries number ≡ Some entry.now }
+    requires so_far { AreCourses interface.now scripts.now node number courses.old }
+    ensures { AreCourses interface.now scripts.now node (number + 1) courses.new }
 {
-    is_idle_without(interfaces, scripts, node, task) && are_scripts(interfaces, scripts, node, task)
+    let Some(done) = done_by(interface, number, entry) else {
+        return;
+    };
+    let place = usize::from(done.0.number());
+    courses[place] = course_past(scripts, node, done.0, &done.1, courses[place]);
+}
+
+/// Whether the script of this place, if it is the task's, has as many lines.
+fn is_as_long_at(scripts: &[Script], given: usize, node: NodeId, task: TaskId, deeds: usize) -> bool
+    ensures { IsTrue result ↔ IsAsLongAt scripts.now node task deeds given }
+{
+    match script_at(scripts, given) {
+        Some(script) => !script.is_for(node, task) || script.lines.len() == deeds,
+        None => true,
+    }
+}
+
+/// Whether each script of the task has as many lines.
+fn are_as_long(scripts: &[Script], node: NodeId, task: TaskId, deeds: usize) -> bool
+    ensures { IsTrue result ↔ ((k : ℕ) → IsAsLongAt scripts.now node task deeds k) }
+{
+    for given in 0..scripts.len() {
+        if !is_as_long_at(scripts, given, node, task, deeds) {
+            return false;
+        }
+    }
+    true
+}
+
+/// Whether a task of this course did its scripts; without a script it did nothing.
+fn suits(scripts: &[Script], node: NodeId, task: TaskId, course: Course) -> bool
+    ensures { IsTrue result ↔ Suits scripts.now node task course }
+{
+    course.agrees
+        && are_as_long(scripts, node, task, course.deeds)
+        && (has_script(scripts, node, task) || course.deeds == 0)
 }
 
 /// The task of this number.
@@ -194,27 +239,14 @@ fn task_of(number: u8) -> TaskId
     }
 }
 
-/// The first task of the node that didn't do its script.
-fn other_task(interfaces: &[Interface], scripts: &[Script], node: NodeId) -> Option<TaskId>
-    ensures { FindsTask (ScriptAgrees interfaces.now scripts.now node) result }
+/// The first task that didn't do its scripts, by these courses.
+pub(crate) fn other_task(scripts: &[Script], node: NodeId, courses: &Courses) -> Option<TaskId>
+    ensures { FindsTask (SuitsAt scripts.now node courses.now) result }
 {
     for number in 0..TASKS {
         let task = task_of(number);
-        if !script_agrees(interfaces, scripts, node, task) {
+        if !suits(scripts, node, task, courses[usize::from(number)]) {
             return Some(task);
-        }
-    }
-    None
-}
-
-/// The first node with a task that didn't do its script, and the first such task of it.
-pub(crate) fn other_script(interfaces: &[Interface], scripts: &[Script]) -> Option<(NodeId, TaskId)>
-    ensures { FindsScript (ScriptAgrees interfaces.now scripts.now) result }
-{
-    for number in 0..NODES {
-        let node = node_of(number);
-        if let Some(task) = other_task(interfaces, scripts, node) {
-            return Some((node, task));
         }
     }
     None

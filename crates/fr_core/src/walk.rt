@@ -1,25 +1,64 @@
-//! Walks along the journal of one node, beside the record.
+//! The walk along the journal of one node, beside the record and the scripts.
 
-ghost use Rattle.std.specs.Prelude.{◌≡◌, ◌<◌, ◌≤◌, ◌↔◌, IsTrue, Some, None, nat_lt, if◌then◌else◌, length, map, slice_get};
-ghost use Rattle.std.specs.Prelude.{option_map};
-ghost use Rattle.std.specs.Option.{option_and_then, option_copied};
+ghost use Rattle.std.specs.Prelude.{◌≡◌, ◌<◌, ◌≤◌, ◌+◌, ◌↔◌, IsTrue, Some, None, nat_lt, if◌then◌else◌, length, slice_get};
+ghost use Rattle.std.specs.Prelude.{option_map, is_none, ◌&&◌};
+ghost use Rattle.std.specs.Option.{option_copied, option_or};
 ghost use Rattle.fr_bus.specs.Record.{seen_by};
-ghost use Rattle.fr_core.specs.Agreeing.{fetched, observed, offers_of, sights_of};
-ghost use Rattle.fr_core.specs.Settling.{fetched_window, observed_window, windows_fetched, windows_observed, windows_of};
-ghost use Rattle.fr_core.specs.Settling.{HasWindows};
-ghost use Rattle.fr_core.specs.Walks.{FindsDifference, handed_by, saw, opened_past};
+ghost use Rattle.fr_core.specs.Agreeing.{offers_of, sight_of, sights_of};
+ghost use Rattle.fr_core.specs.Walks.{FindsNext, handed_by, window_at, FetchesNext, ObservesNext};
+ghost use Rattle.fr_core.specs.Walks.{AreFindings, is_silent};
+ghost use Rattle.fr_interface.specs.Handing.{bytes_handed};
 ghost use Rattle.fr_slots.specs.declared.channel.Channel.TheVariants as channel;
 ghost use Rattle.fr_slots.specs.Numbers.{most_entries};
 
+use crate::script::Script;
+use crate::tasks::{courses_past, new_courses, other_task};
 use fr_bus::outcome::Sealed;
 use fr_frame::frame::Bytes;
 use fr_interface::interface::Interface;
-use fr_journal::entry::Entry;
+use fr_journal::entry::{Entry, Offered};
 use fr_slots::channel::Channel;
-use fr_slots::numbers::NodeId;
+use fr_slots::numbers::{NodeId, TaskId};
 use fr_slots::params::Params;
 use fr_slots::window::Window;
 use fr_status::seen::Seen;
+
+/// What is found of a node.
+#[derive(Clone, Copy)]
+pub(crate) struct Findings {
+    /// Whether the windows that it fetched, and those that it observed, are the record's.
+    pub has_windows: bool,
+    /// The first place at which what it handed over isn't what the record has of it.
+    pub offer: Option<usize>,
+    /// The first place at which what it saw isn't what the record lets it see.
+    pub sight: Option<usize>,
+    /// The first task that didn't do its scripts.
+    pub task: Option<TaskId>,
+}
+
+/// What is found of the fetches of a node.
+#[derive(Clone, Copy)]
+pub(crate) struct Fetches {
+    /// How many there are.
+    pub count: usize,
+    /// The first place at which the window isn't the record's.
+    pub window: Option<usize>,
+    /// The first place at which what was handed over isn't what the record has of the node.
+    pub offer: Option<usize>,
+}
+
+/// What is found of the observes of a node.
+#[derive(Clone, Copy)]
+pub(crate) struct Observes {
+    /// How many there are.
+    pub count: usize,
+    /// The window that is open, if there is one.
+    pub opened: Option<Window>,
+    /// The first place at which the window isn't the record's.
+    pub window: Option<usize>,
+    /// The first place at which what was seen isn't what the record lets the node see.
+    pub sight: Option<usize>,
+}
 
 /// The number of entries.
 pub(crate) fn entries_of(interface: &Interface) -> u32
@@ -29,8 +68,8 @@ pub(crate) fn entries_of(interface: &Interface) -> u32
     interface.journal().len()
 }
 
-/// The entry of this number. Each walk along a journal gets its entries here.
-pub(crate) fn entry_at(interface: &Interface, number: u32) -> Option<Entry>
+/// The entry of this number. The walk along a journal gets its entries here, each once.
+fn entry_at(interface: &Interface, number: u32) -> Option<Entry>
     ensures { result ≡ slice_get interface.now.entries number }
 {
     interface.journal().get(number)
@@ -61,42 +100,24 @@ fn sealed_at(recorded: &[Sealed], place: usize) -> Option<&Sealed>
     recorded.get(place)
 }
 
-/// The window that the entry fetched, if it is a fetch.
-fn fetched_window(entry: &Option<Entry>) -> Option<Window>
-    ensures { result ≡ option_and_then fetched_window entry.now }
+/// Whether this is the window at this place of the record.
+fn is_window_at(recorded: &[Sealed], place: usize, window: &Window) -> bool
+    ensures { IsTrue result ↔ (window_at recorded.now place ≡ Some window.now) }
 {
-    match entry {
-        Some(Entry::Fetch { window, .. }) => Some(*window),
-        _ => None,
+    match sealed_at(recorded, place) {
+        Some(sealed) => sealed.window == *window,
+        None => false,
     }
 }
 
-/// The window that the entry observed, if it is an observe, where this window is open before it.
-fn observed_window(entry: &Option<Entry>, opened: &Option<Window>) -> Option<Window>
-    ensures { result ≡ option_and_then (observed_window opened.now) entry.now }
+/// The first place at which two lists differ, which are the same or not at this place, where this was found before it.
+fn next_found(found: Option<usize>, place: usize, is_same: bool) -> Option<usize>
+    ensures { FindsNext (IsTrue is_same) place found result }
 {
-    match entry {
-        Some(Entry::Observe { .. }) => *opened,
-        _ => None,
+    match found {
+        Some(found) => Some(found),
+        None => { if is_same { None } else { Some(place) } }
     }
-}
-
-/// The window that is open after the entry, if there is one, where this window is open before it.
-fn opened_past(entry: &Option<Entry>, opened: &Option<Window>) -> Option<Window>
-    ensures { result ≡ opened_past opened.now entry.now }
-{
-    match entry {
-        Some(Entry::Fetch { window, .. }) => Some(*window),
-        Some(Entry::Observe { .. }) => None,
-        _ => *opened,
-    }
-}
-
-/// Whether it is of this window.
-fn is_of_window(sealed: &Sealed, window: &Window) -> bool
-    ensures { IsTrue result ↔ (sealed.now.window ≡ window.now) }
-{
-    sealed.window == *window
 }
 
 /// Whether both are the same bytes, or none.
@@ -110,25 +131,105 @@ fn are_same(one: &Option<Bytes>, other: Option<&Bytes>) -> bool
     }
 }
 
+/// Whether the entry handed nothing over on the channel.
+fn is_silent(entry: &Entry, channel: Channel) -> bool
+    ensures { result ≡ is_silent channel entry.now }
+{
+    let Entry::Fetch { a, b, .. } = entry else {
+        return true;
+    };
+    match channel {
+        Channel::A => matches!(a, Offered::Nothing),
+        Channel::B => matches!(b, Offered::Nothing),
+    }
+}
+
+/// What the entry of this number handed over on the channel.
+fn handed_on(interface: &Interface, number: u32, entry: &Entry, channel: Channel) -> Option<Bytes>
+    requires { slice_get interface.now.entries number ≡ Some entry.now }
+    ensures { result ≡ bytes_handed interface.now number channel }
+{
+    if is_silent(entry, channel) {
+        None
+    } else {
+        interface.handed_at(number, channel)
+    }
+}
+
 /// Whether what the fetch of this number handed over in the window is what the record has of the node.
 fn is_handed(
     interface: &Interface,
     number: u32,
+    entry: &Entry,
     window: &Window,
     node: NodeId,
     sealed: &Sealed,
 ) -> bool
+    requires { slice_get interface.now.entries number ≡ Some entry.now }
     ensures { IsTrue result ↔ (offers_of node sealed.now ≡ handed_by interface.now number window.now) }
 {
-    is_of_window(sealed, window)
+    sealed.window == *window
         && are_same(
-            &interface.handed_at(number, Channel::A),
+            &handed_on(interface, number, entry, Channel::A),
             sealed.offered(Channel::A, node),
         )
         && are_same(
-            &interface.handed_at(number, Channel::B),
+            &handed_on(interface, number, entry, Channel::B),
             sealed.offered(Channel::B, node),
         )
+}
+
+/// Whether that is what the record has of the node at this place.
+fn is_handed_at(
+    interface: &Interface,
+    number: u32,
+    entry: &Entry,
+    window: &Window,
+    node: NodeId,
+    recorded: &[Sealed],
+    place: usize,
+) -> bool
+    requires { slice_get interface.now.entries number ≡ Some entry.now }
+    ensures { IsTrue result
+        ↔ (option_map (offers_of node) (slice_get recorded.now place) ≡ Some (handed_by interface.now number window.now)) }
+{
+    match sealed_at(recorded, place) {
+        Some(sealed) => is_handed(interface, number, entry, window, node, sealed),
+        None => false,
+    }
+}
+
+/// What is found of the fetches with the entry of this number, where this was found before it.
+fn fetches_past(
+    interface: &Interface,
+    node: NodeId,
+    recorded: &[Sealed],
+    number: u32,
+    entry: &Entry,
+    so_far: &Fetches,
+) -> Fetches
+    requires here { slice_get interface.now.entries number ≡ Some entry.now }
+    requires few { so_far.now.count < most_entries }
+    ensures { FetchesNext interface.now node recorded.now number so_far.now entry.now result }
+{
+    let Entry::Fetch { window, .. } = entry else {
+        return *so_far;
+    };
+    let place = so_far.count;
+    let is_window = is_window_at(recorded, place, window);
+    let is_offer = is_handed_at(interface, number, entry, window, node, recorded, place);
+    Fetches {
+        count: place + 1,
+        window: next_found(so_far.window, place, is_window),
+        offer: next_found(so_far.offer, place, is_offer),
+    }
+}
+
+/// Whether it is of this window.
+fn is_of_window(sealed: &Sealed, window: &Window) -> bool
+    ensures { IsTrue result ↔ (sealed.now.window ≡ window.now) }
+{
+    sealed.window == *window
 }
 
 /// Whether the node saw this, on A and on B, by the record.
@@ -139,154 +240,136 @@ fn is_shown(params: &Params, node: NodeId, sealed: &Sealed, a: &Seen, b: &Seen) 
     sealed.seen(params, Channel::A, node) == *a && sealed.seen(params, Channel::B, node) == *b
 }
 
-/// Whether the entry observed, in this window, what the record lets the node see.
-fn has_seen(
-    entry: &Option<Entry>,
-    window: &Window,
+/// Whether the record lets the node see this at this place.
+fn is_shown_at(
     params: &Params,
     node: NodeId,
-    sealed: &Sealed,
+    recorded: &[Sealed],
+    place: usize,
+    window: &Window,
+    a: &Seen,
+    b: &Seen,
 ) -> bool
     ensures { IsTrue result
-        ↔ (option_and_then (saw window.now) entry.now ≡ Some (sights_of params.now node sealed.now)) }
+        ↔ (option_map (sights_of params.now node) (slice_get recorded.now place) ≡ Some (sight_of a.now b.now window.now)) }
 {
-    match entry {
-        Some(Entry::Observe { a, b, .. }) => {
-            is_of_window(sealed, window) && is_shown(params, node, sealed, a, b)
-        }
-        _ => false,
+    match sealed_at(recorded, place) {
+        Some(sealed) => is_of_window(sealed, window) && is_shown(params, node, sealed, a, b),
+        None => false,
     }
 }
 
-/// The first place at which the windows that the interface fetched aren't those of the record.
-fn other_fetch(interface: &Interface, recorded: &[Sealed]) -> Option<usize>
-    ensures { FindsDifference (windows_fetched interface.now) (windows_of recorded.now) result }
+/// What is found of the observes with this entry, where this was found before it.
+fn observes_past(
+    params: &Params,
+    node: NodeId,
+    recorded: &[Sealed],
+    entry: &Entry,
+    so_far: &Observes,
+) -> Observes
+    requires few { so_far.now.count < most_entries }
+    ensures { ObservesNext params.now node recorded.now so_far.now entry.now result }
 {
-    let mut place = 0;
-    for number in 0..entries_of(interface) {
-        let Some(window) = fetched_window(&entry_at(interface, number)) else {
-            continue;
-        };
-        let Some(sealed) = sealed_at(recorded, place) else {
-            return Some(place);
-        };
-        if !is_of_window(sealed, &window) {
-            return Some(place);
+    match (entry, &so_far.opened) {
+        (Entry::Observe { a, b, .. }, Some(window)) => {
+            let place = so_far.count;
+            let is_window = is_window_at(recorded, place, window);
+            let is_sight = is_shown_at(params, node, recorded, place, window, a, b);
+            Observes {
+                count: place + 1,
+                opened: None,
+                window: next_found(so_far.window, place, is_window),
+                sight: next_found(so_far.sight, place, is_sight),
+            }
         }
-        place += 1;
+        (Entry::Fetch { window, .. }, _) => Observes {
+            opened: Some(*window),
+            ..*so_far
+        },
+        _ => *so_far,
     }
-    rest_from(place, recorded)
 }
 
-/// The first place at which the windows that the interface observed aren't those of the record.
-fn other_observe(interface: &Interface, recorded: &[Sealed]) -> Option<usize>
-    ensures { FindsDifference (windows_observed interface.now) (windows_of recorded.now) result }
+/// The place that was found, or else this one where the record goes on there.
+fn or_rest(found: Option<usize>, place: usize, recorded: &[Sealed]) -> Option<usize>
+    ensures { result ≡ option_or found (if nat_lt place (length recorded.now) then Some place else None) }
 {
-    let mut place = 0;
-    let mut opened = None;
-    for number in 0..entries_of(interface) {
-        let entry = entry_at(interface, number);
-        let observed = observed_window(&entry, &opened);
-        opened = opened_past(&entry, &opened);
-        let Some(window) = observed else {
-            continue;
-        };
-        let Some(sealed) = sealed_at(recorded, place) else {
-            return Some(place);
-        };
-        if !is_of_window(sealed, &window) {
-            return Some(place);
+    match found {
+        Some(found) => Some(found),
+        None => {
+            if place < recorded.len() {
+                Some(place)
+            } else {
+                None
+            }
         }
-        place += 1;
     }
-    rest_from(place, recorded)
 }
 
-/// The first place at which what the interface handed over isn't what the record has of the node.
-pub(crate) fn other_offer(interface: &Interface, node: NodeId, recorded: &[Sealed]) -> Option<usize>
-    ensures { FindsDifference (fetched interface.now) (map (offers_of node) recorded.now) result }
+/// Whether neither place was found.
+fn are_none(one: Option<usize>, other: Option<usize>) -> bool
+    ensures { result ≡ (is_none one && is_none other) }
 {
-    let mut place = 0;
-    for number in 0..entries_of(interface) {
-        let Some(window) = fetched_window(&entry_at(interface, number)) else {
-            continue;
-        };
-        let Some(sealed) = sealed_at(recorded, place) else {
-            return Some(place);
-        };
-        if !is_handed(interface, number, &window, node, sealed) {
-            return Some(place);
-        }
-        place += 1;
-    }
-    rest_from(place, recorded)
+    one.is_none() && other.is_none()
 }
 
-/// The first place at which what the interface saw isn't what the record lets the node see.
-pub(crate) fn other_sight(
+/// What is found of a node by its journal, which is walked once.
+fn walk(
     interface: &Interface,
     params: &Params,
     node: NodeId,
     recorded: &[Sealed],
-) -> Option<usize>
-    ensures { FindsDifference (observed interface.now) (map (sights_of params.now node) recorded.now) result }
+    scripts: &[Script],
+) -> Findings
+    ensures { AreFindings params.now (Some interface.now) recorded.now scripts.now node result }
 {
-    let mut place = 0;
-    let mut opened = None;
+    let mut fetches = Fetches {
+        count: 0,
+        window: None,
+        offer: None,
+    };
+    let mut observes = Observes {
+        count: 0,
+        opened: None,
+        window: None,
+        sight: None,
+    };
+    let mut courses = new_courses();
     for number in 0..entries_of(interface) {
-        let entry = entry_at(interface, number);
-        let observed = observed_window(&entry, &opened);
-        opened = opened_past(&entry, &opened);
-        let Some(window) = observed else {
-            continue;
+        let Some(entry) = entry_at(interface, number) else {
+            unreachable!();
         };
-        let Some(sealed) = sealed_at(recorded, place) else {
-            return Some(place);
-        };
-        if !has_seen(&entry, &window, params, node, sealed) {
-            return Some(place);
-        }
-        place += 1;
+        fetches = fetches_past(interface, node, recorded, number, &entry, &fetches);
+        observes = observes_past(params, node, recorded, &entry, &observes);
+        courses_past(interface, node, scripts, number, &entry, &mut courses);
     }
-    rest_from(place, recorded)
-}
-
-/// Whether the windows that the interface fetched, and those that it observed, are the record's.
-pub(crate) fn has_windows(interface: &Interface, recorded: &[Sealed]) -> bool
-    ensures { IsTrue result ↔ HasWindows recorded.now interface.now }
-{
-    has_fetched(interface, recorded) && has_observed(interface, recorded)
-}
-
-/// Whether the windows that the interface fetched are the record's.
-#[tactic(auto, using(crate::proofs::WalkLemmas::differ_lists))]
-fn has_fetched(interface: &Interface, recorded: &[Sealed]) -> bool
-    ensures { IsTrue result ↔ (windows_fetched interface.now ≡ windows_of recorded.now) }
-{
-    match other_fetch(interface, recorded) {
-        Some(_) => false,
-        None => true,
+    let fetch = or_rest(fetches.window, fetches.count, recorded);
+    let observe = or_rest(observes.window, observes.count, recorded);
+    Findings {
+        has_windows: are_none(fetch, observe),
+        offer: or_rest(fetches.offer, fetches.count, recorded),
+        sight: or_rest(observes.sight, observes.count, recorded),
+        task: other_task(scripts, node, &courses),
     }
 }
 
-/// Whether the windows that the interface observed are the record's.
-#[tactic(auto, using(crate::proofs::WalkLemmas::differ_lists))]
-fn has_observed(interface: &Interface, recorded: &[Sealed]) -> bool
-    ensures { IsTrue result ↔ (windows_observed interface.now ≡ windows_of recorded.now) }
+/// What is found of the node, by its interface if it is there.
+pub(crate) fn find_at(
+    interfaces: &[Interface],
+    params: &Params,
+    node: NodeId,
+    recorded: &[Sealed],
+    scripts: &[Script],
+) -> Findings
+    ensures { AreFindings params.now (slice_get interfaces.now node) recorded.now scripts.now node result }
 {
-    match other_observe(interface, recorded) {
-        Some(_) => false,
-        None => true,
-    }
-}
-
-/// The place, if the record goes on there.
-fn rest_from(place: usize, recorded: &[Sealed]) -> Option<usize>
-    ensures { result ≡ (if nat_lt place (length recorded.now) then Some place else None) }
-{
-    if place < recorded.len() {
-        Some(place)
-    } else {
-        None
+    match interface_at(interfaces, usize::from(node.number())) {
+        Some(interface) => walk(interface, params, node, recorded, scripts),
+        None => Findings {
+            has_windows: true,
+            offer: None,
+            sight: None,
+            task: other_task(scripts, node, &new_courses()),
+        },
     }
 }

@@ -1,8 +1,0 @@
-use Rattle.std.proofs.Common.{ℕ, ◌<◌}
-use Rattle.std.specs.Prelude.{slice_get}
-use Rattle.fr_core.specs.Settling.{IsOfferedAt}
-use Rattle.fr_core.proofs.settle.other_offers.Given as goal
-
--- those before agree
-abbrev pub invariant-loop-number : goal.invariant-loop-number
-invariant-loop-number l = (n : ℕ) → n < l.number → (k : ℕ) → IsOfferedAt l.guardian l.recorded n (slice_get l.interfaces n) k
