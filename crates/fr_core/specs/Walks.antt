@@ -73,6 +73,32 @@ found_or (Some found) node here = Some found
 found_or None node None = None
 found_or None node (Some here) = Some (node, here)
 
+-- none fails, or this is the least node that does
+abbrev pub FindsLeast : (ℕ → Type 0) → Option ℕ → Type 0
+FindsLeast P None = (n : ℕ) → P n
+FindsLeast P (Some n) = (n ≤ last_node) × IsFirst P n
+
+abbrev pub lesser_node : Option ℕ → ℕ → ℕ
+lesser_node None n = n
+lesser_node (Some least) n = if nat_lt n least then n else least
+
+-- what was found before this place, unless the node found here is a lesser one
+abbrev pub or_lesser : Option (ℕ × ℕ) → Option ℕ → ℕ → Option (ℕ × ℕ)
+or_lesser found None place = found
+or_lesser None (Some here) place = Some (here, place)
+or_lesser (Some found) (Some here) place = if nat_lt here found.0 then Some (here, place) else Some found
+
+-- of the windows before this place, the least node that fails, and of that node the first place
+pub record IsLeastBefore (P : ℕ → ℕ → Type 0) (upto : ℕ) (found : ℕ × ℕ) : Type 0 where
+  pub few : found.0 ≤ last_node
+  pub fails : ¬ P found.0 found.1
+  pub places : (k : ℕ) → k < found.1 → P found.0 k
+  pub nodes : (n : ℕ) → n < found.0 → (k : ℕ) → k < upto → P n k
+
+abbrev pub FindsLeastBefore : (ℕ → ℕ → Type 0) → ℕ → Option (ℕ × ℕ) → Type 0
+FindsLeastBefore P upto None = (n k : ℕ) → k < upto → P n k
+FindsLeastBefore P upto (Some found) = IsLeastBefore P upto found
+
 -- that of the lesser node, and of the same node that of the lesser place
 abbrev pub is_before : ℕ × ℕ → ℕ × ℕ → Bool
 is_before x y = nat_lt x.0 y.0 || (x.0 == y.0 && nat_lt x.1 y.1)

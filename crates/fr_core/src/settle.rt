@@ -1,13 +1,14 @@
 //! Whether a cluster, interfaces, a record and scripts agree.
 
-ghost use Rattle.std.specs.Prelude.{◌≡◌, ◌↔◌, ◌<◌, ◌+◌, IsTrue, IfSome, OnOk, length, slice_get, option_map};
+ghost use Rattle.std.specs.Prelude.{◌≡◌, ◌↔◌, ◌<◌, ◌+◌, true, IsTrue, IfSome, OnOk, length, slice_get, option_map};
 ghost use Rattle.std.specs.List.{list_all};
 ghost use Rattle.fr_bus.specs.States.{OneSenderEach};
 ghost use Rattle.fr_core.specs.Receivers.{Receivers};
 ghost use Rattle.fr_core.specs.Settling.{ArePlanned, PlansAgree, WindowsAgree, IsFatedAt};
 ghost use Rattle.fr_core.specs.Settling.{is_due, is_right, are_right, Settles, EachFollows, IsBetweenWindows};
 ghost use Rattle.fr_core.specs.Settling.{DiffersInScriptsAlone};
-ghost use Rattle.fr_core.specs.Walks.{Finds, FindsNext, FindsPlace, AreDifferences, earlier, found_or};
+ghost use Rattle.fr_core.specs.Walks.{Finds, FindsNext, FindsPlace, FindsLeast, AreDifferences};
+ghost use Rattle.fr_core.specs.Walks.{earlier, found_or, lesser_node, or_lesser};
 ghost use Rattle.fr_slots.specs.Numbers.{last_node};
 
 use crate::legal;
@@ -126,44 +127,73 @@ fn is_right(guardian: &Guardian, node: NodeId, window: &Window, sent: &Sent) -> 
             && is_due(sent.fate, guardian.passes(node, window, sent.channel)))
 }
 
-/// Whether all transmissions of the node among these are right.
-fn all_right(guardian: &Guardian, node: NodeId, window: &Window, sent: &[Sent]) -> bool
-    ensures { result ≡ list_all (is_right guardian.now node window.now) sent.now }
+/// The lesser node, or this one where there is no other.
+fn lesser_node(least: Option<NodeId>, node: NodeId) -> NodeId
+    ensures { result ≡ lesser_node least node }
 {
-    sent.iter()
-        .all(|sent| is_right(guardian, node, window, sent))
+    match least {
+        Some(least) => {
+            if node.number() < least.number() {
+                node
+            } else {
+                least
+            }
+        }
+        None => node,
+    }
 }
 
-/// Whether all transmissions of the node in the window are right.
-fn are_right(guardian: &Guardian, node: NodeId, sealed: &Sealed) -> bool
-    ensures { result ≡ are_right guardian.now node sealed.now }
+/// The least node with a transmission among these that isn't right.
+fn wrong_node(guardian: &Guardian, window: &Window, sent: &[Sent]) -> Option<NodeId>
+    ensures { FindsLeast (λ n. list_all (is_right guardian.now n window.now) sent.now ≡ true) result }
 {
-    all_right(guardian, node, &sealed.window, sealed.sent.as_slice())
-}
-
-/// The first place at which a transmission of the node isn't right.
-fn other_fate(guardian: &Guardian, node: NodeId, recorded: &[Sealed]) -> Option<usize>
-    ensures { Finds (IsFatedAt guardian.now recorded.now node) result }
-{
-    for (place, sealed) in recorded.iter().enumerate() {
-        if !are_right(guardian, node, sealed) {
-            return Some(place);
+    let mut least = None;
+    for transmission in sent {
+        let node = transmission.node;
+        if !is_right(guardian, node, window, transmission) {
+            least = Some(lesser_node(least, node));
         }
     }
-    None
+    least
+}
+
+/// The least node with a transmission in the window that isn't right.
+fn wrong_in(guardian: &Guardian, sealed: &Sealed) -> Option<NodeId>
+    ensures { FindsLeast (λ n. are_right guardian.now n sealed.now ≡ true) result }
+{
+    wrong_node(guardian, &sealed.window, sealed.sent.as_slice())
+}
+
+/// What was found before this place, unless the node found here is a lesser one.
+fn or_lesser(
+    found: Option<(NodeId, usize)>,
+    here: Option<NodeId>,
+    place: usize,
+) -> Option<(NodeId, usize)>
+    ensures { result ≡ or_lesser found here place }
+{
+    match (found, here) {
+        (found, None) => found,
+        (None, Some(here)) => Some((here, place)),
+        (Some(found), Some(here)) => {
+            if here.number() < found.0.number() {
+                Some((here, place))
+            } else {
+                Some(found)
+            }
+        }
+    }
 }
 
 /// The first node with a transmission that isn't right, and the first place at which it has one.
 fn other_fates(guardian: &Guardian, recorded: &[Sealed]) -> Option<(NodeId, usize)>
     ensures { FindsPlace (IsFatedAt guardian.now recorded.now) result }
 {
-    for number in 0..NODES {
-        let node = node_of(number);
-        if let Some(place) = other_fate(guardian, node, recorded) {
-            return Some((node, place));
-        }
+    let mut found = None;
+    for (place, sealed) in recorded.iter().enumerate() {
+        found = or_lesser(found, wrong_in(guardian, sealed), place);
     }
-    None
+    found
 }
 
 /// That of the lesser node, and of the same node that of the lesser place.
