@@ -12,7 +12,7 @@ use Rattle.fr_core.specs.declared.walk.Fetches.{Fetches}
 use Rattle.fr_core.specs.declared.walk.Observes.{Observes}
 use Rattle.fr_core.specs.Settling.{HasWindows, fetches_at, observes_at, windows_fetched, windows_observed, windows_of}
 use Rattle.fr_core.specs.Walks.{Finds, FindsBelow, FindsNext, IsCompared, AreFetches, FetchesNext, AreObserves, SightsNext, ObservesNext}
-use Rattle.fr_core.specs.Walks.{handed_by, opened_after, sight_in, is_nothing, is_silent}
+use Rattle.fr_core.specs.Walks.{handed_by, opened_after, sight_told, is_nothing, is_silent}
 use Rattle.fr_interface.specs.Handing.{offered_on, bytes_in_entry, bytes_handed}
 use Rattle.fr_interface.specs.State.{State}
 use Rattle.fr_journal.proofs.OpenWindowLemmas.{open_window-snoc}
@@ -248,14 +248,14 @@ module _ (s : State) (n : ℕ) (rs : List Recorded) where
 
 -- ---- observes
 
-sight_given : (before : List Entry) (e : Entry) → sight_at before e ≡ option_to_list (sight_in (open_window before) e)
+sight_given : (before : List Entry) (e : Entry) → sight_at before e ≡ option_to_list (sight_told (open_window before) e)
 sight_given before (Commit task buffer payload) = refl
 sight_given before (Read task buffer from) = refl
 sight_given before (Pop task from) = refl
 sight_given before (Fetch window a b) = refl
 sight_given before (Observe number a b) = refl
 
-window_given : (before : List Entry) (e : Entry) → observes_at before e ≡ option_to_list (option_map (λ (x : Sight). x.window) (sight_in (open_window before) e))
+window_given : (before : List Entry) (e : Entry) → observes_at before e ≡ option_to_list (option_map (λ (x : Sight). x.window) (sight_told (open_window before) e))
 window_given before (Commit task buffer payload) = refl
 window_given before (Read task buffer from) = refl
 window_given before (Pop task from) = refl
@@ -294,9 +294,9 @@ module _ (p : Parameters) (s : State) (n : ℕ) (rs : List Recorded) where
   observes_on k x e y far at next =
       let opened : y.opened ≡ open_window (take (k + 1) s.entries) =
       next.opened ∙ ap (λ w. opened_after w e) far.opened ∙ sym (opened_more s.entries k e at) in
-      by_sight (sight_in x.opened e) opened
-      (sight_given (take k s.entries) e ∙ ap (λ w. option_to_list (sight_in w e)) (sym far.opened))
-      (window_given (take k s.entries) e ∙ ap (λ w. option_to_list (option_map (λ (z : Sight). z.window) (sight_in w e))) (sym far.opened)) next.sights
+      by_sight (sight_told x.opened e) opened
+      (sight_given (take k s.entries) e ∙ ap (λ w. option_to_list (sight_told w e)) (sym far.opened))
+      (window_given (take k s.entries) e ∙ ap (λ w. option_to_list (option_map (λ (z : Sight). z.window) (sight_told w e))) (sym far.opened)) next.sights
     where
       by_sight : (o : Option Sight) → y.opened ≡ open_window (take (k + 1) s.entries) → sight_at (take k s.entries) e ≡ option_to_list o
           → observes_at (take k s.entries) e ≡ option_to_list (option_map (λ (z : Sight). z.window) o) → SightsNext p n rs x o y → AreObserves p s n rs (k + 1) y

@@ -137,12 +137,12 @@ opened_after opened (Fetch window a b) = Some window
 opened_after opened (Observe number a b) = None
 
 -- what an entry saw, where this window is open before it
-abbrev pub sight_in : Option Opportunity → Entry → Option Sight
-sight_in opened (Commit task buffer payload) = None
-sight_in opened (Read task buffer from) = None
-sight_in opened (Pop task from) = None
-sight_in opened (Fetch window a b) = None
-sight_in opened (Observe number a b) = option_map (sight_of a b) opened
+abbrev pub sight_told : Option Opportunity → Entry → Option Sight
+sight_told opened (Commit task buffer payload) = None
+sight_told opened (Read task buffer from) = None
+sight_told opened (Pop task from) = None
+sight_told opened (Fetch window a b) = None
+sight_told opened (Observe number a b) = option_map (sight_of a b) opened
 
 -- what the entry of this number did, and for which task
 abbrev pub done_by : State → ℕ → Entry → Option (ℕ × Deed)
@@ -198,7 +198,7 @@ SightsNext p n rs x (Some sight) y =
 
 pub record ObservesNext (p : Parameters) (n : ℕ) (rs : List Recorded) (x : Observes) (e : Entry) (y : Observes) : Type 0 where
   pub opened : y.opened ≡ opened_after x.opened e
-  pub sights : SightsNext p n rs x (sight_in x.opened e) y
+  pub sights : SightsNext p n rs x (sight_told x.opened e) y
 
 -- ---- tasks
 

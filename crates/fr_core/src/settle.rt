@@ -13,7 +13,7 @@ ghost use Rattle.fr_slots.specs.Numbers.{last_node};
 
 use crate::legal;
 use crate::script::Script;
-use crate::walk::{entries_of, find_at, interface_at, node_of};
+use crate::walk::{entries_of, find_at, interface_at};
 use fr_bus::bus::Bus;
 use fr_bus::outcome::{Fate, Sealed, Sent};
 use fr_guardian::guardian::Guardian;
@@ -270,7 +270,7 @@ fn find_differences(
         script: None,
     };
     for number in 0..NODES {
-        let node = node_of(number);
+        let node = NodeId::from_number(number);
         let found = find_at(interfaces, params, node, recorded, scripts);
         all = Differences {
             window: or_node(all.window, node, found.has_windows),

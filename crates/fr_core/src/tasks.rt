@@ -228,23 +228,12 @@ fn suits(scripts: &[Script], node: NodeId, task: TaskId, course: Course) -> bool
         && (has_script(scripts, node, task) || course.deeds == 0)
 }
 
-/// The task of this number.
-fn task_of(number: u8) -> TaskId
-    requires { number < 8 }
-    ensures { result ≡ number }
-{
-    match TaskId::new(number) {
-        Some(task) => task,
-        None => unreachable!(),
-    }
-}
-
 /// The first task that didn't do its scripts, by these courses.
 pub(crate) fn other_task(scripts: &[Script], node: NodeId, courses: &Courses) -> Option<TaskId>
     ensures { FindsTask (SuitsAt scripts.now node courses.now) result }
 {
     for number in 0..TASKS {
-        let task = task_of(number);
+        let task = TaskId::from_number(number);
         if !suits(scripts, node, task, courses[usize::from(number)]) {
             return Some(task);
         }

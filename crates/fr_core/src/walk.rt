@@ -75,17 +75,6 @@ fn entry_at(interface: &Interface, number: u32) -> Option<Entry>
     interface.journal().get(number)
 }
 
-/// The node of this number.
-pub(crate) fn node_of(number: u8) -> NodeId
-    requires { number < 16 }
-    ensures { result ≡ number }
-{
-    match NodeId::new(number) {
-        Some(node) => node,
-        None => unreachable!(),
-    }
-}
-
 /// The interface at this place.
 pub(crate) fn interface_at(interfaces: &[Interface], place: usize) -> Option<&Interface>
     ensures { option_map (λ interface. interface.now) result ≡ slice_get interfaces.now place }
