@@ -1,5 +1,10 @@
 //! The bus behind one lock, and what waits for its phases.
 
+ghost use Rattle.std.specs.Prelude.{◌≡◌, ◌<◌, ◌≤◌, ◌⊎◌, ℕ, nat_lt, length, IfOk, IfErr};
+ghost use Rattle.fr_bus.specs.declared.error.BusError.TheVariants as bus;
+ghost use Rattle.fr_bus.specs.States.{IsRun, OneSenderEach};
+ghost use Rattle.fr_desks.specs.declared.wire.WireError.TheVariants as refusal;
+
 use crate::gate::{Actor, Gate, Side, pass};
 use fr_bus::bus::Bus;
 use fr_bus::error::{BusError, Phase};
@@ -8,6 +13,7 @@ use fr_interface::interface::Offer;
 use fr_slots::numbers::NodeId;
 use fr_slots::window::Window;
 use fr_status::seen::Seen;
+use std::marker::Model;
 use std::sync::atomic::{AtomicU32, Ordering};
 use std::sync::{Condvar, Mutex, MutexGuard, Wait};
 use std::thread;
@@ -31,16 +37,16 @@ pub enum WireError {
 /// A call, by what it waits for.
 #[derive(Clone, Copy)]
 enum Call {
-    /// A look or a put of the node: the open window collects.
-    Offer(NodeId),
-    /// An inject: the open window collects.
-    Inject,
+    /// A look, a put or an inject: the open window collects.
+    Offer,
     /// A seal: all have put.
     Seal,
-    /// A take of the node: the open window is sealed.
-    Take(NodeId),
+    /// A take: the open window is sealed.
+    Take,
     /// An advance: all have taken.
     Advance,
+    /// A call of a node that the cluster doesn't have: nothing.
+    Stray,
 }
 
 /// What lies behind a wire's lock.
@@ -51,24 +57,18 @@ struct Wired {
 }
 
 impl Wired {
-    /// Whether the cluster has the node.
-    fn has_node(&self, node: NodeId) -> bool {
-        node.number() < self.bus.nodes()
-    }
-
-    /// Whether the call needn't wait. Nothing waits once the run is over or the wire was stopped, and no call of a node
-    /// that the cluster doesn't have.
+    /// Whether the call needn't wait. Nothing waits once the run is over or the wire was stopped.
     fn is_due(&self, call: Call) -> bool {
         let phase = self.bus.phase();
         if self.stopped || phase == Phase::Finished {
             return true;
         }
         match call {
-            Call::Offer(node) => phase == Phase::Collect || !self.has_node(node),
-            Call::Inject => phase == Phase::Collect,
+            Call::Offer => phase == Phase::Collect,
             Call::Seal => phase == Phase::Collect && self.bus.all_put(),
-            Call::Take(node) => phase == Phase::Sealed || !self.has_node(node),
+            Call::Take => phase == Phase::Sealed,
             Call::Advance => phase == Phase::Sealed && self.bus.all_taken(),
+            Call::Stray => true,
         }
     }
 }
@@ -116,9 +116,11 @@ impl Signal {
 ///
 /// Whenever the lock is free the bus is one that its own calls lead to: no static slot of a guarded channel carries two
 /// senders. Each call waits until its phase is there, and never once the run is over. After `stop` each answers
-/// `Stopped`. A look, put or take of a node that the cluster doesn't have waits for nothing.
+/// `Stopped`. A look, put or take of a node that the cluster doesn't have waits for nothing. Contracts see a wire as the
+/// number of the cluster's nodes.
 #[derive(Drop)]
 pub struct Wire {
+    nodes: u8,
     lock: Mutex<Wired>,
     /// A window opened or was sealed, or the wire was stopped.
     for_nodes: Signal,
@@ -126,16 +128,41 @@ pub struct Wire {
     for_bus: Signal,
 }
 
+impl Model for Wire {
+    ghost Value = { ℕ };
+
+    ghost view = { λ w. w.nodes };
+}
+
 impl Wire {
     /// The wire of a bus.
-    pub fn new(bus: Bus) -> Wire {
+    pub fn new(bus: Bus) -> Wire
+        ensures { result ≡ length bus.stations }
+    {
         Wire {
+            nodes: bus.nodes(),
             lock: Mutex::new(Wired {
                 bus,
                 stopped: false,
             }),
             for_nodes: Signal::new(),
             for_bus: Signal::new(),
+        }
+    }
+
+    /// Whether the cluster has the node.
+    fn has_node(&self, node: NodeId) -> bool
+        ensures { result ≡ nat_lt node self.now }
+    {
+        node.number() < self.nodes
+    }
+
+    /// The call, as one of the node.
+    fn call_of(&self, node: NodeId, call: Call) -> Call {
+        if self.has_node(node) {
+            call
+        } else {
+            Call::Stray
         }
     }
 
@@ -160,7 +187,9 @@ impl Wire {
         rt: &R,
         signal: &Signal,
         call: Call,
-    ) -> Result<MutexGuard<'_, Wired>, WireError> {
+    ) -> Result<MutexGuard<'_, Wired>, WireError>
+        ensures { IfErr result (λ e. e ≡ refusal.Stopped) }
+    {
         let wired = match self.due(rt, signal, call) {
             Ok(wired) => wired,
             Err(before) => {
@@ -180,9 +209,14 @@ impl Wire {
     /// The open window, once it collects, and `None` once the run is over.
     ///
     /// Refused with `Stopped`, and with `Bus(UnknownNode)` at once for a node that the cluster doesn't have.
-    pub fn next<R: Wait>(&self, rt: &R, node: NodeId) -> Result<Option<Window>, WireError> {
-        let wired = self.ready(rt, &self.for_nodes, Call::Offer(node))?;
-        if wired.has_node(node) {
+    pub fn next<R: Wait>(&self, rt: &R, node: NodeId) -> Result<Option<Window>, WireError>
+        ensures known { IfOk result (λ window. node < self.now) }
+        ensures refused { IfErr result (λ e. (e ≡ refusal.Stopped)
+            ⊎ ((e ≡ refusal.Bus bus.UnknownNode) × (self.now ≤ node))) }
+    {
+        let call = self.call_of(node, Call::Offer);
+        let wired = self.ready(rt, &self.for_nodes, call)?;
+        if self.has_node(node) {
             Ok(wired.bus.collecting())
         } else {
             Err(WireError::Bus(BusError::UnknownNode))
@@ -197,7 +231,8 @@ impl Wire {
         number: u32,
         offer: &Offer,
     ) -> Result<(), WireError> {
-        let mut wired = self.ready(rt, &self.for_nodes, Call::Offer(node))?;
+        let call = self.call_of(node, Call::Offer);
+        let mut wired = self.ready(rt, &self.for_nodes, call)?;
         let answer = wired.bus.put(node, number, offer);
         let all = answer.is_ok() && wired.bus.all_put();
         drop(wired);
@@ -209,7 +244,7 @@ impl Wire {
 
     /// The bus's inject, once the open window collects. Refused with `Stopped`, and as the bus's is.
     pub fn inject<R: Wait>(&self, rt: &R, fault: Fault) -> Result<(), WireError> {
-        let mut wired = self.ready(rt, &self.for_nodes, Call::Inject)?;
+        let mut wired = self.ready(rt, &self.for_nodes, Call::Offer)?;
         let answer = wired.bus.inject(fault);
         answer.map_err(|error| WireError::Bus(error))
     }
@@ -242,7 +277,8 @@ impl Wire {
         node: NodeId,
         number: u32,
     ) -> Result<(Seen, Seen), WireError> {
-        let mut wired = self.ready(rt, &self.for_nodes, Call::Take(node))?;
+        let call = self.call_of(node, Call::Take);
+        let mut wired = self.ready(rt, &self.for_nodes, call)?;
         let answer = wired.bus.take(node, number);
         let all = answer.is_ok() && wired.bus.all_taken();
         drop(wired);
@@ -276,10 +312,14 @@ impl Wire {
         self.for_bus.give();
     }
 
-    /// The bus.
-    pub fn close(self) -> Bus {
+    /// The bus. Its record is that of a run, and no static slot of a guarded channel carried two senders.
+    pub fn close(self) -> Bus
+        ensures run { IsRun result }
+        ensures one_sender { OneSenderEach result.cluster result.sealed }
+    {
         let Wire { lock, .. } = self;
         let Wired { bus, stopped: _ } = lock.into_inner();
+        bus.known();
         bus
     }
 }

@@ -9,17 +9,27 @@ use std::thread;
 /// How often the gate lets other threads go first before it gives way.
 const TURNS: u32 = 1_000_000;
 
-/// A gate that holds an actor at its first pass of a point, until another point was passed.
+/// A gate that holds an actor at its first pass of a point, until another has passed a point of its own. Up to then the
+/// other is held before its first call, so that it can't have gone first by chance.
 #[derive(Drop)]
 pub(crate) struct Hold {
     held: Point,
     until: Point,
-    /// How often the actor came to the point at which it is held.
+    /// 1 once the actor came to the point at which it is held, and 2 if the other gave way before.
     came: AtomicU64,
-    /// 1 once the other point was passed.
+    /// 1 once the other has passed its point after that, and 2 if the actor gave way before.
     passed: AtomicU64,
-    /// 1 once the actor was held until then.
-    kept: AtomicU64,
+}
+
+/// Lets other threads go first until the word is 1. It gives way after many turns, and then the word is 2.
+fn wait_for(word: &AtomicU64) {
+    for _turn in 0..TURNS {
+        if word.load(Ordering::SeqCst) != 0 {
+            return;
+        }
+        thread::yield_now();
+    }
+    word.store(2, Ordering::SeqCst);
 }
 
 impl Hold {
@@ -30,34 +40,26 @@ impl Hold {
             until,
             came: AtomicU64::new(0),
             passed: AtomicU64::new(0),
-            kept: AtomicU64::new(0),
         }
     }
 
-    /// Whether it held until the second point was passed, and didn't give way.
+    /// Whether both were held until then, and neither gave way.
     pub(crate) fn was_kept(&self) -> bool {
-        self.kept.load(Ordering::SeqCst) == 1
-    }
-
-    /// Lets other threads go first until the second point was passed, or gives way.
-    fn hold(&self) {
-        for _turn in 0..TURNS {
-            if self.passed.load(Ordering::SeqCst) == 1 {
-                self.kept.store(1, Ordering::SeqCst);
-                return;
-            }
-            thread::yield_now();
-        }
+        self.came.load(Ordering::SeqCst) == 1 && self.passed.load(Ordering::SeqCst) == 1
     }
 }
 
 impl Gate for Hold {
     fn pass(&self, point: Point) {
-        if point == self.until {
+        if point.actor == self.until.actor {
+            wait_for(&self.came);
+        }
+        if point == self.until && self.passed.load(Ordering::SeqCst) == 0 {
             self.passed.store(1, Ordering::SeqCst);
         }
-        if point == self.held && self.came.swap(1, Ordering::SeqCst) == 0 {
-            self.hold();
+        if point == self.held && self.came.load(Ordering::SeqCst) == 0 {
+            self.came.store(1, Ordering::SeqCst);
+            wait_for(&self.passed);
         }
     }
 }

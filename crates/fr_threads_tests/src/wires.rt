@@ -10,7 +10,7 @@ use fr_bus::fault::Fault;
 use fr_desks::desk::Desk;
 use fr_desks::gate::OpenGate;
 use fr_desks::wire::{Wire, WireError};
-use fr_interface::interface::Interface;
+use fr_interface::interface::{Interface, Offer};
 use fr_schedule::cluster::Cluster;
 use fr_slots::channel::Channel;
 use fr_slots::numbers::NodeId;
@@ -20,6 +20,8 @@ use std::marker::Brand;
 use std::sync::Wait;
 use std::sync::ledger::{Blank, Ledger};
 use std::test::Fail;
+use std::thread;
+use std::thread::Threads;
 
 /// Two static slots and no dynamic segment, one node.
 const ONE_NODE: &str = "[params]
@@ -43,6 +45,14 @@ fn one_node(alloc: Global) -> Result<Wire, Fail> {
     Ok(Wire::new(Bus::new(alloc, &cluster, 1)?))
 }
 
+/// A fault that loses what the node offers on channel A.
+fn muted(me: NodeId) -> Fault {
+    Fault::Mute {
+        node: me,
+        channel: Channel::A,
+    }
+}
+
 /// The node's part in one window, and the bus's, with a fault.
 fn one_window<L: Ledger, R: Wait>(
     rt: &R,
@@ -51,13 +61,7 @@ fn one_window<L: Ledger, R: Wait>(
     me: NodeId,
 ) -> Result<(), Fail> {
     let window = wire.next(rt, me)?.ok_or("a window")?;
-    wire.inject(
-        rt,
-        Fault::Mute {
-            node: me,
-            channel: Channel::A,
-        },
-    )?;
+    wire.inject(rt, muted(me))?;
     let offer = desk.fetch(rt, &OpenGate, &window)?;
     wire.put(rt, me, window.number, &offer)?;
     wire.seal(rt, &OpenGate)?;
@@ -103,12 +107,63 @@ fn desk_and_wire_do_answer(rt: HostRuntime) -> Result<(), Fail> {
 }
 
 #[test]
-fn a_wire_knows_its_nodes_and_may_be_stopped(rt: HostRuntime) -> Result<(), Fail> {
+fn a_wire_knows_its_nodes(rt: HostRuntime) -> Result<(), Fail> {
     let wire = one_node(rt.alloc())?;
     let unknown = wire.next(&rt, node(1)?);
-    wire.stop(&rt);
-    let stopped = wire.next(&rt, node(0)?);
     assert_eq!(rt; unknown, Err(WireError::Bus(BusError::UnknownNode)));
-    assert_eq!(rt; stopped, Err(WireError::Stopped));
+    Ok(())
+}
+
+/// The refusals of all calls in the order of a window.
+fn refusals<R: Wait>(rt: &R, wire: &Wire, me: NodeId) -> [Option<WireError>; 6] {
+    let nothing = Offer { a: None, b: None };
+    [
+        wire.next(rt, me).err(),
+        wire.inject(rt, muted(me)).err(),
+        wire.put(rt, me, 0, &nothing).err(),
+        wire.seal(rt, &OpenGate).err(),
+        wire.take(rt, me, 0).err(),
+        wire.advance(rt).err(),
+    ]
+}
+
+#[test]
+fn each_call_of_a_stopped_wire_is_refused(rt: HostRuntime) -> Result<(), Fail> {
+    let wire = one_node(rt.alloc())?;
+    wire.stop(&rt);
+    let refused = refusals(&rt, &wire, node(0)?);
+    assert_eq!(rt; refused, [Some(WireError::Stopped); 6]);
+    Ok(())
+}
+
+/// Stops the wire, once a call that waits has gone to sleep.
+fn stop_late<R: Wait>(rt: &R, wire: &Wire) {
+    for _turn in 0..10_000u32 {
+        thread::yield_now();
+    }
+    wire.stop(rt);
+}
+
+/// What a node's call and the bus's answer that wait for what doesn't come, when their wires are stopped.
+fn ended_by_stop<R: Threads + Wait + Sync>(
+    rt: &R,
+    alloc: Global,
+) -> Result<[Option<WireError>; 2], Fail> {
+    let (of_node, of_bus) = (one_node(alloc)?, one_node(alloc)?);
+    let (for_node, for_bus) = (&of_node, &of_bus);
+    let me = node(0)?;
+    let (taken, ()) = thread::join(rt, || for_node.take(rt, me, 0), || stop_late(rt, for_node));
+    let (sealed, ()) = thread::join(
+        rt,
+        || for_bus.seal(rt, &OpenGate),
+        || stop_late(rt, for_bus),
+    );
+    Ok([taken.err(), sealed.err()])
+}
+
+#[test]
+fn a_stop_ends_calls_that_wait(rt: HostRuntime) -> Result<(), Fail> {
+    let ended = ended_by_stop(&rt, rt.alloc())?;
+    assert_eq!(rt; ended, [Some(WireError::Stopped); 2]);
     Ok(())
 }
