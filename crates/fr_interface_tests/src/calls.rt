@@ -2,6 +2,7 @@
 
 use crate::parts::{came, interface};
 use fr_frame::frame::Frame;
+use fr_interface::errors::HostError;
 use fr_interface::interface::Interface;
 use fr_journal::entry::{Entry, Offered, Origin};
 use fr_slots::channel::{Channel, Channels};
@@ -92,5 +93,24 @@ fn each_accepted_call_is_an_entry(rt: HostRuntime) -> Result<(), Fail> {
         interface.plan().host_entries(),
     );
     assert_eq!(rt; made_with, (3, 8));
+    Ok(())
+}
+
+#[test]
+fn reads_that_are_refused(rt: HostRuntime) -> Result<(), Fail> {
+    let mut interface = receiver(rt.alloc(), 1, 2)?;
+    let answers = [
+        interface.read(task(1)?, 1),
+        interface.read(task(0)?, 1),
+        interface.read(task(0)?, 0),
+        interface.read(task(0)?, 0),
+    ];
+    let wanted = [
+        Err(HostError::UnknownTask),
+        Err(HostError::UnknownBuffer),
+        Ok(None),
+        Err(HostError::HostFull),
+    ];
+    assert_eq!(rt; answers, wanted);
     Ok(())
 }

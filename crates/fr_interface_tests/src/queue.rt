@@ -2,6 +2,7 @@
 
 use crate::parts::{came, interface};
 use fr_frame::frame::Frame;
+use fr_interface::errors::HostError;
 use fr_interface::interface::Interface;
 use fr_slots::channel::Channels;
 use fr_slots::filter::CycleFilter;
@@ -77,5 +78,28 @@ fn queue_overwrites_the_oldest(rt: HostRuntime) -> Result<(), Fail> {
         (interface.queue_len(), interface.queue_lost()),
         (Some(0), Some(1))
     );
+    Ok(())
+}
+
+#[test]
+fn pops_that_are_refused(rt: HostRuntime) -> Result<(), Fail> {
+    let mut full = interface(rt.alloc(), ONE_WORD_CYCLE, &queue_plan(1)?)?;
+    let mut without = interface(rt.alloc(), ONE_WORD_CYCLE, &NodePlan::new(1, [0, 0], 1, 2)?)?;
+    let answers = [
+        full.pop(task(0)?),
+        full.pop(task(1)?),
+        full.pop(task(0)?),
+        without.pop(task(1)?),
+        without.pop(task(0)?),
+    ];
+    let wanted = [
+        Ok(None),
+        Err(HostError::UnknownTask),
+        Err(HostError::HostFull),
+        Err(HostError::UnknownTask),
+        Err(HostError::NoQueue),
+    ];
+    assert_eq!(rt; answers, wanted);
+    assert_eq!(rt; (without.queue_len(), without.queue_lost()), (None, None));
     Ok(())
 }

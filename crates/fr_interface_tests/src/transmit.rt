@@ -3,12 +3,13 @@
 use crate::parts::interface;
 use fr_frame::frame::Bytes;
 use fr_frame::payload::Payload;
+use fr_interface::errors::HostError;
 use fr_interface::interface::{Interface, Offer, Receipt};
 use fr_interface::source::Source;
 use fr_journal::fate::Tally;
 use fr_slots::channel::Channels;
 use fr_slots::filter::{CycleFilter, Filter};
-use fr_slots::numbers::Cycle;
+use fr_slots::numbers::{Cycle, TaskId};
 use fr_slots::plan::{Buffer, Mode, NodePlan, Own};
 use fr_slots::window::Window;
 use fr_status::seen::Seen;
@@ -55,6 +56,13 @@ fn slot_two(number: u8) -> Result<Window, Fail> {
     Ok(Window::fixed(u32::from(number), cycle, slot(2)?))
 }
 
+/// Fetches and observes static slot 2 in the cycle of this number.
+fn observed(interface: &mut Interface, number: u8) -> Result<(), Fail> {
+    interface.fetch(&slot_two(number)?)?;
+    interface.observe(u32::from(number), &Seen::Own, &Seen::Own)?;
+    Ok(())
+}
+
 fn tally(committed: u32, sent: u32, overwritten: u32, pending: u32) -> Option<Tally> {
     Some(Tally {
         committed,
@@ -99,5 +107,63 @@ fn an_offer_is_the_spelled_frame(rt: HostRuntime) -> Result<(), Fail> {
         [first.a, first.b, second.a],
         [sent(&DATA_ON_A)?, sent(&DATA_ON_B)?, sent(&NULL_ON_A)?]
     );
+    Ok(())
+}
+
+/// What a commit to a buffer is refused for.
+fn commit_refusal(
+    interface: &mut Interface,
+    number: u8,
+    buffer: u8,
+    word: &Payload,
+) -> Option<HostError> {
+    let Some(task) = TaskId::new(number) else {
+        return Some(HostError::UnknownTask);
+    };
+    interface.commit(task, buffer, word).err()
+}
+
+#[test]
+fn full_host_entries_stop_the_host_alone(rt: HostRuntime) -> Result<(), Fail> {
+    let mut interface = interface(rt.alloc(), ONE_WORD_CYCLE, &sender(Mode::Event, 2)?)?;
+    let word = payload(&[0, 1])?;
+    let answers = [
+        commit_refusal(&mut interface, 0, 0, &word),
+        commit_refusal(&mut interface, 0, 0, &word),
+        commit_refusal(&mut interface, 0, 0, &word),
+    ];
+    assert_eq!(rt; answers, [None, None, Some(HostError::HostFull)]);
+    observed(&mut interface, 0)?;
+    assert_eq!(rt; interface.journal().len(), 4);
+    Ok(())
+}
+
+#[test]
+fn commits_that_are_refused(rt: HostRuntime) -> Result<(), Fail> {
+    let mut plan = sender(Mode::Event, 8)?;
+    plan.add_buffer(Buffer::default())?;
+    let mut interface = interface(rt.alloc(), ONE_WORD_CYCLE, &plan)?;
+    let two_words = payload(&[0, 1, 0, 2])?;
+    let answers = [
+        commit_refusal(&mut interface, 1, 2, &two_words),
+        commit_refusal(&mut interface, 0, 2, &two_words),
+        commit_refusal(&mut interface, 0, 1, &two_words),
+        commit_refusal(&mut interface, 0, 0, &two_words),
+        interface.read(task(0)?, 0).err(),
+    ];
+    let wanted = [
+        HostError::UnknownTask,
+        HostError::UnknownBuffer,
+        HostError::NotTransmit,
+        HostError::WrongLength,
+        HostError::NotReceive,
+    ];
+    assert_eq!(rt; answers, wanted.map(Some));
+    let left = (
+        interface.tally(1),
+        interface.tally(2),
+        interface.journal().len(),
+    );
+    assert_eq!(rt; left, (None, None, 0));
     Ok(())
 }

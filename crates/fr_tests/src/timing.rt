@@ -59,6 +59,20 @@ fn macroticks_of_the_small_cycle(rt: HostRuntime) -> Result<(), Fail> {
 }
 
 #[test]
+fn places_that_the_small_cycle_has_not(rt: HostRuntime) -> Result<(), Fail> {
+    let params = Params::new(SMALL_CYCLE)?;
+    let macroticks = [
+        start_of(&params, in_static_slot(4, 0)?),
+        start_of(&params, in_static_slot(3, 20)?),
+        start_of(&params, in_minislot(0, 0)),
+        start_of(&params, in_minislot(11, 0)),
+        start_of(&params, Place::Idle { offset: u32::MAX }),
+    ];
+    assert_eq!(rt; macroticks, [None; 5]);
+    Ok(())
+}
+
+#[test]
 fn the_symbol_window_stands_between_its_neighbours(rt: HostRuntime) -> Result<(), Fail> {
     let without_minislots = Params::new([3, 0, 1, 20, 5, 4, 6, 70, 1, 4])?;
     let without_symbols = Params::new([3, 4, 1, 20, 5, 0, 10, 90, 0, 5])?;

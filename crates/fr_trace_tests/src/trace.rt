@@ -175,6 +175,18 @@ fn reader<'a>(pieces: &'a [&'a [u8]]) -> Pieces<'a> {
     failing(pieces, usize::MAX, io::ErrorKind::Other)
 }
 
+/// Feeds an auditor a byte at a time.
+fn fed_by_bytes(alloc: Global, pieces: &[&[u8]]) -> Result<(), TraceError> {
+    let mut auditor = Auditor::new(alloc);
+    for piece in pieces {
+        for byte in *piece {
+            auditor.feed(&[*byte])?;
+        }
+    }
+    auditor.finish()?;
+    Ok(())
+}
+
 /// These lines as one text.
 fn joined(alloc: Global, lines: &[&[u8]]) -> Result<Vec<u8>, Fail> {
     let mut text = Vec::with_capacity(alloc, 2048)?;
@@ -182,6 +194,67 @@ fn joined(alloc: Global, lines: &[&[u8]]) -> Result<Vec<u8>, Fail> {
         text.write_all(line)?;
     }
     Ok(text)
+}
+
+/// Why the trace is refused by the calls that take these pieces, and in pieces of one byte.
+fn refusals(alloc: Global, pieces: &[&[u8]]) -> [Option<TraceError>; 3] {
+    [
+        audit(alloc, &mut reader(pieces), &mut io::sink()).err(),
+        audit_pieces(alloc, pieces).err(),
+        fed_by_bytes(alloc, pieces).err(),
+    ]
+}
+
+/// This error from each of them.
+fn all(error: TraceError) -> [Option<TraceError>; 3] {
+    [Some(error); 3]
+}
+
+#[test]
+fn a_trace_that_is_cut_is_truncated(rt: HostRuntime) {
+    let mut lines = LINES;
+    assert_eq!(rt; refusals(rt.alloc(), &[]), all(TraceError::BadMagic));
+    assert_eq!(rt;
+        refusals(rt.alloc(), &[b"frtrace 1"]),
+        all(TraceError::BadMagic)
+    );
+    assert_eq!(rt;
+        refusals(rt.alloc(), &lines[..1]),
+        all(TraceError::Truncated)
+    );
+    lines[7] = b"see 0 x200";
+    assert_eq!(rt;
+        refusals(rt.alloc(), &lines[..8]),
+        all(TraceError::Truncated)
+    );
+    let mut lines = LINES;
+    lines[12] = b"end";
+    assert_eq!(rt; refusals(rt.alloc(), &lines), all(TraceError::Truncated));
+}
+
+#[test]
+fn a_byte_after_the_end_is_a_line(rt: HostRuntime) {
+    let mut lines = LINES;
+    lines[12] = b"end\nx";
+    assert_eq!(rt; refusals(rt.alloc(), &lines), all(TraceError::BadLine(14)));
+}
+
+#[test]
+fn a_changed_line_is_refused(rt: HostRuntime) {
+    let mut lines = LINES;
+    lines[8] = b"read 0 0 1:A\n";
+    assert_eq!(rt;
+        refusals(rt.alloc(), &lines),
+        all(TraceError::WrongAnswer(9))
+    );
+    let mut lines = LINES;
+    lines[9] = b"fetch 0 1 0 2 2 - -\n";
+    assert_eq!(rt; refusals(rt.alloc(), &lines), all(TraceError::Refused(10)));
+    let mut lines = LINES;
+    lines[8] = lines[7];
+    assert_eq!(rt; refusals(rt.alloc(), &lines), all(TraceError::Refused(9)));
+    lines[7] = b"see 0 x200203c1400A0ba32217 noise\n";
+    assert_eq!(rt; refusals(rt.alloc(), &lines), all(TraceError::BadLine(8)));
 }
 
 /// The report of these lines as one text that comes in pieces of this size.
@@ -274,6 +347,20 @@ fn an_error_is_answered_again(rt: HostRuntime) -> Result<(), Fail> {
     assert_eq!(rt; auditor.feed(b"read 0 0 1:A\n"), Err(wrong));
     assert_eq!(rt; auditor.feed(LINES[8]), Err(wrong));
     assert_eq!(rt; auditor.finish().err(), Some(wrong));
+    Ok(())
+}
+
+#[test]
+fn a_line_is_too_long_at_its_byte_1201(rt: HostRuntime) -> Result<(), Fail> {
+    let mut auditor = Auditor::new(rt.alloc());
+    auditor.feed(&[b'a'; 1200])?;
+    assert_eq!(rt; auditor.feed(b"a"), Err(TraceError::BadMagic));
+    let mut auditor = Auditor::new(rt.alloc());
+    for line in &LINES[..7] {
+        auditor.feed(line)?;
+    }
+    auditor.feed(&[b'a'; 1200])?;
+    assert_eq!(rt; auditor.feed(b"a"), Err(TraceError::LineTooLong(8)));
     Ok(())
 }
 
