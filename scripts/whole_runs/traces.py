@@ -90,6 +90,10 @@ class Traces:
         for place, line in ((4, "own 2 A 0 0"), (4, "own 4 A 0 0"), (5, "tx event 1 A 0 1 1 0")):
             lines = [*self.commits[:place - 1], line, *self.commits[place:]]
             self.check(f"the plan has a fault by {line!r}", lines, refused("Refused 6"))
+        for lines in ([*self.commits[:2], "node 1 5 0 8 8"], [*self.commits[:2], "node 1 0 5 8 8"],
+                      [*self.commits[:4], "tx event 1 A 0 1 2 0"], [*self.commits[:3], "tx event 4 A 0 1 - 0"]):
+            name = f"{lines[-1]!r} is out of the parameters"
+            self.check(f"the plan has a fault: {name}", [*lines, "begin"], refused(f"Refused {len(lines) + 1}"))
         late = [*self.commits[:3], self.commits[4], self.commits[3], *self.commits[5:]]
         self.check("an ownership line comes after a buffer", late, refused("BadLine 5"))
         late = [*self.queue[:3], self.queue[4], self.queue[3], *self.queue[5:]]
@@ -164,7 +168,7 @@ class Traces:
             self.told(f"a transmission begins at minislot 5 of {latest}", plan, entries, report, TEN_MINISLOTS)
 
     def calls(self):
-        """Calls that are refused, each at the first of its reasons."""
+        """Calls that are refused."""
         sender = ["node 1 0 0 2 8", "own 2 AB 0 0", "tx event 2 AB 0 1 - 0"]
         commit = "commit 0 0 x0001"
         for line in ("commit 1 0 x0001", "commit 0 1 x0001", "commit 0 0 x00010002", "read 0 0 -", "pop 0 -"):
@@ -217,3 +221,6 @@ class Traces:
             for line in lines:
                 self.changed(self.frames, place, line, "BadLine")
         self.changed(self.frames, 9, "read 0 0 1:A", "WrongAnswer")
+        self.changed(self.frames, 10, "fetch 0 1 0 2 2 - -", "Refused")
+        self.changed(self.frames, 9, self.frames[7], "Refused")
+        self.changed(self.frames, 8, "see 0 x200203c1400A0ba32217 noise", "BadLine")
