@@ -1,0 +1,80 @@
+"""The built program with a library in front of the C library, which the machine's C compiler makes."""
+import os
+import shutil
+import subprocess
+from pathlib import Path
+
+from .runner import EXAMPLES
+
+SECONDS = 60
+
+MARK = r"""
+#define _GNU_SOURCE
+#include <errno.h>
+#include <fcntl.h>
+#include <stdatomic.h>
+#include <stdlib.h>
+#include <sys/syscall.h>
+#include <unistd.h>
+
+/* Whether this is the N-th call of a kind, of which the environment names one; that it was met is told by a file. */
+static int is_met(atomic_long *made, const char *kind) {
+    const char *wanted = getenv(kind);
+    if (!wanted || atomic_fetch_add(made, 1) + 1 != atol(wanted))
+        return 0;
+    syscall(SYS_close, syscall(SYS_openat, AT_FDCWD, getenv("MARK_OF_THE_CALL"), O_CREAT | O_WRONLY, 0600));
+    return 1;
+}
+"""
+
+
+class NoRun(Exception):
+    pass
+
+
+class Preloaded:
+    """The program, and the library: what SOURCE puts in the place of functions of the C library."""
+
+    def __init__(self, program, source, folder):
+        self.program, self.source, self.folder = program, source, Path(folder)
+        self.library = self.folder / "preloaded.so"
+
+    def make(self):
+        """Whether there is a compiler, with which the library is made."""
+        compiler = shutil.which("cc") or shutil.which("clang") or shutil.which("gcc")
+        if compiler is None:
+            return False
+        words = [compiler, "-shared", "-fPIC", "-O1", "-xc", "-", "-o", str(self.library), "-ldl"]
+        made = subprocess.run(words, input=MARK + self.source, capture_output=True, text=True)
+        if made.returncode != 0 or not self.program.exists():
+            raise NoRun(made.stderr or f"{self.program} isn't there: build it by ./fr_bench")
+        return True
+
+    def run(self, command, kind=None, number=0, **more):
+        """What the command answers where its N-th call of this kind is met, and whether it came so far."""
+        words, given = command
+        mark = self.folder / "-".join([kind or "whole", str(number), *words[:1], *more])
+        added = {"LD_PRELOAD": str(self.library), "MARK_OF_THE_CALL": str(mark), **more}
+        added |= {kind: str(number)} if kind else {}
+        try:
+            ran = subprocess.run([self.program, *words], input=given, capture_output=True, timeout=SECONDS,
+                                 env=os.environ | added)
+        except subprocess.TimeoutExpired:
+            return "it doesn't end", True
+        met = mark.exists()
+        mark.unlink(missing_ok=True)
+        return (ran.returncode, ran.stdout, ran.stderr), met
+
+
+def commands():
+    """Each command with an example, as its words and what it is given."""
+    folder = EXAMPLES / "three-nodes"
+    cluster = str(folder / "cluster.toml")
+    trace = (EXAMPLES / "receive-buffer" / "trace").read_bytes()
+    return {
+        "audit": (["audit"], trace),
+        "check": (["check", cluster], b""),
+        "plan": (["plan", cluster], b""),
+        "midpoint": (["midpoint"], b"3 -1 4 1 -5 9 2 -6\n"),
+        "run": (["run", cluster, str(folder / "scenario"), "--cycles", "4"], b""),
+    }
