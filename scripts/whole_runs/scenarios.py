@@ -75,6 +75,18 @@ class Scenes:
         words = self.words(cluster or self.cluster, scenario or self.scenario)
         self.compare_lines(name, words, lines, lambda told, line: told == line)
 
+    def guarded(self, channels):
+        return self.cluster.replace('guard = "A"', f'guard = "{channels}"')
+
+    def outcome_with(self, name, lines, cluster=None, scenario=None):
+        """That a run has the example's outcome, but for these lines of these nodes."""
+        parts = self.outcome.split("node ")
+        for node, line in lines:
+            front = line[:4] if line[1] != " " else line[:2]
+            old = next(told for told in parts[node + 1].splitlines() if told.startswith(front))
+            parts[node + 1] = parts[node + 1].replace(old, line)
+        self.check(name, ("node ".join(parts).encode(), b"", 0), cluster, scenario)
+
     def compare_lines(self, name, words, lines, are_same):
         """That the run is done, and that each of these lines is the same as one that its node has."""
         got, errors, status = run([self.runs.program, *words])
@@ -124,17 +136,43 @@ def scenes(runs, folder):
 
 
 def babbles(scenes):
-    """Babble everywhere, on a guarded channel and on one that isn't."""
-    a, b = "A 8 0 0 0 0", "B 4 0 0 0 0"
-    quiet = [(0, b), (1, b), (2, "B 8 0 0 0 0"), (1, "rx 2 31:B x0c0d"), (2, a)]
-    scenes.told("run without babble", quiet, scenario=scenes.quiet)
-    unguarded = scenes.cluster.replace('guard = "A"', 'guard = "none"')
+    """Babble everywhere, on a guarded channel and on one that isn't. Each outcome is compared whole."""
+    b = [(0, "B 4 0 0 0 0"), (1, "B 4 0 0 0 0"), (2, "B 8 0 0 0 0")]
+    quiet = [(1, "rx 2 31:B x0c0d"), *b]
+    scenes.outcome_with("run without babble", quiet, scenario=scenes.quiet)
     lines = [(0, "rx 1 - -"), (0, "A 3 8 0 0 4"), (1, "rx 1 - -"), (1, "A 3 8 0 0 4"), (2, "rx 1 - -"), (2, "A 0 0 0 0 8")]
-    scenes.told("run without guardians", lines, cluster=unguarded)
+    scenes.outcome_with("run without guardians", lines, cluster=scenes.guarded("none"))
     long = scenes.with_line(f"babble 1 A 0 m4 x{'00' * 20}", scenes.quiet)
-    scenes.told("run with a babble that overruns", [(0, "A 7 0 0 1 0"), (2, "A 8 0 0 1 0"), (1, b)], scenario=long)
+    lines = [*quiet, (0, "A 7 0 0 1 0"), (2, "A 8 0 0 1 0")]
+    scenes.outcome_with("run with a babble that overruns", lines, scenario=long)
     longer = scenes.with_line(f"babble 2 B * s3 x{'00' * 11}", scenes.quiet)
-    scenes.told("run with a babble longer than a slot", [(0, "B 4 0 0 4 0"), (1, "B 4 0 0 4 0")], scenario=longer)
+    lines = [*quiet, (0, "B 4 0 0 4 0"), (1, "B 4 0 0 4 0")]
+    scenes.outcome_with("run with a babble longer than a slot", lines, scenario=longer)
+    both = scenes.guarded("AB")
+    scenes.outcome_with("run with babble where both channels are guarded", quiet, cluster=both)
+    faulty_nodes(scenes, both, quiet)
+
+
+def faulty_nodes(scenes, both, quiet):
+    """Runs that differ by what node 2 commits, babbles and loses. The others see the same in guarded static slots."""
+    others = scenes.quiet.replace("x7001", "xffff").replace("x7002", "x0000").replace("x7003", "x1234")
+    places = {"A 0 s1": "20010346800a0b34ae92", "A 1 s*": "00" * 262, "A 2 s2": "", "A 3 s*": "ff", "B * s*": "aa55"}
+    babble = [f"babble 2 {place} x{sent}" for place, sent in places.items()]
+    losses = ["mute 2 A * s*", "mute 2 B 0 s1", "mute 2 B 3 s2"]
+    kinds = {"has no fault": [], "babbles": babble, "loses": losses, "babbles and loses": [*babble, *losses]}
+    for name, faults in kinds.items():
+        scenario = others
+        for line in faults:
+            scenario = scenes.with_line(line, scenario)
+        scenes.outcome_with(f"run where node 2 commits otherwise and {name}", quiet, cluster=both, scenario=scenario)
+    # In the dynamic segment nobody is held back: a lost frame and babble show in the counters, and in no static slot.
+    dynamic = scenario
+    places = ("mute 2 A 0 m1", "babble 2 A 1 m1 x00", "babble 2 B 2 m3 x00", "mute 2 A 3 m1", "babble 2 A 3 m1 x00")
+    for line in places:
+        dynamic = scenes.with_line(line, dynamic)
+    lines = [*quiet, (0, "queue 0 0"), (2, "A 8 0 0 0 1")]
+    lines += [(node, line) for node in (0, 1) for line in ("A 4 2 0 0 0", "B 4 1 0 0 0")]
+    scenes.outcome_with("run where node 2 loses and babbles in minislots too", lines, cluster=both, scenario=dynamic)
 
 
 def faults(scenes):

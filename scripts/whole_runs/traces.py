@@ -188,6 +188,22 @@ class Traces:
         }.items():
             self.refused_at_last(f"where {name}", ["node 1 0 0 8 8"], entries)
 
+    def full_journals(self):
+        """Two commits fill the room for the host. Windows go on to the end of theirs, and no host call is taken."""
+        plan = ["node 1 0 0 2 6", "own 2 A 0 0", "tx event 2 A 0 1 - 0", "rx 1 AB 0 1", "queue 1 3 3 AB 0 1"]
+        commits = ["commit 0 0 x0001", "commit 0 0 x0002"]
+        windows = [*window(0, "own", DATA_B, "1 -"), *window(1, "conflict", "-", "null -")]
+        windows += window(2, "own", "noise", "null -")
+        counted = [("A 0 0 0 0 0", "B 0 0 0 0 0"), ("A 0 0 0 0 0", "B 1 0 0 0 0"), ("A 0 0 0 0 1", "B 1 0 0 0 0"),
+                   ("A 0 0 0 0 1", "B 1 1 0 0 0")]
+        for done in range(len(windows) + 1):
+            entries = [*commits, *windows[:done]]
+            for line in ("commit 0 0 x0003", "read 0 1 -", "pop 0 -"):
+                self.refused_at_last(f"{line!r} has no room after {done} entries of windows", plan, [*entries, line])
+            report = [f"tx 0 2 {int(done > 0)} 1 {int(done == 0)}", "rx 1 - -", "queue 0 0", *counted[done // 2]]
+            self.told(f"{done} entries of windows go on where no host call has room", plan, entries, report)
+        self.refused_at_last("a fourth window has no room", plan, [*commits, *windows, "fetch 3 3 0 2 2 null -"])
+
     def ends(self):
         """Traces that are cut, and bytes after the end."""
         for lines, error in ((["frtrace 1"], "Truncated"), ([], "BadMagic"), (["frtrace 2"], "BadMagic"),
