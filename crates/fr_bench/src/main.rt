@@ -130,4 +130,3 @@ fn main(rt: HostRuntime) -> ExitCode {
         }
     }
 }
-
