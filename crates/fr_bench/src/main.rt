@@ -37,6 +37,7 @@ use std::process::ExitCode;
 use std::rt::{Env, Files};
 use std::sync::Wait;
 use std::thread::Threads;
+use std::time::Clock;
 use std::{env, fs, io};
 
 /// The words after the program's name, as the system gives them. A word that isn't UTF-8 names no
@@ -64,7 +65,7 @@ fn opened<R: Files>(rt: &R, path: &str) -> Result<R::File, BenchError> {
 }
 
 /// Runs the cluster of the one file with the scenario of the other, which is opened once the cluster is accepted.
-fn run_files<R: Files + Print + AllocGlobal + Threads + Wait + Sync>(
+fn run_files<R: Files + Print + AllocGlobal + Threads + Wait + Clock + Sync>(
     rt: &R,
     cluster: &str,
     scenario: &str,
@@ -86,7 +87,7 @@ fn run_files<R: Files + Print + AllocGlobal + Threads + Wait + Sync>(
 }
 
 /// Does the order.
-fn carry_out<R: Files + Input + Print + AllocGlobal + Threads + Wait + Sync>(
+fn carry_out<R: Files + Input + Print + AllocGlobal + Threads + Wait + Clock + Sync>(
     rt: &R,
     order: Order<'_>,
 ) -> Result<(), Failure> {
@@ -113,7 +114,7 @@ fn carry_out<R: Files + Input + Print + AllocGlobal + Threads + Wait + Sync>(
 }
 
 /// Does what the words ask for.
-fn run<R: Env + Files + Input + Print + AllocGlobal + Threads + Wait + Sync>(
+fn run<R: Env + Files + Input + Print + AllocGlobal + Threads + Wait + Clock + Sync>(
     rt: &R,
 ) -> Result<(), Failure> {
     let words = words_given(rt)?;

@@ -17,11 +17,19 @@ use std::marker::Model;
 use std::sync::atomic::{AtomicU32, Ordering};
 use std::sync::{Condvar, Mutex, MutexGuard, Wait};
 use std::thread;
+use std::time::Clock;
 use thiserror::Error;
 
 /// How often a call that isn't due looks again, and lets other threads run in between, before it sleeps. A window takes
 /// some ten microseconds, and to be woken takes as long.
 const LOOKS: u32 = 200;
+
+/// How long others may run in between, in microseconds, until the cores count as busy. The threads of a run itself need
+/// less; another process that is let run may keep the core for milliseconds.
+const LONG_TURN: u128 = 300;
+
+/// How many calls that aren't due sleep at once after the cores were found busy.
+const SLEEPS: u32 = 4_096;
 
 /// Why a call of a wire is refused (own profile).
 #[derive(Clone, Copy, Debug, PartialEq, Eq, Error)]
@@ -78,6 +86,8 @@ impl Wired {
 struct Signal {
     /// How often it was given, up to a wrap.
     given: AtomicU32,
+    /// How many more calls sleep at once.
+    hurried: AtomicU32,
     sleepers: Condvar,
 }
 
@@ -86,6 +96,7 @@ impl Signal {
     fn new() -> Signal {
         Signal {
             given: AtomicU32::new(0),
+            hurried: AtomicU32::new(0),
             sleepers: Condvar::new(),
         }
     }
@@ -101,14 +112,41 @@ impl Signal {
         self.given.load(Ordering::Acquire)
     }
 
-    /// Lets other threads run until it is given once more than so often, for a while.
-    fn look_out(&self, before: u32) {
+    /// Whether a call that isn't due sleeps at once.
+    fn is_hurried(&self) -> bool {
+        let left = self.hurried.load(Ordering::Relaxed);
+        if left > 0 {
+            self.hurried.store(left - 1, Ordering::Relaxed);
+        }
+        left > 0
+    }
+
+    /// Lets other threads run until it is given once more than so often, for a while, and not on busy cores.
+    fn look_out<R: Clock>(&self, rt: &R, before: u32) {
+        if self.is_hurried() {
+            return;
+        }
+        let mut now = microseconds(rt);
         for _look in 0..LOOKS {
             if self.count() != before {
                 return;
             }
             thread::yield_now();
+            let then = now;
+            now = microseconds(rt);
+            if now.saturating_sub(then) > LONG_TURN {
+                self.hurried.store(SLEEPS, Ordering::Relaxed);
+                return;
+            }
         }
+    }
+}
+
+/// The time since some start, in microseconds, and 0 where the clock can't be read.
+fn microseconds<R: Clock>(rt: &R) -> u128 {
+    match rt.monotonic() {
+        Ok(time) => time.as_micros(),
+        Err(_) => 0,
     }
 }
 
@@ -182,7 +220,7 @@ impl Wire {
     }
 
     /// The bus under its lock, once the call needn't wait.
-    fn ready<R: Wait>(
+    fn ready<R: Wait + Clock>(
         &self,
         rt: &R,
         signal: &Signal,
@@ -193,7 +231,7 @@ impl Wire {
         let wired = match self.due(rt, signal, call) {
             Ok(wired) => wired,
             Err(before) => {
-                signal.look_out(before);
+                signal.look_out(rt, before);
                 signal
                     .sleepers
                     .wait_while(rt, self.lock.lock(rt), |wired| !wired.is_due(call))
@@ -209,7 +247,7 @@ impl Wire {
     /// The open window, once it collects, and `None` once the run is over.
     ///
     /// Refused with `Stopped`, and with `Bus(UnknownNode)` at once for a node that the cluster doesn't have.
-    pub fn next<R: Wait>(&self, rt: &R, node: NodeId) -> Result<Option<Window>, WireError>
+    pub fn next<R: Wait + Clock>(&self, rt: &R, node: NodeId) -> Result<Option<Window>, WireError>
         ensures known { IfOk result (λ window. node < self.now) }
         ensures refused { IfErr result (λ e. (e ≡ refusal.Stopped)
             ⊎ ((e ≡ refusal.Bus bus.UnknownNode) × (self.now ≤ node))) }
@@ -224,7 +262,7 @@ impl Wire {
     }
 
     /// The bus's put, once the open window collects. Refused with `Stopped`, and as the bus's is.
-    pub fn put<R: Wait>(
+    pub fn put<R: Wait + Clock>(
         &self,
         rt: &R,
         node: NodeId,
@@ -243,7 +281,7 @@ impl Wire {
     }
 
     /// The bus's inject, once the open window collects. Refused with `Stopped`, and as the bus's is.
-    pub fn inject<R: Wait>(&self, rt: &R, fault: Fault) -> Result<(), WireError> {
+    pub fn inject<R: Wait + Clock>(&self, rt: &R, fault: Fault) -> Result<(), WireError> {
         let mut wired = self.ready(rt, &self.for_nodes, Call::Offer)?;
         let answer = wired.bus.inject(fault);
         answer.map_err(|error| WireError::Bus(error))
@@ -252,7 +290,7 @@ impl Wire {
     /// The bus's seal, once all have put. Refused with `Stopped`, and as the bus's is.
     ///
     /// It passes the gate before it waits, and before it answers.
-    pub fn seal<R: Wait, G: Gate>(&self, rt: &R, gate: &G) -> Result<(), WireError> {
+    pub fn seal<R: Wait + Clock, G: Gate>(&self, rt: &R, gate: &G) -> Result<(), WireError> {
         pass(gate, Actor::Bus, Side::Before);
         let answer = self.seal_all(rt);
         pass(gate, Actor::Bus, Side::After);
@@ -260,7 +298,7 @@ impl Wire {
     }
 
     /// The bus's seal, once all have put.
-    fn seal_all<R: Wait>(&self, rt: &R) -> Result<(), WireError> {
+    fn seal_all<R: Wait + Clock>(&self, rt: &R) -> Result<(), WireError> {
         let mut wired = self.ready(rt, &self.for_bus, Call::Seal)?;
         let answer = wired.bus.seal();
         drop(wired);
@@ -271,7 +309,7 @@ impl Wire {
     }
 
     /// The bus's take, once the open window is sealed. Refused with `Stopped`, and as the bus's is.
-    pub fn take<R: Wait>(
+    pub fn take<R: Wait + Clock>(
         &self,
         rt: &R,
         node: NodeId,
@@ -289,7 +327,7 @@ impl Wire {
     }
 
     /// The bus's advance, once all have taken. Refused with `Stopped`, and as the bus's is.
-    pub fn advance<R: Wait>(&self, rt: &R) -> Result<(), WireError> {
+    pub fn advance<R: Wait + Clock>(&self, rt: &R) -> Result<(), WireError> {
         let mut wired = self.ready(rt, &self.for_bus, Call::Advance)?;
         let answer = wired.bus.advance();
         let over = wired.bus.phase() == Phase::Finished;

@@ -18,6 +18,7 @@ use std::io::{Read, Write};
 use std::str;
 use std::sync::Wait;
 use std::thread::Threads;
+use std::time::Clock;
 
 /// The most bytes that a scenario file may have.
 const MOST_BYTES: u64 = 1_048_576;
@@ -53,7 +54,7 @@ fn scenario_of<R: Read>(alloc: Global, reader: &mut R) -> Result<Scenario, Outco
 /// each in its cycle.
 ///
 /// Refused as the file of the scenario is, then as the run is. On every refusal but `Write` nothing is written.
-pub fn run_cluster<T: Threads + Wait + Sync, R: Read, W: Write>(
+pub fn run_cluster<T: Threads + Wait + Clock + Sync, R: Read, W: Write>(
     rt: &T,
     alloc: Global,
     cluster: &Cluster,
@@ -88,7 +89,7 @@ pub fn run_cluster<T: Threads + Wait + Sync, R: Read, W: Write>(
 /// Reads a cluster file to its end, and then does the same with it (own profile).
 ///
 /// Refused as the file of the cluster is before a byte of the scenario is read.
-pub fn run_text<T: Threads + Wait + Sync, F: Read, R: Read, W: Write>(
+pub fn run_text<T: Threads + Wait + Clock + Sync, F: Read, R: Read, W: Write>(
     rt: &T,
     alloc: Global,
     file: &mut F,

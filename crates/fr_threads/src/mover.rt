@@ -10,9 +10,10 @@ use fr_runs::fault_line::FaultLine;
 use fr_slots::numbers::NodeId;
 use fr_slots::window::Window;
 use std::sync::Wait;
+use std::time::Clock;
 
 /// Injects the faults that come in this window, which lies in the run's cycle of this number.
-fn inject_all<R: Wait>(
+fn inject_all<R: Wait + Clock>(
     rt: &R,
     wire: &Wire,
     faults: &[FaultLine],
@@ -28,7 +29,7 @@ fn inject_all<R: Wait>(
 }
 
 /// Moves the bus on from window to window, up to the end of the run.
-fn move_on<R: Wait, G: Gate>(
+fn move_on<R: Wait + Clock, G: Gate>(
     rt: &R,
     wire: &Wire,
     faults: &[FaultLine],
@@ -51,7 +52,7 @@ fn move_on<R: Wait, G: Gate>(
 }
 
 /// The thread of the bus. Where it fails the run is stopped.
-pub(crate) fn run_bus<R: Wait, G: Gate>(
+pub(crate) fn run_bus<R: Wait + Clock, G: Gate>(
     rt: &R,
     shared: &Shared,
     faults: &[FaultLine],

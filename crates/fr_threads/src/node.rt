@@ -22,6 +22,7 @@ use std::sync::Wait;
 use std::sync::ledger::{Blank, Ledger};
 use std::thread;
 use std::thread::{JoinHandle, Scope, Threads};
+use std::time::Clock;
 
 /// What a node leaves: its interface, the posts of all its shares, which are the interface's commits, and the answers
 /// that each of its tasks got.
@@ -41,7 +42,7 @@ struct TasksDone<L: Ledger> {
 }
 
 /// Does all that the controller does in the run.
-fn control<L: Ledger, R: Wait, G: Gate>(
+fn control<L: Ledger, R: Wait + Clock, G: Gate>(
     rt: &R,
     desk: &Desk<L>,
     shared: &Shared,
@@ -119,7 +120,7 @@ fn join_tasks<L: Ledger, R: Threads>(
 }
 
 /// Runs the node's tasks and its controller, and joins them. Where one of them fails the run is stopped.
-fn serve<'s, E, L: Ledger + Send + Sync, R: Threads + Wait + Sync, G: Gate + Sync>(
+fn serve<'s, E, L: Ledger + Send + Sync, R: Threads + Wait + Clock + Sync, G: Gate + Sync>(
     scope: &'s Scope<'s, E>,
     rt: &'s R,
     alloc: Global,
@@ -167,7 +168,7 @@ fn serve<'s, E, L: Ledger + Send + Sync, R: Threads + Wait + Sync, G: Gate + Syn
 }
 
 /// Runs the node's tasks and its controller in a scope.
-fn run_in_scope<L: Ledger + Send + Sync, R: Threads + Wait + Sync, G: Gate + Sync>(
+fn run_in_scope<L: Ledger + Send + Sync, R: Threads + Wait + Clock + Sync, G: Gate + Sync>(
     rt: &R,
     alloc: Global,
     desk: &Desk<L>,
@@ -189,7 +190,7 @@ fn run_in_scope<L: Ledger + Send + Sync, R: Threads + Wait + Sync, G: Gate + Syn
 }
 
 /// Opens the node's desk, runs its tasks and its controller, closes the desk and gathers the shares.
-fn run_desk<L: Ledger + Send + Sync, R: Threads + Wait + Sync, G: Gate + Sync>(
+fn run_desk<L: Ledger + Send + Sync, R: Threads + Wait + Clock + Sync, G: Gate + Sync>(
     rt: &R,
     alloc: Global,
     blank: Blank,
@@ -217,7 +218,7 @@ fn run_desk<L: Ledger + Send + Sync, R: Threads + Wait + Sync, G: Gate + Sync>(
 }
 
 /// Makes the interface of the node of this number, and runs the node with a ledger of its own.
-fn run_ledger<R: Threads + Wait + Sync, G: Gate + Sync>(
+fn run_ledger<R: Threads + Wait + Clock + Sync, G: Gate + Sync>(
     rt: &R,
     alloc: Global,
     shared: &Shared,
@@ -247,7 +248,7 @@ fn run_ledger<R: Threads + Wait + Sync, G: Gate + Sync>(
 }
 
 /// The thread of the node of this number. Where it fails the run is stopped.
-pub(crate) fn run_node<R: Threads + Wait + Sync, G: Gate + Sync>(
+pub(crate) fn run_node<R: Threads + Wait + Clock + Sync, G: Gate + Sync>(
     rt: &R,
     alloc: Global,
     shared: &Shared,

@@ -29,6 +29,7 @@ use std::alloc::Global;
 use std::sync::Wait;
 use std::thread;
 use std::thread::{JoinHandle, Scope, Threads};
+use std::time::Clock;
 
 /// What a run leaves (own profile).
 #[derive(Drop)]
@@ -80,7 +81,7 @@ impl NodesDone {
 }
 
 /// Starts the thread of each node. Where one can't be started those before it run.
-fn start_nodes<'s, E, R: Threads + Wait + Sync, G: Gate + Sync>(
+fn start_nodes<'s, E, R: Threads + Wait + Clock + Sync, G: Gate + Sync>(
     scope: &'s Scope<'s, E>,
     rt: &'s R,
     alloc: Global,
@@ -127,7 +128,7 @@ fn join_nodes<R: Threads>(
 }
 
 /// Runs the bus and the nodes, and joins them. Where one of them fails the run is stopped.
-fn serve<'s, E, R: Threads + Wait + Sync, G: Gate + Sync>(
+fn serve<'s, E, R: Threads + Wait + Clock + Sync, G: Gate + Sync>(
     scope: &'s Scope<'s, E>,
     rt: &'s R,
     alloc: Global,
@@ -177,7 +178,7 @@ fn serve<'s, E, R: Threads + Wait + Sync, G: Gate + Sync>(
 }
 
 /// Runs the bus and the nodes in a scope.
-fn run_in_scope<R: Threads + Wait + Sync, G: Gate + Sync>(
+fn run_in_scope<R: Threads + Wait + Clock + Sync, G: Gate + Sync>(
     rt: &R,
     alloc: Global,
     shared: &Shared,
@@ -275,7 +276,7 @@ fn shared_by_all(
 }
 
 /// Runs the threads, and settles what they leave.
-fn run_all<R: Threads + Wait + Sync, G: Gate + Sync>(
+fn run_all<R: Threads + Wait + Clock + Sync, G: Gate + Sync>(
     rt: &R,
     alloc: Global,
     cluster: &Cluster,
@@ -305,7 +306,7 @@ fn run_all<R: Threads + Wait + Sync, G: Gate + Sync>(
 /// thread starts. Of several failures that threads meet the first of these is told: `Host`, `Slot`, `Bus`, `Thread` and
 /// `Memory`. Where they meet none, a bus that isn't at its end after so many cycles is `Thread`, and what doesn't agree
 /// by then is `Settle`. All threads are joined before it answers.
-pub fn run_threads<R: Threads + Wait + Sync, G: Gate + Sync>(
+pub fn run_threads<R: Threads + Wait + Clock + Sync, G: Gate + Sync>(
     rt: &R,
     alloc: Global,
     cluster: &Cluster,

@@ -23,6 +23,7 @@ use std::sync::ledger::{Blank, Ledger};
 use std::test::Fail;
 use std::thread;
 use std::thread::Threads;
+use std::time::Clock;
 
 /// The next pass of these.
 fn next_pass<L: Ledger>(passes: &mut Vec<TaskPass<L>>) -> Result<TaskPass<L>, Fail> {
@@ -44,7 +45,7 @@ fn see<L: Ledger, R: Wait>(rt: &R, desk: &Desk<L>, number: u8, bytes: Bytes) -> 
 
 /// What two commits of two threads leave: the lesser and the greater entry of the receipts, the length of the journal,
 /// and what the shares add up to.
-fn left_by_two<L: Ledger + Send + Sync, R: Threads + Wait + Sync>(
+fn left_by_two<L: Ledger + Send + Sync, R: Threads + Wait + Clock + Sync>(
     rt: &R,
     alloc: Global,
     blank: Blank,

@@ -9,9 +9,10 @@ use std::alloc::Global;
 use std::sync::Wait;
 use std::test::Fail;
 use std::thread::Threads;
+use std::time::Clock;
 
 /// Whether a run of four cycles comes to its end while the gate holds an actor until another has come far enough.
-fn overlaps<R: Threads + Wait + Sync>(
+fn overlaps<R: Threads + Wait + Clock + Sync>(
     rt: &R,
     alloc: Global,
     stepped: bool,
@@ -34,7 +35,7 @@ fn overlaps<R: Threads + Wait + Sync>(
 }
 
 /// Whether a task of a node, held at this side of its first call, has the other task go first.
-fn tasks_overlap<R: Threads + Wait + Sync>(
+fn tasks_overlap<R: Threads + Wait + Clock + Sync>(
     rt: &R,
     alloc: Global,
     stepped: bool,
@@ -52,7 +53,7 @@ fn tasks_overlap<R: Threads + Wait + Sync>(
 }
 
 /// Whether a node's controller, held before its first call, has the other node's go first.
-fn controllers_overlap<R: Threads + Wait + Sync>(
+fn controllers_overlap<R: Threads + Wait + Clock + Sync>(
     rt: &R,
     alloc: Global,
     held: u8,

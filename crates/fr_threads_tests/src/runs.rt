@@ -17,9 +17,10 @@ use std::alloc::Global;
 use std::sync::Wait;
 use std::test::Fail;
 use std::thread::Threads;
+use std::time::Clock;
 
 /// The answer to a run of the three nodes.
-fn answer<R: Threads + Wait + Sync>(
+fn answer<R: Threads + Wait + Clock + Sync>(
     rt: &R,
     alloc: Global,
     scripts: &[Script],
@@ -34,7 +35,7 @@ fn answer<R: Threads + Wait + Sync>(
 }
 
 /// What four cycles of the three nodes leave, while node 2 babbles.
-fn four_cycles<R: Threads + Wait + Sync>(
+fn four_cycles<R: Threads + Wait + Clock + Sync>(
     rt: &R,
     alloc: Global,
     stepped: bool,
@@ -135,7 +136,7 @@ fn each_commit_of_a_stepped_run_is_sent(rt: HostRuntime) -> Result<(), Fail> {
 }
 
 /// The refusal of a run of the three nodes, while node 2 babbles.
-fn refusal<R: Threads + Wait + Sync>(
+fn refusal<R: Threads + Wait + Clock + Sync>(
     rt: &R,
     alloc: Global,
     scripts: &[Script],

@@ -22,6 +22,7 @@ use std::sync::ledger::{Blank, Ledger};
 use std::test::Fail;
 use std::thread;
 use std::thread::Threads;
+use std::time::Clock;
 
 /// Two static slots and no dynamic segment, one node.
 const ONE_NODE: &str = "[params]
@@ -54,7 +55,7 @@ fn muted(me: NodeId) -> Fault {
 }
 
 /// The node's part in one window, and the bus's, with a fault.
-fn one_window<L: Ledger, R: Wait>(
+fn one_window<L: Ledger, R: Wait + Clock>(
     rt: &R,
     wire: &Wire,
     desk: &Desk<L>,
@@ -72,7 +73,7 @@ fn one_window<L: Ledger, R: Wait>(
 }
 
 /// How many entries two windows leave in the journal of a desk.
-fn entries_of_two<L: Ledger, R: Wait>(
+fn entries_of_two<L: Ledger, R: Wait + Clock>(
     rt: &R,
     alloc: Global,
     blank: Blank,
@@ -115,7 +116,7 @@ fn a_wire_knows_its_nodes(rt: HostRuntime) -> Result<(), Fail> {
 }
 
 /// The refusals of all calls in the order of a window.
-fn refusals<R: Wait>(rt: &R, wire: &Wire, me: NodeId) -> [Option<WireError>; 6] {
+fn refusals<R: Wait + Clock>(rt: &R, wire: &Wire, me: NodeId) -> [Option<WireError>; 6] {
     let nothing = Offer { a: None, b: None };
     [
         wire.next(rt, me).err(),
@@ -145,7 +146,7 @@ fn stop_late<R: Wait>(rt: &R, wire: &Wire) {
 }
 
 /// What a node's call and the bus's answer that wait for what doesn't come, when their wires are stopped.
-fn ended_by_stop<R: Threads + Wait + Sync>(
+fn ended_by_stop<R: Threads + Wait + Clock + Sync>(
     rt: &R,
     alloc: Global,
 ) -> Result<[Option<WireError>; 2], Fail> {
