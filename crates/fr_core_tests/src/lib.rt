@@ -1,10 +1,27 @@
-//! The tests of the world over events.
+//! The tests of the sender table and of guardians, of the bus, of the world over events, and of what a run is asked for
+//! and its scenario file. Files that are refused are tried by `scripts/commands`.
 #![tactic(auto)]
 
 #[cfg(test)]
+mod asked;
+#[cfg(test)]
+mod babbling;
+#[cfg(test)]
+mod bus_faults;
+#[cfg(test)]
+mod bus_runs;
+#[cfg(test)]
 mod faults;
 #[cfg(test)]
+mod refusals;
+#[cfg(test)]
+mod schedule;
+#[cfg(test)]
+mod schedule_full;
+#[cfg(test)]
 mod settling;
+#[cfg(test)]
+mod steps;
 #[cfg(test)]
 mod turns;
 #[cfg(test)]

@@ -1,4 +1,4 @@
-//! The tests of desks and wires, and of runs in threads.
+//! The tests of desks and wires, of runs in threads, and of their outcome as a text.
 #![tactic(auto)]
 
 #[cfg(test)]
@@ -9,6 +9,8 @@ mod desks;
 mod hold;
 #[cfg(test)]
 mod opened;
+#[cfg(test)]
+mod outcomes;
 #[cfg(test)]
 mod overlap;
 #[cfg(test)]
