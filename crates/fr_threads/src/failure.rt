@@ -52,6 +52,14 @@ pub(crate) fn told_of(earlier: Option<Failure>, failure: Failure) -> Failure {
     }
 }
 
+/// Of a thread's answer and a failure before it the failure that is to be told.
+pub(crate) fn told_with(earlier: Option<Failure>, answer: Result<(), Failure>) -> Option<Failure> {
+    match answer {
+        Ok(()) => earlier,
+        Err(failure) => Some(told_of(earlier, failure)),
+    }
+}
+
 impl From<AllocError> for Failure {
     fn from(_error: AllocError) -> Failure {
         Failure::Memory

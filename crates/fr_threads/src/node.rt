@@ -5,7 +5,7 @@ ghost use Rattle.std.specs.Vec.{vec_capacity};
 ghost use Rattle.fr_interface.specs.Commits.{commits_of};
 ghost use Rattle.fr_ledger.specs.Posts.{parts_for};
 
-use crate::failure::{Failure, told_of};
+use crate::failure::{Failure, told_of, told_with};
 use crate::shared::{Shared, opens_cycle};
 use crate::task::{TaskDone, lines_of, run_task};
 use fr_core::event::Reply;
@@ -16,7 +16,7 @@ use fr_interface::interface::Interface;
 use fr_ledger::books::{Share, gather};
 use fr_schedule::cluster::Cluster;
 use fr_slots::numbers::NodeId;
-use std::alloc::Global;
+use std::alloc::{AllocError, Global};
 use std::marker::Brand;
 use std::sync::Wait;
 use std::sync::ledger::{Blank, Ledger};
@@ -39,6 +39,20 @@ pub(crate) struct NodeDone {
 struct TasksDone<L: Ledger> {
     shares: Vec<Share<L>>,
     answers: Vec<Vec<Reply>>,
+}
+
+impl<L: Ledger> TasksDone<L> {
+    /// Room for what so many tasks leave.
+    fn with_room(alloc: Global, count: usize) -> Result<TasksDone<L>, AllocError>
+        ensures empty { IfOk result (λ done. vec_len done.shares ≡ 0) }
+        ensures shares { IfOk result (λ done. vec_len done.shares + count ≤ vec_capacity done.shares) }
+        ensures answers { IfOk result (λ done. vec_len done.answers + count ≤ vec_capacity done.answers) }
+    {
+        Ok(TasksDone {
+            shares: Vec::with_capacity(alloc, count)?,
+            answers: Vec::with_capacity(alloc, count)?,
+        })
+    }
 }
 
 /// Does all that the controller does in the run.
@@ -133,12 +147,9 @@ fn serve<'s, E, L: Ledger + Send + Sync, R: Threads + Wait + Clock + Sync, G: Ga
 ) -> Result<TasksDone<L>, Failure>
     ensures { IfOk result (λ done. vec_len done.shares ≡ vec_len passes) }
 {
-    let mut done = TasksDone {
-        shares: Vec::with_capacity(alloc, passes.len())?,
-        answers: Vec::with_capacity(alloc, passes.len())?,
-    };
+    let mut done = TasksDone::with_room(alloc, passes.len())?;
     let mut running = Vec::with_capacity(alloc, passes.len())?;
-    let started = start_tasks(
+    let ended = match start_tasks(
         scope,
         rt,
         alloc,
@@ -149,21 +160,16 @@ fn serve<'s, E, L: Ledger + Send + Sync, R: Threads + Wait + Clock + Sync, G: Ga
         gate,
         passes,
         &mut running,
-    );
-    let ended = match started {
+    ) {
         Ok(()) => control(rt, desk, shared, node, gate),
         Err(failure) => Err(failure),
     };
     if ended.is_err() {
         shared.stop(rt);
     }
-    let told = join_tasks(rt, running, &mut done);
-    match ended {
-        Ok(()) => match told {
-            Some(failure) => Err(failure),
-            None => Ok(done),
-        },
-        Err(failure) => Err(told_of(told, failure)),
+    match told_with(join_tasks(rt, running, &mut done), ended) {
+        Some(failure) => Err(failure),
+        None => Ok(done),
     }
 }
 

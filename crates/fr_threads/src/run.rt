@@ -8,7 +8,7 @@ ghost use Rattle.fr_threads.specs.Running.{IsRunOf, RefusesRun};
 
 use crate::answers::answered;
 use crate::error::{RunError, failed, refused};
-use crate::failure::{Failure, told_of};
+use crate::failure::{Failure, told_of, told_with};
 use crate::mover::run_bus;
 use crate::node::{NodeDone, run_node};
 use crate::pace::Pace;
@@ -25,7 +25,7 @@ use fr_interface::interface::Interface;
 use fr_runs::check::check_run;
 use fr_runs::fault_line::FaultLine;
 use fr_schedule::cluster::Cluster;
-use std::alloc::Global;
+use std::alloc::{AllocError, Global};
 use std::sync::Wait;
 use std::thread;
 use std::thread::{JoinHandle, Scope, Threads};
@@ -55,6 +55,20 @@ struct NodesDone {
 }
 
 impl NodesDone {
+    /// Room for what so many nodes leave.
+    fn with_room(alloc: Global, count: usize) -> Result<NodesDone, AllocError>
+        ensures interfaces { IfOk result (λ done. vec_len done.interfaces + count ≤ vec_capacity done.interfaces) }
+        ensures commits { IfOk result (λ done. vec_len done.commits + count ≤ vec_capacity done.commits) }
+        ensures answers { IfOk result (λ done. vec_len done.answers + count ≤ vec_capacity done.answers) }
+        ensures counted { IfOk result (λ done. done.commits.items ≡ map commits_of done.interfaces.items) }
+    {
+        Ok(NodesDone {
+            interfaces: Vec::with_capacity(alloc, count)?,
+            commits: Vec::with_capacity(alloc, count)?,
+            answers: Vec::with_capacity(alloc, count)?,
+        })
+    }
+
     /// Adds what a node leaves. There is room for it.
     fn add(&mut self, done: NodeDone)
         requires interfaces { vec_len self.old.interfaces < vec_capacity self.old.interfaces }
@@ -141,11 +155,7 @@ fn serve<'s, E, R: Threads + Wait + Clock + Sync, G: Gate + Sync>(
     ensures { IfOk result (λ nodes. nodes.commits.items ≡ map commits_of nodes.interfaces.items) }
 {
     let count = cluster.nodes();
-    let mut nodes = NodesDone {
-        interfaces: Vec::with_capacity(alloc, usize::from(count))?,
-        commits: Vec::with_capacity(alloc, usize::from(count))?,
-        answers: Vec::with_capacity(alloc, usize::from(count))?,
-    };
+    let mut nodes = NodesDone::with_room(alloc, usize::from(count))?;
     let mut running = Vec::with_capacity(alloc, usize::from(count))?;
     let Ok(bus) = scope.spawn(move || run_bus(rt, shared, faults, gate)) else {
         return Err(Failure::Thread);
@@ -164,14 +174,8 @@ fn serve<'s, E, R: Threads + Wait + Clock + Sync, G: Gate + Sync>(
     if started.is_err() {
         shared.stop(rt);
     }
-    let mut told = join_nodes(rt, running, &mut nodes);
-    if let Err(failure) = bus.join(rt) {
-        told = Some(told_of(told, failure));
-    }
-    if let Err(failure) = started {
-        told = Some(told_of(told, failure));
-    }
-    match told {
+    let told = told_with(join_nodes(rt, running, &mut nodes), bus.join(rt));
+    match told_with(told, started) {
         Some(failure) => Err(failure),
         None => Ok(nodes),
     }
