@@ -1,5 +1,6 @@
-//! The tests of the sender table and of guardians, of the bus, of the world over events, and of what a run is asked for
-//! and its scenario file. Files that are refused are tried by `scripts/commands`.
+//! The tests of frames, lanes and macroticks, of the sender table and of guardians, of the bus, of the world over events,
+//! and of what a run is asked for and its scenario file. Files that are refused are tried by `scripts/commands`. They
+//! stand apart from what they test, since a crate with tests is proved twice.
 #![tactic(auto)]
 
 #[cfg(test)]
@@ -13,6 +14,10 @@ mod bus_runs;
 #[cfg(test)]
 mod faults;
 #[cfg(test)]
+mod frame;
+#[cfg(test)]
+mod minislot;
+#[cfg(test)]
 mod refusals;
 #[cfg(test)]
 mod schedule;
@@ -22,6 +27,8 @@ mod schedule_full;
 mod settling;
 #[cfg(test)]
 mod steps;
+#[cfg(test)]
+mod timing;
 #[cfg(test)]
 mod turns;
 #[cfg(test)]

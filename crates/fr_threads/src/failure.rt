@@ -1,5 +1,7 @@
 //! Why threads of a run end before it is over.
 
+ghost use Rattle.std.specs.Prelude.{IfNone, IsOk};
+
 use fr_bus::error::BusError;
 use fr_core::settle::SettleError;
 use fr_desks::wire::WireError;
@@ -53,7 +55,9 @@ pub(crate) fn told_of(earlier: Option<Failure>, failure: Failure) -> Failure {
 }
 
 /// Of a thread's answer and a failure before it the failure that is to be told.
-pub(crate) fn told_with(earlier: Option<Failure>, answer: Result<(), Failure>) -> Option<Failure> {
+pub(crate) fn told_with(earlier: Option<Failure>, answer: Result<(), Failure>) -> Option<Failure>
+    ensures { IfNone result (IsOk answer) }
+{
     match answer {
         Ok(()) => earlier,
         Err(failure) => Some(told_of(earlier, failure)),

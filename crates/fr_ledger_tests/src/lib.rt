@@ -1,5 +1,0 @@
-//! The tests of books and shares.
-#![tactic(auto)]
-
-#[cfg(test)]
-mod books;
