@@ -5,6 +5,7 @@ ghost use Rattle.std.specs.Option.{option_copied};
 ghost use Rattle.fr_journal.specs.Held.{arrival_of};
 
 use fr_frame::frame::Frame;
+use fr_frame::lent::LentFrame;
 use fr_journal::entry::{Arrival, Origin};
 use fr_slots::channel::Channel;
 use std::marker::Model;
@@ -32,14 +33,20 @@ impl RxBuffer {
         RxBuffer { held: None }
     }
 
-    /// Holds a frame in place of the one before. It was seen on the channel by the observe of this entry.
-    pub fn store(&mut self, entry: u32, channel: Channel, frame: &Frame)
+    /// Holds a frame in place of the one before, over which it is copied. It was seen on the channel by the observe of
+    /// this entry.
+    pub fn store(&mut self, entry: u32, channel: Channel, frame: &LentFrame<'_>)
         ensures { self.new ≡ Some (arrival_of entry channel frame.now) }
     {
-        self.held = Some(Arrival {
-            origin: Origin { entry, channel },
-            frame: frame.duplicate(),
-        });
+        let origin = Origin { entry, channel };
+        if let Some(arrival) = &mut self.held {
+            replace(arrival, origin, frame);
+        } else {
+            self.held = Some(Arrival {
+                origin,
+                frame: Frame::from_lent(frame),
+            });
+        }
     }
 
     /// The frame that it holds, and where that comes from.
@@ -48,4 +55,12 @@ impl RxBuffer {
     {
         self.held.as_ref()
     }
+}
+
+/// Makes this the arrival of the frame from there.
+fn replace(arrival: &mut Arrival, origin: Origin, frame: &LentFrame<'_>)
+    ensures { arrival.new ≡ record { origin = origin; frame = frame.now } }
+{
+    arrival.origin = origin;
+    arrival.frame.replace_by(frame);
 }

@@ -10,7 +10,7 @@ ghost use Rattle.fr_frame.specs.Spelling.{Spells};
 
 use crate::crc::{crc_of_header, crc24};
 use crate::frame::Frame;
-use crate::payload::Payload;
+use crate::lent::LentFrame;
 use fr_slots::channel::Channel;
 use fr_slots::numbers::Cycle;
 use thiserror::Error;
@@ -41,11 +41,29 @@ pub fn decode(bytes: &[u8], channel: Channel) -> Result<Frame, DecodeError>
     // What is spelled so is read.
     ensures only { (f : Fields) → Spells f channel bytes.now → result ≡ Ok f }
 {
-    frame_from(bytes, channel)
+    owned(lent_from(bytes, channel))
+}
+
+/// The same frame, whose payload stays among the bytes.
+pub fn decode_lent(bytes: &[u8], channel: Channel) -> Result<LentFrame<'_>, DecodeError>
+    ensures refused { result_err result ≡ refusal channel bytes.now }
+    ensures value { result_ok result ≡ decoded channel bytes.now }
+{
+    lent_from(bytes, channel)
+}
+
+/// What was read, with a payload of its own.
+fn owned(read: Result<LentFrame<'_>, DecodeError>) -> Result<Frame, DecodeError>
+    ensures { result ≡ read.entry }
+{
+    match read {
+        Ok(frame) => Ok(Frame::from_lent(&frame)),
+        Err(refusal) => Err(refusal),
+    }
 }
 
 /// The same, with the clauses from which the others follow.
-fn frame_from(bytes: &[u8], channel: Channel) -> Result<Frame, DecodeError>
+fn lent_from(bytes: &[u8], channel: Channel) -> Result<LentFrame<'_>, DecodeError>
     ensures refused { result_err result ≡ refusal channel bytes.now }
     ensures read { IfOk result (λ f. f ≡ fields_of bytes.now) }
 {
@@ -67,13 +85,13 @@ fn frame_from(bytes: &[u8], channel: Channel) -> Result<Frame, DecodeError>
     if last != u64::from(crc24(body, channel)) {
         return Err(DecodeError::FrameCrc);
     }
-    Ok(Frame {
+    Ok(LentFrame {
         preamble: header >> 38 & 1 == 1,
         has_data: header >> 37 & 1 == 1,
         sync: header >> 36 & 1 == 1,
         startup: header >> 35 & 1 == 1,
         id: (header >> 24 & 0x7ff) as u16,
-        payload: Payload::of(&body[5..]),
+        payload: &body[5..],
         cycle: Cycle::from_bits((header & 0x3f) as u8),
     })
 }

@@ -2,6 +2,7 @@
 
 ghost use Rattle.std.specs.Prelude.{◌≡◌};
 
+use crate::lent::LentFrame;
 use crate::payload::{PAYLOAD_BYTES, Payload};
 use arrayvec::ArrayVec;
 use fr_slots::numbers::Cycle;
@@ -76,5 +77,33 @@ impl Frame {
             payload: self.payload.duplicate(),
             cycle: self.cycle,
         }
+    }
+
+    /// The frame that is lent, with a payload of its own.
+    pub fn from_lent(lent: &LentFrame<'_>) -> Frame
+        ensures { result ≡ lent.now }
+    {
+        Frame {
+            preamble: lent.preamble,
+            has_data: lent.has_data,
+            sync: lent.sync,
+            startup: lent.startup,
+            id: lent.id,
+            payload: Payload::of(lent.payload),
+            cycle: lent.cycle,
+        }
+    }
+
+    /// Makes this the frame that is lent, whose payload is copied over the one before.
+    pub fn replace_by(&mut self, lent: &LentFrame<'_>)
+        ensures { self.new ≡ lent.now }
+    {
+        self.preamble = lent.preamble;
+        self.has_data = lent.has_data;
+        self.sync = lent.sync;
+        self.startup = lent.startup;
+        self.id = lent.id;
+        self.payload.replace_by(lent.payload);
+        self.cycle = lent.cycle;
     }
 }

@@ -16,5 +16,6 @@ pub mod crc;
 pub mod decode;
 pub mod encode;
 pub mod frame;
+pub mod lent;
 pub mod payload;
 mod tables;

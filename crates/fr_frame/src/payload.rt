@@ -89,6 +89,17 @@ impl Payload {
         }
     }
 
+    /// Makes this the payload of bytes that are known to be one.
+    pub(crate) fn replace_by(&mut self, bytes: &[u8])
+        requires { IsPayload bytes.now }
+        ensures { self.new ≡ bytes.now }
+    {
+        self.bytes.clear();
+        let outcome = self.bytes.try_extend_from_slice(bytes);
+        let fits = outcome.is_ok();
+        prove!(fits);
+    }
+
     /// Another payload of the same bytes.
     pub fn duplicate(&self) -> Payload
         ensures { result ≡ self.now }

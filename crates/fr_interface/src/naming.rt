@@ -8,6 +8,7 @@ ghost use Rattle.fr_journal.specs.OpenWindow.{open_window, window_mark};
 
 use crate::observed::Told;
 use fr_frame::frame::Frame;
+use fr_frame::lent::LentFrame;
 use fr_journal::entry::{Entry, Origin};
 use fr_journal::journal::Journal;
 use fr_slots::channel::Channel;
@@ -35,9 +36,19 @@ fn frame_in_entry(
 {
     match (entry, window) {
         (Entry::Observe { window: _, a, b }, Some(window)) => {
-            Told::of(params, window, channel, seen_on(channel, a, b)).frame
+            owned(&Told::of(params, window, channel, seen_on(channel, a, b)).frame)
         }
         _ => None,
+    }
+}
+
+/// The frame with a payload of its own.
+fn owned(frame: &Option<LentFrame<'_>>) -> Option<Frame>
+    ensures { result ≡ frame.now }
+{
+    match frame {
+        Some(frame) => Some(Frame::from_lent(frame)),
+        None => None,
     }
 }
 

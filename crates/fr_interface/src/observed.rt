@@ -12,7 +12,7 @@ ghost use Rattle.fr_status.specs.Counting.{HasRoom};
 
 use fr_buffers::queue::ReceiveQueue;
 use fr_buffers::receive::RxBuffer;
-use fr_frame::frame::Frame;
+use fr_frame::lent::LentFrame;
 use fr_slots::channel::Channel;
 use fr_slots::params::Params;
 use fr_slots::plan::{Buffer, NodePlan, Queue};
@@ -21,17 +21,17 @@ use fr_status::counters::Counters;
 use fr_status::seen::Seen;
 use fr_status::status::{SlotStatus, status_of};
 
-/// What a channel of a window tells: the status of its slot, and the valid data frame that came. A channel without a
-/// slot tells neither.
-#[derive(Debug, Drop, PartialEq, Eq)]
-pub(crate) struct Told {
+/// What a channel of a window tells: the status of its slot, and the valid data frame that came, whose payload stays
+/// among the bytes that were seen. A channel without a slot tells neither.
+#[derive(Debug, Drop)]
+pub(crate) struct Told<'a> {
     pub status: Option<SlotStatus>,
-    pub frame: Option<Frame>,
+    pub frame: Option<LentFrame<'a>>,
 }
 
-impl Told {
+impl<'a> Told<'a> {
     /// What the channel tells where this was seen.
-    pub(crate) fn of(params: &Params, window: &Window, channel: Channel, seen: &Seen) -> Told
+    pub(crate) fn of(params: &Params, window: &Window, channel: Channel, seen: &'a Seen) -> Told<'a>
         ensures status { result.status ≡ status_seen params.now window.now channel seen.now }
         ensures frame { result.frame ≡ data_frame_seen params.now window.now channel seen.now }
     {
@@ -50,8 +50,8 @@ impl Told {
 }
 
 /// The frame, where it is no null frame.
-fn data_frame(frame: Option<Frame>) -> Option<Frame>
-    ensures { result ≡ option_and_then with_data frame }
+fn data_frame(frame: Option<LentFrame<'_>>) -> Option<LentFrame<'_>>
+    ensures { result ≡ option_and_then with_data frame.entry }
 {
     match frame {
         Some(frame) => { if frame.has_data { Some(frame) } else { None } }
@@ -76,7 +76,7 @@ fn store_on(
     number: u32,
     window: &Window,
     channel: Channel,
-    frame: &Option<Frame>,
+    frame: &Option<LentFrame<'_>>,
 ) -> bool
     ensures stored { buffer.new ≡ option_or (frame_on number window.now channel frame.now line.now) buffer.old }
     ensures told { result ≡ is_some (frame_on number window.now channel frame.now line.now) }
@@ -96,8 +96,8 @@ fn store_in(
     line: &Buffer,
     number: u32,
     window: &Window,
-    a: &Option<Frame>,
-    b: &Option<Frame>,
+    a: &Option<LentFrame<'_>>,
+    b: &Option<LentFrame<'_>>,
 )
     ensures { buffer.new ≡ option_or (taken_by number window.now a.now b.now line.now) buffer.old }
 {
@@ -112,8 +112,8 @@ pub(crate) fn store_all(
     lines: &[Buffer],
     number: u32,
     window: &Window,
-    a: &Option<Frame>,
-    b: &Option<Frame>,
+    a: &Option<LentFrame<'_>>,
+    b: &Option<LentFrame<'_>>,
 )
     requires { length buffers.old ≡ length lines.now }
     ensures { buffers.new ≡ stored_all number window.now a.now b.now lines.now buffers.old }
@@ -157,7 +157,7 @@ pub(crate) fn arrive(
     number: u32,
     window: &Window,
     channel: Channel,
-    frame: &Option<Frame>,
+    frame: &Option<LentFrame<'_>>,
 )
     requires { waiting.old.lost + 1 < 2 ^ 32 }
     ensures { waiting.new ≡ with_arrival waiting.old
@@ -165,7 +165,7 @@ pub(crate) fn arrive(
 {
     if let Some(frame) = frame {
         if is_for_queue(plan, queue, window, channel) {
-            waiting.arrive(number, channel, frame.duplicate());
+            waiting.arrive(number, channel, frame);
         }
     }
 }
@@ -176,8 +176,8 @@ pub(crate) fn arrive_all(
     plan: &NodePlan,
     number: u32,
     window: &Window,
-    a: &Option<Frame>,
-    b: &Option<Frame>,
+    a: &Option<LentFrame<'_>>,
+    b: &Option<LentFrame<'_>>,
 )
     requires { ForSome queue.old (λ w. w.lost + 2 < 2 ^ 32) }
     ensures { queue.new ≡ with_arrivals plan.now number window.now a.now b.now plan.now.queue queue.old }

@@ -5,8 +5,8 @@ ghost use Rattle.std.specs.Option.{is_some};
 ghost use Rattle.fr_status.specs.Status.{frame_in, status_in, bits_set, passes, fits_static_slot, fits_dynamic_slot};
 
 use crate::seen::Seen;
-use fr_frame::decode::decode;
-use fr_frame::frame::Frame;
+use fr_frame::decode::decode_lent;
+use fr_frame::lent::LentFrame;
 use fr_slots::channel::Channel;
 use fr_slots::numbers::{Cycle, SlotId};
 use fr_slots::params::Params;
@@ -61,20 +61,21 @@ const TRANSMISSION_CONFLICT: SlotStatus = SlotStatus {
 };
 
 /// The status of a slot of a cycle on a channel where this was seen, and the frame, which is given
-/// exactly if the status is valid (chapter 6; which bit a thing seen gives is own profile).
+/// exactly if the status is valid (chapter 6; which bit a thing seen gives is own profile). Its payload stays among the
+/// bytes that were seen.
 ///
 /// Bytes that are no frame on this channel are a syntax error. A frame is a content error unless
 /// it has the slot's frame ID and the cycle's count, and in a static slot the payload length of
 /// all static frames, and no startup indicator without the sync indicator; in a dynamic slot
 /// neither of these indicators, and valid data.
 #[tactic(auto, unfolding(crate::specs::Status::status_in, crate::specs::Status::frame_in))]
-pub fn status_of(
+pub fn status_of<'a>(
     params: &Params,
     cycle: Cycle,
     slot: SlotId,
     channel: Channel,
-    seen: &Seen,
-) -> (SlotStatus, Option<Frame>)
+    seen: &'a Seen,
+) -> (SlotStatus, Option<LentFrame<'a>>)
     ensures status { result.0 ≡ status_in params.now cycle slot channel seen.now }
     ensures frame { result.1 ≡ frame_in params.now cycle slot channel seen.now }
     ensures only_if_valid { result.0.valid ≡ is_some result.1 }
@@ -85,7 +86,7 @@ pub fn status_of(
         Seen::Conflict => (TRANSMISSION_CONFLICT, None),
         Seen::Noise => (SYNTAX_ERROR, None),
         Seen::Overrun => (BOUNDARY_VIOLATION, None),
-        Seen::Bytes(bytes) => match decode(bytes.as_slice(), channel) {
+        Seen::Bytes(bytes) => match decode_lent(bytes.as_slice(), channel) {
             Ok(frame) => {
                 if passes(params, cycle, slot, &frame) {
                     (VALID_FRAME, Some(frame))
@@ -99,7 +100,7 @@ pub fn status_of(
 }
 
 /// Whether the frame is right for the slot.
-fn passes(params: &Params, cycle: Cycle, slot: SlotId, frame: &Frame) -> bool
+fn passes(params: &Params, cycle: Cycle, slot: SlotId, frame: &LentFrame<'_>) -> bool
     ensures { result ≡ passes params.now cycle slot frame.now }
 {
     if params.is_static(slot) {
@@ -110,17 +111,17 @@ fn passes(params: &Params, cycle: Cycle, slot: SlotId, frame: &Frame) -> bool
 }
 
 /// Whether the frame is right for a static slot.
-fn fits_static_slot(params: &Params, cycle: Cycle, slot: SlotId, frame: &Frame) -> bool
+fn fits_static_slot(params: &Params, cycle: Cycle, slot: SlotId, frame: &LentFrame<'_>) -> bool
     ensures { result ≡ fits_static_slot params.now cycle slot frame.now }
 {
-    frame.payload.as_slice().len() == 2 * usize::from(params.static_words)
+    frame.payload.len() == 2 * usize::from(params.static_words)
         && frame.id == slot.number()
         && frame.cycle == cycle
         && (frame.sync || !frame.startup)
 }
 
 /// Whether the frame is right for a dynamic slot.
-fn fits_dynamic_slot(cycle: Cycle, slot: SlotId, frame: &Frame) -> bool
+fn fits_dynamic_slot(cycle: Cycle, slot: SlotId, frame: &LentFrame<'_>) -> bool
     ensures { result ≡ fits_dynamic_slot cycle slot frame.now }
 {
     frame.id == slot.number()

@@ -1,8 +1,8 @@
-use Rattle.std.proofs.Common.{arith, sym, ◌∙◌}
+use Rattle.std.proofs.Common.{arith, refl, sym, ◌∙◌}
 use Rattle.fr_frame.proofs.ReadingLemmas.{refused_length, refused_header, refused_frame, not_refused, long_enough}
 use Rattle.fr_frame.proofs.ReadingLemmas.{header_read, length_test, length_test_fails, header_test, header_test_fails}
 use Rattle.fr_frame.proofs.ReadingLemmas.{frame_test, frame_test_fails, last_part, fields_read}
-use Rattle.fr_frame.proofs.decode.frame_from.Goals as goal
+use Rattle.fr_frame.proofs.decode.lent_from.Goals as goal
 
 pub returns-then-bytes-words-clause-refused : goal.returns-then-bytes-words-clause-refused
 returns-then-bytes-words-clause-refused c =
@@ -33,4 +33,4 @@ returns-clause-refused c =
 pub returns-clause-read : goal.returns-clause-read
 returns-clause-read c =
     let read = header_read _ _ (omega arith) c.number_from-header.ensures.bits in
-    fields_read c.number_from-header.result _ _ c.args.bytes.now c.if-bytes-lt8.false read c.of.ensures c.from_bits.ensures
+    fields_read c.number_from-header.result _ _ c.args.bytes.now c.if-bytes-lt8.false read refl c.from_bits.ensures
