@@ -1,9 +1,11 @@
 //! The bytes that words spell: the letter `x`, and two lower-case hexadecimal digits for each byte.
-ghost use Rattle.std.specs.Prelude.{ℕ, ◌≡◌, ◌<◌, ◌≤◌, length, option_map, slice_index};
+ghost use Rattle.std.specs.Prelude.{ℕ, List, ◌≡◌, ◌+◌, ◌-◌, ◌<◌, ◌≤◌, ◌++◌, length, option_map, replicate, slice_index, max};
+ghost use Rattle.arrayvec.specs.ArrayVec.{array_vec_len};
+ghost use Rattle.fr_text.specs.Digits.{AreDigits, AreValues, ArePacked};
 ghost use Rattle.fr_text.specs.Writing.{Writes};
 ghost use Rattle.fr_text.specs.Reading.{bytes_in, bytes_as, read_as};
 ghost use Rattle.fr_text.specs.Spelling.{hex_text};
-ghost use Rattle.hex.specs.Hex.{decode_of, lower_digits};
+ghost use Rattle.hex.specs.Hex.{decode_of, encode_lower, lower_digits, IsBytes};
 
 use arrayvec::ArrayVec;
 use std::io;
@@ -15,51 +17,105 @@ pub const MOST_BYTES: usize = 262;
 /// The digits of that word.
 const MOST_DIGITS: usize = 2 * MOST_BYTES;
 
-/// The value of a lower-case hexadecimal digit, and 255 for any other byte.
+/// So many digits are read at once, and so many bytes are made of them.
+const BLOCK: usize = 32;
+
+const BLOCK_BYTES: usize = 16;
+
+/// The value of a lower-case hexadecimal digit, and 16 or more for any other byte.
 fn digit_value(digit: u8) -> u8
     ensures is { result < 16 → slice_index lower_digits result ≡ digit }
     ensures only { (k : ℕ) → k < 16 → slice_index lower_digits k ≡ digit → result ≡ k }
 {
     let number = digit.wrapping_sub(b'0');
-    let letter = digit.wrapping_sub(b'a');
-    if number < 10 {
-        number
-    } else if letter < 6 {
-        letter + 10
-    } else {
-        255
+    let letter = digit.wrapping_sub(b'a').saturating_add(10);
+    if number < 10 { number } else { letter }
+}
+
+/// The values of the digits of a block, and the greatest of them.
+///
+/// Each digit is a value of its own, and none is answered early: so the compiler reads many of them at once.
+fn values_of(digits: &[u8; BLOCK]) -> ([u8; BLOCK], u8)
+    ensures are { result.1 < 16 → AreValues BLOCK result.0 digits.now }
+    ensures only { AreDigits BLOCK digits.now → result.1 < 16 }
+{
+    let mut values = [0u8; BLOCK];
+    let mut most = 0;
+    for place in 0..BLOCK {
+        let value = digit_value(digits[place]);
+        values[place] = value;
+        most = greater(most, value);
     }
+    (values, most)
+}
+
+/// The bytes of each two values.
+fn packed(values: &[u8; BLOCK]) -> [u8; BLOCK_BYTES]
+    ensures { (digits : List ℕ) → AreValues BLOCK values.now digits → ArePacked BLOCK_BYTES values.now result }
+{
+    let mut bytes = [0u8; BLOCK_BYTES];
+    for place in 0..BLOCK_BYTES {
+        bytes[place] = values[2 * place] << 4 | values[2 * place + 1];
+    }
+    bytes
+}
+
+/// The bytes that the digits of a block spell, and a number below 16 exactly if each is a digit.
+fn block_of(digits: &[u8; BLOCK]) -> ([u8; BLOCK_BYTES], u8)
+    ensures spelled { result.1 < 16 → encode_lower result.0 ≡ digits.now }
+    ensures only { AreDigits BLOCK digits.now → result.1 < 16 }
+    ensures fits { IsBytes result.0 }
+{
+    let (values, most) = values_of(digits);
+    (packed(&values), most)
+}
+
+/// The block of these digits and zeros after them.
+fn filled(digits: &[u8]) -> [u8; BLOCK]
+    requires { length digits.now < BLOCK }
+    ensures { result ≡ digits.now ++ replicate (BLOCK - length digits.now) 48 }
+{
+    let mut block = [b'0'; BLOCK];
+    block[..digits.len()].copy_from_slice(digits);
+    block
 }
 
 /// Reads the bytes that the digits spell, in lower case, in place of what the bytes were. Says whether it could.
-///
-/// The digits are taken in pairs, each as a value of its own, and none is answered early: so the compiler reads many
-/// of them at once.
 fn digits_into<const N: usize>(digits: &[u8], bytes: &mut ArrayVec<u8, N>) -> bool
     requires { N ≤ MOST_BYTES }
     ensures { read_as result bytes.new.items ≡ bytes_as N digits.now (decode_of digits.now) }
 {
-    let count = digits.len() / 2;
-    if count > N || digits.len() % 2 == 1 {
-        return false;
-    }
-    let (pairs, _) = digits.as_chunks::<2>();
-    let mut room = [0u8; N];
-    let mut plain = true;
-    for place in 0..count {
-        let pair = pairs[place];
-        let [first, second] = pair;
-        let high = digit_value(first);
-        let low = digit_value(second);
-        plain &= high < 16;
-        plain &= low < 16;
-        room[place] = high << 4 | low;
-    }
-    if !plain {
+    if digits.len() / 2 > N || digits.len() % 2 == 1 {
         return false;
     }
     bytes.clear();
-    bytes.try_extend_from_slice(&room[..count]).is_ok()
+    let (blocks, rest) = digits.as_chunks::<BLOCK>();
+    let mut most = 0;
+    for block in blocks {
+        let (read, greatest) = block_of(block);
+        append(bytes, &read);
+        most = greater(most, greatest);
+    }
+    let (read, greatest) = block_of(&filled(rest));
+    append(bytes, &read[..rest.len() / 2]);
+    greater(most, greatest) < 16
+}
+
+/// The greater of two numbers.
+fn greater(first: u8, second: u8) -> u8
+    ensures { result ≡ max first second }
+{
+    if first < second { second } else { first }
+}
+
+/// Appends bytes for which there is room.
+fn append<const N: usize>(bytes: &mut ArrayVec<u8, N>, more: &[u8])
+    requires { array_vec_len bytes.old + length more.now ≤ N }
+    ensures { bytes.new.items ≡ bytes.old.items ++ more.now }
+{
+    let outcome = bytes.try_extend_from_slice(more);
+    let fits = outcome.is_ok();
+    prove!(fits);
 }
 
 /// Reads the bytes that the word spells in place of what the bytes were: the letter `x`, and two lower-case digits for

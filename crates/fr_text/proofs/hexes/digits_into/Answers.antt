@@ -1,54 +1,82 @@
-use Rattle.std.proofs.Common.{◌≡◌, ◌<◌, ◌≤◌, ◌*◌, ◌/◌, ℕ, List, [], length, get_or, take, ap, arith, rules, sym, refl, ◌∙◌, lit<}
-use Rattle.std.proofs.lemmas.List.{length-set, length-take, length-replicate}
-use Rattle.std.proofs.lemmas.Nat.{or_lt, mod_below}
-use Rattle.std.proofs.lemmas.Bool.{and_parts, ltb-true}
+use Rattle.std.proofs.Common.{◌≡◌, ◌<◌, ◌+◌, ◌*◌, ◌/◌, ◌%◌, ◌++◌, ℕ, [], length, get_or, take, drop, ap, arith, sym, refl, ◌∙◌, lit<, max, inl, inr, rules}
+use Rattle.std.proofs.Math.Nat.{le-max_left, le-max_right}
+use Rattle.std.proofs.lemmas.Bool.{cases_lt, lt-ltb, le-ltb}
+use Rattle.std.proofs.lemmas.List.{length-append}
 use Rattle.hex.specs.Hex.{encode_lower}
-use Rattle.fr_text.proofs.DigitLemmas.{spelled_more, plain_more, spelled_by_places, pair_at, bytes_found, bytes_missing, missing_long, missing_odd}
-use Rattle.fr_text.proofs.DigitLemmas.{IsBytes-set, IsBytes-take, IsBytes-zeros}
+use Rattle.fr_text.proofs.DigitLemmas.{missing_long, missing_odd, bytes_found, bytes_missing, spelled_length, digits_of_bytes}
+use Rattle.fr_text.proofs.DigitLemmas.{block_at, take_block, encode-none, encode-append, digits_in_block, digits_in_last, blocks_spelled}
+use Rattle.fr_text.proofs.DigitLemmas.{IsBytes-append, IsBytes-take}
 use Rattle.fr_text.proofs.hexes.digits_into.Goals as goal
 
-pub returns-then-count : goal.returns-then-count
-returns-then-count g c =
-    elim c.then-count.branch [
-      | goal.then-count-via-then-count w ↦ sym (missing_long _ c.args.digits.now w.if-count.true)
-      | goal.then-count-via-else-count+then-digits-eq1 w ↦ sym (missing_odd _ c.args.digits.now w.if-digits-eq1.true)
+pub returns-then-digits : goal.returns-then-digits
+returns-then-digits g c =
+    elim c.then-digits.branch [
+      | goal.then-digits-via-then-digits w ↦ sym (missing_long _ c.args.digits.now w.if-digits.true)
+      | goal.then-digits-via-else-digits+then-digits-eq1 w ↦ sym (missing_odd _ c.args.digits.now w.if-digits-eq1.true)
     ]
 
-pub loop-place-init : goal.loop-place-init
-loop-place-init g c = record {
-  long = length-replicate g.row.N 0;
-  fits = IsBytes-zeros _;
-  spelled = λ plain k lt. absurd (omega arith);
-  all = λ bs fits is. refl;
-}
+pub loop-block-init : goal.loop-block-init
+loop-block-init g c = rw c.clear.ensures (record {
+  long = refl;
+  fits = λ i. lit< tt;
+  spelled = λ few. encode-none;
+  only = λ are. lit< tt;
+})
 
-pub loop-place-preserved : goal.loop-place-preserved
-loop-place-preserved g c =
-    let room = c.loop-place.room in
+pub loop-block-preserved : goal.loop-block-preserved
+loop-block-preserved g c =
     let digits = c.args.digits.now in
-    let place = c.loop-place.place in
-    let pair = ap (λ pairs. get_or pairs place []) c.as_chunks.ensures.front ∙ pair_at (length digits / 2) place digits [] (omega (arith, c.loop-place-test.true)) (omega arith) in
-    let first_is = ap (λ (p : List ℕ). get_or p 0 0) pair in
-    let second_is = ap (λ (p : List ℕ). get_or p 1 0) pair in
-    let within : place < length room = omega (arith, c.loop-place-test.true, c.loop-place.invariant.long, c.if-count.false) in
-    record {
-      long = length-set room place _ ∙ c.loop-place.invariant.long;
-      fits = IsBytes-set room place _ c.loop-place.invariant.fits (or_lt 8 _ _ (mod_below _ 256 (lit< tt)) c.digit_value-low.type_inv);
-      spelled = λ plain. let parts = and_parts _ _ plain in let first = and_parts _ _ parts.0 in let high = ltb-true _ _ first.1 in let low = ltb-true _ _ parts.1 in spelled_more room digits place _ _ within high low (c.digit_value-high.ensures.is high ∙ first_is) (c.digit_value-low.ensures.is low ∙ second_is) (c.loop-place.invariant.spelled first.0);
-      all = λ bs fits is. plain_more c.loop-place.plain _ _ digits bs place fits is (omega (arith, c.loop-place-test.true)) (c.loop-place.invariant.all bs fits is) (λ k lt is_high. c.digit_value-high.ensures.only k lt (is_high ∙ sym first_is)) (λ k lt is_low. c.digit_value-low.ensures.only k lt (is_low ∙ sym second_is));
-    }
-
-pub returns-then-not-plain : goal.returns-then-not-plain
-returns-then-not-plain g c =
-    sym (bytes_missing _ c.args.digits.now (λ bs fits is few. cc (c.loop-place.invariant.all bs fits is, c.if-not-plain.true)))
+    let i = c.loop-block.block-index in
+    let most = c.loop-block.most in
+    let read = c.block_of-greatest.result.0 in
+    let greatest = c.block_of-greatest.result.1 in
+    let within : i < length digits / 32 = omega (arith, c.loop-block-test.true, c.as_chunks.ensures.front_len) in
+    let block = ap (λ blocks. get_or blocks i []) c.as_chunks.ensures.front ∙ block_at (length digits / 32) i digits [] within in
+    let of_first = le-max_left most greatest in
+    let of_second = le-max_right most greatest in
+    let read_len : length read ≡ 16 = search rules in
+    rw (c.append.ensures, c.greater-most.ensures) (record {
+      long = let both = length-append c.loop-block.bytes.items read in omega (arith, both, read_len, c.loop-block.invariant.long);
+      fits = IsBytes-append c.loop-block.bytes.items read c.loop-block.invariant.fits c.block_of-greatest.ensures.fits;
+      spelled = λ few.
+      let first = c.loop-block.invariant.spelled (omega arith) in
+      let second = c.block_of-greatest.ensures.spelled (omega arith) ∙ block in
+      encode-append c.loop-block.bytes.items read ∙ (λ j. first j ++ second j) ∙ take_block i digits;
+      only = λ are.
+      let first = c.loop-block.invariant.only (λ k lt. are k (omega arith)) in
+      let second = c.block_of-greatest.ensures.only (digits_in_block i digits _ block are) in
+      omega arith;
+    })
 
 pub returns : goal.returns
 returns g c =
-    let room = c.loop-place.room in
     let digits = c.args.digits.now in
-    let even : length digits ≡ 2 * (length digits / 2) = omega (arith, c.if-digits-eq1.false) in
-    let fits : length digits / 2 ≤ length room = omega (arith, c.loop-place.invariant.long, c.if-count.false) in
-    let bytes = take (length digits / 2) room in
-    let spelled : encode_lower bytes ≡ digits = spelled_by_places (length digits / 2) room digits even fits (λ k lt. c.loop-place.invariant.spelled c.if-not-plain.false k (omega (arith, c.loop-place-test.false))) in
-    let few : length bytes ≤ g.row.N = omega (arith, length-take (length digits / 2) room, c.if-count.false) in
-    rw (bytes_found _ digits bytes (IsBytes-take (length digits / 2) room c.loop-place.invariant.fits) spelled few) (search rules)
+    let i = c.loop-block.block-index in
+    let most = c.loop-block.most in
+    let head = c.loop-block.bytes.items in
+    let rest = c.as_chunks.result.1.now in
+    let read = c.block_of-greatest-2.result.0 in
+    let greatest = c.block_of-greatest-2.result.1 in
+    let of_first = le-max_left most greatest in
+    let of_second = le-max_right most greatest in
+    let all : length digits / 32 * 32 ≡ 32 * i = omega (arith, c.loop-block-test.false, c.loop-block.auto.block-index-end, c.as_chunks.ensures.front_len) in
+    let rest_is : rest ≡ drop (32 * i) digits = c.as_chunks.ensures.back ∙ ap (λ (n : ℕ). drop n digits) all in
+    let rest_len : length rest ≡ length digits % 32 = c.as_chunks.ensures.back_len in
+    let even : length rest % 2 ≡ 0 = omega (arith, rest_len, c.if-digits-eq1.false) in
+    let long : length rest + 32 * i ≡ length digits = omega (arith, rest_len, all) in
+    rw (c.append-2.ensures, c.greater.ensures) (elim (cases_lt (max most greatest) 16) [
+      | inl few ↦
+          let first = c.loop-block.invariant.spelled (omega arith) in
+          let second = c.block_of-greatest-2.ensures.spelled (omega arith) ∙ c.filled.ensures in
+          let bytes = head ++ take (length rest / 2) read in
+          let spelled : encode_lower bytes ≡ digits = blocks_spelled i digits rest head read rest_is even first second in
+          let fits = IsBytes-append head (take (length rest / 2) read) c.loop-block.invariant.fits (IsBytes-take (length rest / 2) read c.block_of-greatest-2.ensures.fits) in
+          let twice = spelled_length bytes digits spelled in
+          rw (lt-ltb _ _ few) (sym (bytes_found _ digits bytes fits spelled (omega (arith, twice, c.if-digits.false))))
+      | inr many ↦
+          rw (le-ltb _ _ many) (sym (bytes_missing _ digits (λ bs fits is short.
+          let are = digits_of_bytes digits bs fits is in
+          let first = c.loop-block.invariant.only (λ k lt. are k (omega arith)) in
+          let second = c.block_of-greatest-2.ensures.only (digits_in_last i digits rest _ rest_is c.filled.ensures long are) in
+          omega arith)))
+    ])
