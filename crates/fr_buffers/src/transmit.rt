@@ -64,10 +64,14 @@ impl TxBuffer {
         requires { self.old.tally.committed + 1 < 2 ^ 32 }
         ensures { self.new ≡ with_commit self.old (record { entry = entry; payload = payload.now }) }
     {
-        self.last = Some(HeldCommit {
-            entry,
-            payload: payload.duplicate(),
-        });
+        if let Some(held) = &mut self.last {
+            replace(held, entry, payload);
+        } else {
+            self.last = Some(HeldCommit {
+                entry,
+                payload: payload.duplicate(),
+            });
+        }
         self.tally = Tally {
             committed: self.tally.committed + 1,
             sent: self.tally.sent,
@@ -135,4 +139,12 @@ impl TxBuffer {
     {
         self.tally
     }
+}
+
+/// Makes this the commit of the entry.
+fn replace(held: &mut HeldCommit, entry: u32, payload: &Payload)
+    ensures { held.new ≡ record { entry = entry; payload = payload.now } }
+{
+    held.entry = entry;
+    held.payload.set_from(payload);
 }

@@ -1,6 +1,6 @@
 //! The payload of a frame.
 
-ghost use Rattle.std.specs.Prelude.{◌≡◌, ◌*◌, ◌≤◌, length, replicate, IfOk};
+ghost use Rattle.std.specs.Prelude.{◌≡◌, ◌*◌, ◌≤◌, length, replicate, IfOk, OnOk, OnErr};
 ghost use Rattle.std.specs.Result.{result_err};
 ghost use Rattle.fr_frame.specs.Payload.{IsPayload, payload_refusal};
 ghost use Rattle.fr_slots.specs.Numbers.{most_words};
@@ -62,13 +62,11 @@ impl Payload {
         ensures refusal { result_err result ≡ payload_refusal bytes.now }
         ensures value { IfOk result (λ p. p ≡ bytes.now) }
     {
-        if bytes.len() > PAYLOAD_BYTES {
-            return Err(FrameError::PayloadTooLong);
+        let mut payload = Payload::default();
+        match payload.set_from_slice(bytes) {
+            Ok(()) => Ok(payload),
+            Err(refusal) => Err(refusal),
         }
-        if bytes.len() % 2 == 1 {
-            return Err(FrameError::OddPayload);
-        }
-        Ok(Payload::of(bytes))
     }
 
     /// The payload of so many words of zeros, at most 127.
@@ -87,6 +85,30 @@ impl Payload {
         Payload {
             bytes: collected(bytes),
         }
+    }
+
+    /// Makes this the payload of these bytes, in the place of those before. Refused as `from_slice` is, and then it is
+    /// what it was.
+    pub fn set_from_slice(&mut self, bytes: &[u8]) -> Result<(), FrameError>
+        ensures refusal { result_err result ≡ payload_refusal bytes.now }
+        ensures value { OnOk result (self.new ≡ bytes.now) }
+        ensures refused { OnErr result (self.new ≡ self.old) }
+    {
+        if bytes.len() > PAYLOAD_BYTES {
+            return Err(FrameError::PayloadTooLong);
+        }
+        if bytes.len() % 2 == 1 {
+            return Err(FrameError::OddPayload);
+        }
+        self.replace_by(bytes);
+        Ok(())
+    }
+
+    /// Makes this a payload of the same bytes as the other, in the place of those before.
+    pub fn set_from(&mut self, other: &Payload)
+        ensures { self.new ≡ other.now }
+    {
+        self.replace_by(other.as_slice());
     }
 
     /// Makes this the payload of bytes that are known to be one.

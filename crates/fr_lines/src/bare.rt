@@ -1,10 +1,7 @@
 //! Entries without their bytes, which stand in a place of their own that one line after another is read into.
 
-ghost use Rattle.std.specs.Prelude.{◌≡◌};
-ghost use Rattle.fr_lines.specs.Bare.{with_bytes};
-
 use fr_frame::payload::Payload;
-use fr_journal::entry::{Entry, Offered, Origin};
+use fr_journal::entry::{Offered, Origin};
 use fr_slots::numbers::TaskId;
 use fr_slots::window::Window;
 use fr_status::seen::Seen;
@@ -59,26 +56,5 @@ impl EntryBytes {
             a: Seen::Silence,
             b: Seen::Silence,
         }
-    }
-}
-
-/// The entry with these bytes.
-pub(crate) fn with_bytes(bare: BareEntry, bytes: EntryBytes) -> Entry
-    ensures { result ≡ with_bytes bytes bare }
-{
-    match bare {
-        BareEntry::Commit { task, buffer } => Entry::Commit {
-            task,
-            buffer,
-            payload: bytes.payload,
-        },
-        BareEntry::Read { task, buffer, from } => Entry::Read { task, buffer, from },
-        BareEntry::Pop { task, from } => Entry::Pop { task, from },
-        BareEntry::Fetch { window, a, b } => Entry::Fetch { window, a, b },
-        BareEntry::Observe { window } => Entry::Observe {
-            window,
-            a: bytes.a,
-            b: bytes.b,
-        },
     }
 }

@@ -9,9 +9,8 @@ ghost use Rattle.fr_lines.specs.Reading.{commit_in, read_in, pop_in, fetch_in, o
 ghost use Rattle.fr_lines.specs.Spelled.{IsSpelledEntry};
 ghost use Rattle.fr_lines.specs.Spelling.{entry_words};
 
-use crate::bare::{BareEntry, EntryBytes, with_bytes};
+use crate::bare::{BareEntry, EntryBytes};
 use crate::parts::{from_of, offered_of, payload_into, seen_into, task_of, window_of};
-use fr_journal::entry::Entry;
 use fr_text::numbers::number_of;
 use fr_text::words::Words;
 
@@ -139,35 +138,20 @@ fn parsed(line: &[u8], bytes: &mut EntryBytes) -> Option<BareEntry>
     None
 }
 
-/// The same with its bytes.
-fn parsed_whole(line: &[u8]) -> Option<Entry>
-    ensures { result ≡ entry_in (words_of line.now) }
-{
-    let mut bytes = EntryBytes::new();
-    let bare = parsed(line, &mut bytes)?;
-    Some(with_bytes(bare, bytes))
-}
-
-/// The entry of a line `commit`, `read`, `pop`, `fetch` or `see`.
+/// The entry of a line `commit`, `read`, `pop`, `fetch` or `see`, without its bytes, which are read in place of those
+/// before. Where it is `None`, what they are isn't told.
 ///
 /// `None` for a line of another form and where a number is out of its range: a task is 0 to 7, a buffer 0 to 63, the
 /// bytes of a commit are an even number, at most 254, the number of a window or of an entry fits 32 bits, a cycle is
 /// 0 to 63, a minislot 0 to 8000, a slot 1 to 2047, and at most 262 bytes were seen. `None` too where the numbers of
 /// a fetch are no window: at minislot 0 both channels open the same slot, and at a minislot above 0 one channel or
 /// both open a slot.
-pub fn entry_of(line: &[u8]) -> Option<Entry>
-    ensures found { IfSome result (λ e. line.now ≡ line_of (entry_words e)) }
-    ensures fits { IfSome result IsSpelledEntry }
-    ensures only { (e : Entry) → IsSpelledEntry e → line.now ≡ line_of (entry_words e) → result ≡ Some e }
-    ensures exact { result ≡ entry_in (words_of line.now) }
-{
-    parsed_whole(line)
-}
-
-/// The same entry, without its bytes, which are read in place of those before. Where it is `None`, what they are isn't
-/// told.
 pub fn entry_into(line: &[u8], bytes: &mut EntryBytes) -> Option<BareEntry>
-    ensures { option_map (with_bytes bytes.new) result ≡ entry_in (words_of line.now) }
+    ensures found { IfSome result (λ e. line.now ≡ line_of (entry_words (with_bytes bytes.new e))) }
+    ensures fits { IfSome result (λ e. IsSpelledEntry (with_bytes bytes.new e)) }
+    ensures only { (e : Entry) → IsSpelledEntry e → line.now ≡ line_of (entry_words e)
+        → option_map (with_bytes bytes.new) result ≡ Some e }
+    ensures exact { option_map (with_bytes bytes.new) result ≡ entry_in (words_of line.now) }
 {
     parsed(line, bytes)
 }

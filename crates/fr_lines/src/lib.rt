@@ -4,10 +4,11 @@
 //! is decimal without sign and leading zeros, and `-` stands where there is nothing.
 //!
 //! ```text
-//! let entry = entry_of(b"read 0 1 12:A")?; // none where the line is no entry
-//! write_entry(&mut out, &entry)?; // the same line, with its line feed
+//! let mut bytes = EntryBytes::new(); // those of the entry that is read last
+//! let entry = entry_into(b"read 0 1 12:A", &mut bytes)?; // none where the line is no entry
 //! let plan = node_of(b"node 1 0 0 256 4096")?;
 //! let buffer = buffer_of(b"rx 2 AB 0 1")?;
+//! write_buffer(&mut out, &buffer)?; // the same line, with its line feed
 //! ```
 //!
 //! A chapter in parentheses is one of the FlexRay Protocol Specification 2.1, revision A, whose rule it is.

@@ -142,11 +142,7 @@ pub(crate) fn payload_into(word: &[u8], payload: &mut Payload) -> bool
     if !bytes_into::<PAYLOAD_BYTES>(word, &mut bytes) {
         return false;
     }
-    let Ok(read) = Payload::from_slice(bytes.as_slice()) else {
-        return false;
-    };
-    *payload = read;
-    true
+    payload.set_from_slice(bytes.as_slice()).is_ok()
 }
 
 /// The channel that stands after the number of an entry.

@@ -44,6 +44,9 @@ fn short_number_of(word: &[u8], bound: u64) -> Option<u64>
 }
 
 /// The number below `bound` that the word of any length spells.
+///
+/// It isn't inlined, so that a word of few digits doesn't pay for the room of the other one.
+#[inline(never)]
 fn long_number_of(word: &[u8], bound: u64) -> Option<u64>
     ensures number { result ≡ number_in bound word.now }
     ensures below { IfSome result (λ n. n < bound) }

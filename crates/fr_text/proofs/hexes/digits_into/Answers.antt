@@ -39,13 +39,13 @@ loop-block-preserved g c =
       long = let both = length-append c.loop-block.bytes.items read in omega (arith, both, read_len, c.loop-block.invariant.long);
       fits = IsBytes-append c.loop-block.bytes.items read c.loop-block.invariant.fits c.block_of-greatest.ensures.fits;
       spelled = λ few.
-      let first = c.loop-block.invariant.spelled (omega arith) in
-      let second = c.block_of-greatest.ensures.spelled (omega arith) ∙ block in
-      encode-append c.loop-block.bytes.items read ∙ (λ j. first j ++ second j) ∙ take_block i digits;
+          let first = c.loop-block.invariant.spelled (omega arith) in
+          let second = c.block_of-greatest.ensures.spelled (omega arith) ∙ block in
+          encode-append c.loop-block.bytes.items read ∙ (λ j. first j ++ second j) ∙ take_block i digits;
       only = λ are.
-      let first = c.loop-block.invariant.only (λ k lt. are k (omega arith)) in
-      let second = c.block_of-greatest.ensures.only (digits_in_block i digits _ block are) in
-      omega arith;
+          let first = c.loop-block.invariant.only (λ k lt. are k (omega arith)) in
+          let second = c.block_of-greatest.ensures.only (digits_in_block i digits _ block are) in
+          omega arith;
     })
 
 pub returns : goal.returns
