@@ -3,7 +3,7 @@
 ghost use Rattle.std.specs.Prelude.{◌<◌, ◌^◌};
 
 use fr_frame::crc::{crc11, crc24, header_crc};
-use fr_frame::decode::{DecodeError, decode};
+use fr_frame::decode::{DecodeError, decode, decode_lent};
 use fr_frame::encode::encode;
 use fr_frame::frame::Frame;
 use fr_frame::payload::{FrameError, Payload};
@@ -86,6 +86,28 @@ fn a_frame_is_spelled_for_its_channel(rt: HostRuntime) -> Result<(), Fail> {
     ];
     let wanted = [Ok(frame.duplicate()), Ok(frame), Err(DecodeError::FrameCrc)];
     assert_eq!(rt; frames, wanted);
+    Ok(())
+}
+
+#[test]
+fn a_lent_frame_takes_the_place_of_another(rt: HostRuntime) -> Result<(), Fail> {
+    let lent = decode_lent(&ONE_WORD_ON_A, Channel::A)?;
+    assert_eq!(rt; lent.payload, [0x0a, 0x0b].as_slice());
+    let mut frame = data_frame(2047, &[0; 254], 63)?;
+    frame.replace_by(&lent);
+    assert_eq!(rt; frame, data_frame(2, &[0x0a, 0x0b], 0)?);
+    assert_eq!(rt; Frame::from_lent(&lent), frame);
+    Ok(())
+}
+
+#[test]
+fn a_payload_takes_the_place_of_another(rt: HostRuntime) -> Result<(), Fail> {
+    let mut payload = Payload::zeros(127);
+    payload.set_from_slice(&[0x0a, 0x0b])?;
+    assert_eq!(rt; payload.as_slice(), [0x0a, 0x0b].as_slice());
+    let mut other = Payload::default();
+    other.set_from(&payload);
+    assert_eq!(rt; other, payload);
     Ok(())
 }
 

@@ -61,7 +61,9 @@ fn packed(values: &[u8; BLOCK]) -> [u8; BLOCK_BYTES]
 }
 
 /// The bytes that the digits of a block spell, and a number below 16 exactly if each is a digit.
-#[inline]
+///
+/// It is inlined, so that the compiler keeps what it compares digits with from block to block.
+#[inline(always)]
 fn block_of(digits: &[u8; BLOCK]) -> ([u8; BLOCK_BYTES], u8)
     ensures spelled { result.1 < 16 → encode_lower result.0 ≡ digits.now }
     ensures only { AreDigits BLOCK digits.now → result.1 < 16 }
