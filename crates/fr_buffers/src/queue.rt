@@ -4,7 +4,6 @@ ghost use Rattle.std.specs.Prelude.{◌≡◌, ◌+◌, ◌<◌, ◌≤◌, ◌^
 
 use circular_buffer::HeapCircularBuffer;
 use fr_frame::frame::Frame;
-use fr_frame::lent::LentFrame;
 use fr_journal::entry::{Arrival, Origin};
 use fr_slots::channel::Channel;
 use std::alloc::{AllocError, Global};
@@ -47,12 +46,11 @@ impl ReceiveQueue {
     /// and is lost.
     ///
     /// One lost frame more has to fit 32 bits.
-    pub fn arrive(&mut self, entry: u32, channel: Channel, frame: &LentFrame<'_>)
+    pub fn arrive(&mut self, entry: u32, channel: Channel, frame: Frame)
         requires { self.old.lost + 1 < 2 ^ 32 }
-        ensures { self.new ≡ with_frame self.old (arrival_of entry channel frame.now) }
+        ensures { self.new ≡ with_frame self.old (arrival_of entry channel frame) }
     {
         let origin = Origin { entry, channel };
-        let frame = Frame::from_lent(frame);
         let overwritten = self.ring.push_back(Arrival { origin, frame });
         if overwritten.is_some() {
             self.lost += 1;

@@ -33,9 +33,18 @@ impl RxBuffer {
         RxBuffer { held: None }
     }
 
-    /// Holds a frame in place of the one before, over which it is copied. It was seen on the channel by the observe of
-    /// this entry.
-    pub fn store(&mut self, entry: u32, channel: Channel, frame: &LentFrame<'_>)
+    /// Holds a frame in place of the one before. It was seen on the channel by the observe of this entry.
+    pub fn store(&mut self, entry: u32, channel: Channel, frame: &Frame)
+        ensures { self.new ≡ Some (arrival_of entry channel frame.now) }
+    {
+        self.held = Some(Arrival {
+            origin: Origin { entry, channel },
+            frame: frame.duplicate(),
+        });
+    }
+
+    /// Holds a frame that is lent in place of the one before, over which it is copied.
+    pub fn store_lent(&mut self, entry: u32, channel: Channel, frame: &LentFrame<'_>)
         ensures { self.new ≡ Some (arrival_of entry channel frame.now) }
     {
         let origin = Origin { entry, channel };

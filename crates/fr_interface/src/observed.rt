@@ -12,6 +12,7 @@ ghost use Rattle.fr_status.specs.Counting.{HasRoom};
 
 use fr_buffers::queue::ReceiveQueue;
 use fr_buffers::receive::RxBuffer;
+use fr_frame::frame::Frame;
 use fr_frame::lent::LentFrame;
 use fr_slots::channel::Channel;
 use fr_slots::params::Params;
@@ -19,7 +20,7 @@ use fr_slots::plan::{Buffer, NodePlan, Queue};
 use fr_slots::window::Window;
 use fr_status::counters::Counters;
 use fr_status::seen::Seen;
-use fr_status::status::{SlotStatus, status_of};
+use fr_status::status::{SlotStatus, lent_status_of};
 
 /// What a channel of a window tells: the status of its slot, and the valid data frame that came, whose payload stays
 /// among the bytes that were seen. A channel without a slot tells neither.
@@ -41,7 +42,7 @@ impl<'a> Told<'a> {
                 frame: None,
             };
         };
-        let (status, frame) = status_of(params, window.cycle, slot, channel, seen);
+        let (status, frame) = lent_status_of(params, window.cycle, slot, channel, seen);
         Told {
             status: Some(status),
             frame: data_frame(frame),
@@ -83,7 +84,7 @@ fn store_on(
 {
     match frame {
         Some(frame) if line.filter.admits_window(window, channel) => {
-            buffer.store(number, channel, frame);
+            buffer.store_lent(number, channel, frame);
             true
         }
         _ => false,
@@ -165,7 +166,7 @@ pub(crate) fn arrive(
 {
     if let Some(frame) = frame {
         if is_for_queue(plan, queue, window, channel) {
-            waiting.arrive(number, channel, frame);
+            waiting.arrive(number, channel, Frame::from_lent(frame));
         }
     }
 }

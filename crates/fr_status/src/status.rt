@@ -6,6 +6,7 @@ ghost use Rattle.fr_status.specs.Status.{frame_in, status_in, bits_set, passes, 
 
 use crate::seen::Seen;
 use fr_frame::decode::decode_lent;
+use fr_frame::frame::Frame;
 use fr_frame::lent::LentFrame;
 use fr_slots::channel::Channel;
 use fr_slots::numbers::{Cycle, SlotId};
@@ -61,15 +62,34 @@ const TRANSMISSION_CONFLICT: SlotStatus = SlotStatus {
 };
 
 /// The status of a slot of a cycle on a channel where this was seen, and the frame, which is given
-/// exactly if the status is valid (chapter 6; which bit a thing seen gives is own profile). Its payload stays among the
-/// bytes that were seen.
+/// exactly if the status is valid (chapter 6; which bit a thing seen gives is own profile).
 ///
 /// Bytes that are no frame on this channel are a syntax error. A frame is a content error unless
 /// it has the slot's frame ID and the cycle's count, and in a static slot the payload length of
 /// all static frames, and no startup indicator without the sync indicator; in a dynamic slot
 /// neither of these indicators, and valid data.
+pub fn status_of(
+    params: &Params,
+    cycle: Cycle,
+    slot: SlotId,
+    channel: Channel,
+    seen: &Seen,
+) -> (SlotStatus, Option<Frame>)
+    ensures status { result.0 ≡ status_in params.now cycle slot channel seen.now }
+    ensures frame { result.1 ≡ frame_in params.now cycle slot channel seen.now }
+    ensures only_if_valid { result.0.valid ≡ is_some result.1 }
+    ensures at_most_one { bits_set result.0 ≤ 1 }
+{
+    let (status, frame) = lent_status_of(params, cycle, slot, channel, seen);
+    match frame {
+        Some(frame) => (status, Some(Frame::from_lent(&frame))),
+        None => (status, None),
+    }
+}
+
+/// The same status and frame, whose payload stays among the bytes that were seen.
 #[tactic(auto, unfolding(crate::specs::Status::status_in, crate::specs::Status::frame_in))]
-pub fn status_of<'a>(
+pub fn lent_status_of<'a>(
     params: &Params,
     cycle: Cycle,
     slot: SlotId,
