@@ -1,11 +1,12 @@
 //! The payload of a frame.
 
-ghost use Rattle.std.specs.Prelude.{◌≡◌, ◌*◌, ◌≤◌, length, replicate, IfOk, OnOk, OnErr};
+ghost use Rattle.std.specs.Prelude.{◌≡◌, ◌*◌, ◌≤◌, replicate, IfOk, OnOk, OnErr};
 ghost use Rattle.std.specs.Result.{result_err};
 ghost use Rattle.fr_frame.specs.Payload.{IsPayload, payload_refusal};
 ghost use Rattle.fr_slots.specs.Numbers.{most_words};
 
 use arrayvec::ArrayVec;
+use fr_slots::copies::array_of;
 use std::marker::Model;
 use thiserror::Error;
 
@@ -83,7 +84,7 @@ impl Payload {
         ensures { result ≡ bytes.now }
     {
         Payload {
-            bytes: collected(bytes),
+            bytes: array_of(bytes),
         }
     }
 
@@ -136,16 +137,4 @@ impl Payload {
     {
         self.bytes.as_slice()
     }
-}
-
-/// These bytes in an array that has room for them.
-fn collected<const N: usize>(bytes: &[u8]) -> ArrayVec<u8, N>
-    requires { length bytes.now ≤ N }
-    ensures { result.items ≡ bytes.now }
-{
-    let mut kept = ArrayVec::new();
-    let outcome = kept.try_extend_from_slice(bytes);
-    let fits = outcome.is_ok();
-    prove!(fits);
-    kept
 }

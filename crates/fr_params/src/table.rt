@@ -114,8 +114,8 @@ fn number_at(table: &Table, key: Key) -> Result<u16, ParamError>
     }
 }
 
-/// What the table has under the name.
-fn value_under<'a>(table: &'a Table, name: &str) -> Option<&'a Value>
+/// What the table has under the name, and none where it has no such key (own profile).
+pub fn value_under<'a>(table: &'a Table, name: &str) -> Option<&'a Value>
     ensures { option_map (λ v. view v.now) result ≡ get_member name.now (table_view table.now) }
 {
     table.get(name)

@@ -12,8 +12,8 @@ ghost use Rattle.toml.specs.View.{view, table_view};
 
 use crate::error::ConfigError;
 use crate::node::{buffer_of, head_in};
-use crate::table::{array_in, channels_named, tables_at, value_under};
-use fr_params::table::from_table;
+use crate::table::{array_in, channels_named, tables_at};
+use fr_params::table::{from_table, value_under};
 use fr_slots::channel::Channels;
 use fr_slots::numbers::{NODES, NodeId};
 use fr_slots::params::Params;

@@ -10,7 +10,7 @@ ghost use Rattle.fr_slots.specs.Plans.{own_fits, queue_fits, buffer_fits, with_q
 ghost use Rattle.toml.specs.View.{view, table_view};
 
 use crate::table::{
-    channels_in, cycles_in, flag_at, mode_in, number_at, number_or, slot_at, tables_at, value_under,
+    channels_in, cycles_in, flag_at, mode_in, number_at, number_or, slot_at, tables_at,
 };
 use fr_slots::filter::Filter;
 use fr_slots::numbers::{LAST_SLOT, SlotId, TASKS};

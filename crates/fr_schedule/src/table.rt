@@ -7,9 +7,9 @@ ghost use Rattle.std.specs.List.{list_all};
 ghost use Rattle.fr_schedule.specs.TableReading.{number_in, number_at, number_or, flag_at, word_at};
 ghost use Rattle.fr_schedule.specs.TableReading.{channels_named, mode_named, channels_in, mode_in, cycles_in};
 ghost use Rattle.fr_schedule.specs.TableReading.{array_in, is_table, tables_in, tables_at};
-ghost use Rattle.toml.specs.Data.{get_member};
 ghost use Rattle.toml.specs.View.{view, table_view};
 
+use fr_params::table::value_under;
 use fr_slots::channel::Channels;
 use fr_slots::filter::CycleFilter;
 use fr_slots::numbers::{CYCLES, SlotId};
@@ -20,13 +20,6 @@ use toml::{Table, Value};
 const MOST_CYCLES: u32 = CYCLES as u32;
 
 const LAST_CYCLE: u32 = MOST_CYCLES - 1;
-
-/// What stands under the key.
-pub(crate) fn value_under<'a>(table: &'a Table, name: &str) -> Option<&'a Value>
-    ensures { option_map (λ v. view v.now) result ≡ get_member name.now (table_view table.now) }
-{
-    table.get(name)
-}
 
 /// The value as a number, where it is an integer from the least to the greatest number.
 #[tactic(auto, unfolding(crate::specs::TableReading::number_in))]

@@ -14,6 +14,7 @@
 #![tactic(auto)]
 
 pub mod channel;
+pub mod copies;
 pub mod fault;
 pub mod filter;
 pub mod numbers;

@@ -1,10 +1,11 @@
 //! The plan of a node: what it owns, its buffers and its queue.
 
-ghost use Rattle.std.specs.Prelude.{◌≡◌, ◌≤◌, ◌↔◌, IsTrue, length};
+ghost use Rattle.std.specs.Prelude.{◌≡◌, ◌↔◌, IsTrue};
 ghost use Rattle.std.specs.Result.{result_err};
 ghost use Rattle.fr_slots.specs.Plans.{own_fits, buffer_fits, queue_fits, IsOwn, IsBuffer, IsQueue};
 
 use crate::channel::{Channel, Channels};
+use crate::copies::array_of;
 use crate::fault::{
     PlanFault, buffer_fault, dynamic_both_place, not_owned_place, ownership_fault, too_long_place,
 };
@@ -302,8 +303,8 @@ impl NodePlan {
             latest: self.latest,
             host_entries: self.host_entries,
             slot_entries: self.slot_entries,
-            owned: collected(self.owned.as_slice()),
-            buffers: collected(self.buffers.as_slice()),
+            owned: array_of(self.owned.as_slice()),
+            buffers: array_of(self.buffers.as_slice()),
             queue: self.queue,
         }
     }
@@ -437,18 +438,6 @@ impl NodePlan {
         let place = too_long_place(params, self, self.buffers())?;
         Some(place as u8)
     }
-}
-
-/// These lines, in an array.
-fn collected<T: Copy + Default + Drop, const N: usize>(lines: &[T]) -> ArrayVec<T, N>
-    requires { length lines.now ≤ N }
-    ensures { result.items ≡ lines.now }
-{
-    let mut kept = ArrayVec::new();
-    let outcome = kept.try_extend_from_slice(lines);
-    let fits = outcome.is_ok();
-    prove!(fits);
-    kept
 }
 
 /// Whether these are the same ownership lines.
