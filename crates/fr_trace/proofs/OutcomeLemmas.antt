@@ -3,7 +3,8 @@ use Rattle.std.proofs.Common.{◌≡◌, ℕ, List, ◌++◌, Option, Some, None
 use Rattle.std.proofs.lemmas.List.{append-nil}
 use Rattle.fr_interface.specs.State.{State, IsLegalInterface}
 use Rattle.fr_trace.specs.Audit.{IsTextOf, IsRefusedBy, HasBegin, Leaves, Audits, Stops, StopsIn, BeginsIn}
-use Rattle.fr_trace.specs.Audit.{ReadsThrough, IsNotRefused, IsOfText}
+use Rattle.fr_trace.specs.Audit.{ReadsThrough, IsNotRefused, IsOfText, Understands, outcome}
+use Rattle.std.specs.Prelude.{IfOk}
 use Rattle.fr_trace.specs.Feeds.{Begins}
 use Rattle.fr_trace.specs.declared.error.TraceError.{TraceError}
 use Rattle.fr_trace.specs.declared.error.TraceError.TheVariants.{BadMagic, BadLine, LineTooLong, Refused, WrongAnswer}
@@ -123,3 +124,38 @@ not_refused text old new (Ok x) s h is same = tt
 not_refused text old new (Err e) s h is same =
     λ of_text. clash (outcome_of (take_bytes fresh (trace_text s))) s e (legal_outcome (trace_text s) s is refl)
     (subst (λ (t : Option (List ℕ)). IsRefusedBy e t) same (given_fault text old new e h of_text))
+
+-- ---- an interface alone
+
+pub through_understood : (text rest : Option (List ℕ)) (r : Result State TraceError) → IfOk r IsLegalInterface → ReadsThrough text rest r → Understands text r
+through_understood text rest (Ok s) legal h = (text_given text rest s h, legal)
+through_understood text rest (Err BadMagic) legal h = refused_by text rest BadMagic tt h
+through_understood text rest (Err (BadLine n)) legal h = refused_by text rest (BadLine n) tt h
+through_understood text rest (Err (LineTooLong n)) legal h = refused_by text rest (LineTooLong n) tt h
+through_understood text rest (Err (Refused n)) legal h = refused_by text rest (Refused n) tt h
+through_understood text rest (Err (WrongAnswer n)) legal h = refused_by text rest (WrongAnswer n) tt h
+through_understood text rest (Err Truncated) legal h = refused_by text rest Truncated tt h
+through_understood text rest (Err Read) legal h = tt
+through_understood None rest (Err Write) legal h = h
+through_understood (Some text) None (Err Write) legal h = h
+through_understood (Some text) (Some rest) (Err Write) legal h = h
+through_understood text rest (Err Memory) legal h = through_begins text rest h
+
+-- what is done with such a text where nothing is written
+pub understood_leaves : (text rest : Option (List ℕ)) (r : Result State TraceError) → IfOk r IsLegalInterface → ReadsThrough text rest r → Leaves text rest None None (outcome r)
+understood_leaves text rest (Ok s) legal h = (s, h, legal, tt)
+understood_leaves text rest (Err BadMagic) legal h = (h, tt)
+understood_leaves text rest (Err (BadLine n)) legal h = (h, tt)
+understood_leaves text rest (Err (LineTooLong n)) legal h = (h, tt)
+understood_leaves text rest (Err (Refused n)) legal h = (h, tt)
+understood_leaves text rest (Err (WrongAnswer n)) legal h = (h, tt)
+understood_leaves text rest (Err Truncated) legal h = (h, tt)
+understood_leaves text rest (Err Read) legal h = (h, tt)
+understood_leaves None rest (Err Write) legal h = absurd h
+understood_leaves (Some text) None (Err Write) legal h = absurd h
+understood_leaves (Some text) (Some rest) (Err Write) legal h = absurd h
+understood_leaves text rest (Err Memory) legal h = (h, tt)
+
+pub outcome_not_refused : (r : Result State TraceError) → IsNotRefused (outcome r) → IsNotRefused r
+outcome_not_refused (Ok s) h = tt
+outcome_not_refused (Err e) h = h

@@ -23,7 +23,7 @@ use Rattle.fr_slots.specs.Parameters.{Parameters, parameters_of}
 use Rattle.fr_slots.specs.Plans.{Plan, own_refusal, buffer_refusal, queue_refusal}
 use Rattle.fr_text.specs.Spaces.{words_of}
 use Rattle.fr_trace.specs.Answers.{fault_of, made_by, is_answered, is_refused}
-use Rattle.fr_trace.specs.Audit.{ReadsThrough, Audits}
+use Rattle.fr_trace.specs.Audit.{ReadsThrough, Audits, outcome}
 use Rattle.fr_trace.specs.declared.error.TraceError.{TraceError}
 use Rattle.fr_trace.specs.declared.error.TraceError.TheVariants.{BadMagic, BadLine, LineTooLong, Refused, WrongAnswer}
 use Rattle.fr_trace.specs.declared.error.TraceError.TheVariants.{Truncated, Read, Write, Memory}
@@ -353,6 +353,11 @@ audited_named (Some text) old new (Err Truncated) audits = tt
 audited_named (Some text) old new (Err Read) audits = tt
 audited_named (Some text) old new (Err Write) audits = tt
 audited_named (Some text) old new (Err Memory) audits = tt
+
+pub named_alike : (text : Option (List ℕ)) (r : Result State TraceError) → IfSome text (λ t. LineIsNamed (outcome r) t) → IfSome text (λ t. LineIsNamed r t)
+named_alike None r h = tt
+named_alike (Some text) (Ok s) h = tt
+named_alike (Some text) (Err e) h = h
 
 -- which comes to this number of bytes
 pub longest_text_is : longest_text ≡ 98546854

@@ -113,3 +113,19 @@ abbrev pub Leaves : Option (List ℕ) → Option (List ℕ) → Option (List ℕ
 Leaves text rest old new (Ok x) = (s : State) × ReadsThrough text rest (Ok s) × IsLegalInterface s × Appends old new (report_text s)
 Leaves text rest old new (Err Write) = (s : State) × ReadsThrough text rest (Ok s) × IsLegalInterface s
 Leaves text rest old new (Err e) = ReadsThrough text rest (Err e) × Keeps old new
+
+-- ---- what a trace tells of, before any report
+
+-- whether it was read, without what it was read as
+abbrev pub outcome : {A : Type 0} → Result A TraceError → Result (Unit {0}) TraceError
+outcome (Ok x) = Ok tt
+outcome (Err e) = Err e
+
+-- The text is that of the legal interface which is given. Or it is refused by its first line at fault, or memory ran out as
+-- the text's interface was made, or the reader failed.
+abbrev pub Understands : Option (List ℕ) → Result State TraceError → Type 0
+Understands text (Ok s) = IsTextOf s text × IsLegalInterface s
+Understands text (Err Write) = ⊥
+Understands text (Err Read) = Unit {0}
+Understands text (Err Memory) = HasBegin text
+Understands text (Err e) = IsRefusedBy e text

@@ -2,7 +2,7 @@
 
 ghost use Rattle.std.specs.Prelude.{◌≡◌, Some, IfOk, IfSome};
 ghost use Rattle.fr_interface.specs.State.{State, IsLegalInterface};
-ghost use Rattle.fr_trace.specs.Audit.{Audits, Stops, Leaves, ReadsThrough, IsNotRefused};
+ghost use Rattle.fr_trace.specs.Audit.{Audits, Stops, Leaves, ReadsThrough, IsNotRefused, Understands, outcome};
 ghost use Rattle.fr_trace.specs.Refusals.{HasFewLines, LineIsNamed, ShortIfTaken};
 ghost use Rattle.fr_trace.specs.TraceText.{trace_text};
 
@@ -20,6 +20,7 @@ const ROOM: usize = 4096;
 /// What the reader's bytes leave. It reads no further once an error stands.
 fn read_through<R: Read>(alloc: Global, reader: &mut R) -> Result<Interface, TraceError>
     ensures through { ReadsThrough (R.remaining reader.old) (R.remaining reader.new) result }
+    ensures legal { IfOk result IsLegalInterface }
     ensures few { IfOk result HasFewLines }
 {
     let mut auditor = Auditor::new(alloc);
@@ -37,6 +38,24 @@ fn read_through<R: Read>(alloc: Global, reader: &mut R) -> Result<Interface, Tra
         }
     }
     Err(TraceError::Read)
+}
+
+/// Reads a trace to its end, and gives the interface that it tells of, for whoever asks more of it than the report.
+///
+/// Refused as `audit` is, and never with `Write`: with the error of the first line at fault, at which it stops reading;
+/// with `Read` where the reader fails; and with `Memory` where memory is refused.
+pub fn interface_of<R: Read>(alloc: Global, reader: &mut R) -> Result<Interface, TraceError>
+    // What is accepted is the text of the legal interface that is given, and nothing else.
+    ensures found { Understands (R.remaining reader.old) result }
+    // It reads in pieces of at most 4096 bytes, and none after the one that has the fault.
+    ensures read { Stops (R.remaining reader.old) (R.remaining reader.new) (outcome result) }
+    // The line that an error names is that of the byte with which the first fault shows.
+    ensures line { IfSome (R.remaining reader.old) (λ text. LineIsNamed result text) }
+    // The text of a legal interface is not refused.
+    ensures only { (s : State) → IsLegalInterface s → R.remaining reader.old ≡ Some (trace_text s)
+        → IsNotRefused result }
+{
+    read_through(alloc, reader)
 }
 
 /// Reads to the end, and writes the report of what that leaves.
