@@ -1,0 +1,4 @@
+pub mod MomentLemmas
+pub mod RecordLemmas
+pub mod ShowLemmas
+pub mod StartLemmas

@@ -1,0 +1,107 @@
+-- The moment that the code keeps is the one that the entries give, with one entry more.
+use Rattle.std.proofs.Common.{◌≡◌, ℕ, ◌+◌, ◌*◌, ◌≤◌, Bool, true, false, cond, List, [], ◌∷◌, ◌++◌, length, Option, Some, None}
+use Rattle.std.proofs.Common.{refl, sym, ap, subst, ◌∙◌, arith, leb}
+use Rattle.std.specs.Option.{option_or}
+use Rattle.fr_capture.specs.Clocks.{IsMoment, moment_after, rounds_at, seen_after, in_moment, time_at, HasRounds}
+use Rattle.fr_capture.specs.declared.moment.Moment.{Moment}
+use Rattle.fr_capture.specs.Moments.{begins_round, fetched, is_not_later, last_window, place_in_round, round_length, rounds, time_of}
+use Rattle.fr_capture.specs.Sightings.{Sighting, in_window, sighting, sightings, sightings_at}
+use Rattle.fr_journal.specs.declared.entry.Entry.{Entry}
+use Rattle.fr_journal.specs.declared.entry.Entry.TheVariants.{Commit, Read, Pop, Fetch, Observe}
+use Rattle.fr_journal.specs.declared.entry.Offered.{Offered}
+use Rattle.fr_slots.proofs.HistoryLemmas.{last_after-snoc, each_after-snoc, count_after-snoc}
+use Rattle.fr_slots.specs.declared.channel.Channel.TheVariants.{A, B}
+use Rattle.fr_slots.specs.History.{count_after}
+use Rattle.fr_slots.specs.Parameters.{Parameters}
+use Rattle.fr_slots.specs.Windows.{Opportunity}
+use Rattle.fr_status.specs.declared.seen.Seen.{Seen}
+
+-- ---- one entry more
+
+last_window-snoc : (before : List Entry) (e : Entry) → last_window (before ++ e ∷ []) ≡ option_or (fetched before e) (last_window before)
+last_window-snoc before e = last_after-snoc fetched before e
+
+rounds-snoc : (p : Parameters) (before : List Entry) (e : Entry) → rounds p (before ++ e ∷ []) ≡ rounds p before + cond (begins_round p before e) 1 0
+rounds-snoc p before e = count_after-snoc (begins_round p) before e
+
+pub sightings-snoc : (p : Parameters) (before : List Entry) (e : Entry) → sightings p (before ++ e ∷ []) ≡ sightings p before ++ sightings_at p before e
+sightings-snoc p before e = each_after-snoc (sightings_at p) before e
+
+-- ---- an entry that fetches nothing
+
+IsMoment-same : (p : Parameters) (before after : List Entry) (last : Option Moment) → last_window after ≡ last_window before → rounds p after ≡ rounds p before + 0
+    → IsMoment p before last → IsMoment p after last
+IsMoment-same p before after None windows same h = (windows ∙ h.0, omega (arith, same, h.1))
+IsMoment-same p before after (Some m) windows same h = (windows ∙ h.0, h.1, omega (arith, same, h.2))
+
+-- ---- a fetch
+
+first_round : (p : Parameters) (before : List Entry) (w : Opportunity) → last_window before ≡ None → rounds p before ≡ 0
+    → 0 ≡ rounds p before + cond (is_not_later p w (last_window before)) 1 0
+first_round p before w none start = rw none (omega (arith, start))
+
+later_round : (low : Bool) (r : ℕ) → cond low (r + 1) r ≡ r + cond low 1 0
+later_round true r = refl
+later_round false r = omega arith
+
+next_round : (p : Parameters) (before : List Entry) (w : Opportunity) (m : Moment) → last_window before ≡ Some m.window → m.place ≡ place_in_round p m.window → m.rounds ≡ rounds p before
+    → rounds_at (place_in_round p w) (Some m) ≡ rounds p before + cond (is_not_later p w (last_window before)) 1 0
+next_round p before w m window place over =
+    ap (λ (n : ℕ). cond (leb (place_in_round p w) n) (m.rounds + 1) m.rounds) place
+    ∙ later_round (leb (place_in_round p w) (place_in_round p m.window)) m.rounds
+    ∙ ap (λ (n : ℕ). n + cond (leb (place_in_round p w) (place_in_round p m.window)) 1 0) over
+    ∙ ap (λ (o : Option Opportunity). rounds p before + cond (is_not_later p w o) 1 0) (sym window)
+
+fetch_moment : (p : Parameters) (before : List Entry) (last : Option Moment) (w : Opportunity) (a b : Offered) → IsMoment p before last
+    → IsMoment p (before ++ Fetch w a b ∷ []) (moment_after p last (Fetch w a b))
+fetch_moment p before None w a b h = (
+  last_window-snoc before (Fetch w a b),
+  refl,
+  first_round p before w h.0 h.1 ∙ sym (rounds-snoc p before (Fetch w a b)),
+)
+fetch_moment p before (Some m) w a b h = (
+  last_window-snoc before (Fetch w a b),
+  refl,
+  next_round p before w m h.0 h.1 h.2 ∙ sym (rounds-snoc p before (Fetch w a b)),
+)
+
+pub one_moment : (p : Parameters) (before : List Entry) (last : Option Moment) (e : Entry) → IsMoment p before last → IsMoment p (before ++ e ∷ []) (moment_after p last e)
+one_moment p before last (Commit task buffer payload) h = let e = Commit task buffer payload in IsMoment-same p before (before ++ e ∷ []) last (last_window-snoc before e) (rounds-snoc p before e) h
+one_moment p before last (Read task buffer from) h = let e = Read task buffer from in IsMoment-same p before (before ++ e ∷ []) last (last_window-snoc before e) (rounds-snoc p before e) h
+one_moment p before last (Pop task from) h = let e = Pop task from in IsMoment-same p before (before ++ e ∷ []) last (last_window-snoc before e) (rounds-snoc p before e) h
+one_moment p before last (Fetch w a b) h = fetch_moment p before last w a b h
+one_moment p before last (Observe window a b) h = let e = Observe window a b in IsMoment-same p before (before ++ e ∷ []) last (last_window-snoc before e) (rounds-snoc p before e) h
+
+-- ---- what is seen then
+
+time_same : (p : Parameters) (before : List Entry) (m : Moment) → m.place ≡ place_in_round p m.window → m.rounds ≡ rounds p before → time_of p before m.window ≡ time_at p m
+time_same p before m place over =
+    ap (λ (n : ℕ). n * round_length p + place_in_round p m.window) (sym over) ∙ ap (λ (n : ℕ). m.rounds * round_length p + n) (sym place)
+
+window_same : (p : Parameters) (before : List Entry) (last : Option Moment) (a b : Seen) → IsMoment p before last → in_window p before (last_window before) a b ≡ in_moment p last a b
+window_same p before None a b h = ap (λ (o : Option Opportunity). in_window p before o a b) h.0
+window_same p before (Some m) a b h =
+    ap (λ (o : Option Opportunity). in_window p before o a b) h.0
+    ∙ ap (λ (t : ℕ). sighting t m.window A a ++ sighting t m.window B b) (time_same p before m h.1 h.2)
+
+pub seen_same : (p : Parameters) (before : List Entry) (last : Option Moment) (e : Entry) → IsMoment p before last → sightings_at p before e ≡ seen_after p last e
+seen_same p before last (Commit task buffer payload) h = refl
+seen_same p before last (Read task buffer from) h = refl
+seen_same p before last (Pop task from) h = refl
+seen_same p before last (Fetch w a b) h = refl
+seen_same p before last (Observe window a b) h = window_same p before last a b h
+
+-- ---- few rounds
+
+counted : (b : Bool) → cond {A = ℕ} b 1 0 ≤ 1
+counted true = omega arith
+counted false = omega arith
+
+count-few : {X : Type 0} (test : List X → X → Bool) (before xs : List X) → count_after test before xs ≤ length xs
+unfolding count_after
+count-few test before [] = omega arith
+count-few test before (x ∷ xs) = omega (arith, counted (test before x), count-few test (before ++ x ∷ []) xs)
+
+pub few_rounds : (p : Parameters) (before : List Entry) (last : Option Moment) (most : ℕ) → IsMoment p before last → length before ≤ most → HasRounds most last
+few_rounds p before None most h few = tt
+few_rounds p before (Some m) most h few = omega (arith, h.2, count-few (begins_round p) [] before)

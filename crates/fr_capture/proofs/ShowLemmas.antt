@@ -1,0 +1,112 @@
+-- What has been written of the sightings so far, some of it handed on and the rest in a piece.
+use Rattle.std.proofs.Common.{◌≡◌, ℕ, ◌+◌, ◌<◌, ◌≤◌, List, [], ◌∷◌, ◌++◌, length, take, get_or, Option, Some, None, Result, Ok, Err}
+use Rattle.std.proofs.Common.{refl, sym, ap, subst, ◌∙◌, arith, append_assoc, append-nil, inl, inr}
+use Rattle.std.specs.Io.KnownBytes.{Appends, Keeps}
+use Rattle.std.specs.List.{flat_map}
+use Rattle.std.specs.Prelude.{OnOk, IfErr, ◌⊎◌}
+use Rattle.std.proofs.KnownBytes.{Appends-nil, Appends-trans}
+use Rattle.std.proofs.lemmas.Grind.{flat_map-append}
+use Rattle.std.proofs.lemmas.List.{length-take, take_more, take_all}
+use Rattle.fr_capture.specs.Clocks.{IsMoment, moment_after, seen_after, HasRounds}
+use Rattle.fr_capture.specs.declared.form.Form.{Form}
+use Rattle.fr_interface.specs.State.{State}
+use Rattle.fr_trace.specs.Audit.{IsOfText, Understands}
+use Rattle.fr_trace.specs.declared.error.TraceError.{TraceError}
+use Rattle.fr_trace.specs.declared.error.TraceError.TheVariants as error
+use Rattle.fr_trace.proofs.OutcomeLemmas.{accepted_begins}
+use Rattle.fr_capture.specs.declared.moment.Moment.{Moment}
+use Rattle.fr_capture.specs.Shows.{heading, shown, shown_of, Shows}
+use Rattle.fr_capture.specs.Sightings.{sightings, sightings_at}
+use Rattle.fr_capture.proofs.MomentLemmas.{one_moment, seen_same, sightings-snoc, few_rounds}
+use Rattle.fr_journal.specs.declared.entry.Entry.{Entry}
+use Rattle.fr_slots.specs.Parameters.{Parameters}
+
+-- of so many entries what is seen has been written, after the heading
+pub record IsShown (form : Form) (p : Parameters) (entries : List Entry) (count : ℕ) (start now : Option (List ℕ)) (piece : List ℕ)
+    (last : Option Moment) : Type 0 where
+  pub handed : List ℕ
+  pub written : Appends start now handed
+  pub text_is : handed ++ piece ≡ heading form ++ flat_map (shown form p) (sightings p (take count entries))
+  pub moment_is : IsMoment p (take count entries) last
+
+module _ (form : Form) (p : Parameters) (entries : List Entry) (start : Option (List ℕ)) where
+  pub shown_none : (piece : List ℕ) → piece ≡ heading form → IsShown form p entries 0 start start piece None
+  unfolding Rattle.fr_slots.specs.History.each_after Rattle.fr_slots.specs.History.last_after Rattle.fr_slots.specs.History.count_after
+  shown_none piece is = record { handed = []; written = Appends-nil start; text_is = is ∙ sym (append-nil (heading form)); moment_is = (refl, refl) }
+
+  more-texts : (before : List Entry) (last : Option Moment) (e : Entry) → IsMoment p before last
+      → flat_map (shown form p) (sightings p (before ++ e ∷ [])) ≡ flat_map (shown form p) (sightings p before) ++ flat_map (shown form p) (seen_after p last e)
+  more-texts before last e moment =
+      ap (flat_map (shown form p)) (sightings-snoc p before e)
+      ∙ flat_map-append (shown form p) (sightings p before) (sightings_at p before e)
+      ∙ ap (λ s. flat_map (shown form p) (sightings p before) ++ flat_map (shown form p) s) (seen_same p before last e moment)
+
+  pub shown_entry : (count : ℕ) (e : Entry) (now : Option (List ℕ)) (piece next : List ℕ) (last : Option Moment) → count < length entries → e ≡ get_or entries count e
+      → IsShown form p entries count start now piece last → next ≡ piece ++ flat_map (shown form p) (seen_after p last e)
+      → IsShown form p entries (count + 1) start now next (moment_after p last e)
+  shown_entry count e now piece next last lt at h is =
+      let before = take count entries in
+      let longer : take (count + 1) entries ≡ before ++ e ∷ [] = take_more entries count e lt ∙ ap (λ (x : Entry). before ++ x ∷ []) (sym at) in
+      let more = flat_map (shown form p) (seen_after p last e) in
+      let so_far = flat_map (shown form p) (sightings p before) in
+      record {
+        handed = h.handed;
+        written = h.written;
+        text_is =
+            ap (λ (t : List ℕ). h.handed ++ t) is
+            ∙ sym (append_assoc h.handed piece more)
+            ∙ ap (λ (t : List ℕ). t ++ more) h.text_is
+            ∙ append_assoc (heading form) so_far more
+            ∙ ap (λ (t : List ℕ). heading form ++ t) (sym (more-texts before last e h.moment_is))
+            ∙ ap (λ (es : List Entry). heading form ++ flat_map (shown form p) (sightings p es)) (sym longer);
+        moment_is = subst (λ (es : List Entry). IsMoment p es (moment_after p last e)) (sym longer) (one_moment p before last e h.moment_is);
+      }
+
+  pub shown_handed : (count : ℕ) (now next : Option (List ℕ)) (piece empty : List ℕ) (last : Option Moment) → IsShown form p entries count start now piece last → Appends now next piece
+      → empty ≡ [] → IsShown form p entries count start next empty last
+  shown_handed count now next piece empty last h handed is = record {
+    handed = h.handed ++ piece;
+    written = Appends-trans start now next h.handed piece h.written handed;
+    text_is = ap (λ (t : List ℕ). (h.handed ++ piece) ++ t) is ∙ append-nil (h.handed ++ piece) ∙ h.text_is;
+    moment_is = h.moment_is;
+  }
+
+  pub shown_all : {X E : Type 0} (r : Result X E) (count : ℕ) (now next : Option (List ℕ)) (piece : List ℕ) (last : Option Moment) → IsShown form p entries count start now piece last
+      → length entries ≤ count → OnOk r (Appends now next piece) → OnOk r (Appends start next (shown_of form p entries))
+  shown_all (Err e) count now next piece last h all handed = tt
+  shown_all (Ok x) count now next piece last h all handed =
+      let text : h.handed ++ piece ≡ shown_of form p entries = h.text_is ∙ ap (λ (es : List Entry). heading form ++ flat_map (shown form p) (sightings p es)) (take_all count entries all) in
+      subst (λ (t : List ℕ). Appends start next t) text (Appends-trans start now next h.handed piece h.written handed)
+
+  pub shown_rounds : (count most : ℕ) (now : Option (List ℕ)) (piece : List ℕ) (last : Option Moment) → IsShown form p entries count start now piece last → count ≤ most → HasRounds most last
+  shown_rounds count most now piece last h few = few_rounds p (take count entries) last most h.moment_is (omega (arith, length-take count entries))
+
+-- ---- a trace that is accepted, and what is written of it
+
+abbrev IsWritingFault : Option (List ℕ) → Option (List ℕ) → TraceError → Type 0
+IsWritingFault old new e = (e ≡ error.Write) ⊎ ((e ≡ error.Memory) × Keeps old new)
+
+no_other : (old new : Option (List ℕ)) (e : TraceError) → IsOfText e → IsWritingFault old new e → ⊥
+no_other old new e of_text (inl is) = subst IsOfText is of_text
+no_other old new e of_text (inr h) = subst IsOfText h.0 of_text
+
+no_read : (old new : Option (List ℕ)) → IsWritingFault old new error.Read → ⊥
+no_read old new (inl is) = cc
+no_read old new (inr h) = let is = h.0 in cc
+
+kept_memory : (old new : Option (List ℕ)) → IsWritingFault old new error.Memory → Keeps old new
+kept_memory old new (inl is) = absurd (cc)
+kept_memory old new (inr h) = h.1
+
+pub shows_form : (written : State → List ℕ) (text old new : Option (List ℕ)) (s : State) (r : Result (Unit {0}) TraceError) → Understands text (Ok s)
+    → OnOk r (Appends old new (written s)) → IfErr r (IsWritingFault old new) → Shows written text old new r
+shows_form written text old new s (Ok x) told done refused = (s, told.0, told.1, done)
+shows_form written text old new s (Err error.Write) told done refused = (s, told.0, told.1)
+shows_form written text old new s (Err error.Memory) told done refused = (accepted_begins text s told.1 told.0, kept_memory old new refused)
+shows_form written text old new s (Err error.Read) told done refused = absurd (no_read old new refused)
+shows_form written text old new s (Err error.BadMagic) told done refused = absurd (no_other old new error.BadMagic tt refused)
+shows_form written text old new s (Err (error.BadLine n)) told done refused = absurd (no_other old new (error.BadLine n) tt refused)
+shows_form written text old new s (Err (error.LineTooLong n)) told done refused = absurd (no_other old new (error.LineTooLong n) tt refused)
+shows_form written text old new s (Err (error.Refused n)) told done refused = absurd (no_other old new (error.Refused n) tt refused)
+shows_form written text old new s (Err (error.WrongAnswer n)) told done refused = absurd (no_other old new (error.WrongAnswer n) tt refused)
+shows_form written text old new s (Err error.Truncated) told done refused = absurd (no_other old new error.Truncated tt refused)

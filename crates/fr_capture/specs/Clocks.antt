@@ -1,0 +1,53 @@
+-- The window fetched last with its time, one entry after another, as the code goes along a journal. That it is what `Moments`
+-- says stands in the proofs.
+use Rattle.std.specs.Prelude.{◌≡◌, ℕ, ◌+◌, ◌*◌, ◌≤◌, List, [], ◌++◌, Option, Some, None, length, nat_le, if◌then◌else◌}
+use Rattle.fr_capture.specs.declared.moment.Moment.{Moment}
+use Rattle.fr_capture.specs.Moments.{last_window, place_in_round, round_length, rounds}
+use Rattle.fr_capture.specs.Sightings.{Sighting, sighting}
+use Rattle.fr_journal.specs.declared.entry.Entry.{Entry}
+use Rattle.fr_journal.specs.declared.entry.Entry.TheVariants.{Commit, Read, Pop, Fetch, Observe}
+use Rattle.fr_slots.specs.declared.channel.Channel.TheVariants.{A, B}
+use Rattle.fr_slots.specs.Parameters.{Parameters}
+use Rattle.fr_slots.specs.Windows.{Opportunity}
+use Rattle.fr_status.specs.declared.seen.Seen.{Seen}
+
+abbrev pub time_at : Parameters → Moment → ℕ
+time_at p m = m.rounds * round_length p + m.place
+
+-- the rounds that are over at a window of this place
+abbrev pub rounds_at : ℕ → Option Moment → ℕ
+rounds_at place None = 0
+rounds_at place (Some m) = if nat_le place m.place then m.rounds + 1 else m.rounds
+
+abbrev pub moment_of : Parameters → Opportunity → Option Moment → Moment
+moment_of p w last = record { window = w; rounds = rounds_at (place_in_round p w) last; place = place_in_round p w }
+
+abbrev pub moment_after : Parameters → Option Moment → Entry → Option Moment
+moment_after p last (Commit task buffer payload) = last
+moment_after p last (Read task buffer from) = last
+moment_after p last (Pop task from) = last
+moment_after p last (Fetch window a b) = Some (moment_of p window last)
+moment_after p last (Observe window a b) = last
+
+-- what is seen of an entry after that
+abbrev pub in_moment : Parameters → Option Moment → Seen → Seen → List Sighting
+in_moment p None a b = []
+in_moment p (Some m) a b = sighting (time_at p m) m.window A a ++ sighting (time_at p m) m.window B b
+
+abbrev pub seen_after : Parameters → Option Moment → Entry → List Sighting
+seen_after p last (Commit task buffer payload) = []
+seen_after p last (Read task buffer from) = []
+seen_after p last (Pop task from) = []
+seen_after p last (Fetch window a b) = []
+seen_after p last (Observe window a b) = in_moment p last a b
+
+-- no more rounds are over than this
+abbrev pub HasRounds : ℕ → Option Moment → Type 0
+HasRounds most None = Unit {0}
+HasRounds most (Some m) = m.rounds ≤ most
+
+-- a moment is what the entries before give
+abbrev pub IsMoment : Parameters → List Entry → Option Moment → Type 0
+IsMoment p before None = (last_window before ≡ None) × (rounds p before ≡ 0)
+IsMoment p before (Some m) =
+    (last_window before ≡ Some m.window) × (m.place ≡ place_in_round p m.window) × (m.rounds ≡ rounds p before)

@@ -1,0 +1,65 @@
+-- When the windows of a journal were. The time is counted in microseconds from the start of the round of 64 cycles in which
+-- the first window was, and a macrotick is one of them (own profile).
+use Rattle.std.specs.Prelude.{ℕ, ◌+◌, ◌*◌, nat_le, Bool, false, List, [], Option, Some, None, unwrap_or}
+use Rattle.fr_journal.specs.declared.entry.Entry.{Entry}
+use Rattle.fr_journal.specs.declared.entry.Entry.TheVariants.{Commit, Read, Pop, Fetch, Observe}
+use Rattle.fr_slots.specs.History.{last_after, count_after}
+use Rattle.fr_slots.specs.Numbers.{cycle_count}
+use Rattle.fr_slots.specs.Parameters.{Parameters}
+use Rattle.fr_slots.specs.Windows.{Opportunity, is_static}
+use Rattle.fr_timing.specs.declared.place.Place.{Place}
+use Rattle.fr_timing.specs.declared.place.Place.TheVariants.{Static, Minislot}
+use Rattle.fr_timing.specs.Division.{start_at}
+use Rattle.std.specs.Prelude.{if◌then◌else◌}
+
+-- ---- in the cycle
+
+-- where a window begins: with its static slot, or with its minislot
+abbrev pub place_of : Opportunity → Place
+place_of w = if is_static w then Static (unwrap_or w.a 1) 0 else Minislot w.minislot 0
+
+-- the macrotick of the cycle at which it begins; no cluster's window lacks one
+abbrev pub start_of : Parameters → Opportunity → ℕ
+start_of p w = unwrap_or (start_at p (place_of w)) 0
+
+-- ---- in the round of 64 cycles
+
+abbrev pub place_in_round : Parameters → Opportunity → ℕ
+place_in_round p w = w.cycle * p.cycle_mt + start_of p w
+
+abbrev pub round_length : Parameters → ℕ
+round_length p = cycle_count * p.cycle_mt
+
+-- ---- in the journal
+
+abbrev pub fetched : List Entry → Entry → Option Opportunity
+fetched before (Commit task buffer payload) = None
+fetched before (Read task buffer from) = None
+fetched before (Pop task from) = None
+fetched before (Fetch window a b) = Some window
+fetched before (Observe window a b) = None
+
+-- the window that was fetched last; the one that an observe closes
+abbrev pub last_window : List Entry → Option Opportunity
+last_window entries = last_after fetched [] entries
+
+-- A window of the next round: since the numbers of windows rise, one that isn't later in its round than the window before it
+-- can't be of the same.
+abbrev pub is_not_later : Parameters → Opportunity → Option Opportunity → Bool
+is_not_later p w None = false
+is_not_later p w (Some before) = nat_le (place_in_round p w) (place_in_round p before)
+
+abbrev pub begins_round : Parameters → List Entry → Entry → Bool
+begins_round p before (Commit task buffer payload) = false
+begins_round p before (Read task buffer from) = false
+begins_round p before (Pop task from) = false
+begins_round p before (Fetch window a b) = is_not_later p window (last_window before)
+begins_round p before (Observe window a b) = false
+
+-- how many rounds are over
+abbrev pub rounds : Parameters → List Entry → ℕ
+rounds p entries = count_after (begins_round p) [] entries
+
+-- when the window was that was fetched last
+abbrev pub time_of : Parameters → List Entry → Opportunity → ℕ
+time_of p entries w = rounds p entries * round_length p + place_in_round p w

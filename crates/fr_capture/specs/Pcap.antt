@@ -1,0 +1,74 @@
+-- The classic capture format: a file header, and then a record for each sighting (own profile). Numbers are spelled with
+-- their lowest byte first.
+use Rattle.std.specs.Prelude.{ℕ, ◌-◌, ◌/◌, ◌%◌, List, [], ◌∷◌, ◌++◌, length, take, Option, Some, None}
+use Rattle.std.specs.Int.{bytes_low_first}
+use Rattle.fr_frame.specs.declared.decode.DecodeError.{DecodeError}
+use Rattle.fr_frame.specs.declared.decode.DecodeError.TheVariants.{TooShort, LengthMismatch, HeaderCrc, FrameCrc}
+use Rattle.fr_frame.specs.Refusal.{refusal}
+use Rattle.fr_slots.specs.declared.channel.Channel.{Channel}
+use Rattle.fr_slots.specs.declared.channel.Channel.TheVariants.{A, B}
+use Rattle.fr_capture.specs.Sightings.{Sighting}
+
+-- a number of two bytes, and one of four
+abbrev pub short_number : ℕ → List ℕ
+short_number n = bytes_low_first 0 2 n
+
+abbrev pub long_number : ℕ → List ℕ
+long_number n = bytes_low_first 0 4 n
+
+-- ---- the file header
+
+-- the mark of a capture whose times are in microseconds
+abbrev pub magic : ℕ
+magic = 0xA1B2C3D4
+
+-- that of FlexRay among the kinds of links
+abbrev pub link_type : ℕ
+link_type = 210
+
+-- no record is longer: two bytes of measurement header, and as many as the longest frame has
+abbrev pub longest_record : ℕ
+longest_record = 264
+
+-- the mark, version 2.4, no difference of time zones, no statement of accuracy, the length of the longest record, the link
+abbrev pub file_header : List ℕ
+file_header =
+    long_number magic ++ short_number 2 ++ short_number 4 ++ long_number 0 ++ long_number 0
+    ++ long_number longest_record ++ long_number link_type
+
+-- ---- a record
+
+-- the first byte of the measurement header: its highest bit is set on channel B, and the others say that this is a frame
+abbrev pub channel_mark : Channel → ℕ
+channel_mark A = 0x01
+channel_mark B = 0x81
+
+-- The second byte: why the bytes are no frame, if they are none. A frame whose end isn't where its header says, and bytes
+-- that are too few for any, end in a wrong place.
+abbrev pub error_flags : Option DecodeError → ℕ
+error_flags None = 0
+error_flags (Some FrameCrc) = 0x10
+error_flags (Some HeaderCrc) = 0x08
+error_flags (Some LengthMismatch) = 0x04
+error_flags (Some TooShort) = 0x04
+
+-- Header and payload, without the three bytes of the trailer. Where no one can say which bytes are the trailer, all of them.
+abbrev pub captured_bytes : Option DecodeError → List ℕ → List ℕ
+captured_bytes (Some LengthMismatch) bytes = bytes
+captured_bytes (Some TooShort) bytes = bytes
+captured_bytes error bytes = take (length bytes - 3) bytes
+
+-- the measurement header and the bytes
+abbrev pub packet : Channel → Option DecodeError → List ℕ → List ℕ
+packet channel error bytes = channel_mark channel ∷ error_flags error ∷ captured_bytes error bytes
+
+-- seconds and microseconds, how many bytes are captured, and how many there were
+unfoldable pub record_header : ℕ → ℕ → List ℕ
+record_header time count =
+    long_number (time / 1000000) ++ long_number (time % 1000000) ++ long_number count ++ long_number count
+
+abbrev pub record_with : ℕ → Channel → Option DecodeError → List ℕ → List ℕ
+record_with time channel error bytes = record_header time (length (packet channel error bytes)) ++ packet channel error bytes
+
+abbrev pub record_of : Sighting → List ℕ
+record_of s = record_with s.time s.channel (refusal s.channel s.bytes) s.bytes

@@ -1,0 +1,59 @@
+-- What a command does that reads a trace and shows what was seen in it.
+use Rattle.std.specs.Prelude.{◌≡◌, ℕ, List, ◌++◌, Option, Some, None, Result, Ok, Err, ◌⊎◌}
+use Rattle.std.specs.Io.KnownBytes.{Keeps, Appends}
+use Rattle.std.specs.List.{flat_map}
+use Rattle.fr_interface.specs.State.{State, IsLegalInterface}
+use Rattle.fr_journal.specs.declared.entry.Entry.{Entry}
+use Rattle.fr_slots.specs.Parameters.{Parameters}
+use Rattle.fr_trace.specs.Audit.{IsTextOf, IsRefusedBy, HasBegin, StopsAt, StopsAtEnd}
+use Rattle.fr_trace.specs.declared.error.TraceError.{TraceError}
+use Rattle.fr_trace.specs.declared.error.TraceError.TheVariants.{Read, Write, Memory}
+use Rattle.fr_capture.specs.declared.form.Form.{Form}
+use Rattle.fr_capture.specs.declared.form.Form.TheVariants.{Capture, Table}
+use Rattle.fr_capture.specs.Pcap.{file_header, record_of}
+use Rattle.fr_capture.specs.Sightings.{Sighting, sightings}
+use Rattle.fr_capture.specs.Table.{head_line, line_of}
+
+-- ---- both forms
+
+abbrev pub heading : Form → List ℕ
+heading Capture = file_header
+heading Table = head_line
+
+abbrev pub shown : Form → Parameters → Sighting → List ℕ
+shown Capture p s = record_of s
+shown Table p s = line_of p s
+
+abbrev pub shown_of : Form → Parameters → List Entry → List ℕ
+shown_of form p entries = heading form ++ flat_map (shown form p) (sightings p entries)
+
+-- the capture of an interface, or its table
+abbrev pub text_of : Form → State → List ℕ
+text_of form s = shown_of form s.params s.entries
+
+-- ---- a command
+
+-- The text is that of a legal interface, of which this is written, or the writer failed at that. Or nothing is written, and
+-- the text is refused by its first line at fault, or memory ran out, or the reader failed.
+abbrev pub Shows : (State → List ℕ) → Option (List ℕ) → Option (List ℕ) → Option (List ℕ) → Result (Unit {0}) TraceError
+    → Type 0
+Shows written text old new (Ok x) = (s : State) × IsTextOf s text × IsLegalInterface s × Appends old new (written s)
+Shows written text old new (Err Write) = (s : State) × IsTextOf s text × IsLegalInterface s
+Shows written text old new (Err Read) = Keeps old new
+Shows written text old new (Err Memory) = HasBegin text × Keeps old new
+Shows written text old new (Err e) = IsRefusedBy e text × Keeps old new
+
+-- the text is that of a legal interface
+abbrev pub IsAccepted : List ℕ → Type 0
+IsAccepted text = (s : State) × IsTextOf s (Some text) × IsLegalInterface s
+
+-- As an audit reads. Memory may also be refused for what is written, once all is accepted.
+abbrev pub EndsAt : List ℕ → List ℕ → Result (Unit {0}) TraceError → Type 0
+EndsAt text rest (Err Memory) = StopsAt text rest (Err Memory) ⊎ (StopsAtEnd text rest × IsAccepted text)
+EndsAt text rest r = StopsAt text rest r
+
+-- the same of a reader, where its bytes are known
+abbrev pub Ends : Option (List ℕ) → Option (List ℕ) → Result (Unit {0}) TraceError → Type 0
+Ends None rest r = Unit {0}
+Ends (Some text) None r = ⊥
+Ends (Some text) (Some rest) r = EndsAt text rest r

@@ -1,0 +1,17 @@
+//! What a controller saw, as a capture that other programs open, and as a table.
+//!
+//! ```text
+//! show_trace(alloc, Form::Capture, &mut trace, &mut output)?; // the bytes of a capture file
+//! show_trace(alloc, Form::Table, &mut trace, &mut output)?; // a line for each sighting
+//! ```
+//!
+//! A chapter in parentheses is one of the FlexRay Protocol Specification 2.1, revision A, whose rule it is.
+//! *(own profile)* marks a rule of this project's own, which says nothing of the standard.
+#![tactic(auto)]
+
+pub mod form;
+pub mod moment;
+mod pcap;
+pub mod show;
+pub mod sighting;
+mod table;

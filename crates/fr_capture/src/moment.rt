@@ -1,0 +1,108 @@
+//! When the windows of a journal were.
+
+ghost use Rattle.std.specs.Prelude.{◌≡◌, ℕ, ◌<◌};
+ghost use Rattle.fr_capture.specs.Clocks.{moment_after, rounds_at, HasRounds};
+ghost use Rattle.fr_capture.specs.Moments.{place_in_round, place_of, start_of};
+ghost use Rattle.fr_timing.specs.Layout.{IsAt};
+
+use fr_journal::entry::Entry;
+use fr_slots::numbers::{CYCLES, SlotId};
+use fr_slots::params::Params;
+use fr_slots::window::Window;
+use fr_timing::cycle::start_of;
+use fr_timing::place::Place;
+
+/// A window, and when it began (own profile).
+#[derive(Clone, Copy, Debug)]
+pub struct Moment {
+    pub window: Window,
+    /// How many rounds of 64 cycles are over.
+    pub rounds: u32,
+    /// How far the window's first macrotick is from the start of its round.
+    pub place: u32,
+}
+
+/// Where a window begins in the cycle.
+fn place_of(window: &Window) -> Place
+    ensures { result ≡ place_of window.now }
+{
+    if window.is_static() {
+        Place::Static {
+            slot: window.a.unwrap_or(SlotId::default()),
+            offset: 0,
+        }
+    } else {
+        Place::Minislot {
+            number: window.minislot,
+            offset: 0,
+        }
+    }
+}
+
+/// The macrotick of its cycle at which a window begins (chapter 5).
+///
+/// 0 for a window that the parameters don't have.
+pub fn start_of_window(params: &Params, window: &Window) -> u32
+    ensures value { result ≡ start_of params.now window.now }
+    // It is the macrotick at which the layout has the window's place.
+    ensures layout { (macrotick : ℕ) → IsAt params.now macrotick (place_of window.now) → result ≡ macrotick }
+    ensures below { result < 20000 }
+{
+    let params = params.duplicate();
+    start_of(&params, place_of(window)).unwrap_or(0)
+}
+
+/// How far a window's first macrotick is from the start of its round of 64 cycles.
+fn place_in_round(params: &Params, window: &Window) -> u32
+    ensures { result ≡ place_in_round params.now window.now }
+{
+    let cycle_mt = u32::from(params.duplicate().cycle_mt);
+    u32::from(window.cycle.number()) * cycle_mt + start_of_window(params, window)
+}
+
+/// How many rounds are over at a window of this place, after the last one. Since the numbers of windows rise, one that
+/// isn't later in its round than the one before is of the next.
+fn rounds_at(place: u32, last: &Option<Moment>) -> u32
+    requires { HasRounds 1000000 last.now }
+    ensures { result ≡ rounds_at place last.now }
+{
+    match last {
+        None => 0,
+        Some(moment) if place <= moment.place => moment.rounds + 1,
+        Some(moment) => moment.rounds,
+    }
+}
+
+/// The window fetched last, after one more entry.
+pub fn moment_after(params: &Params, last: Option<Moment>, entry: &Entry) -> Option<Moment>
+    requires { HasRounds 1000000 last }
+    ensures { result ≡ moment_after params.now last entry.now }
+{
+    match entry {
+        Entry::Fetch { window, .. } => {
+            let place = place_in_round(params, window);
+            Some(Moment {
+                window: *window,
+                rounds: rounds_at(place, &last),
+                place,
+            })
+        }
+        _ => last,
+    }
+}
+
+impl Moment {
+    ghost use Rattle.std.specs.Prelude.{◌≡◌, ◌<◌, ◌≤◌, ◌*◌, ◌^◌};
+    ghost use Rattle.fr_capture.specs.Clocks.{time_at};
+
+    /// Microseconds from the start of the first round, of which a macrotick takes one.
+    pub fn time(&self, params: &Params) -> u64
+        requires { self.now.rounds ≤ 1000000 }
+        ensures value { result ≡ time_at params.now self.now }
+        ensures few { result < 2 ^ 32 * 1000000 }
+    {
+        let cycle_mt = u64::from(params.duplicate().cycle_mt);
+        let place = self.place;
+        u64::from(self.rounds) * (u64::from(CYCLES) * cycle_mt) + u64::from(place)
+    }
+}

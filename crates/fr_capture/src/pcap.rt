@@ -1,0 +1,82 @@
+//! The records of a capture.
+
+ghost use Rattle.std.specs.Prelude.{◌≡◌, ◌<◌, ◌≤◌, ◌^◌, ◌*◌, length};
+ghost use Rattle.fr_text.specs.Writing.{Writes};
+ghost use Rattle.fr_capture.specs.Pcap.{captured_bytes, channel_mark, error_flags, file_header, record_header, record_of};
+
+use crate::sighting::SeenBytes;
+use fr_frame::decode::{DecodeError, decode};
+use fr_slots::channel::Channel;
+use std::io;
+use std::io::Write;
+
+/// What a capture begins with: the mark, version 2.4, no difference of time zones, no statement of accuracy, the length of the
+/// longest record, and the link type of FlexRay, each with its lowest byte first.
+const FILE_HEADER: [u8; 24] = [
+    0xd4, 0xc3, 0xb2, 0xa1, 2, 0, 4, 0, 0, 0, 0, 0, 0, 0, 0, 0, 8, 1, 0, 0, 210, 0, 0, 0,
+];
+
+/// Writes what a capture begins with.
+pub(crate) fn write_file_header<W: Write>(writer: &mut W) -> io::Result<()>
+    ensures { Writes W.contents writer.old writer.new result file_header }
+{
+    writer.write_all(&FILE_HEADER)
+}
+
+/// The byte of the measurement header that names the channel.
+fn channel_mark(channel: Channel) -> u8
+    ensures { result ≡ channel_mark channel }
+{
+    match channel {
+        Channel::A => 0x01,
+        Channel::B => 0x81,
+    }
+}
+
+/// The byte of the measurement header that says why bytes are no frame.
+fn error_flags(error: Option<DecodeError>) -> u8
+    ensures { result ≡ error_flags error }
+{
+    match error {
+        None => 0,
+        Some(DecodeError::FrameCrc) => 0x10,
+        Some(DecodeError::HeaderCrc) => 0x08,
+        Some(DecodeError::LengthMismatch | DecodeError::TooShort) => 0x04,
+    }
+}
+
+/// The bytes without the trailer, or all of them where it can't be told which those are.
+fn captured_bytes(error: Option<DecodeError>, bytes: &[u8]) -> &[u8]
+    ensures { result.now ≡ captured_bytes error bytes.entry.now }
+{
+    match error {
+        Some(DecodeError::LengthMismatch | DecodeError::TooShort) => bytes,
+        None | Some(DecodeError::HeaderCrc | DecodeError::FrameCrc) => {
+            &bytes[..bytes.len().saturating_sub(3)]
+        }
+    }
+}
+
+/// Writes what a record begins with.
+fn write_record_header<W: Write>(writer: &mut W, time: u64, count: u32) -> io::Result<()>
+    requires { time < 2 ^ 32 * 1000000 }
+    ensures { Writes W.contents writer.old writer.new result (record_header time count) }
+{
+    let (seconds, rest) = ((time / 1_000_000) as u32, (time % 1_000_000) as u32);
+    writer.write_all(&seconds.to_le_bytes())?;
+    writer.write_all(&rest.to_le_bytes())?;
+    writer.write_all(&count.to_le_bytes())?;
+    writer.write_all(&count.to_le_bytes())
+}
+
+/// Writes the record of what was seen.
+pub(crate) fn write_record<W: Write>(writer: &mut W, seen: &SeenBytes<'_>) -> io::Result<()>
+    requires { seen.now.time < 2 ^ 32 * 1000000 }
+    ensures { Writes W.contents writer.old writer.new result (record_of seen.now) }
+{
+    let error = decode(seen.bytes, seen.channel).err();
+    let captured = captured_bytes(error, seen.bytes);
+    write_record_header(writer, seen.time, captured.len() as u32 + 2)?;
+    writer.write_all(&[channel_mark(seen.channel), error_flags(error)])?;
+    writer.write_all(captured)
+}
