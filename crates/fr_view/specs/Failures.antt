@@ -1,0 +1,14 @@
+-- How the program's failures follow from its errors, and the exit status of each (own profile).
+use Rattle.std.specs.Prelude.{ℕ}
+use Rattle.fr_view.specs.declared.command.OrderError.{OrderError}
+use Rattle.fr_view.specs.declared.command.OrderError.TheVariants as refusal
+use Rattle.fr_view.specs.declared.failure.Failure.{Failure}
+use Rattle.fr_view.specs.declared.failure.Failure.TheVariants as failure
+
+abbrev pub failure_of : OrderError → Failure
+failure_of refusal.Usage = failure.Usage
+failure_of refusal.Memory = failure.Memory
+
+abbrev pub status_of : Failure → ℕ
+status_of failure.Usage = 2
+status_of _ = 1

@@ -1,0 +1,81 @@
+-- Which words are an order, by the rules of `clap`, and how the refusal of words follows from its errors.
+use Rattle.std.specs.Prelude.{◌≡◌, ◌⊎◌, ◌<◌, ℕ, List, [], ◌∷◌, length, Option, Some, None, Result, Ok, Err, true, false, codes}
+use Rattle.std.specs.Prelude.{option_map, Bool, ◌||◌}
+use Rattle.std.specs.Str.{bytes_eq}
+use Rattle.clap.specs.Words.{App, Row, Rule, Shape, Text, fault_of, first_of, new_app, new_rule, subcommand_of}
+use Rattle.clap.specs.Words.{with_rule, with_subcommand}
+use Rattle.clap.specs.declared.error.kind.ErrorKind.{ErrorKind}
+use Rattle.clap.specs.declared.error.kind.ErrorKind.TheVariants as kind
+use Rattle.fr_view.specs.declared.command.Order.{Order}
+use Rattle.fr_view.specs.declared.command.Order.TheVariants as the_order
+use Rattle.fr_view.specs.declared.command.OrderError.{OrderError}
+use Rattle.fr_view.specs.declared.command.OrderError.TheVariants as refusal
+
+-- a command with nothing but its name
+abbrev pub named : Text → Shape
+named name = (new_app name).top
+
+-- the program without a command: a command is required, the words begin with it, and of help `clap` knows nothing
+abbrev pub bare : App
+bare = record {
+  top = record (named (codes "fr_view")) {
+    no_binary_name = true;
+    subcommand_required = true;
+    disable_help_flag = true;
+    disable_help_subcommand = true;
+  };
+  subs = [];
+}
+
+-- the program with its commands
+abbrev pub one_command : App
+one_command = with_subcommand bare (named (codes "capture"))
+
+abbrev pub the_commands : App
+the_commands = with_subcommand one_command (named (codes "frames"))
+
+-- ---- what the words enter
+
+-- the name of the command
+abbrev pub name_in : Option (Text × List Row) → Option Text
+name_in = option_map (λ entered. entered.0)
+
+abbrev pub is_named : Text → Option (Text × List Row) → Bool
+is_named name None = false
+is_named name (Some entered) = bytes_eq entered.0 name
+
+-- one of the commands is entered, with all that it needs
+abbrev pub asks : Option (Text × List Row) → Bool
+asks entered = is_named (codes "capture") entered || is_named (codes "frames") entered
+
+-- the order is that of the command which is entered
+abbrev pub IsOrder : Option (Text × List Row) → Order → Type 0
+IsOrder entered the_order.Capture = name_in entered ≡ Some (codes "capture")
+IsOrder entered the_order.Frames = name_in entered ≡ Some (codes "frames")
+IsOrder entered the_order.Help = ⊥
+
+-- ---- the answer
+
+-- the one word that calls for help
+abbrev pub is_help : List Text → Bool
+is_help (word ∷ []) = bytes_eq word (codes "--help")
+is_help words = false
+
+-- The order is the one that the words enter, where `clap` finds no fault with them. Where it finds one they are no command,
+-- and else only where they enter none; for want of memory either may stay unanswered.
+abbrev pub IsAnswerTo : List Text → Result Order OrderError → Type 0
+IsAnswerTo words (Ok order) = (fault_of the_commands words ≡ []) × IsOrder (subcommand_of the_commands words) order
+IsAnswerTo words (Err refusal.Usage) = (0 < length (fault_of the_commands words)) ⊎ (asks (subcommand_of the_commands words) ≡ false)
+IsAnswerTo words (Err refusal.Memory) = Unit {0}
+
+abbrev pub IsAnswerBy : Bool → List Text → Result Order OrderError → Type 0
+IsAnswerBy true words answer = answer ≡ Ok the_order.Help
+IsAnswerBy false words answer = IsAnswerTo words answer
+
+abbrev pub IsAnswer : List Text → Result Order OrderError → Type 0
+IsAnswer words answer = IsAnswerBy (is_help words) words answer
+
+-- want of memory alone is no fault of the words
+abbrev pub order_error_of : ErrorKind → OrderError
+order_error_of kind.OutOfMemory = refusal.Memory
+order_error_of _ = refusal.Usage

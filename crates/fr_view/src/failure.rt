@@ -1,0 +1,48 @@
+//! How the program ends when it hasn't done what it was asked.
+ghost use Rattle.std.specs.Prelude.{◌≡◌};
+ghost use Rattle.fr_view.specs.Failures.{failure_of, status_of};
+ghost use Rattle.fr_view.specs.declared.failure.Failure.TheVariants as failure;
+
+use crate::command::OrderError;
+use fr_trace::error::TraceError;
+use thiserror::Error;
+
+/// Why the program hasn't done what it was asked; printed, it is the line on standard error (own profile).
+#[derive(Clone, Copy, Debug, Drop, PartialEq, Eq, Error)]
+pub enum Failure {
+    /// The words were no command.
+    #[error("usage")]
+    Usage,
+    /// Memory for reading the words was refused.
+    #[error("refused Memory")]
+    Memory,
+    /// The output couldn't be written.
+    #[error("refused Write")]
+    Write,
+    /// The trace was refused, or couldn't be read, or what it shows couldn't be written.
+    #[error("refused {0}")]
+    Trace(#[from] TraceError),
+}
+
+impl Failure {
+    /// The program's exit status: 2 for words that are no command, 1 for everything else.
+    pub fn status(&self) -> u8
+        ensures { result ≡ status_of self.now }
+    {
+        match self {
+            Failure::Usage => 2,
+            Failure::Memory | Failure::Write | Failure::Trace(_) => 1,
+        }
+    }
+}
+
+impl From<OrderError> for Failure {
+    ghost from_gives = { λ error given. given ≡ failure_of error };
+
+    fn from(error: OrderError) -> Failure {
+        match error {
+            OrderError::Usage => Failure::Usage,
+            OrderError::Memory => Failure::Memory,
+        }
+    }
+}

@@ -1,0 +1,90 @@
+//! The bench's program for looking at things. It reads its command from the words after its name, does it, and says by its
+//! exit status how it went: 0 where it is done, 1 where an input is refused, 2 where the words are no command.
+//!
+//! What it prints on standard output comes only once the command has accepted all its input. A refusal is one line on
+//! standard error.
+//!
+//! ```text
+//! fr_view capture < node.trace > node.pcap    what a controller saw, as a capture that Wireshark opens
+//! fr_view frames < node.trace                 the same as a table
+//! fr_view --help                              what there is
+//! ```
+//!
+//! A chapter in parentheses is one of the FlexRay Protocol Specification 2.1, revision A, whose rule it is.
+//! *(own profile)* marks a rule of this project's own, which says nothing of the standard.
+#![tactic(auto)]
+
+mod command;
+mod failure;
+mod order;
+
+use command::{Order, OrderError};
+use failure::Failure;
+use fr_capture::form::Form;
+use fr_capture::show::show_trace;
+use order::order;
+use std::alloc::Global;
+use std::process::ExitCode;
+use std::rt::Env;
+use std::{env, io};
+
+/// What the program prints where it is asked for help.
+const HELP: &str = "fr_view capture < TRACE > CAPTURE   what a controller saw, as a capture that Wireshark opens
+fr_view frames < TRACE              the same as a table
+fr_view --help                      these lines
+";
+
+/// The words after the program's name, as the system gives them. A word that isn't UTF-8 names no command.
+fn words_given<R: Env + AllocGlobal>(rt: &R) -> Result<Vec<String>, OrderError> {
+    match env::args(rt) {
+        Ok(words) => Ok(words.skip(1).collect(rt.alloc())?),
+        Err(error) if error.kind() == io::ErrorKind::OutOfMemory => Err(OrderError::Memory),
+        Err(_) => Err(OrderError::Usage),
+    }
+}
+
+/// The words as texts.
+fn texts_of(alloc: Global, words: &Vec<String>) -> Result<Vec<&str>, OrderError> {
+    Ok(words.iter().map(|word| word.as_str()).collect(alloc)?)
+}
+
+/// Does the order.
+fn carry_out<R: Input + Print + AllocGlobal>(rt: &R, order: Order) -> Result<(), Failure> {
+    let alloc = rt.alloc();
+    let mut output = io::writer(rt);
+    match order {
+        Order::Capture => Ok(show_trace(
+            alloc,
+            Form::Capture,
+            &mut rt.reader(),
+            &mut output,
+        )?),
+        Order::Frames => Ok(show_trace(
+            alloc,
+            Form::Table,
+            &mut rt.reader(),
+            &mut output,
+        )?),
+        Order::Help => match io::Write::write_all(&mut output, HELP.as_bytes()) {
+            Ok(()) => Ok(()),
+            Err(_) => Err(Failure::Write),
+        },
+    }
+}
+
+/// Does what the words ask for.
+fn run<R: Env + Input + Print + AllocGlobal>(rt: &R) -> Result<(), Failure> {
+    let words = words_given(rt)?;
+    let texts: Vec<&str> = texts_of(rt.alloc(), &words)?;
+    carry_out(rt, order(rt.alloc(), texts.as_slice())?)
+}
+
+fn main(rt: HostRuntime) -> ExitCode {
+    match run(&rt) {
+        Ok(()) => ExitCode::SUCCESS,
+        Err(failure) => {
+            let _ = eprintln!(rt; "{failure}");
+            ExitCode::from(failure.status())
+        }
+    }
+}
