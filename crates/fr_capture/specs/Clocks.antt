@@ -1,5 +1,5 @@
--- The window fetched last with its time, one entry after another, as the code goes along a journal. That it is what `Moments`
--- says stands in the proofs.
+-- The window fetched last with its time, one entry after another, as the code goes along a journal. That it is what
+-- `Moments` says stands in the proofs.
 use Rattle.std.specs.Prelude.{◌≡◌, ℕ, ◌+◌, ◌*◌, ◌≤◌, List, [], ◌++◌, Option, Some, None, length, nat_le, if◌then◌else◌}
 use Rattle.fr_capture.specs.declared.moment.Moment.{Moment}
 use Rattle.fr_capture.specs.Moments.{last_window, place_in_round, round_length, rounds}

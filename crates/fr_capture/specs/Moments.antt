@@ -1,5 +1,5 @@
--- When the windows of a journal were. The time is counted in microseconds from the start of the round of 64 cycles in which
--- the first window was, and a macrotick is one of them (own profile).
+-- When the windows of a journal were. The time is counted in microseconds from the start of the round of 64 cycles in
+-- which the first window was, and a macrotick is one of them (own profile).
 use Rattle.std.specs.Prelude.{ℕ, ◌+◌, ◌*◌, nat_le, Bool, false, List, [], Option, Some, None, unwrap_or}
 use Rattle.fr_journal.specs.declared.entry.Entry.{Entry}
 use Rattle.fr_journal.specs.declared.entry.Entry.TheVariants.{Commit, Read, Pop, Fetch, Observe}
@@ -43,8 +43,8 @@ fetched before (Observe window a b) = None
 abbrev pub last_window : List Entry → Option Opportunity
 last_window entries = last_after fetched [] entries
 
--- A window of the next round: since the numbers of windows rise, one that isn't later in its round than the window before it
--- can't be of the same.
+-- A window of the next round: since the numbers of windows rise, one that isn't later in its round than the window
+-- before it can't be of the same.
 abbrev pub is_not_later : Parameters → Opportunity → Option Opportunity → Bool
 is_not_later p w None = false
 is_not_later p w (Some before) = nat_le (place_in_round p w) (place_in_round p before)

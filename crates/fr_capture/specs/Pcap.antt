@@ -1,5 +1,5 @@
--- The classic capture format: a file header, and then a record for each sighting (own profile). Numbers are spelled with
--- their lowest byte first.
+-- The classic capture format: a file header, and then a record for each sighting (own profile). Numbers are spelled
+-- with their lowest byte first.
 use Rattle.std.specs.Prelude.{ℕ, ◌-◌, ◌/◌, ◌%◌, List, [], ◌∷◌, ◌++◌, length, take, Option, Some, None}
 use Rattle.std.specs.Int.{bytes_low_first}
 use Rattle.fr_frame.specs.declared.decode.DecodeError.{DecodeError}
@@ -30,7 +30,8 @@ link_type = 210
 abbrev pub longest_record : ℕ
 longest_record = 264
 
--- the mark, version 2.4, no difference of time zones, no statement of accuracy, the length of the longest record, the link
+-- the mark, version 2.4, no difference of time zones, no statement of accuracy, the length of the longest record, the
+-- link
 abbrev pub file_header : List ℕ
 file_header =
     long_number magic ++ short_number 2 ++ short_number 4 ++ long_number 0 ++ long_number 0
@@ -38,13 +39,14 @@ file_header =
 
 -- ---- a record
 
--- the first byte of the measurement header: its highest bit is set on channel B, and the others say that this is a frame
+-- the first byte of the measurement header: its highest bit is set on channel B, and the others say that this is a
+-- frame
 abbrev pub channel_mark : Channel → ℕ
 channel_mark A = 0x01
 channel_mark B = 0x81
 
--- The second byte: why the bytes are no frame, if they are none. A frame whose end isn't where its header says, and bytes
--- that are too few for any, end in a wrong place.
+-- The second byte: why the bytes are no frame, if they are none. A frame whose end isn't where its header says, and
+-- bytes that are too few for any, end in a wrong place.
 abbrev pub error_flags : Option DecodeError → ℕ
 error_flags None = 0
 error_flags (Some FrameCrc) = 0x10
@@ -52,7 +54,8 @@ error_flags (Some HeaderCrc) = 0x08
 error_flags (Some LengthMismatch) = 0x04
 error_flags (Some TooShort) = 0x04
 
--- Header and payload, without the three bytes of the trailer. Where no one can say which bytes are the trailer, all of them.
+-- Header and payload, without the three bytes of the trailer. Where no one can say which bytes are the trailer, all of
+-- them.
 abbrev pub captured_bytes : Option DecodeError → List ℕ → List ℕ
 captured_bytes (Some LengthMismatch) bytes = bytes
 captured_bytes (Some TooShort) bytes = bytes
@@ -68,7 +71,8 @@ record_header time count =
     long_number (time / 1000000) ++ long_number (time % 1000000) ++ long_number count ++ long_number count
 
 abbrev pub record_with : ℕ → Channel → Option DecodeError → List ℕ → List ℕ
-record_with time channel error bytes = record_header time (length (packet channel error bytes)) ++ packet channel error bytes
+record_with time channel error bytes = record_header time (length (packet channel error bytes))
+    ++ packet channel error bytes
 
 abbrev pub record_of : Sighting → List ℕ
 record_of s = record_with s.time s.channel (refusal s.channel s.bytes) s.bytes

@@ -33,8 +33,8 @@ text_of form s = shown_of form s.params s.entries
 
 -- ---- a command
 
--- The text is that of a legal interface, of which this is written, or the writer failed at that. Or nothing is written, and
--- the text is refused by its first line at fault, or memory ran out, or the reader failed.
+-- The text is that of a legal interface, of which this is written, or the writer failed at that. Or nothing is written,
+-- and the text is refused by its first line at fault, or memory ran out, or the reader failed.
 abbrev pub Shows : (State → List ℕ) → Option (List ℕ) → Option (List ℕ) → Option (List ℕ) → Result (Unit {0}) TraceError
     → Type 0
 Shows written text old new (Ok x) = (s : State) × IsTextOf s text × IsLegalInterface s × Appends old new (written s)

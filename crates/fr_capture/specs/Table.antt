@@ -21,7 +21,8 @@ use Rattle.fr_capture.specs.Sightings.{Sighting}
 -- the bit of the slot's status that is set
 abbrev pub bit_word : SlotStatus → List ℕ
 bit_word status =
-    if status.valid then codes "valid" else if status.content then codes "content" else if status.syntax then codes "syntax" else absent
+    if status.valid then codes "valid" else if status.content then codes "content"
+    else if status.syntax then codes "syntax" else absent
 
 -- there is none where the channel had no slot
 abbrev pub status_word : Option SlotStatus → List ℕ
@@ -42,7 +43,8 @@ mark letter is_so = if is_so then letter else codes "-"
 -- payload preamble, null frame, sync frame, startup frame
 unfoldable pub indicators : Fields → List ℕ
 indicators f =
-    mark (codes "p") f.preamble ++ mark (codes "n") (not f.has_data) ++ mark (codes "s") f.sync ++ mark (codes "u") f.startup
+    mark (codes "p") f.preamble ++ mark (codes "n") (not f.has_data) ++ mark (codes "s") f.sync
+    ++ mark (codes "u") f.startup
 
 -- what a frame says
 abbrev pub frame_words : Fields → List (List ℕ)

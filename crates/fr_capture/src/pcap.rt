@@ -2,7 +2,8 @@
 
 ghost use Rattle.std.specs.Prelude.{◌≡◌, ◌<◌, ◌≤◌, ◌^◌, ◌*◌, length};
 ghost use Rattle.fr_text.specs.Writing.{Writes};
-ghost use Rattle.fr_capture.specs.Pcap.{captured_bytes, channel_mark, error_flags, file_header, record_header, record_of};
+ghost use Rattle.fr_capture.specs.Pcap.{captured_bytes, channel_mark, error_flags, file_header, record_header};
+ghost use Rattle.fr_capture.specs.Pcap.{record_of};
 
 use crate::sighting::SeenBytes;
 use fr_frame::decode::{DecodeError, decode};
@@ -10,8 +11,8 @@ use fr_slots::channel::Channel;
 use std::io;
 use std::io::Write;
 
-/// What a capture begins with: the mark, version 2.4, no difference of time zones, no statement of accuracy, the length of the
-/// longest record, and the link type of FlexRay, each with its lowest byte first.
+/// What a capture begins with: the mark, version 2.4, no difference of time zones, no statement of accuracy, the length
+/// of the longest record, and the link type of FlexRay, each with its lowest byte first.
 const FILE_HEADER: [u8; 24] = [
     0xd4, 0xc3, 0xb2, 0xa1, 2, 0, 4, 0, 0, 0, 0, 0, 0, 0, 0, 0, 8, 1, 0, 0, 210, 0, 0, 0,
 ];

@@ -76,7 +76,8 @@ fn sighted<'a>(
     bytes: &'a Bytes,
 ) -> SeenBytes<'a>
     requires { moment.now.rounds ≤ 1000000 }
-    ensures value { result ≡ bytes_sighted (time_at params.now moment.now) moment.now.window channel bytes.entry.now.items }
+    ensures value { result ≡ bytes_sighted (time_at params.now moment.now) moment.now.window channel
+        bytes.entry.now.items }
     ensures few { result.time < 2 ^ 32 * 1000000 }
 {
     SeenBytes {
@@ -100,7 +101,8 @@ fn write_seen<W: Write>(
 ) -> io::Result<()>
     requires { moment.now.rounds ≤ 1000000 }
     ensures { Writes W.contents writer.old writer.new result
-        (flat_map (shown form params.now) (sighting (time_at params.now moment.now) moment.now.window channel seen.now)) }
+        (flat_map (shown form params.now)
+        (sighting (time_at params.now moment.now) moment.now.window channel seen.now)) }
 {
     let Seen::Bytes(bytes) = seen else {
         return Ok(());
@@ -175,8 +177,8 @@ fn write_pieces<W: Write>(
 
 /// Writes what a controller saw, in this form: its capture, or its table (own profile).
 ///
-/// Refused with `Memory` where memory for the first piece is refused, and then nothing is written; and with `Write` where
-/// the writer fails, and then some of it may have been written.
+/// Refused with `Memory` where memory for the first piece is refused, and then nothing is written; and with `Write`
+/// where the writer fails, and then some of it may have been written.
 pub fn write_form<W: Write>(
     alloc: Global,
     form: Form,
@@ -198,9 +200,9 @@ pub fn write_form<W: Write>(
 
 /// Reads a trace to its end, and writes what was seen in it, in this form (own profile).
 ///
-/// Refused with the error of the first line at fault, at which it stops reading; with `Read` where the reader fails; with
-/// `Memory` where memory is refused; and with `Write` where the writer fails. On every error but `Write` nothing is
-/// written; after `Write` some of it may have been written.
+/// Refused with the error of the first line at fault, at which it stops reading; with `Read` where the reader fails;
+/// with `Memory` where memory is refused; and with `Write` where the writer fails. On every error but `Write` nothing
+/// is written; after `Write` some of it may have been written.
 pub fn show_trace<R: Read, W: Write>(
     alloc: Global,
     form: Form,
@@ -208,7 +210,8 @@ pub fn show_trace<R: Read, W: Write>(
     writer: &mut W,
 ) -> Result<(), TraceError>
     // What is accepted is the text of a legal interface, whose sightings are written in order, and nothing else.
-    ensures found { Shows (text_of form) (R.remaining reader.old) (W.contents writer.old) (W.contents writer.new) result }
+    ensures found { Shows (text_of form) (R.remaining reader.old) (W.contents writer.old)
+        (W.contents writer.new) result }
     // It reads in pieces of at most 4096 bytes, and none after the one that has the fault.
     ensures read { Ends (R.remaining reader.old) (R.remaining reader.new) result }
     // The line that an error names is that of the byte with which the first fault shows.

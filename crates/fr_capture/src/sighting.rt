@@ -23,7 +23,13 @@ impl<'a> Model for SeenBytes<'a> {
 
     ghost Value = { Sighting };
 
-    ghost view = { λ s. record { time = s.time; cycle = s.cycle; slot = s.slot; channel = s.channel; bytes = s.bytes.now } };
+    ghost view = { λ s. record {
+      time = s.time;
+      cycle = s.cycle;
+      slot = s.slot;
+      channel = s.channel;
+      bytes = s.bytes.now;
+    } };
 
     ghost invariant = { λ s. length s.bytes.now ≤ 262 };
 }

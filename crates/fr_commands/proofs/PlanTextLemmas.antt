@@ -1,5 +1,6 @@
 -- The text of a plan, one node, one slot or one interval more.
-use Rattle.std.proofs.Common.{◌≡◌, ℕ, zero, suc, ◌+◌, true, List, [], ◌∷◌, ◌++◌, length, take, Option, Some, Result, Ok, Err}
+use Rattle.std.proofs.Common.{◌≡◌, ℕ, zero, suc, ◌+◌, true, List, [], ◌∷◌, ◌++◌, length, take, Option, Some, Result, Ok}
+use Rattle.std.proofs.Common.{Err}
 use Rattle.std.proofs.Common.{refl, sym, ap, subst, ◌∙◌, append_assoc, append-nil, add-one, arith}
 use Rattle.std.specs.Io.KnownBytes.{Appends}
 use Rattle.std.specs.List.{flat_map, range_with_len}
@@ -17,7 +18,8 @@ use Rattle.fr_slots.specs.Faults.{is_owned, sends_at}
 use Rattle.fr_slots.specs.Parameters.{is_static_slot}
 use Rattle.fr_slots.specs.declared.channel.Channel.TheVariants.{A, B}
 use Rattle.fr_slots.specs.Plans.{Plan}
-use Rattle.fr_commands.specs.PlanText.{of_nodes, owner_text, owners_text, slot_line, static_text, dynamic_text, IsGuardText, AreGuardTexts, IsPlanText, Adds}
+use Rattle.fr_commands.specs.PlanText.{of_nodes, owner_text, owners_text, slot_line, static_text, dynamic_text}
+use Rattle.fr_commands.specs.PlanText.{IsGuardText, AreGuardTexts, IsPlanText, Adds}
 
 -- ---- nodes
 

@@ -8,9 +8,10 @@ use Rattle.fr_commands.specs.declared.error.BenchError.TheVariants as error
 use Rattle.fr_lines.specs.Spelling.{line_text, params_words}
 use Rattle.fr_schedule.specs.Descriptions.{Description}
 
--- The text describes a cluster of which this has been written, or the writer failed at that. Or the text is refused by the
--- first fault that it has, or the reader failed or memory ran out, and nothing has been written.
-abbrev pub Tells : (Description → Option (List ℕ) → Option (List ℕ) → Type 0) → List ℕ → Option (List ℕ) → Option (List ℕ) → Result (Unit {0}) BenchError → Type 0
+-- The text describes a cluster of which this has been written, or the writer failed at that. Or the text is refused by
+-- the first fault that it has, or the reader failed or memory ran out, and nothing has been written.
+abbrev pub Tells : (Description → Option (List ℕ) → Option (List ℕ) → Type 0) → List ℕ → Option (List ℕ)
+    → Option (List ℕ) → Result (Unit {0}) BenchError → Type 0
 Tells IsWritten text old new (Ok _) = (d : Description) × IsDescribed text d × IsWritten d old new
 Tells IsWritten text old new (Err error.TooLong) = (1048576 < length text) × Keeps old new
 Tells IsWritten text old new (Err (error.Config e)) = IsShort text × IsRefused text e × Keeps old new

@@ -28,8 +28,8 @@ IsClusterIn text (Err (error.Config e)) = IsRefused text e
 IsClusterIn text (Err error.Memory) = IsUtf8 text
 IsClusterIn text (Err e) = ⊥
 
--- The cluster that the text describes, or the first fault of the text. Of a failing reader and of want of memory nothing is
--- said.
+-- The cluster that the text describes, or the first fault of the text. Of a failing reader and of want of memory
+-- nothing is said.
 abbrev pub IsClusterOf : List ℕ → Result Description BenchError → Type 0
 IsClusterOf text (Ok d) = IsDescribed text d
 IsClusterOf text (Err error.TooLong) = 1048576 < length text

@@ -131,8 +131,8 @@ module _ (p : Parameters) (plan : Plan) (before : List Entry) (w : Opportunity) 
   of_transmitter None e = refl
   of_transmitter (Some k) e = of_buffer k (buffer_at plan k) refl e
 
--- what the node offers in each window of a static slot that it owns is what its account gives, where the windows before it
--- were timed
+-- what the node offers in each window of a static slot that it owns is what its account gives, where the windows before
+-- it were timed
 abbrev pub IsAccountable : State → Type 0
 IsAccountable s = (before after : List Entry) (w : Opportunity) (a b : Offered) (channel : Channel) (slot cycle : ℕ) → s.entries ≡ before ++ Fetch w a b ∷ after
     → ((n : ℕ) → AllAfter (IsTimed n) [] before) → is_static w ≡ true

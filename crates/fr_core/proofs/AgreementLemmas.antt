@@ -1,20 +1,26 @@
 -- Each event keeps the agreement of all journals with the record.
-use Rattle.std.proofs.Common.{◌≡◌, ◌≢◌, ◌<◌, ℕ, zero, suc, Bool, true, false, not, cond, List, [], ◌∷◌, length, map, replicate, Option, Some, None, refl, sym, ap, subst, ◌∙◌, arith, get_or, inl, inr}
+use Rattle.std.proofs.Common.{◌≡◌, ◌≢◌, ◌<◌, ℕ, zero, suc, Bool, true, false, not, cond, List, [], ◌∷◌, length, map}
+use Rattle.std.proofs.Common.{replicate, Option, Some, None, refl, sym, ap, subst, ◌∙◌, arith, get_or, inl, inr}
 use Rattle.std.specs.Prelude.{option_map}
 use Rattle.std.specs.List.{list_all}
 use Rattle.std.proofs.lemmas.Bool.{ltb-true}
 use Rattle.std.proofs.lemmas.Bool.Decides.{eqb_tells}
-use Rattle.std.proofs.lemmas.List.{length-set, get_or-set_same, get_or-set_other, set-get_or, length-replicate, length-map}
+use Rattle.std.proofs.lemmas.List.{length-set, get_or-set_same, get_or-set_other, set-get_or, length-replicate}
+use Rattle.std.proofs.lemmas.List.{length-map}
 use Rattle.arrayvec.specs.ArrayVec.{ArrayVec}
 use Rattle.fr_bus.specs.declared.error.BusError.{BusError}
 use Rattle.fr_bus.specs.declared.fault.Fault.{Fault}
 use Rattle.fr_bus.specs.declared.fault.Fault.TheVariants.{Babble, Mute, Corrupt}
 use Rattle.fr_bus.specs.declared.station.Station.{Station}
 use Rattle.fr_bus.specs.Record.{Recorded}
-use Rattle.fr_bus.specs.States.{BusState, collects, seals, station_at, with_station, idle_station, offering, babbling, muting, is_node, has_fault, inject_refusal, inject_done, all_put, all_taken, is_put, is_taken, outcome_of, seal_refusal, sealed_with, take_refusal, seen_where, seen_last, last_recorded, next_of_bus, phase_at, advance_refusal, advanced, collecting_of}
+use Rattle.fr_bus.specs.States.{BusState, collects, seals, station_at, with_station, idle_station, offering, babbling}
+use Rattle.fr_bus.specs.States.{muting, is_node, has_fault, inject_refusal, inject_done, all_put, all_taken, is_put}
+use Rattle.fr_bus.specs.States.{is_taken, outcome_of, seal_refusal, sealed_with, take_refusal, seen_where, seen_last}
+use Rattle.fr_bus.specs.States.{last_recorded, next_of_bus, phase_at, advance_refusal, advanced, collecting_of}
 use Rattle.fr_bus.proofs.OfferLemmas.{offer_of_station}
 use Rattle.fr_core.proofs.CaseLemmas.{both_first, both_rest, kept, kept_if}
-use Rattle.fr_core.proofs.NodeLemmas.{opening_agrees, agrees_host, agrees_look, agrees_fetch, agrees_put, agrees_seal, agrees_take, agrees_observe, agrees_inject, agrees_advance}
+use Rattle.fr_core.proofs.NodeLemmas.{opening_agrees, agrees_host, agrees_look, agrees_fetch, agrees_put, agrees_seal}
+use Rattle.fr_core.proofs.NodeLemmas.{agrees_take, agrees_observe, agrees_inject, agrees_advance}
 use Rattle.fr_core.specs.Agreeing.{handed_at, sight_at}
 use Rattle.fr_core.specs.Agreement.{BusView, view_for, sight_in, NodeAgrees, AgreesAt, Agreement}
 use Rattle.fr_core.specs.declared.carried.Carried.{Carried}
@@ -22,9 +28,12 @@ use Rattle.fr_core.specs.declared.carried.Carried.TheVariants.{Idle, Knows, Offe
 use Rattle.fr_core.specs.declared.error.StepError.{StepError}
 use Rattle.fr_core.specs.declared.error.StepError.TheVariants.{UnknownNode}
 use Rattle.fr_core.specs.declared.event.Event.{Event}
-use Rattle.fr_core.specs.declared.event.Event.TheVariants.{Commit, Read, Pop, Look, Fetch, Put, Take, Observe, Inject, Seal, Advance}
-use Rattle.fr_core.specs.Steps.{step_refusal, step_done, if_node, with_interface, with_carried, with_bus, offer_of, look_in_turn, take_in_turn, looked, fetched, put_on_bus, taken, observed}
-use Rattle.fr_core.specs.Worlds.{WorldState, has_node, interface_at, carried_at, no_interface, new_interface, opening_world}
+use Rattle.fr_core.specs.declared.event.Event.TheVariants.{Commit, Read, Pop, Look, Fetch, Put, Take, Observe, Inject}
+use Rattle.fr_core.specs.declared.event.Event.TheVariants.{Seal, Advance}
+use Rattle.fr_core.specs.Steps.{step_refusal, step_done, if_node, with_interface, with_carried, with_bus, offer_of}
+use Rattle.fr_core.specs.Steps.{look_in_turn, take_in_turn, looked, fetched, put_on_bus, taken, observed}
+use Rattle.fr_core.specs.Worlds.{WorldState, has_node, interface_at, carried_at, no_interface, new_interface}
+use Rattle.fr_core.specs.Worlds.{opening_world}
 use Rattle.fr_interface.specs.State.{State, with_entry, read_entry, pop_entry, fetch_entry}
 use Rattle.fr_journal.specs.declared.entry.Entry.{Entry}
 use Rattle.fr_journal.specs.declared.entry.Entry.TheVariants as entries

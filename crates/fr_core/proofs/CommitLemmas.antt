@@ -1,6 +1,7 @@
 -- An event adds to the commits of each interface just what is accepted there.
 use Rattle.std.proofs.Common.{◌≡◌, ℕ, ◌+◌, ◌<◌, Bool, true, false, cond, eqb, ◌&&◌, List, length, refl, sym, ap}
-use Rattle.std.proofs.Common.{◌∙◌, arith, Option, Some, None, get_or, set, inl, inr, get_or-set_same, get_or-set_other, ◌≢◌, subst, ltb-true}
+use Rattle.std.proofs.Common.{◌∙◌, arith, Option, Some, None, get_or, set, inl, inr, get_or-set_same, get_or-set_other}
+use Rattle.std.proofs.Common.{◌≢◌, subst, ltb-true}
 use Rattle.std.specs.Prelude.{Ok, Err}
 use Rattle.std.proofs.lemmas.Bool.Decides.{eqb_tells}
 use Rattle.std.proofs.lemmas.List.Sums.{sum_by_push}

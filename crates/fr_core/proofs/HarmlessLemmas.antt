@@ -1,4 +1,5 @@
--- A babbling node is harmless in guarded static slots: from the record's law, the lists of the interfaces and their accounts.
+-- A babbling node is harmless in guarded static slots: from the record's law, the lists of the interfaces and their
+-- accounts.
 use Rattle.std.proofs.Common.{◌≡◌, ◌<◌, ℕ, ◌+◌, ◌*◌, ◌-◌, ◌%◌, Bool, true, false, cond, ◌&&◌, List, [], ◌∷◌, ◌++◌}
 use Rattle.std.proofs.Common.{length, Option, Some, None, refl, sym, ap, ◌∙◌, arith, slice_get}
 use Rattle.std.specs.Prelude.{slice_index_or, nat_lt, not, ◌||◌}

@@ -1,5 +1,6 @@
 -- Each event keeps the agreement of the node that it is of.
-use Rattle.std.proofs.Common.{◌≡◌, ℕ, ◌-◌, Bool, true, false, cond, List, [], ◌∷◌, ◌++◌, length, map, Option, Some, None, refl, sym, ap, subst, ◌∙◌, arith, length-append, option_map, slice_get}
+use Rattle.std.proofs.Common.{◌≡◌, ℕ, ◌-◌, Bool, true, false, cond, List, [], ◌∷◌, ◌++◌, length, map, Option, Some}
+use Rattle.std.proofs.Common.{None, refl, sym, ap, subst, ◌∙◌, arith, length-append, option_map, slice_get}
 use Rattle.std.specs.Prelude.{◌==◌, option_to_list}
 use Rattle.std.specs.Option.{option_and_then, option_or}
 use Rattle.std.proofs.lemmas.Bool.{ne_eqb}
@@ -11,8 +12,10 @@ use Rattle.fr_bus.specs.declared.station.Station.{Station}
 use Rattle.fr_bus.specs.Record.{Recorded, offer_in, recordable}
 use Rattle.fr_bus.specs.States.{collects, seals, idle_station, offering}
 use Rattle.fr_core.proofs.CaseLemmas.{differ}
-use Rattle.fr_core.specs.Agreeing.{Handed, Sight, handed_at, fetched, sight_of, sight_at, observed, offers_of, sights_of}
-use Rattle.fr_core.specs.Agreement.{BusView, last_of, sight_in, last_seen, handed_as, ahead, behind, Turn, AreRecordable, CarriesLawful, NodeAgrees}
+use Rattle.fr_core.specs.Agreeing.{Handed, Sight, handed_at, fetched, sight_of, sight_at, observed, offers_of}
+use Rattle.fr_core.specs.Agreeing.{sights_of}
+use Rattle.fr_core.specs.Agreement.{BusView, last_of, sight_in, last_seen, handed_as, ahead, behind, Turn}
+use Rattle.fr_core.specs.Agreement.{AreRecordable, CarriesLawful, NodeAgrees}
 use Rattle.fr_core.specs.declared.carried.Carried.{Carried}
 use Rattle.fr_core.specs.declared.carried.Carried.TheVariants.{Idle, Knows, Offers, Waits, Took}
 use Rattle.fr_core.specs.Steps.{offer_of}

@@ -1,5 +1,6 @@
 -- One entry further along a journal, beside the scripts.
-use Rattle.std.proofs.Common.{◌≡◌, ◌<◌, ◌≤◌, ℕ, zero, suc, ◌+◌, true, cond, List, [], ◌∷◌, length, set, Option, Some, None, refl, sym, ap, subst, ◌∙◌, arith, take, get_or, inl, inr}
+use Rattle.std.proofs.Common.{◌≡◌, ◌<◌, ◌≤◌, ℕ, zero, suc, ◌+◌, true, cond, List, [], ◌∷◌, length, set, Option, Some}
+use Rattle.std.proofs.Common.{None, refl, sym, ap, subst, ◌∙◌, arith, take, get_or, inl, inr}
 use Rattle.std.specs.Prelude.{slice_get, option_to_list, replicate, ◌==◌, IfSome}
 use Rattle.std.proofs.lemmas.Bool.{eq-eqb}
 use Rattle.std.proofs.lemmas.Bool.Decides.{eqb_tells}
@@ -9,7 +10,8 @@ use Rattle.fr_core.proofs.WalkLemmas.{as_many_past, as_many_on, as_many_all, sta
 use Rattle.fr_core.specs.declared.script.Deed.{Deed}
 use Rattle.fr_core.specs.declared.tasks.Course.{Course}
 use Rattle.fr_core.specs.Scripts.{Scripted, AreLines, is_for, deed_in, deed_at, deeds_of}
-use Rattle.fr_core.specs.Walks.{FindsTask, done_by, HasLine, HaveLines, IsCourse, AreCourses, CourseNext, IsWhole, Suits, SuitsAt, AreScripts, new_courses}
+use Rattle.fr_core.specs.Walks.{FindsTask, done_by, HasLine, HaveLines, IsCourse, AreCourses, CourseNext, IsWhole}
+use Rattle.fr_core.specs.Walks.{Suits, SuitsAt, AreScripts, new_courses}
 use Rattle.fr_interface.specs.State.{State}
 use Rattle.fr_journal.specs.declared.entry.Entry.{Entry}
 use Rattle.fr_journal.specs.declared.entry.Entry.TheVariants.{Commit, Read, Pop, Fetch, Observe}

@@ -1,5 +1,6 @@
 -- Searches over nodes and tasks, and what differs first.
-use Rattle.std.proofs.Common.{◌≡◌, ◌<◌, ◌≤◌, ◌↔◌, ℕ, ◌+◌, Bool, true, false, ◌&&◌, ◌||◌, List, Option, Some, None, ◌⊎◌, refl, sym, ap, subst, ◌∙◌, arith, inl, inr}
+use Rattle.std.proofs.Common.{◌≡◌, ◌<◌, ◌≤◌, ◌↔◌, ℕ, ◌+◌, Bool, true, false, ◌&&◌, ◌||◌, List, Option, Some, None, ◌⊎◌}
+use Rattle.std.proofs.Common.{refl, sym, ap, subst, ◌∙◌, arith, inl, inr}
 use Rattle.std.specs.Prelude.{slice_get, nat_lt, ◌==◌, IsTrue, if◌then◌else◌}
 use Rattle.std.proofs.lemmas.Bool.{ltb-true, ltb-false}
 use Rattle.std.proofs.lemmas.Bool.Decides.{eqb_tells}
@@ -8,7 +9,8 @@ use Rattle.fr_core.proofs.WalkLemmas.{next_below}
 use Rattle.fr_core.specs.declared.settle.Differences.{Differences}
 use Rattle.fr_core.specs.declared.walk.Findings.{Findings}
 use Rattle.fr_core.specs.Scripts.{Scripted, ScriptAgrees, deeds_in}
-use Rattle.fr_core.specs.Settling.{IsFirst, EachNode, EachTask, IfThere, WindowsAgree, IsHandedAt, IsShownAt, IsFatedAt, IsOfferedAt}
+use Rattle.fr_core.specs.Settling.{IsFirst, EachNode, EachTask, IfThere, WindowsAgree, IsHandedAt, IsShownAt, IsFatedAt}
+use Rattle.fr_core.specs.Settling.{IsOfferedAt}
 use Rattle.fr_core.specs.Walks.{Finds, FindsBelow, FindsNext, FindsTask, FindsPlace, FindsPlaceBelow, FindsScriptBelow}
 use Rattle.fr_core.specs.Walks.{AreFindings, AreDifferences, AreScripts, found_or, is_before, earlier}
 use Rattle.fr_interface.specs.State.{State}

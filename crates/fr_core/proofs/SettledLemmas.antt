@@ -1,5 +1,6 @@
 -- What a settling tells: the windows of lists that agree, where a first failure stands, and what a world gives.
-use Rattle.std.proofs.Common.{◌≡◌, ◌<◌, ◌≤◌, ℕ, zero, suc, Bool, true, false, not, ◌&&◌, ◌||◌, List, [], ◌∷◌, ◌++◌, length, map, Option, Some, None, refl, sym, ap, subst, ◌∙◌, arith, get_or, inl, inr}
+use Rattle.std.proofs.Common.{◌≡◌, ◌<◌, ◌≤◌, ℕ, zero, suc, Bool, true, false, not, ◌&&◌, ◌||◌, List, [], ◌∷◌, ◌++◌}
+use Rattle.std.proofs.Common.{length, map, Option, Some, None, refl, sym, ap, subst, ◌∙◌, arith, get_or, inl, inr}
 use Rattle.std.specs.Prelude.{slice_get, option_map, option_to_list, nat_lt, ◌==◌, Result, Ok, Err, IfSome, OnOk}
 use Rattle.std.specs.List.{list_all}
 use Rattle.std.proofs.lemmas.List.{append-nil, length-map, length-append, map-append}
@@ -13,16 +14,23 @@ use Rattle.fr_bus.specs.States.{BusState, IsRun, IsRecorded}
 use Rattle.fr_core.proofs.CaseLemmas.{both, both_first, both_rest}
 use Rattle.fr_core.proofs.SentLemmas.{of_all}
 use Rattle.fr_core.proofs.WalkLemmas.{get_map, some_alike, none_past, same_places}
-use Rattle.fr_core.specs.Agreeing.{Handed, Sight, handed_at, sight_at, sight_of, fetched, observed, offers_of, sights_of}
+use Rattle.fr_core.specs.Agreeing.{Handed, Sight, handed_at, sight_at, sight_of, fetched, observed, offers_of}
+use Rattle.fr_core.specs.Agreeing.{sights_of}
 use Rattle.fr_core.specs.Agreement.{BusView, view_for, ahead, behind, AgreesAt, IsWorld}
 use Rattle.fr_core.specs.declared.carried.Carried.{Carried}
 use Rattle.fr_core.specs.declared.carried.Carried.TheVariants.{Idle, Knows, Offers, Waits, Took}
 use Rattle.fr_core.specs.declared.settle.Settled.{Settled}
 use Rattle.fr_core.specs.declared.settle.SettleError.{SettleError}
-use Rattle.fr_core.specs.declared.settle.SettleError.TheVariants.{PlanDiffers, WindowsDiffer, OfferDiffers, SeenDiffers, ScriptDiffers, Memory}
+use Rattle.fr_core.specs.declared.settle.SettleError.TheVariants.{PlanDiffers, WindowsDiffer, OfferDiffers, SeenDiffers}
+use Rattle.fr_core.specs.declared.settle.SettleError.TheVariants.{ScriptDiffers, Memory}
 use Rattle.fr_core.specs.Scripts.{Scripted}
-use Rattle.fr_core.specs.Settling.{IsFirst, IsFirstWindow, EachNode, IfThere, ArePlanned, PlansAgree, HasWindows, WindowsAgree, fetches_at, observes_at, windows_fetched, windows_observed, windows_of, is_due, is_right, are_right, IsFatedAt, IsHandedAt, IsOfferedAt, OffersAgree, IsShownAt, IsSeenAt, SightsAgree, Agrees, Settles, EachFollows, IsBetweenWindows, DiffersInScriptsAlone}
-use Rattle.fr_core.specs.Worlds.{WorldState, interface_at, carried_at, no_interface, new_interface, without_entries, is_between}
+use Rattle.fr_core.specs.Settling.{IsFirst, IsFirstWindow, EachNode, IfThere, ArePlanned, PlansAgree, HasWindows}
+use Rattle.fr_core.specs.Settling.{WindowsAgree, fetches_at, observes_at, windows_fetched, windows_observed, windows_of}
+use Rattle.fr_core.specs.Settling.{is_due, is_right, are_right, IsFatedAt, IsHandedAt, IsOfferedAt, OffersAgree}
+use Rattle.fr_core.specs.Settling.{IsShownAt, IsSeenAt, SightsAgree, Agrees, Settles, EachFollows, IsBetweenWindows}
+use Rattle.fr_core.specs.Settling.{DiffersInScriptsAlone}
+use Rattle.fr_core.specs.Worlds.{WorldState, interface_at, carried_at, no_interface, new_interface, without_entries}
+use Rattle.fr_core.specs.Worlds.{is_between}
 use Rattle.fr_guardian.specs.Guarding.{passes}
 use Rattle.fr_interface.specs.State.{State}
 use Rattle.fr_journal.specs.declared.entry.Entry.{Entry}

@@ -12,7 +12,8 @@ use Rattle.fr_journal.specs.declared.entry.Entry.TheVariants.{Commit, Read, Pop,
 use Rattle.fr_bus.specs.States.{IsRecorded}
 use Rattle.fr_schedule.specs.Descriptions.{Description}
 use Rattle.fr_bus.specs.Windows.{begins_cycle, cycles_begun, with_window, this_cycle, is_static_one, opens_any}
-use Rattle.fr_bus.specs.Windows.{opens_cycle, window_at, next_dynamic, statics_of, next_in_cycle, first_of_cycle, following}
+use Rattle.fr_bus.specs.Windows.{opens_cycle, window_at, next_dynamic, statics_of, next_in_cycle, first_of_cycle}
+use Rattle.fr_bus.specs.Windows.{following}
 use Rattle.fr_bus.specs.Record.{Recorded}
 use Rattle.fr_core.proofs.CaseLemmas.{differ, kept, both_first}
 use Rattle.fr_slots.proofs.PlaceLemmas.{same_some, cut-at, AllAfter-cut}

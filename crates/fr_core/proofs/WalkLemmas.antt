@@ -1,5 +1,7 @@
 -- One entry further along a journal, beside the record.
-use Rattle.std.proofs.Common.{◌≡◌, Bool, true, false, ◌&&◌, ◌<◌, ◌≤◌, ◌↔◌, ℕ, zero, suc, ◌+◌, List, [], ◌∷◌, ◌++◌, length, map, Option, Some, None, refl, sym, ap, subst, ◌∙◌, arith, take, drop, append_assoc, inl, inr}
+use Rattle.std.proofs.Common.{◌≡◌, Bool, true, false, ◌&&◌, ◌<◌, ◌≤◌, ◌↔◌, ℕ, zero, suc, ◌+◌, List, [], ◌∷◌, ◌++◌}
+use Rattle.std.proofs.Common.{length, map, Option, Some, None, refl, sym, ap, subst, ◌∙◌, arith, take, drop}
+use Rattle.std.proofs.Common.{append_assoc, inl, inr}
 use Rattle.std.specs.Prelude.{slice_get, option_to_list, option_map, nat_lt, if◌then◌else◌, IsTrue, is_none}
 use Rattle.std.specs.Option.{option_and_then, option_or}
 use Rattle.std.proofs.lemmas.Bool.{ltb-true, ltb-false}
@@ -11,7 +13,8 @@ use Rattle.fr_core.specs.Agreeing.{Sight, sight_of, handed_at, sight_at, offers_
 use Rattle.fr_core.specs.declared.walk.Fetches.{Fetches}
 use Rattle.fr_core.specs.declared.walk.Observes.{Observes}
 use Rattle.fr_core.specs.Settling.{HasWindows, fetches_at, observes_at, windows_fetched, windows_observed, windows_of}
-use Rattle.fr_core.specs.Walks.{Finds, FindsBelow, FindsNext, IsCompared, AreFetches, FetchesNext, AreObserves, SightsNext, ObservesNext}
+use Rattle.fr_core.specs.Walks.{Finds, FindsBelow, FindsNext, IsCompared, AreFetches, FetchesNext, AreObserves}
+use Rattle.fr_core.specs.Walks.{SightsNext, ObservesNext}
 use Rattle.fr_core.specs.Walks.{handed_by, opened_after, sight_told, is_nothing, is_silent}
 use Rattle.fr_interface.specs.Handing.{offered_on, bytes_in_entry, bytes_handed}
 use Rattle.fr_interface.specs.State.{State}

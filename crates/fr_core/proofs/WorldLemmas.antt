@@ -15,7 +15,8 @@ use Rattle.fr_core.specs.declared.event.Event.{Event}
 use Rattle.fr_core.specs.declared.event.Event.TheVariants.{Commit, Read, Pop, Look, Fetch, Put, Take, Observe, Inject}
 use Rattle.fr_core.specs.declared.event.Event.TheVariants.{Seal, Advance}
 use Rattle.fr_core.specs.declared.event.Reply.{Reply}
-use Rattle.fr_core.specs.Steps.{Steps, step_done, with_interface, with_carried, with_bus, looked, fetched, put_on_bus, taken}
+use Rattle.fr_core.specs.Steps.{Steps, step_done, with_interface, with_carried, with_bus, looked, fetched, put_on_bus}
+use Rattle.fr_core.specs.Steps.{taken}
 use Rattle.fr_core.specs.Steps.{observed}
 use Rattle.fr_core.specs.Worlds.{WorldState, interface_at, carried_at, no_interface, new_interface, opening_world}
 use Rattle.fr_core.specs.Worlds.{without_entries}

@@ -67,7 +67,8 @@ pub record IsLine (line : Line) (d : Deed) : Type 0 where
 -- the lines are what was done, one by one
 pub record AreLines (lines : List Line) (deeds : List Deed) : Type 0 where
   pub as_many : length lines ≡ length deeds
-  pub each : (k : ℕ) (line : Line) (d : Deed) → slice_get lines k ≡ Some line → slice_get deeds k ≡ Some d → IsLine line d
+  pub each : (k : ℕ) (line : Line) (d : Deed) → slice_get lines k ≡ Some line → slice_get deeds k ≡ Some d
+      → IsLine line d
 
 abbrev pub is_for : ℕ → ℕ → Scripted → Bool
 is_for n task script = script.node == n && script.task == task

@@ -1,5 +1,6 @@
 -- How far a walk along the journal of a node has come, beside the record and the scripts, and what it found.
-use Rattle.std.specs.Prelude.{◌≡◌, ℕ, ◌+◌, ◌<◌, ◌≤◌, ◌==◌, nat_lt, ◌↔◌, IsTrue, Bool, true, false, ◌&&◌, ◌||◌, if◌then◌else◌, List, [], length, map, take, replicate, slice_get}
+use Rattle.std.specs.Prelude.{◌≡◌, ℕ, ◌+◌, ◌<◌, ◌≤◌, ◌==◌, nat_lt, ◌↔◌, IsTrue, Bool, true, false, ◌&&◌, ◌||◌}
+use Rattle.std.specs.Prelude.{if◌then◌else◌, List, [], length, map, take, replicate, slice_get}
 use Rattle.std.specs.Prelude.{Option, Some, None, option_map, IfSome}
 use Rattle.std.specs.List.{list_any}
 use Rattle.fr_bus.specs.Record.{Recorded}
@@ -13,7 +14,8 @@ use Rattle.fr_core.specs.declared.tasks.Course.{Course}
 use Rattle.fr_core.specs.declared.walk.Fetches.{Fetches}
 use Rattle.fr_core.specs.declared.walk.Findings.{Findings}
 use Rattle.fr_core.specs.declared.walk.Observes.{Observes}
-use Rattle.fr_core.specs.Scripts.{Scripted, IsLine, AreLines, ScriptAgrees, is_for, deed, deed_at, deeds_of, deeds_in, frame_reply}
+use Rattle.fr_core.specs.Scripts.{Scripted, IsLine, AreLines, ScriptAgrees, is_for, deed, deed_at, deeds_of, deeds_in}
+use Rattle.fr_core.specs.Scripts.{frame_reply}
 use Rattle.fr_core.specs.Settling.{IsFirst, EachTask, IfThere, HasWindows, WindowsAgree, IsHandedAt, IsShownAt}
 use Rattle.fr_core.specs.Settling.{fetches_at, observes_at, windows_of}
 use Rattle.fr_interface.specs.Handing.{bytes_handed, offered_on}
@@ -161,7 +163,8 @@ window_at rs place = option_map (λ (r : Recorded). r.window) (slice_get rs plac
 
 -- How far what the entries give was compared with a list, after so many entries: how many these gave, and the first
 -- place at which both differ.
-pub record IsCompared {X A : Type 0} (f : List X → X → List A) (xs : List X) (ys : List A) (k place : ℕ) (found : Option ℕ) : Type 0 where
+pub record IsCompared {X A : Type 0} (f : List X → X → List A) (xs : List X) (ys : List A) (k place : ℕ)
+    (found : Option ℕ) : Type 0 where
   pub as_many : length (each_after f [] (take k xs)) ≡ place
   pub few : place ≤ k
   pub finds : FindsBelow place (λ j. slice_get (each_after f [] xs) j ≡ slice_get ys j) found
@@ -196,7 +199,8 @@ SightsNext p n rs x (Some sight) y =
     × FindsNext (window_at rs x.count ≡ Some sight.window) x.count x.window y.window
     × FindsNext (option_map (sights_of p n) (slice_get rs x.count) ≡ Some sight) x.count x.sight y.sight
 
-pub record ObservesNext (p : Parameters) (n : ℕ) (rs : List Recorded) (x : Observes) (e : Entry) (y : Observes) : Type 0 where
+pub record ObservesNext (p : Parameters) (n : ℕ) (rs : List Recorded) (x : Observes) (e : Entry)
+    (y : Observes) : Type 0 where
   pub opened : y.opened ≡ opened_after x.opened e
   pub sights : SightsNext p n rs x (sight_told x.opened e) y
 
@@ -261,20 +265,23 @@ SuitsAt scripts n xs task = (x : Course) → slice_get xs task ≡ Some x → Su
 
 -- each script that is given for the task has the lines that it did, and without a script it did nothing
 pub record AreScripts (scripts : List Scripted) (n task : ℕ) (deeds : List Deed) : Type 0 where
-  pub given : (k : ℕ) → IfSome (slice_get scripts k) (λ script. is_for n task script ≡ true → AreLines script.lines deeds)
+  pub given : (k : ℕ) → IfSome (slice_get scripts k) (λ script. is_for n task script ≡ true
+      → AreLines script.lines deeds)
   pub missing : list_any (is_for n task) scripts ≡ false → deeds ≡ []
 
 -- ---- nodes
 
 -- what is found of a node, whose interface may not be there
-pub record AreFindings (p : Parameters) (o : Option State) (rs : List Recorded) (given : List Scripted) (n : ℕ) (x : Findings) : Type 0 where
+pub record AreFindings (p : Parameters) (o : Option State) (rs : List Recorded) (given : List Scripted) (n : ℕ)
+    (x : Findings) : Type 0 where
   pub windows : IsTrue x.has_windows ↔ IfThere o (HasWindows rs)
   pub offers : Finds (λ k. IfThere o (IsHandedAt rs n k)) x.offer
   pub sights : Finds (λ k. IfThere o (IsShownAt p rs n k)) x.sight
   pub scripts : FindsTask (λ task. AreScripts given n task (deeds_in o task)) x.task
 
 -- what is found of the nodes below the number
-pub record AreDifferences (p : Parameters) (is : List State) (rs : List Recorded) (given : List Scripted) (upto : ℕ) (x : Differences) : Type 0 where
+pub record AreDifferences (p : Parameters) (is : List State) (rs : List Recorded) (given : List Scripted) (upto : ℕ)
+    (x : Differences) : Type 0 where
   pub windows : FindsBelow upto (WindowsAgree is rs) x.window
   pub offers : FindsPlaceBelow upto (λ n k. IfThere (slice_get is n) (IsHandedAt rs n k)) x.offer
   pub sights : FindsPlaceBelow upto (λ n k. IfThere (slice_get is n) (IsShownAt p rs n k)) x.sight

@@ -1,6 +1,7 @@
 //! The walk along the journal of one node, beside the record and the scripts.
 
-ghost use Rattle.std.specs.Prelude.{◌≡◌, ◌<◌, ◌≤◌, ◌+◌, ◌↔◌, IsTrue, Some, None, nat_lt, if◌then◌else◌, length, slice_get};
+ghost use Rattle.std.specs.Prelude.{◌≡◌, ◌<◌, ◌≤◌, ◌+◌, ◌↔◌, IsTrue, Some, None, nat_lt, if◌then◌else◌, length};
+ghost use Rattle.std.specs.Prelude.{slice_get};
 ghost use Rattle.std.specs.Prelude.{option_map, is_none, ◌&&◌};
 ghost use Rattle.std.specs.Option.{option_copied, option_or};
 ghost use Rattle.fr_bus.specs.Record.{seen_by};
@@ -180,7 +181,8 @@ fn is_handed_at(
 ) -> bool
     requires { slice_get interface.now.entries number ≡ Some entry.now }
     ensures { IsTrue result
-        ↔ (option_map (offers_of node) (slice_get recorded.now place) ≡ Some (handed_by interface.now number window.now)) }
+        ↔ (option_map (offers_of node) (slice_get recorded.now place)
+        ≡ Some (handed_by interface.now number window.now)) }
 {
     match sealed_at(recorded, place) {
         Some(sealed) => is_handed(interface, number, entry, window, node, sealed),
@@ -224,7 +226,8 @@ fn is_of_window(sealed: &Sealed, window: &Window) -> bool
 /// Whether the node saw this, on A and on B, by the record.
 fn is_shown(params: &Params, node: NodeId, sealed: &Sealed, a: &Seen, b: &Seen) -> bool
     ensures { IsTrue result
-        ↔ ((seen_by params.now sealed.now channel.A node ≡ a.now) × (seen_by params.now sealed.now channel.B node ≡ b.now)) }
+        ↔ ((seen_by params.now sealed.now channel.A node ≡ a.now)
+        × (seen_by params.now sealed.now channel.B node ≡ b.now)) }
 {
     sealed.seen(params, Channel::A, node) == *a && sealed.seen(params, Channel::B, node) == *b
 }
@@ -240,7 +243,8 @@ fn is_shown_at(
     b: &Seen,
 ) -> bool
     ensures { IsTrue result
-        ↔ (option_map (sights_of params.now node) (slice_get recorded.now place) ≡ Some (sight_of a.now b.now window.now)) }
+        ↔ (option_map (sights_of params.now node) (slice_get recorded.now place)
+        ≡ Some (sight_of a.now b.now window.now)) }
 {
     match sealed_at(recorded, place) {
         Some(sealed) => is_of_window(sealed, window) && is_shown(params, node, sealed, a, b),

@@ -61,8 +61,8 @@ impl World {
     /// where another step of its controller is due, and with what the one call refuses: `Host` for that of a task,
     /// `Slot` for that of a controller at its interface, and `Bus` for one at the bus. A look is refused by the bus
     /// with `NotCollecting` where no window is open for offers, and a fault of an unknown node with the bus's
-    /// `UnknownNode`. A seal alone may be refused for want of memory. The world is then unchanged. Of the world after the
-    /// event the headline promise holds.
+    /// `UnknownNode`. A seal alone may be refused for want of memory. The world is then unchanged. Of the world after
+    /// the event the headline promise holds.
     pub fn step(&mut self, event: &Event) -> Result<Reply, StepError>
         ensures step { Steps self.old event.now result self.new }
         ensures headline { Headline self.new }

@@ -1,6 +1,6 @@
-//! The tests of frames, lanes and macroticks, of the sender table and of guardians, of the bus, of the world over events,
-//! and of what a run is asked for and its scenario file. Files that are refused are tried by `scripts/commands`. They
-//! stand apart from what they test, since a crate with tests is proved twice.
+//! The tests of frames, lanes and macroticks, of the sender table and of guardians, of the bus, of the world over
+//! events, and of what a run is asked for and its scenario file. Files that are refused are tried by
+//! `scripts/commands`. They stand apart from what they test, since a crate with tests is proved twice.
 #![tactic(auto)]
 
 #[cfg(test)]

@@ -1,5 +1,6 @@
 -- Lists of passes, each at the place that is its task's number.
-use Rattle.std.proofs.Common.{◌≡◌, ℕ, ◌+◌, ◌<◌, ◌++◌, ◌∷◌, List, [], length, Some, ap, ◌∙◌, sym, subst, arith, below_more, refl}
+use Rattle.std.proofs.Common.{◌≡◌, ℕ, ◌+◌, ◌<◌, ◌++◌, ◌∷◌, List, [], length, Some, ap, ◌∙◌, sym, subst, arith}
+use Rattle.std.proofs.Common.{below_more, refl}
 use Rattle.std.proofs.Common.{length-append, get_or}
 use Rattle.std.specs.List.{All}
 use Rattle.std.specs.Prelude.{slice_get, Option}

@@ -154,8 +154,8 @@ fn microseconds<R: Clock>(rt: &R) -> u128 {
 ///
 /// Whenever the lock is free the bus is one that its own calls lead to: no static slot of a guarded channel carries two
 /// senders. Each call waits until its phase is there, and never once the run is over. After `stop` each answers
-/// `Stopped`. A look, put or take of a node that the cluster doesn't have waits for nothing. Contracts see a wire as the
-/// number of the cluster's nodes.
+/// `Stopped`. A look, put or take of a node that the cluster doesn't have waits for nothing. Contracts see a wire as
+/// the number of the cluster's nodes.
 #[derive(Drop)]
 pub struct Wire {
     nodes: u8,

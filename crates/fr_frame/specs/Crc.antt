@@ -19,8 +19,8 @@ xor_front [] bits = bits
 xor_front (m ∷ mask) [] = []
 xor_front (m ∷ mask) (bit ∷ bits) = differ m bit ∷ xor_front mask bits
 
--- One step of the division. Where the first bit is 1, the divisor is xored onto the front, which makes that bit 0. Then the
--- first bit is dropped.
+-- One step of the division. Where the first bit is 1, the divisor is xored onto the front, which makes that bit 0. Then
+-- the first bit is dropped.
 unfoldable pub divide_once : List Bool → List Bool → List Bool
 divide_once divisor [] = []
 divide_once divisor (bit ∷ bits) = drop 1 (if bit then xor_front divisor (bit ∷ bits) else bit ∷ bits)
@@ -30,9 +30,9 @@ unfoldable pub divide : List Bool → ℕ → List Bool → List Bool
 divide divisor zero bits = bits
 divide divisor (suc steps) bits = divide divisor steps (divide_once divisor bits)
 
--- The check of a message. Behind the message stand as many zeros as the check is wide, and the initial value, which is as
--- wide, is xored onto the front. Each step drops one bit, so after as many steps as the message has bits the check is what
--- remains. The divisor is the polynomial with its leading 1, one bit wider than the check.
+-- The check of a message. Behind the message stand as many zeros as the check is wide, and the initial value, which is
+-- as wide, is xored onto the front. Each step drops one bit, so after as many steps as the message has bits the check
+-- is what remains. The divisor is the polynomial with its leading 1, one bit wider than the check.
 abbrev pub remainder : List Bool → List Bool → List Bool → List Bool
 remainder divisor initial message =
     divide divisor (length message) (xor_front initial (message ++ replicate (length initial) false))

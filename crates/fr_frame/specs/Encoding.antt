@@ -11,7 +11,7 @@ use Rattle.fr_frame.specs.Spelling.{header}
 abbrev pub checked_bytes : Fields → List ℕ
 checked_bytes f = bytes_high_first 5 (number_of (header false f)) ++ f.payload
 
--- The canonical spelling of a frame on a channel. A frame is related to it by `SpellsCanonically`, and is decoded from it
--- (proofs/EncodingLemmas).
+-- The canonical spelling of a frame on a channel. A frame is related to it by `SpellsCanonically`, and is decoded from
+-- it (proofs/EncodingLemmas).
 unfoldable pub encoded : Fields → Channel → List ℕ
 encoded f channel = checked_bytes f ++ bytes_high_first 3 (number_of (frame_check channel (checked_bytes f)))

@@ -11,13 +11,14 @@ use Rattle.fr_slots.specs.Numbers.{cycle_count}
 unfoldable pub covered : Fields → List Bool
 covered f = f.sync ∷ f.startup ∷ bits_of 11 f.id ++ bits_of 7 (length f.payload / 2)
 
--- The 40 bits of a header: the reserved bit, the payload preamble indicator, the null frame indicator (1 of a data frame),
--- what the header CRC covers, the header CRC, and the cycle count.
+-- The 40 bits of a header: the reserved bit, the payload preamble indicator, the null frame indicator (1 of a data
+-- frame), what the header CRC covers, the header CRC, and the cycle count.
 unfoldable pub header : Bool → Fields → List Bool
-header reserved f = (reserved ∷ f.preamble ∷ f.has_data ∷ []) ++ covered f ++ header_check (covered f) ++ bits_of 6 f.cycle
+header reserved f = (reserved ∷ f.preamble ∷ f.has_data ∷ []) ++ covered f ++ header_check (covered f)
+    ++ bits_of 6 f.cycle
 
--- The bytes spell the frame on the channel: five bytes of header, the payload, and three bytes of frame CRC, which covers
--- all the bytes before it. The reserved bit is free.
+-- The bytes spell the frame on the channel: five bytes of header, the payload, and three bytes of frame CRC, which
+-- covers all the bytes before it. The reserved bit is free.
 pub record Spells (f : Fields) (channel : Channel) (bytes : List ℕ) : Type 0 where
   pub reserved : Bool
   pub first : List ℕ

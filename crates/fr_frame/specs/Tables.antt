@@ -11,7 +11,8 @@ row_passes test place (n ∷ row) = test place n && row_passes test (suc place) 
 -- each row has 256 numbers, each of which passes at its row, counted from here, and its place
 abbrev pub rows_pass : (ℕ → ℕ → ℕ → Bool) → ℕ → List (List ℕ) → Bool
 rows_pass test place [] = true
-rows_pass test place (row ∷ rows) = (length row == 256 && row_passes (test place) 0 row) && rows_pass test (suc place) rows
+rows_pass test place (row ∷ rows) = (length row == 256 && row_passes (test place) 0 row)
+    && rows_pass test (suc place) rows
 
 -- the test holds of all entries: of each number of zeros, each byte, and the entry there
 abbrev pub are_all : (ℕ → ℕ → ℕ → Bool) → List (List ℕ) → Bool
@@ -28,4 +29,5 @@ are_same (false ∷ xs) (false ∷ ys) = are_same xs ys
 
 -- the bits of an entry are what the byte and so many bytes of zeros after it leave of an empty register
 abbrev pub is_entry : List Bool → ℕ → ℕ → ℕ → ℕ → Bool
-is_entry divisor width zeros byte n = are_same (bits_of width n) (left_by divisor width (bits_of 8 byte ++ replicate (8 * zeros) false))
+is_entry divisor width zeros byte n = are_same (bits_of width n)
+    (left_by divisor width (bits_of 8 byte ++ replicate (8 * zeros) false))

@@ -56,11 +56,27 @@ impl Model for Frame {
 
     ghost Value = { Fields };
 
-    ghost view = { λ f. record { preamble = f.preamble; has_data = f.has_data; sync = f.sync; startup = f.startup; id = f.id; payload = f.payload; cycle = f.cycle } };
+    ghost view = { λ f. record {
+      preamble = f.preamble;
+      has_data = f.has_data;
+      sync = f.sync;
+      startup = f.startup;
+      id = f.id;
+      payload = f.payload;
+      cycle = f.cycle;
+    } };
 
     ghost invariant = { λ f. f.id < 2 ^ 11 };
 
-    ghost inverse = { λ f. record { preamble = f.preamble; has_data = f.has_data; sync = f.sync; startup = f.startup; id = f.id; payload = f.payload; cycle = f.cycle } };
+    ghost inverse = { λ f. record {
+      preamble = f.preamble;
+      has_data = f.has_data;
+      sync = f.sync;
+      startup = f.startup;
+      id = f.id;
+      payload = f.payload;
+      cycle = f.cycle;
+    } };
 }
 
 impl Frame {

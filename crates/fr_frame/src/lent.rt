@@ -30,7 +30,15 @@ impl<'a> Model for LentFrame<'a> {
 
     ghost Value = { Fields };
 
-    ghost view = { λ f. record { preamble = f.preamble; has_data = f.has_data; sync = f.sync; startup = f.startup; id = f.id; payload = f.payload.now; cycle = f.cycle } };
+    ghost view = { λ f. record {
+      preamble = f.preamble;
+      has_data = f.has_data;
+      sync = f.sync;
+      startup = f.startup;
+      id = f.id;
+      payload = f.payload.now;
+      cycle = f.cycle;
+    } };
 
     ghost invariant = { λ f. (f.id < 2 ^ 11) × IsPayload f.payload.now };
 }

@@ -1,5 +1,7 @@
--- A search by halves finds the interval in which a number lies, and a slot is open to its owner from its first macrotick on.
-use Rattle.std.proofs.Common.{◌≡◌, ℕ, ◌+◌, ◌-◌, ◌*◌, ◌<◌, ◌≤◌, ◌||◌, leb, nat_lt, not, Bool, true, false, List, length, get_or, ◌&&◌, Option, Some, slice_get}
+-- A search by halves finds the interval in which a number lies, and a slot is open to its owner from its first
+-- macrotick on.
+use Rattle.std.proofs.Common.{◌≡◌, ℕ, ◌+◌, ◌-◌, ◌*◌, ◌<◌, ◌≤◌, ◌||◌, leb, nat_lt, not, Bool, true, false, List, length}
+use Rattle.std.proofs.Common.{get_or, ◌&&◌, Option, Some, slice_get}
 use Rattle.std.proofs.Common.{refl, sym, ap, subst, ◌∙◌, inl, inr, arith}
 use Rattle.std.specs.Prelude.{IsTrue, ◌↔◌}
 use Rattle.std.specs.List.{All, AllPairs}

@@ -1,6 +1,7 @@
 //! The intervals of a cycle in which a channel is open to a node.
 
-ghost use Rattle.std.specs.Prelude.{◌≡◌, ◌≤◌, ◌+◌, ◌*◌, ◌^◌, ◌<◌, ◌++◌, ◌||◌, ◌↔◌, IsTrue, not, false, slice_index_or, length, IfOk, OnOk};
+ghost use Rattle.std.specs.Prelude.{◌≡◌, ◌≤◌, ◌+◌, ◌*◌, ◌^◌, ◌<◌, ◌++◌, ◌||◌, ◌↔◌, IsTrue, not, false, slice_index_or};
+ghost use Rattle.std.specs.Prelude.{length, IfOk, OnOk};
 ghost use Rattle.std.specs.List.{All, AllPairs};
 ghost use Rattle.fr_guardian.specs.Guarding.{IsOpenTo};
 ghost use Rattle.fr_guardian.specs.GuardianFields.{IsSlotWithin, AreOwnedSlots};

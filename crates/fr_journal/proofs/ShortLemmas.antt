@@ -1,5 +1,6 @@
 -- What is appended to a pool leaves what short entries restore from it.
-use Rattle.std.proofs.Common.{◌≡◌, ℕ, ◌+◌, ◌-◌, ◌<◌, ◌≤◌, Bool, true, false, not, cond, List, [], ◌∷◌, ◌++◌, length, take, drop, refl, sym, ap, subst}
+use Rattle.std.proofs.Common.{◌≡◌, ℕ, ◌+◌, ◌-◌, ◌<◌, ◌≤◌, Bool, true, false, not, cond, List, [], ◌∷◌, ◌++◌, length}
+use Rattle.std.proofs.Common.{take, drop, refl, sym, ap, subst}
 use Rattle.std.proofs.Common.{◌∙◌, arith, length-append, length-drop}
 use Rattle.std.specs.Prelude.{count_by, map, slice_range, vec_capacity}
 use Rattle.std.specs.List.{All}
@@ -18,7 +19,8 @@ use Rattle.fr_journal.specs.declared.short.ShortSeen.TheVariants as short_seen
 use Rattle.fr_journal.specs.Entries.{is_host, is_slot}
 use Rattle.fr_journal.specs.JournalFields.{kept_in, IsCounted}
 use Rattle.fr_journal.specs.Kept.{Kept, host_room, slot_room}
-use Rattle.fr_journal.specs.Shortened.{restored_seen, restored, bytes_in, IsStretch, IsShortSeen, IsShort, IsShortened, most_seen_bytes}
+use Rattle.fr_journal.specs.Shortened.{restored_seen, restored, bytes_in, IsStretch, IsShortSeen, IsShort, IsShortened}
+use Rattle.fr_journal.specs.Shortened.{most_seen_bytes}
 use Rattle.fr_journal.proofs.KindLemmas.{kinds_fill}
 use Rattle.fr_status.specs.declared.seen.Seen.TheVariants as seen
 

@@ -231,13 +231,14 @@ two_popped = one_popped ++ Pop 0 (from_entry 5 channel.A) ∷ []
 abbrev three_popped : List Entry
 three_popped = two_popped ++ Pop 0 None ∷ []
 
--- of three frames the first is overwritten: pops answer the second, the third and none, and then it is empty and has lost one
+-- of three frames the first is overwritten: pops answer the second, the third and none, and then it is empty and has
+-- lost one
 pub queue_overwrites_the_oldest : (popped_from three_arrived ≡ from_entry 3 channel.A) × (popped_from one_popped ≡ from_entry 5 channel.A) × (popped_from two_popped ≡ None) × (queue_length 2 (moves one_word receiver short_queue three_popped) ≡ 0) × (queue_lost one_word receiver short_queue three_popped ≡ 1)
 unfolding last_after each_after frame_in decoded bits_of number_of xor_front divide_once divide
 queue_overwrites_the_oldest = (refl, refl, refl, refl, refl)
 
--- A transmit buffer and a queue for dynamic slot 4 on channel A: what comes there goes into the queue, since only a receive
--- buffer keeps a frame from it.
+-- A transmit buffer and a queue for dynamic slot 4 on channel A: what comes there goes into the queue, since only a
+-- receive buffer keeps a frame from it.
 abbrev queue_of_slot_four : Queue
 queue_of_slot_four = record { capacity = 2; first = 4; last = 4; channels = channels.Both; cycles = every_cycle }
 

@@ -66,7 +66,8 @@ flag_in word = if bytes_eq word (codes "1") then Some true else if bytes_eq word
 
 -- a transmit buffer's mode
 unfoldable pub mode_in : List ℕ → Option Mode
-mode_in word = if bytes_eq word (codes "event") then Some mode.Event else if bytes_eq word (codes "state") then Some mode.State else None
+mode_in word = if bytes_eq word (codes "event") then Some mode.Event
+    else if bytes_eq word (codes "state") then Some mode.State else None
 
 -- at most 127 words of two bytes, or none stated
 unfoldable pub size_in : List ℕ → Option (Option ℕ)
@@ -140,7 +141,8 @@ same_slot number cycle (Some a) (Some b) = if a == b then Some (static_window nu
 
 -- a static window at minislot 0, and else a dynamic one
 abbrev pub window_of : ℕ → ℕ → ℕ → Option ℕ → Option ℕ → Option Opportunity
-window_of number cycle minislot a b = if minislot == 0 then same_slot number cycle a b else dynamic_window number cycle minislot a b
+window_of number cycle minislot a b = if minislot == 0 then same_slot number cycle a b
+    else dynamic_window number cycle minislot a b
 
 unfoldable pub window_in : List ℕ → List ℕ → List ℕ → List ℕ → List ℕ → Option Opportunity
 window_in number cycle minislot slot_a slot_b = do

@@ -39,23 +39,27 @@ end_line = codes "end"
 
 abbrev pub params_words : Parameters → List (List ℕ)
 params_words p =
-    codes "params" ∷ decimal p.static_slots ∷ decimal p.minislots ∷ decimal p.static_words ∷ decimal p.static_mt ∷ decimal p.minislot_mt
+    codes "params" ∷ decimal p.static_slots ∷ decimal p.minislots ∷ decimal p.static_words ∷ decimal p.static_mt
+    ∷ decimal p.minislot_mt
     ∷ decimal p.symbol_mt ∷ decimal p.nit_mt ∷ decimal p.cycle_mt ∷ decimal p.idle ∷ decimal p.words_per_minislot ∷ []
 
 -- the numbers of a plan; its ownership lines, buffers and queue have lines of their own
 abbrev pub node_words : Plan → List (List ℕ)
-node_words p = codes "node" ∷ decimal p.tasks ∷ decimal p.latest_a ∷ decimal p.latest_b ∷ decimal p.host_entries ∷ decimal p.slot_entries ∷ []
+node_words p = codes "node" ∷ decimal p.tasks ∷ decimal p.latest_a ∷ decimal p.latest_b ∷ decimal p.host_entries
+    ∷ decimal p.slot_entries ∷ []
 
 abbrev pub own_words : Own → List (List ℕ)
 own_words o = codes "own" ∷ decimal o.slot ∷ channels_word o.channels ∷ flag_word o.sync ∷ flag_word o.startup ∷ []
 
 abbrev pub transmit_words : List ℕ → Buffer → List (List ℕ)
 transmit_words mode b =
-    codes "tx" ∷ mode ∷ decimal b.filter.slot ∷ channels_word b.filter.channels ∷ decimal b.filter.cycles.base ∷ decimal b.filter.cycles.repetition
+    codes "tx" ∷ mode ∷ decimal b.filter.slot ∷ channels_word b.filter.channels ∷ decimal b.filter.cycles.base
+    ∷ decimal b.filter.cycles.repetition
     ∷ optional_number b.words ∷ flag_word b.preamble ∷ []
 
 abbrev pub receive_words : Filter → List (List ℕ)
-receive_words f = codes "rx" ∷ decimal f.slot ∷ channels_word f.channels ∷ decimal f.cycles.base ∷ decimal f.cycles.repetition ∷ []
+receive_words f = codes "rx" ∷ decimal f.slot ∷ channels_word f.channels ∷ decimal f.cycles.base
+    ∷ decimal f.cycles.repetition ∷ []
 
 abbrev pub words_of_mode : Mode → Buffer → List (List ℕ)
 words_of_mode Event b = transmit_words (codes "event") b
@@ -67,7 +71,8 @@ buffer_words b = words_of_mode b.mode b
 
 abbrev pub queue_words : Queue → List (List ℕ)
 queue_words q =
-    codes "queue" ∷ decimal q.capacity ∷ decimal q.first ∷ decimal q.last ∷ channels_word q.channels ∷ decimal q.cycles.base ∷ decimal q.cycles.repetition ∷ []
+    codes "queue" ∷ decimal q.capacity ∷ decimal q.first ∷ decimal q.last ∷ channels_word q.channels
+    ∷ decimal q.cycles.base ∷ decimal q.cycles.repetition ∷ []
 
 -- ---- entries
 
@@ -76,6 +81,7 @@ entry_words (Commit task buffer payload) = codes "commit" ∷ decimal task ∷ d
 entry_words (Read task buffer from) = codes "read" ∷ decimal task ∷ decimal buffer ∷ from_word from ∷ []
 entry_words (Pop task from) = codes "pop" ∷ decimal task ∷ from_word from ∷ []
 entry_words (Fetch window a b) =
-    codes "fetch" ∷ decimal window.number ∷ decimal window.cycle ∷ decimal window.minislot ∷ optional_number window.a ∷ optional_number window.b
+    codes "fetch" ∷ decimal window.number ∷ decimal window.cycle ∷ decimal window.minislot ∷ optional_number window.a
+    ∷ optional_number window.b
     ∷ offered_word a ∷ offered_word b ∷ []
 entry_words (Observe window a b) = codes "see" ∷ decimal window ∷ seen_word a ∷ seen_word b ∷ []

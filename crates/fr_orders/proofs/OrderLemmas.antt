@@ -12,7 +12,8 @@ use Rattle.clap.proofs.OnLiterals.{clap_on_literals}
 use Rattle.fr_orders.specs.declared.command.Order.{Order}
 use Rattle.fr_orders.specs.declared.command.OrderError.{OrderError}
 use Rattle.fr_orders.specs.declared.command.OrderError.TheVariants as refusal
-use Rattle.fr_orders.specs.Orders.{HasFile, IsAnswer, IsNamed, IsOrder, IsRunBy, IsWhole, cycles_in, file_in, has_run_by}
+use Rattle.fr_orders.specs.Orders.{HasFile, IsAnswer, IsNamed, IsOrder, IsRunBy, IsWhole, cycles_in, file_in}
+use Rattle.fr_orders.specs.Orders.{has_run_by}
 use Rattle.fr_orders.specs.Orders.{is_true, name_in, order_error_of, the_commands, word_in}
 use Rattle.fr_orders.specs.declared.command.Order.TheVariants as the_order
 use Rattle.fr_orders.proofs.WholeLemmas.{whole}

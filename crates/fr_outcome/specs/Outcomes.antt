@@ -62,7 +62,8 @@ Adds d cycles old new text = (outcome : List ℕ) × IsOutcome d cycles text out
 
 -- Where the text of the scenario is known, it was the outcome of a run with it that was written. A refusal but `Write`
 -- leaves the writer as it was.
-abbrev pub Prints : Description → ℕ → Option (List ℕ) → Option (List ℕ) → Option (List ℕ) → Result (Unit {0}) OutcomeError
+abbrev pub Prints : Description → ℕ → Option (List ℕ) → Option (List ℕ) → Option (List ℕ)
+    → Result (Unit {0}) OutcomeError
     → Type 0
 Prints d cycles text old new (Ok done) = IfSome text (Adds d cycles old new)
 Prints d cycles text old new (Err (refusal.Text bench.Write)) = ⊤
@@ -91,7 +92,8 @@ Answers d cycles text (Err e) = ⊥
 -- ---- a cluster file and a scenario
 
 -- The cluster file is refused so, and neither is a byte of the scenario read nor anything written.
-pub record IsFileRefused (file text rest old new : Option (List ℕ)) (answer : Result (Unit {0}) OutcomeError) : Type 0 where
+pub record IsFileRefused (file text rest old new : Option (List ℕ))
+    (answer : Result (Unit {0}) OutcomeError) : Type 0 where
   pub error : BenchError
   pub refused : IfSome file (λ bytes. IsClusterOf bytes (Err error))
   pub answer_is : answer ≡ Err (refusal.Text error)
@@ -99,7 +101,8 @@ pub record IsFileRefused (file text rest old new : Option (List ℕ)) (answer : 
   pub unwritten : new ≡ old
 
 -- The cluster file describes a cluster, with which this is what `run` does.
-pub record IsFileRun (file : Option (List ℕ)) (cycles : ℕ) (text old new : Option (List ℕ)) (answer : Result (Unit {0}) OutcomeError)
+pub record IsFileRun (file : Option (List ℕ)) (cycles : ℕ) (text old new : Option (List ℕ))
+    (answer : Result (Unit {0}) OutcomeError)
     : Type 0 where
   pub cluster : Description
   pub described : IfSome file (λ bytes. IsClusterOf bytes (Ok cluster))

@@ -1,5 +1,6 @@
 -- A line of a scenario spells at most one thing, and the words of a line that is spelled are read as that.
-use Rattle.std.proofs.Common.{◌≡◌, ℕ, ◌<◌, ◌≤◌, inl, inr, true, false, List, [], ◌∷◌, length, codes, None, Some, refl, sym, ap}
+use Rattle.std.proofs.Common.{◌≡◌, ℕ, ◌<◌, ◌≤◌, inl, inr, true, false, List, [], ◌∷◌, length, codes, None, Some, refl}
+use Rattle.std.proofs.Common.{sym, ap}
 use Rattle.std.proofs.Common.{◌∙◌, arith, if◌then◌else◌}
 use Rattle.std.specs.Fmt.{decimal}
 use Rattle.std.specs.Str.{bytes_eq}
@@ -20,11 +21,13 @@ use Rattle.fr_scenario.proofs.PartLemmas.{run_cycle_plain, cycles_takes, cycles_
 use Rattle.fr_scenario.proofs.PartLemmas.{place_again, place_plain}
 use Rattle.fr_scenario.specs.declared.spelled.SpelledLine.{SpelledLine}
 use Rattle.fr_scenario.specs.declared.spelled.SpelledLine.TheVariants.{Host, Fault as FaultOf}
-use Rattle.fr_scenario.specs.LineReading.{host_line, fault_line, commit_in, read_in, pop_in, babble_in, mute_in, corrupt_in}
+use Rattle.fr_scenario.specs.LineReading.{host_line, fault_line, commit_in, read_in, pop_in, babble_in, mute_in}
+use Rattle.fr_scenario.specs.LineReading.{corrupt_in}
 use Rattle.fr_scenario.specs.LineReading.{line_in}
 use Rattle.fr_scenario.specs.PartReading.{channel_in, run_cycle_in, cycles_in, place_in}
 use Rattle.fr_scenario.specs.Parts.{channel_word, cycles_word, place_word}
-use Rattle.fr_scenario.specs.Spelled.{IsRunCycle, IsSpelledAction, IsSpelledHost, IsSpelledFault, AreSpelledCycles, IsSpelledPlace}
+use Rattle.fr_scenario.specs.Spelled.{IsRunCycle, IsSpelledAction, IsSpelledHost, IsSpelledFault, AreSpelledCycles}
+use Rattle.fr_scenario.specs.Spelled.{IsSpelledPlace}
 use Rattle.fr_scenario.specs.Spelled.{IsSpelledLine}
 use Rattle.fr_scenario.specs.Spelling.{action_words, fault_words, line_words}
 use Rattle.fr_text.proofs.BindLemmas.{bind_some}

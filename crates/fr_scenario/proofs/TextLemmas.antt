@@ -19,11 +19,13 @@ use Rattle.fr_core.specs.declared.script.Line.{Line}
 use Rattle.fr_core.specs.Scripts.{Scripted}
 use Rattle.fr_runs.specs.declared.fault_line.FaultLine.{FaultLine}
 use Rattle.fr_scenario.proofs.TaskLemmas.{scripts_kept, faults_kept}
-use Rattle.fr_scenario.specs.Contents.{Contents, contents_of, task_lines, fault_lines, script_of, node_at, task_at, scripts_of}
+use Rattle.fr_scenario.specs.Contents.{Contents, contents_of, task_lines, fault_lines, script_of, node_at, task_at}
+use Rattle.fr_scenario.specs.Contents.{scripts_of}
 use Rattle.fr_scenario.specs.Contents.{IsUnanswered, AreUnanswered}
 use Rattle.fr_scenario.specs.Gathering.{Kept, none_yet, with_line, kept_from, scripts_from}
 use Rattle.fr_scenario.specs.declared.error.ScenarioError.{ScenarioError}
-use Rattle.fr_scenario.specs.declared.error.ScenarioError.TheVariants.{BadMagic, BadLine, TooManyLines, Truncated, Memory}
+use Rattle.fr_scenario.specs.declared.error.ScenarioError.TheVariants.{BadMagic, BadLine, TooManyLines, Truncated}
+use Rattle.fr_scenario.specs.declared.error.ScenarioError.TheVariants.{Memory}
 use Rattle.fr_scenario.specs.declared.spelled.SpelledLine.{SpelledLine}
 use Rattle.fr_scenario.specs.declared.spelled.SpelledLine.TheVariants.{Host, Fault as FaultOf}
 use Rattle.fr_scenario.specs.LineReading.{line_in}

@@ -1,6 +1,8 @@
 -- The table of senders is that of the cluster.
-use Rattle.std.proofs.Common.{◌≡◌, ℕ, zero, suc, ◌+◌, ◌-◌, ◌<◌, ◌≤◌, ◌==◌, ◌%◌, Bool, true, false, not, cond, ◌&&◌, ◌||◌}
-use Rattle.std.proofs.Common.{List, [], ◌∷◌, ◌++◌, length, get_or, map, replicate, Option, Some, None, option_map, refl, sym, ap, subst}
+use Rattle.std.proofs.Common.{◌≡◌, ℕ, zero, suc, ◌+◌, ◌-◌, ◌<◌, ◌≤◌, ◌==◌, ◌%◌, Bool, true, false, not, cond, ◌&&◌}
+use Rattle.std.proofs.Common.{◌||◌}
+use Rattle.std.proofs.Common.{List, [], ◌∷◌, ◌++◌, length, get_or, map, replicate, Option, Some, None, option_map, refl}
+use Rattle.std.proofs.Common.{sym, ap, subst}
 use Rattle.std.proofs.Common.{◌∙◌, inl, inr, arith}
 use Rattle.std.proofs.Math.Nat.{mod-one}
 use Rattle.std.proofs.lemmas.Bool.{cases_Bool, eqb-true, eq-eqb, cond-true, cond-false, and_from, and_parts, or_cases}
@@ -20,7 +22,8 @@ use Rattle.fr_slots.specs.Faults.{claims, is_owned, transmits, sends_at, transmi
 use Rattle.fr_slots.specs.Numbers.{IsSlot, number_within}
 use Rattle.fr_slots.specs.Parameters.{Parameters, is_static_slot}
 use Rattle.fr_slots.specs.Plans.{Plan, filter_admits}
-use Rattle.fr_slots.specs.Sharing.{place_of, IsFirst, is_shared, admits_at, own_filter, own_filters, buffer_filter, transmit_filters}
+use Rattle.fr_slots.specs.Sharing.{place_of, IsFirst, is_shared, admits_at, own_filter, own_filters, buffer_filter}
+use Rattle.fr_slots.specs.Sharing.{transmit_filters}
 use Rattle.fr_slots.proofs.FaultlessLemmas.{faultless}
 use Rattle.fr_schedule.proofs.ClusterLemmas.{each_at}
 use Rattle.fr_schedule.proofs.DenseLemmas.{after_taken}
@@ -30,7 +33,8 @@ use Rattle.fr_schedule.specs.declared.claims.Claim.{Claim}
 use Rattle.fr_schedule.specs.declared.claims.Lines.TheVariants.{Owned, Transmitting}
 use Rattle.fr_schedule.specs.Claims.{filter_of, filters_of, filters_by, claim_of, claims_from}
 use Rattle.fr_schedule.specs.Clusters.{IsNode, IsCluster}
-use Rattle.fr_schedule.specs.DenseTable.{nobody, at_place, node_at, is_taken, IsFree, after_claims, free, HasClaims, IsDenseTable}
+use Rattle.fr_schedule.specs.DenseTable.{nobody, at_place, node_at, is_taken, IsFree, after_claims, free, HasClaims}
+use Rattle.fr_schedule.specs.DenseTable.{IsDenseTable}
 use Rattle.fr_schedule.specs.Descriptions.{Description}
 use Rattle.fr_schedule.specs.FileFaults.{all_owned, all_buffers, first_taken, first_overlap}
 use Rattle.fr_schedule.specs.RuleFaults.{taken_fault, overlap_fault}

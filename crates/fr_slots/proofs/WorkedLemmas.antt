@@ -63,8 +63,8 @@ small_cycle = record {
 abbrev plan_with_latest : ℕ → ℕ → Plan
 plan_with_latest latest_a latest_b = empty_plan 1 latest_a latest_b 1 2
 
--- a frame of four words fills two minislots: from the ninth it ends in time, from the tenth too late, and with no latest
--- minislot it never begins
+-- a frame of four words fills two minislots: from the ninth it ends in time, from the tenth too late, and with no
+-- latest minislot it never begins
 pub four_words_end_late : (ends_late small_cycle (plan_with_latest 10 0) 4 channel.A ≡ true)
     × (ends_late small_cycle (plan_with_latest 9 0) 4 channel.A ≡ false)
     × (ends_late small_cycle (plan_with_latest 10 0) 4 channel.B ≡ false)

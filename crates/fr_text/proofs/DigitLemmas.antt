@@ -1,9 +1,11 @@
 -- Digits read by their values are those of the bytes that they make.
 use Rattle.std.proofs.Common.{◌≡◌, ◌≢◌, ℕ, zero, suc, ◌+◌, ◌*◌, ◌/◌, ◌%◌, ◌<◌, ◌≤◌, List, [], ◌∷◌, ◌++◌}
-use Rattle.std.proofs.Common.{length, get_or, set, take, slice_index, Some, None, refl, sym, ap, subst, ◌∙◌, arith, bit_or}
+use Rattle.std.proofs.Common.{length, get_or, set, take, slice_index, Some, None, refl, sym, ap, subst, ◌∙◌, arith}
+use Rattle.std.proofs.Common.{bit_or}
 use Rattle.std.proofs.Common.{inl, inr, lit<, drop, take-add, replicate, ◌-◌}
 use Rattle.std.proofs.lemmas.Bool.{le-leb, cases_lt}
-use Rattle.std.proofs.lemmas.List.{get_or-set_same, get_or-set_other, take_all, drop-drop, take-append-drop, get_or-drop}
+use Rattle.std.proofs.lemmas.List.{get_or-set_same, get_or-set_other, take_all, drop-drop, take-append-drop}
+use Rattle.std.proofs.lemmas.List.{get_or-drop}
 use Rattle.std.proofs.lemmas.List.{get_or_append_left}
 use Rattle.std.proofs.lemmas.Simd.{get_or-chunk, get_or-replicate}
 use Rattle.std.proofs.Math.Seq.{get_or-append_right, take-append_seam}

@@ -1,11 +1,13 @@
 -- A word is the decimal text of at most one number, and `parse` finds it.
 use Rattle.std.proofs.Common.{◌≡◌, ◌≢◌, ℕ, ◌<◌, ◌≤◌, ◌^◌, ◌&&◌, inl, inr, true, false, List, [], ◌∷◌, length, get_or}
-use Rattle.std.proofs.Common.{Some, None, Result, Ok, Err, refl, sym, ap, subst, ◌∙◌, arith, ltb, leb, ◌+◌, ◌*◌, ◌%◌, take, length-take}
+use Rattle.std.proofs.Common.{Some, None, Result, Ok, Err, refl, sym, ap, subst, ◌∙◌, arith, ltb, leb, ◌+◌, ◌*◌, ◌%◌}
+use Rattle.std.proofs.Common.{take, length-take}
 use Rattle.std.proofs.lemmas.Bool.{and_parts, cases_Bool, cases_lt, ltb-true, lt-ltb, le-leb}
 use Rattle.std.proofs.lemmas.Fmt.{parse-decimal, decimal-digits_value, first_decimal, decimal_digit, digits_decimal}
 use Rattle.std.proofs.lemmas.Fmt.{digits_value-decimal, IsAscii-decimal, decimal_nonempty}
 use Rattle.std.proofs.lemmas.Str.{IsUtf8-from_ascii, digit_value_digit}
-use Rattle.std.proofs.lemmas.Str.Parse.{IsNumeralModel, numerals_by_value, tells_digits, parse_plain, digit_at, digits_value_short}
+use Rattle.std.proofs.lemmas.Str.Parse.{IsNumeralModel, numerals_by_value, tells_digits, parse_plain, digit_at}
+use Rattle.std.proofs.lemmas.Str.Parse.{digits_value_short}
 use Rattle.std.proofs.lemmas.Int.Digits.{digits_value_more, digits_more}
 use Rattle.std.proofs.lemmas.Slice.Eq.{bytes_eq-Decides}
 use Rattle.std.proofs.lemmas.Result.{OkIff-at_ok}

@@ -13,9 +13,11 @@ AreDigits count digits = (k : ℕ) → k < count → IsDigit (slice_index digits
 -- these are the values of the first so many digits
 abbrev pub AreValues : ℕ → List ℕ → List ℕ → Type 0
 AreValues count values digits =
-    (k : ℕ) → k < count → (slice_index values k < 16) × (slice_index lower_digits (slice_index values k) ≡ slice_index digits k)
+    (k : ℕ) → k < count → (slice_index values k < 16) × (slice_index lower_digits (slice_index values k)
+    ≡ slice_index digits k)
 
 -- each of the first so many bytes is made of two values
 abbrev pub ArePacked : ℕ → List ℕ → List ℕ → Type 0
 ArePacked count values bytes =
-    (k : ℕ) → k < count → (slice_index bytes k / 16 ≡ slice_index values (2 * k)) × (slice_index bytes k % 16 ≡ slice_index values (2 * k + 1))
+    (k : ℕ) → k < count → (slice_index bytes k / 16 ≡ slice_index values (2 * k))
+    × (slice_index bytes k % 16 ≡ slice_index values (2 * k + 1))

@@ -1,5 +1,6 @@
 -- The numbers and bytes that words spell. Each has one spelling.
-use Rattle.std.specs.Prelude.{ℕ, ◌==◌, nat_lt, nat_le, Bool, true, false, ◌&&◌, List, [], ◌∷◌, length, Option, Some, None, Result, Ok, Err}
+use Rattle.std.specs.Prelude.{ℕ, ◌==◌, nat_lt, nat_le, Bool, true, false, ◌&&◌, List, [], ◌∷◌, length, Option, Some}
+use Rattle.std.specs.Prelude.{None, Result, Ok, Err}
 use Rattle.std.specs.Prelude.{if◌then◌else◌}
 use Rattle.std.specs.Fmt.{decimal}
 use Rattle.std.specs.Str.{bytes_eq}
@@ -27,7 +28,8 @@ number_in bound word =
 -- at most so many bytes, whose lower-case digits these are
 abbrev pub bytes_as : ℕ → List ℕ → Result (List ℕ) FromHexError → Option (List ℕ)
 bytes_as most digits (Err e) = None
-bytes_as most digits (Ok bytes) = if bytes_eq (encode_lower bytes) digits && nat_le (length bytes) most then Some bytes else None
+bytes_as most digits (Ok bytes) = if bytes_eq (encode_lower bytes) digits
+    && nat_le (length bytes) most then Some bytes else None
 
 -- at most so many bytes that are spelled so
 unfoldable pub bytes_in : ℕ → List ℕ → Option (List ℕ)

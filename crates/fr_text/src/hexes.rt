@@ -1,5 +1,6 @@
 //! The bytes that words spell: the letter `x`, and two lower-case hexadecimal digits for each byte.
-ghost use Rattle.std.specs.Prelude.{ℕ, List, ◌≡◌, ◌+◌, ◌-◌, ◌<◌, ◌≤◌, ◌++◌, length, option_map, replicate, slice_index, max};
+ghost use Rattle.std.specs.Prelude.{ℕ, List, ◌≡◌, ◌+◌, ◌-◌, ◌<◌, ◌≤◌, ◌++◌, length, option_map, replicate, slice_index};
+ghost use Rattle.std.specs.Prelude.{max};
 ghost use Rattle.arrayvec.specs.ArrayVec.{array_vec_len};
 ghost use Rattle.fr_text.specs.Digits.{AreDigits, AreValues, ArePacked};
 ghost use Rattle.fr_text.specs.Writing.{Writes};

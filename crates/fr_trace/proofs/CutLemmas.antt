@@ -1,12 +1,14 @@
 -- A line that is taken at once is what its bytes make one after another.
-use Rattle.std.proofs.Common.{◌≡◌, ◌≢◌, ℕ, zero, suc, ◌+◌, ◌<◌, ◌≤◌, ◌==◌, true, false, not, inl, inr, List, [], ◌∷◌, ◌++◌}
+use Rattle.std.proofs.Common.{◌≡◌, ◌≢◌, ℕ, zero, suc, ◌+◌, ◌<◌, ◌≤◌, ◌==◌, true, false, not, inl, inr, List, [], ◌∷◌}
+use Rattle.std.proofs.Common.{◌++◌}
 use Rattle.std.proofs.Common.{length, get_or, take, drop, refl, sym, ap, ◌∙◌, arith, subst, append_assoc, length-append}
 use Rattle.std.proofs.lemmas.Bool.{and_parts, cases_Bool, eq-eqb, eqb-true}
 use Rattle.std.proofs.lemmas.Bool.Decides.{nat_tests}
 use Rattle.std.proofs.lemmas.List.Folds.{fold_stays}
 use Rattle.fr_text.specs.Plain.{is_feed, has_no_feed}
 use Rattle.fr_trace.specs.Feeds.{Reads, EndsLine, held, with_line}
-use Rattle.fr_trace.specs.Stream.{Phase, Progress, magic, params, node, lines, body, reading, failed, finished, take_byte, take_bytes, take_in, too_long}
+use Rattle.fr_trace.specs.Stream.{Phase, Progress, magic, params, node, lines, body, reading, failed, finished}
+use Rattle.fr_trace.specs.Stream.{take_byte, take_bytes, take_in, too_long}
 use Rattle.fr_trace.specs.Stream.{longest_line, line_number}
 use Rattle.fr_trace.specs.declared.error.TraceError.{TraceError}
 use Rattle.fr_trace.specs.declared.error.TraceError.TheVariants.{BadLine}

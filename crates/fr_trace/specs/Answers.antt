@@ -54,7 +54,8 @@ made_by s (Observe window a b) = Observe window a b
 abbrev pub same_answer : Entry → Entry → Bool
 same_answer (Read task buffer made) (Read t b told) = same_origin made told
 same_answer (Pop task made) (Pop t told) = same_origin made told
-same_answer (Fetch window made_a made_b) (Fetch w told_a told_b) = same_offered made_a told_a && same_offered made_b told_b
+same_answer (Fetch window made_a made_b) (Fetch w told_a told_b) = same_offered made_a told_a
+    && same_offered made_b told_b
 same_answer made told = true
 
 -- the entry of a call, if there is one, has the answers that the trace tells
@@ -68,4 +69,5 @@ is_answered s e = same_answer (made_by s e) e
 
 -- why an entry can't stand on the line of this number
 abbrev pub fault_of : ℕ → State → Entry → Option TraceError
-fault_of line s e = if is_refused s e then Some (Refused line) else if is_answered s e then None else Some (WrongAnswer line)
+fault_of line s e = if is_refused s e then Some (Refused line) else if is_answered s e then None
+    else Some (WrongAnswer line)

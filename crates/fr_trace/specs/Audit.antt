@@ -38,8 +38,9 @@ abbrev pub HasBegin : Option (List ℕ) → Type 0
 HasBegin None = Unit {0}
 HasBegin (Some text) = Begins fresh text
 
--- The text is that of a legal interface, whose report is written, or the writer failed at that. Or nothing is written, and
--- the text is refused by its first line at fault, or memory ran out as the text's interface was made, or the reader failed.
+-- The text is that of a legal interface, whose report is written, or the writer failed at that. Or nothing is written,
+-- and the text is refused by its first line at fault, or memory ran out as the text's interface was made, or the reader
+-- failed.
 abbrev pub Audits : Option (List ℕ) → Option (List ℕ) → Option (List ℕ) → Result (Unit {0}) TraceError → Type 0
 Audits text old new (Ok x) = (s : State) × IsTextOf s text × IsLegalInterface s × Appends old new (report_text s)
 Audits text old new (Err Write) = (s : State) × IsTextOf s text × IsLegalInterface s
@@ -60,7 +61,8 @@ StopsEarly text rest = (front : List ℕ) × (text ≡ front ++ rest) × HasNoFa
 -- It is the last piece that decides: no fault shows before it, and of what comes after it nothing was read.
 abbrev pub StopsIn : (List ℕ → List ℕ → Type 0) → List ℕ → List ℕ → Type 0
 StopsIn Decides text rest =
-    (front : List ℕ) × (piece : List ℕ) × (text ≡ front ++ (piece ++ rest)) × (length piece ≤ 4096) × HasNoFault front × Decides front piece
+    (front : List ℕ) × (piece : List ℕ) × (text ≡ front ++ (piece ++ rest)) × (length piece ≤ 4096) × HasNoFault front
+    × Decides front piece
 
 -- all was read, and no fault showed before the end
 abbrev pub StopsAtEnd : List ℕ → List ℕ → Type 0
@@ -96,7 +98,8 @@ Through text rest (Ok s) = StopsAtEnd text rest × (outcome_of (take_bytes fresh
 Through text rest (Err Write) = ⊥
 Through text rest (Err Read) = StopsEarly text rest
 Through text rest (Err Memory) = StopsIn BeginsIn text rest
-Through text rest (Err e) = (outcome_of (take_bytes fresh text) ≡ Err e) × (StopsAtEnd text rest ⊎ StopsIn (FailsIn e) text rest)
+Through text rest (Err e) = (outcome_of (take_bytes fresh text) ≡ Err e)
+    × (StopsAtEnd text rest ⊎ StopsIn (FailsIn e) text rest)
 
 abbrev pub IsNotWrite : Result State TraceError → Type 0
 IsNotWrite (Err Write) = ⊥
@@ -109,8 +112,10 @@ ReadsThrough (Some text) None r = ⊥
 ReadsThrough (Some text) (Some rest) r = Through text rest r
 
 -- what is left of reader and writer
-abbrev pub Leaves : Option (List ℕ) → Option (List ℕ) → Option (List ℕ) → Option (List ℕ) → Result (Unit {0}) TraceError → Type 0
-Leaves text rest old new (Ok x) = (s : State) × ReadsThrough text rest (Ok s) × IsLegalInterface s × Appends old new (report_text s)
+abbrev pub Leaves : Option (List ℕ) → Option (List ℕ) → Option (List ℕ) → Option (List ℕ)
+    → Result (Unit {0}) TraceError → Type 0
+Leaves text rest old new (Ok x) = (s : State) × ReadsThrough text rest (Ok s) × IsLegalInterface s
+    × Appends old new (report_text s)
 Leaves text rest old new (Err Write) = (s : State) × ReadsThrough text rest (Ok s) × IsLegalInterface s
 Leaves text rest old new (Err e) = ReadsThrough text rest (Err e) × Keeps old new
 
@@ -121,8 +126,8 @@ abbrev pub outcome : {A : Type 0} → Result A TraceError → Result (Unit {0}) 
 outcome (Ok x) = Ok tt
 outcome (Err e) = Err e
 
--- The text is that of the legal interface which is given. Or it is refused by its first line at fault, or memory ran out as
--- the text's interface was made, or the reader failed.
+-- The text is that of the legal interface which is given. Or it is refused by its first line at fault, or memory ran
+-- out as the text's interface was made, or the reader failed.
 abbrev pub Understands : Option (List ℕ) → Result State TraceError → Type 0
 Understands text (Ok s) = IsTextOf s text × IsLegalInterface s
 Understands text (Err Write) = ⊥

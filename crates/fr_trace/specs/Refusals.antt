@@ -22,8 +22,8 @@ line_of_error e = None
 abbrev pub feed_count : List ℕ → ℕ
 feed_count bytes = count_by (λ b. b == 10) bytes
 
--- The text's first fault is this one, and it shows with this byte: not in the bytes before it, and whatever comes after it.
--- Lines are counted from 1, so the line of that byte is one more than the line feeds before it.
+-- The text's first fault is this one, and it shows with this byte: not in the bytes before it, and whatever comes after
+-- it. Lines are counted from 1, so the line of that byte is one more than the line feeds before it.
 pub record IsFirstFault (e : TraceError) (text before : List ℕ) (b : ℕ) (after : List ℕ) : Type 0 where
   pub parts : text ≡ before ++ b ∷ after
   pub none_before : HasNoFault before
@@ -32,7 +32,8 @@ pub record IsFirstFault (e : TraceError) (text before : List ℕ) (b : ℕ) (aft
 
 -- where the error names a line, it is that of the byte with which the first fault of the text shows
 abbrev pub NamesItsLine : TraceError → List ℕ → Type 0
-NamesItsLine e text = IfSome (line_of_error e) (λ n. (before : List ℕ) × (b : ℕ) × (after : List ℕ) × IsFirstFault e text before b after)
+NamesItsLine e text = IfSome (line_of_error e) (λ n. (before : List ℕ) × (b : ℕ) × (after : List ℕ)
+    × IsFirstFault e text before b after)
 
 abbrev pub LineIsNamed : {A : Type 0} → Result A TraceError → List ℕ → Type 0
 LineIsNamed (Ok x) text = Unit {0}
@@ -51,8 +52,8 @@ HopelessIfRefused (Err e) bytes = IsOfText e → IsHopeless bytes
 
 -- ---- how long a text can be
 
--- Magic, parameters and the plan's numbers, the plan's ownership lines, buffers and queue, begin, the entries, and end: each
--- of them has at most as many bytes as the longest line, and a line feed.
+-- Magic, parameters and the plan's numbers, the plan's ownership lines, buffers and queue, begin, the entries, and end:
+-- each of them has at most as many bytes as the longest line, and a line feed.
 abbrev pub longest_text : ℕ
 longest_text = (3 + (most_lines + most_lines + 1) + 1 + most_entries + 1) * (longest_line + 1)
 

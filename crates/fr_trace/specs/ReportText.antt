@@ -22,18 +22,21 @@ use Rattle.fr_lines.specs.Spelling.{line_text}
 
 abbrev pub tally_words : ℕ → Tally → List (List ℕ)
 tally_words number tally =
-    codes "tx" ∷ decimal number ∷ decimal tally.committed ∷ decimal tally.sent ∷ decimal tally.overwritten ∷ decimal tally.pending ∷ []
+    codes "tx" ∷ decimal number ∷ decimal tally.committed ∷ decimal tally.sent ∷ decimal tally.overwritten
+    ∷ decimal tally.pending ∷ []
 
 abbrev pub held_words : ℕ → Option Arrival → List (List ℕ)
 held_words number None = codes "rx" ∷ decimal number ∷ absent ∷ absent ∷ []
-held_words number (Some arrival) = codes "rx" ∷ decimal number ∷ origin_word arrival.origin ∷ hex_text arrival.frame.payload ∷ []
+held_words number (Some arrival) = codes "rx" ∷ decimal number ∷ origin_word arrival.origin
+    ∷ hex_text arrival.frame.payload ∷ []
 
 abbrev pub queue_report_words : ℕ → ℕ → List (List ℕ)
 queue_report_words length lost = codes "queue" ∷ decimal length ∷ decimal lost ∷ []
 
 abbrev pub channel_words : Channel → StatusCounts → List (List ℕ)
 channel_words channel counts =
-    letter_of channel ∷ decimal counts.valid ∷ decimal counts.syntax_errors ∷ decimal counts.content_errors ∷ decimal counts.boundary_violations ∷ decimal counts.conflicts ∷ []
+    letter_of channel ∷ decimal counts.valid ∷ decimal counts.syntax_errors ∷ decimal counts.content_errors
+    ∷ decimal counts.boundary_violations ∷ decimal counts.conflicts ∷ []
 
 -- the end of a channel's line, after its first two counts
 abbrev pub errors_text : ℕ → ℕ → ℕ → List ℕ
@@ -53,7 +56,8 @@ counts_in counts = record {
 
 -- what became of the commits of a transmit buffer, or what a receive buffer holds
 abbrev pub report_words : State → ℕ → Buffer → List (List ℕ)
-report_words s number b = if is_receive b.mode then held_words number (held s.params b.filter s.entries) else tally_words number (tally_of number s.entries)
+report_words s number b = if is_receive b.mode then held_words number (held s.params b.filter s.entries)
+    else tally_words number (tally_of number s.entries)
 
 abbrev pub buffer_report : State → ℕ → Buffer → List ℕ
 buffer_report s number b = line_text (report_words s number b)
@@ -71,7 +75,8 @@ reports_from s number (b ∷ buffers) = buffer_report s number b ++ reports_from
 -- the line of the queue, where there is one
 abbrev pub queue_report : State → Option Queue → List ℕ
 queue_report s None = []
-queue_report s (Some q) = line_text (queue_report_words (queue_length q.capacity (moves s.params s.plan q s.entries)) (queue_lost s.params s.plan q s.entries))
+queue_report s (Some q) = line_text (queue_report_words (queue_length q.capacity (moves s.params s.plan q s.entries))
+    (queue_lost s.params s.plan q s.entries))
 
 abbrev pub channel_report : State → Channel → List ℕ
 channel_report s channel = line_text (channel_words channel (counts_of s.params channel s.entries))

@@ -77,14 +77,16 @@ after_queue p plan q = if is_none (queue_refusal plan q) then Ok (lines p (with_
 
 -- buffers stand before the queue, and there is room for 64
 abbrev pub after_buffer : Parameters → Plan → Buffer → Result Phase TraceError
-after_buffer p plan b = if is_none plan.queue && is_none (buffer_refusal plan b) then Ok (lines p (with_buffer plan b)) else bad_line plan
+after_buffer p plan b = if is_none plan.queue && is_none (buffer_refusal plan b) then Ok (lines p (with_buffer plan b))
+    else bad_line plan
 
 -- ownership lines stand before the buffers and the queue, and there is room for 64
 abbrev pub has_owned_alone : Plan → Bool
 has_owned_alone plan = length plan.buffers == 0 && is_none plan.queue
 
 abbrev pub after_own : Parameters → Plan → Own → Result Phase TraceError
-after_own p plan o = if has_owned_alone plan && is_none (own_refusal plan o) then Ok (lines p (with_own plan o)) else bad_line plan
+after_own p plan o = if has_owned_alone plan && is_none (own_refusal plan o) then Ok (lines p (with_own plan o))
+    else bad_line plan
 
 -- an ownership line, a buffer, the queue, or none of these
 abbrev pub after_plan_line : Parameters → Plan → Option PlanLine → Result Phase TraceError
@@ -96,7 +98,8 @@ after_plan_line p plan (Some (plan_line.Queue q)) = after_queue p plan q
 -- an interface is made where the plan has no fault
 abbrev pub after_begin : Parameters → Plan → Result Phase TraceError
 after_begin p plan =
-    if is_none (plan_fault p plan) then Ok (body (record { params = p; plan = plan; entries = [] })) else Err (Refused (line_count plan + 4))
+    if is_none (plan_fault p plan) then Ok (body (record { params = p; plan = plan; entries = [] }))
+    else Err (Refused (line_count plan + 4))
 
 abbrev pub after_fault : State → Entry → Option TraceError → Result Phase TraceError
 after_fault s e None = Ok (body (with_entry s (made_by s e)))
@@ -115,7 +118,8 @@ abbrev pub take_line : Phase → List ℕ → Result Phase TraceError
 take_line magic line = if bytes_eq line first_line then Ok params else Err BadMagic
 take_line params line = after_numbers (params_in (words_of line))
 take_line (node p) line = after_node p (node_in (words_of line))
-take_line (lines p plan) line = if bytes_eq line begin_line then after_begin p plan else after_plan_line p plan (plan_line_in (words_of line))
+take_line (lines p plan) line = if bytes_eq line begin_line then after_begin p plan
+    else after_plan_line p plan (plan_line_in (words_of line))
 take_line (body s) line = if bytes_eq line end_line then Ok (finished s) else after_entry s (entry_in (words_of line))
 take_line (finished s) line = Err (BadLine (line_number (finished s)))
 

@@ -38,7 +38,8 @@ numbers_text params plan = params_text params ++ line_text (node_words plan)
 -- ownership lines, buffers and queue, in this order
 abbrev pub plan_text : Parameters → Plan → List ℕ
 plan_text params plan =
-    numbers_text params plan ++ flat_map own_line plan.owned ++ flat_map buffer_line plan.buffers ++ queue_lines plan.queue
+    numbers_text params plan ++ flat_map own_line plan.owned ++ flat_map buffer_line plan.buffers
+    ++ queue_lines plan.queue
 
 abbrev pub begin_text : Parameters → Plan → List ℕ
 begin_text params plan = plan_text params plan ++ (begin_line ++ line_feed)

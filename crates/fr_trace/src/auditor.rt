@@ -195,7 +195,8 @@ fn entry_line(
     bytes: &mut EntryBytes,
     line: &[u8],
 ) -> Result<(), TraceError>
-    ensures { GivesPhase (λ done. body interface.new) result (after_entry interface.old (entry_in (words_of line.now))) }
+    ensures { GivesPhase (λ done. body interface.new) result
+        (after_entry interface.old (entry_in (words_of line.now))) }
 {
     let number = lines_of(interface) + 5;
     match entry_into(line, bytes) {

@@ -1,5 +1,6 @@
 -- The commands are of the kind of which `clap` tells all faults, and so the answer is the one that is due.
-use Rattle.std.proofs.Common.{◌≡◌, [], ◌∷◌, List, Option, Some, None, Err, refl, ap, sym, ◌∙◌, arith, inl, inr, true, false}
+use Rattle.std.proofs.Common.{◌≡◌, [], ◌∷◌, List, Option, Some, None, Err, refl, ap, sym, ◌∙◌, arith, inl, inr, true}
+use Rattle.std.proofs.Common.{false}
 use Rattle.std.specs.Prelude.{IfSome, IfNone}
 use Rattle.std.specs.Option.{ok_or}
 use Rattle.clap.specs.Values.{kind_of}

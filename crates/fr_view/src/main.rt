@@ -1,5 +1,5 @@
-//! The bench's program for looking at things. It reads its command from the words after its name, does it, and says by its
-//! exit status how it went: 0 where it is done, 1 where an input is refused, 2 where the words are no command.
+//! The bench's program for looking at things. It reads its command from the words after its name, does it, and says by
+//! its exit status how it went: 0 where it is done, 1 where an input is refused, 2 where the words are no command.
 //!
 //! What it prints on standard output comes only once the command has accepted all its input. A refusal is one line on
 //! standard error.
@@ -29,7 +29,8 @@ use std::rt::Env;
 use std::{env, io};
 
 /// What the program prints where it is asked for help.
-const HELP: &str = "fr_view capture < TRACE > CAPTURE   what a controller saw, as a capture that Wireshark opens
+const HELP: &str =
+    "fr_view capture < TRACE > CAPTURE   what a controller saw, as a capture that Wireshark opens
 fr_view frames < TRACE              the same as a table
 fr_view --help                      these lines
 ";
@@ -53,18 +54,8 @@ fn carry_out<R: Input + Print + AllocGlobal>(rt: &R, order: Order) -> Result<(),
     let alloc = rt.alloc();
     let mut output = io::writer(rt);
     match order {
-        Order::Capture => Ok(show_trace(
-            alloc,
-            Form::Capture,
-            &mut rt.reader(),
-            &mut output,
-        )?),
-        Order::Frames => Ok(show_trace(
-            alloc,
-            Form::Table,
-            &mut rt.reader(),
-            &mut output,
-        )?),
+        Order::Capture => Ok(show_trace(alloc, Form::Capture, &mut rt.reader(), &mut output)?),
+        Order::Frames => Ok(show_trace(alloc, Form::Table, &mut rt.reader(), &mut output)?),
         Order::Help => match io::Write::write_all(&mut output, HELP.as_bytes()) {
             Ok(()) => Ok(()),
             Err(_) => Err(Failure::Write),

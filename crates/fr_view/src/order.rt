@@ -51,8 +51,8 @@ fn is_help(words: &[&str]) -> bool
 
 /// The order that the words after the program's name give (own profile).
 ///
-/// Refused with `Memory` where memory for the parse was refused, and else with `Usage` for all words that are no command.
-/// A call for help is the word `--help` alone.
+/// Refused with `Memory` where memory for the parse was refused, and else with `Usage` for all words that are no
+/// command. A call for help is the word `--help` alone.
 pub fn order(alloc: Global, words: &[&str]) -> Result<Order, OrderError>
     ensures { IsAnswer (map (λ word. word.now) words.now) result }
 {

@@ -1,7 +1,8 @@
 use Rattle.std.proofs.Common.{◌≡◌, length, sym, subst, ◌∙◌, arith}
 use Rattle.fr_bus.specs.Record.{Recorded}
 use Rattle.fr_core.proofs.ScriptLemmas.{courses_first, whole_at, task_found}
-use Rattle.fr_core.proofs.WalkLemmas.{none_past, fetches_first, fetches_on, observes_first, observes_on, finds_rest, windows_told}
+use Rattle.fr_core.proofs.WalkLemmas.{none_past, fetches_first, fetches_on, observes_first, observes_on, finds_rest}
+use Rattle.fr_core.proofs.WalkLemmas.{windows_told}
 use Rattle.fr_core.specs.Agreeing.{handed_at, sight_at, offers_of, sights_of}
 use Rattle.fr_core.specs.Scripts.{deeds_of}
 use Rattle.fr_core.specs.Settling.{fetches_at, observes_at}

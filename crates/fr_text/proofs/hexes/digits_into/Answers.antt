@@ -1,10 +1,13 @@
-use Rattle.std.proofs.Common.{◌≡◌, ◌<◌, ◌+◌, ◌*◌, ◌/◌, ◌%◌, ◌++◌, ℕ, [], length, get_or, take, drop, ap, arith, sym, refl, ◌∙◌, lit<, max, inl, inr, rules}
+use Rattle.std.proofs.Common.{◌≡◌, ◌<◌, ◌+◌, ◌*◌, ◌/◌, ◌%◌, ◌++◌, ℕ, [], length, get_or, take, drop, ap, arith, sym}
+use Rattle.std.proofs.Common.{refl, ◌∙◌, lit<, max, inl, inr, rules}
 use Rattle.std.proofs.Math.Nat.{le-max_left, le-max_right}
 use Rattle.std.proofs.lemmas.Bool.{cases_lt, lt-ltb, le-ltb}
 use Rattle.std.proofs.lemmas.List.{length-append}
 use Rattle.hex.specs.Hex.{encode_lower}
-use Rattle.fr_text.proofs.DigitLemmas.{missing_long, missing_odd, bytes_found, bytes_missing, spelled_length, digits_of_bytes}
-use Rattle.fr_text.proofs.DigitLemmas.{block_at, take_block, encode-none, encode-append, digits_in_block, digits_in_last, blocks_spelled}
+use Rattle.fr_text.proofs.DigitLemmas.{missing_long, missing_odd, bytes_found, bytes_missing, spelled_length}
+use Rattle.fr_text.proofs.DigitLemmas.{digits_of_bytes}
+use Rattle.fr_text.proofs.DigitLemmas.{block_at, take_block, encode-none, encode-append, digits_in_block}
+use Rattle.fr_text.proofs.DigitLemmas.{digits_in_last, blocks_spelled}
 use Rattle.fr_text.proofs.DigitLemmas.{IsBytes-append, IsBytes-take}
 use Rattle.fr_text.proofs.hexes.digits_into.Goals as goal
 
