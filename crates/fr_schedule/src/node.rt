@@ -12,6 +12,7 @@ ghost use Rattle.toml.specs.View.{view, table_view};
 use crate::table::{
     channels_in, cycles_in, flag_at, mode_in, number_at, number_or, slot_at, tables_at,
 };
+use fr_params::table::value_under;
 use fr_slots::filter::Filter;
 use fr_slots::numbers::{LAST_SLOT, SlotId, TASKS};
 use fr_slots::params::{MOST_WORDS, Params};
