@@ -1,16 +1,18 @@
 -- The commands are of the kind of which `clap` tells all faults, and so the answer is the one that is due.
-use Rattle.std.proofs.Common.{◌≡◌, [], ◌∷◌, List, Option, Some, None, Err, refl, ap, sym, ◌∙◌, arith, inl, inr, true}
-use Rattle.std.proofs.Common.{false}
+use Rattle.std.proofs.Common.{◌≡◌, [], ◌∷◌, List, Option, Some, None, Err, refl, ap, ap₂, sym, subst, ◌∙◌, arith, inl, inr, true, false}
+use Rattle.std.proofs.Common.{◌&&◌, codes, is_some, option_map}
 use Rattle.std.specs.Prelude.{IfSome, IfNone}
 use Rattle.std.specs.Option.{ok_or}
 use Rattle.clap.specs.Values.{kind_of}
-use Rattle.clap.specs.Words.{HasKind, IsAmong, Kinds, Row, Text, fault_of, is_simple, is_simple_and_free, subcommand_of}
+use Rattle.clap.specs.Words.{HasKind, IsAmong, Kinds, Row, Text, fault_of, first_of, is_simple, is_simple_and_free, subcommand_of}
 use Rattle.clap.specs.declared.error.Error.{Error}
 use Rattle.clap.proofs.OnLiterals.{clap_on_literals}
 use Rattle.fr_view.specs.declared.command.Order.{Order}
+use Rattle.fr_view.specs.declared.command.Order.TheVariants as the_order
 use Rattle.fr_view.specs.declared.command.OrderError.{OrderError}
 use Rattle.fr_view.specs.declared.command.OrderError.TheVariants as refusal
-use Rattle.fr_view.specs.Orders.{IsAnswerTo, IsOrder, asks, order_error_of, the_commands}
+use Rattle.fr_view.specs.Orders.{IsAnswerTo, IsNamed, IsOrder, IsScheduleBy, asks, cycle_asked, has_schedule_by}
+use Rattle.fr_view.specs.Orders.{order_error_of, the_commands, word_in}
 
 pub are_simple : is_simple the_commands ≡ true
 unfolding clap_on_literals
@@ -35,3 +37,45 @@ pub taken_for : (words : List Text) (found : Option Order) → fault_of the_comm
     → IfNone found (asks (subcommand_of the_commands words) ≡ false) → IsAnswerTo words (ok_or found refusal.Usage)
 taken_for words (Some order) none told nothing = (none, told)
 taken_for words None none told nothing = inr nothing
+
+-- ---- a picture
+
+-- where the rows of the entered command are known, so are its words
+pub word_of_rows : (entered : Option (Text × List Row)) (rows : List Row) (id : Text)
+    → option_map (λ p. p.1) entered ≡ Some rows → word_in entered id ≡ first_of id rows
+word_of_rows None rows id are = cc are
+word_of_rows (Some (name, entered)) rows id are = let is : entered ≡ rows = cc are in rw is refl
+
+-- what is asked for by words is asked for by the same words
+pub has_alike : (f g : Text → Option Text) → ((id : Text) → f id ≡ g id) → has_schedule_by f ≡ has_schedule_by g
+has_alike f g same =
+    ap₂ (λ a b. a && b) (ap is_some (same (codes "FILE"))) (ap (λ w. is_some (cycle_asked w)) (same (codes "cycle")))
+
+schedule_alike : (f g : Text → Option Text) → ((id : Text) → f id ≡ g id) → (o : Order) → IsScheduleBy f o → IsScheduleBy g o
+schedule_alike f g same the_order.Capture is = is
+schedule_alike f g same the_order.Frames is = is
+schedule_alike f g same the_order.Help is = is
+schedule_alike f g same (the_order.Schedule file cycle) is =
+    (sym (same (codes "FILE")) ∙ is.0, ap cycle_asked (sym (same (codes "cycle"))) ∙ is.1)
+
+pub schedule_told : (entered : Option (Text × List Row)) (look : Text → Option Text) (found : Option Order) → IsNamed (codes "schedule") entered
+    → ((id : Text) → look id ≡ word_in entered id) → IfSome found (IsScheduleBy look) → IfSome found (IsOrder entered)
+schedule_told entered look None named same told = tt
+schedule_told entered look (Some o) named same told = by o (schedule_alike look (word_in entered) same o told)
+  where
+    by : (o : Order) → IsScheduleBy (word_in entered) o → IsOrder entered o
+    by the_order.Capture is = absurd is
+    by the_order.Frames is = absurd is
+    by the_order.Help is = absurd is
+    by (the_order.Schedule file cycle) is = (named, is)
+
+asks_nothing : (entered : Option (Text × List Row)) → IsNamed (codes "schedule") entered → has_schedule_by (word_in entered) ≡ false → asks entered ≡ false
+asks_nothing None named lacks = cc named
+asks_nothing (Some (name, rows)) named lacks =
+    let is : name ≡ codes "schedule" = cc named in
+    subst (λ (n : Text). asks (Some (n, rows)) ≡ false) (sym is) lacks
+
+pub schedule_lacks : (entered : Option (Text × List Row)) (look : Text → Option Text) (found : Option Order) → IsNamed (codes "schedule") entered
+    → ((id : Text) → look id ≡ word_in entered id) → IfNone found (has_schedule_by look ≡ false) → IfNone found (asks entered ≡ false)
+schedule_lacks entered look (Some o) named same lacks = tt
+schedule_lacks entered look None named same lacks = asks_nothing entered named (sym (has_alike look (word_in entered) same) ∙ lacks)

@@ -1,7 +1,7 @@
 -- Which words are an order, by the rules of `clap`, and how the refusal of words follows from its errors.
-use Rattle.std.specs.Prelude.{◌≡◌, ◌⊎◌, ◌<◌, ℕ, List, [], ◌∷◌, length, Option, Some, None, Result, Ok, Err, true, false}
-use Rattle.std.specs.Prelude.{codes}
-use Rattle.std.specs.Prelude.{option_map, Bool, ◌||◌}
+use Rattle.std.specs.Prelude.{◌≡◌, ◌⊎◌, ◌<◌, ℕ, List, [], ◌∷◌, length, Option, Some, None, Result, Ok, Err, true, false, codes}
+use Rattle.std.specs.Prelude.{option_map, option_and_then, Bool, ◌&&◌, ◌||◌, is_some}
+use Rattle.fr_text.specs.Reading.{number_in}
 use Rattle.std.specs.Str.{bytes_eq}
 use Rattle.clap.specs.Words.{App, Row, Rule, Shape, Text, fault_of, first_of, new_app, new_rule, subcommand_of}
 use Rattle.clap.specs.Words.{with_rule, with_subcommand}
@@ -32,8 +32,24 @@ bare = record {
 abbrev pub one_command : App
 one_command = with_subcommand bare (named (codes "capture"))
 
+abbrev pub two_commands : App
+two_commands = with_subcommand one_command (named (codes "frames"))
+
+-- a file that has to be there, and a cycle that may be
+abbrev pub the_file : Rule
+the_file = record (new_rule (codes "FILE")) { required = true }
+
+abbrev pub the_cycle : Rule
+the_cycle = record (new_rule (codes "cycle")) { long = Some (codes "cycle") }
+
+abbrev pub schedule_of_file : App
+schedule_of_file = with_rule (new_app (codes "schedule")) the_file
+
+abbrev pub schedule_command : App
+schedule_command = with_rule schedule_of_file the_cycle
+
 abbrev pub the_commands : App
-the_commands = with_subcommand one_command (named (codes "frames"))
+the_commands = with_subcommand two_commands schedule_command.top
 
 -- ---- what the words enter
 
@@ -45,15 +61,43 @@ abbrev pub is_named : Text → Option (Text × List Row) → Bool
 is_named name None = false
 is_named name (Some entered) = bytes_eq entered.0 name
 
+-- the first word of an argument of the command
+abbrev pub word_in : Option (Text × List Row) → Text → Option Text
+word_in entered id = option_and_then (λ e. first_of id e.1) entered
+
+-- the cycle that a word is, where there is one: 0 to 63, without a leading zero
+abbrev pub cycle_asked : Option Text → Option ℕ
+cycle_asked None = Some 0
+cycle_asked (Some word) = number_in 64 word
+
+-- whether the first words of these arguments ask for a picture
+abbrev pub has_schedule_by : (Text → Option Text) → Bool
+has_schedule_by first_word = is_some (first_word (codes "FILE")) && is_some (cycle_asked (first_word (codes "cycle")))
+
+-- the picture is the one that they ask for
+abbrev pub IsScheduleBy : (Text → Option Text) → Order → Type 0
+IsScheduleBy first_word the_order.Capture = ⊥
+IsScheduleBy first_word the_order.Frames = ⊥
+IsScheduleBy first_word the_order.Help = ⊥
+IsScheduleBy first_word (the_order.Schedule file cycle) =
+    (first_word (codes "FILE") ≡ Some file.now) × (cycle_asked (first_word (codes "cycle")) ≡ Some cycle)
+
 -- one of the commands is entered, with all that it needs
 abbrev pub asks : Option (Text × List Row) → Bool
-asks entered = is_named (codes "capture") entered || is_named (codes "frames") entered
+asks entered =
+    is_named (codes "capture") entered || is_named (codes "frames") entered
+    || (is_named (codes "schedule") entered && has_schedule_by (word_in entered))
 
 -- the order is that of the command which is entered
+abbrev pub IsNamed : Text → Option (Text × List Row) → Type 0
+IsNamed name entered = name_in entered ≡ Some name
+
 abbrev pub IsOrder : Option (Text × List Row) → Order → Type 0
-IsOrder entered the_order.Capture = name_in entered ≡ Some (codes "capture")
-IsOrder entered the_order.Frames = name_in entered ≡ Some (codes "frames")
+IsOrder entered the_order.Capture = IsNamed (codes "capture") entered
+IsOrder entered the_order.Frames = IsNamed (codes "frames") entered
 IsOrder entered the_order.Help = ⊥
+IsOrder entered (the_order.Schedule file cycle) =
+    IsNamed (codes "schedule") entered × IsScheduleBy (word_in entered) (the_order.Schedule file cycle)
 
 -- ---- the answer
 
@@ -62,12 +106,11 @@ abbrev pub is_help : List Text → Bool
 is_help (word ∷ []) = bytes_eq word (codes "--help")
 is_help words = false
 
--- The order is the one that the words enter, where `clap` finds no fault with them. Where it finds one they are no
--- command, and else only where they enter none; for want of memory either may stay unanswered.
+-- The order is the one that the words enter, where `clap` finds no fault with them. Where it finds one they are no command,
+-- and else only where they enter none; for want of memory either may stay unanswered.
 abbrev pub IsAnswerTo : List Text → Result Order OrderError → Type 0
 IsAnswerTo words (Ok order) = (fault_of the_commands words ≡ []) × IsOrder (subcommand_of the_commands words) order
-IsAnswerTo words (Err refusal.Usage) = (0 < length (fault_of the_commands words))
-    ⊎ (asks (subcommand_of the_commands words) ≡ false)
+IsAnswerTo words (Err refusal.Usage) = (0 < length (fault_of the_commands words)) ⊎ (asks (subcommand_of the_commands words) ≡ false)
 IsAnswerTo words (Err refusal.Memory) = Unit {0}
 
 abbrev pub IsAnswerBy : Bool → List Text → Result Order OrderError → Type 0

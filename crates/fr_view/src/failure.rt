@@ -4,6 +4,7 @@ ghost use Rattle.fr_view.specs.Failures.{failure_of, status_of};
 ghost use Rattle.fr_view.specs.declared.failure.Failure.TheVariants as failure;
 
 use crate::command::OrderError;
+use fr_commands::error::BenchError;
 use fr_trace::error::TraceError;
 use thiserror::Error;
 
@@ -19,6 +20,9 @@ pub enum Failure {
     /// The output couldn't be written.
     #[error("refused Write")]
     Write,
+    /// The cluster file was refused, or couldn't be read, or its picture couldn't be written.
+    #[error("refused {0}")]
+    Text(#[from] BenchError),
     /// The trace was refused, or couldn't be read, or what it shows couldn't be written.
     #[error("refused {0}")]
     Trace(#[from] TraceError),
@@ -31,7 +35,7 @@ impl Failure {
     {
         match self {
             Failure::Usage => 2,
-            Failure::Memory | Failure::Write | Failure::Trace(_) => 1,
+            Failure::Memory | Failure::Write | Failure::Text(_) | Failure::Trace(_) => 1,
         }
     }
 }

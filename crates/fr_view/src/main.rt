@@ -1,10 +1,11 @@
-//! The bench's program for looking at things. It reads its command from the words after its name, does it, and says by
-//! its exit status how it went: 0 where it is done, 1 where an input is refused, 2 where the words are no command.
+//! The bench's program for looking at things. It reads its command from the words after its name, does it, and says by its
+//! exit status how it went: 0 where it is done, 1 where an input is refused, 2 where the words are no command.
 //!
 //! What it prints on standard output comes only once the command has accepted all its input. A refusal is one line on
 //! standard error.
 //!
 //! ```text
+//! fr_view schedule cluster.toml > cycle.svg   a picture of a cycle: who sends where, and when each guardian is open
 //! fr_view capture < node.trace > node.pcap    what a controller saw, as a capture that Wireshark opens
 //! fr_view frames < node.trace                 the same as a table
 //! fr_view --help                              what there is
@@ -22,17 +23,21 @@ use command::{Order, OrderError};
 use failure::Failure;
 use fr_capture::form::Form;
 use fr_capture::show::show_trace;
+use fr_commands::error::BenchError;
+use fr_picture::picture::show_schedule;
+use fr_slots::numbers::Cycle;
 use order::order;
 use std::alloc::Global;
 use std::process::ExitCode;
-use std::rt::Env;
-use std::{env, io};
+use std::rt::{Env, Files};
+use std::{env, fs, io};
 
 /// What the program prints where it is asked for help.
 const HELP: &str =
-    "fr_view capture < TRACE > CAPTURE   what a controller saw, as a capture that Wireshark opens
-fr_view frames < TRACE              the same as a table
-fr_view --help                      these lines
+    "fr_view schedule FILE [--cycle N] > SVG   a picture of a cycle of the cluster, 0 unless another is named
+fr_view capture < TRACE > CAPTURE       what a controller saw, as a capture that Wireshark opens
+fr_view frames < TRACE                  the same as a table
+fr_view --help                          these lines
 ";
 
 /// The words after the program's name, as the system gives them. A word that isn't UTF-8 names no command.
@@ -49,11 +54,30 @@ fn texts_of(alloc: Global, words: &Vec<String>) -> Result<Vec<&str>, OrderError>
     Ok(words.iter().map(|word| word.as_str()).collect(alloc)?)
 }
 
+/// The file of this name, opened to be read.
+fn opened<R: Files>(rt: &R, path: &str) -> Result<R::File, BenchError> {
+    match fs::open(rt, path) {
+        Ok(file) => Ok(file),
+        Err(error) if error.kind() == io::ErrorKind::OutOfMemory => Err(BenchError::Memory),
+        Err(_) => Err(BenchError::Read),
+    }
+}
+
 /// Does the order.
-fn carry_out<R: Input + Print + AllocGlobal>(rt: &R, order: Order) -> Result<(), Failure> {
+fn carry_out<R: Files + Input + Print + AllocGlobal>(
+    rt: &R,
+    order: Order<'_>,
+) -> Result<(), Failure> {
     let alloc = rt.alloc();
     let mut output = io::writer(rt);
     match order {
+        Order::Schedule { file, cycle } => {
+            let Some(cycle) = Cycle::new(cycle) else {
+                return Err(Failure::Usage);
+            };
+            let mut file = opened(rt, file)?;
+            Ok(show_schedule(alloc, &mut file, cycle, &mut output)?)
+        }
         Order::Capture => Ok(show_trace(alloc, Form::Capture, &mut rt.reader(), &mut output)?),
         Order::Frames => Ok(show_trace(alloc, Form::Table, &mut rt.reader(), &mut output)?),
         Order::Help => match io::Write::write_all(&mut output, HELP.as_bytes()) {
@@ -64,7 +88,7 @@ fn carry_out<R: Input + Print + AllocGlobal>(rt: &R, order: Order) -> Result<(),
 }
 
 /// Does what the words ask for.
-fn run<R: Env + Input + Print + AllocGlobal>(rt: &R) -> Result<(), Failure> {
+fn run<R: Env + Files + Input + Print + AllocGlobal>(rt: &R) -> Result<(), Failure> {
     let words = words_given(rt)?;
     let texts: Vec<&str> = texts_of(rt.alloc(), &words)?;
     carry_out(rt, order(rt.alloc(), texts.as_slice())?)

@@ -1,11 +1,26 @@
 //! Reads the words after the program's name.
 ghost use Rattle.std.specs.Prelude.{◌≡◌, IfNone, IfOk, IfSome, false, map};
-ghost use Rattle.clap.specs.Words.{app_of, subcommand_rows_of};
-ghost use Rattle.fr_view.specs.Orders.{IsAnswer, IsOrder, asks, bare, is_help, the_commands};
+ghost use Rattle.clap.specs.Words.{app_of, first_value, found_of, subcommand_rows_of};
+ghost use Rattle.clap.specs.declared.builder.command.Command.TheViews.{out-Command};
+ghost use Rattle.fr_text.specs.Reading.{number_in};
+ghost use Rattle.fr_view.specs.Orders.{IsAnswer, IsOrder, IsScheduleBy, asks, bare, has_schedule_by, is_help};
+ghost use Rattle.fr_view.specs.Orders.{schedule_command, the_commands};
 
 use crate::command::{Order, OrderError};
-use clap::{ArgMatches, Command};
+use clap::{Arg, ArgMatches, Command};
+use fr_text::numbers::number_of;
 use std::alloc::{AllocError, Global};
+
+/// The command `schedule`, with its file and the number of a cycle.
+fn schedule_command<'a>(alloc: Global) -> Result<Command<'a>, AllocError>
+    ensures app { IfOk result (λ c. app_of c ≡ schedule_command) }
+    ensures local { IfOk result (λ c. (out-Command c).has_globals ≡ false) }
+{
+    let file = Arg::new(alloc, "FILE").required(true);
+    let cycle = Arg::new(alloc, "cycle").long("cycle");
+    let of_file = Command::new(alloc, "schedule").arg(file)?;
+    of_file.arg(cycle)
+}
 
 /// The program, with no command yet.
 fn program<'a>(alloc: Global) -> Command<'a>
@@ -23,16 +38,41 @@ fn commands<'a>(alloc: Global) -> Result<Command<'a>, AllocError>
     ensures { IfOk result (λ c. app_of c ≡ the_commands) }
 {
     let first = program(alloc).subcommand(Command::new(alloc, "capture"))?;
-    first.subcommand(Command::new(alloc, "frames"))
+    let second = first.subcommand(Command::new(alloc, "frames"))?;
+    second.subcommand(schedule_command(alloc)?)
+}
+
+/// The cycle that a word is: 0 to 63, without a leading zero.
+fn cycle_of(word: &str) -> Option<u8>
+    ensures { result ≡ number_in 64 word.now }
+{
+    match number_of(word.as_bytes(), 64) {
+        Some(number) => Some(number as u8),
+        None => None,
+    }
+}
+
+/// The picture that the arguments of its command ask for.
+fn schedule_in<'a>(arguments: &ArgMatches<'a>) -> Option<Order<'a>>
+    ensures told { IfSome result (IsScheduleBy (first_value (found_of arguments.now))) }
+    ensures nothing { IfNone result (has_schedule_by (first_value (found_of arguments.now)) ≡ false) }
+{
+    let file = arguments.get_str("FILE")?;
+    let cycle = match arguments.get_str("cycle") {
+        Some(word) => cycle_of(word)?,
+        None => 0,
+    };
+    Some(Order::Schedule { file, cycle })
 }
 
 /// The order that the command's name and arguments stand for.
-fn order_in(matches: &ArgMatches<'_>) -> Option<Order>
+fn order_in<'a>(matches: &ArgMatches<'a>) -> Option<Order<'a>>
     ensures told { IfSome result (IsOrder (subcommand_rows_of matches.now)) }
     ensures nothing { IfNone result (asks (subcommand_rows_of matches.now) ≡ false) }
 {
-    let (name, _) = matches.subcommand()?;
+    let (name, arguments) = matches.subcommand()?;
     match name {
+        "schedule" => schedule_in(arguments),
         "capture" => Some(Order::Capture),
         "frames" => Some(Order::Frames),
         _ => None,
@@ -51,9 +91,9 @@ fn is_help(words: &[&str]) -> bool
 
 /// The order that the words after the program's name give (own profile).
 ///
-/// Refused with `Memory` where memory for the parse was refused, and else with `Usage` for all words that are no
-/// command. A call for help is the word `--help` alone.
-pub fn order(alloc: Global, words: &[&str]) -> Result<Order, OrderError>
+/// Refused with `Memory` where memory for the parse was refused, and else with `Usage` for all words that are no command.
+/// A call for help is the word `--help` alone. A cycle is 0 to 63, without a leading zero.
+pub fn order<'a>(alloc: Global, words: &'a [&'a str]) -> Result<Order<'a>, OrderError>
     ensures { IsAnswer (map (λ word. word.now) words.now) result }
 {
     if is_help(words) {

@@ -1,0 +1,3 @@
+pub mod Owners
+pub mod Places
+pub mod Schedules

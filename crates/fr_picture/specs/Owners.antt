@@ -1,0 +1,79 @@
+-- The static slots of a picture: an element for each of them and each channel, which names its owner in the sender table.
+use Rattle.std.specs.Prelude.{◌≡◌, ◌⊎◌, ℕ, zero, suc, ◌+◌, ◌-◌, ◌*◌, ◌/◌, nat_lt, List, [], ◌++◌, codes, Option, if◌then◌else◌}
+use Rattle.std.specs.Fmt.{decimal}
+use Rattle.std.specs.Io.KnownBytes.{Appends}
+use Rattle.fr_picture.specs.Places.{across, extent, row_of}
+use Rattle.fr_schedule.specs.Descriptions.{Description}
+use Rattle.fr_schedule.specs.SenderTable.{IsSender}
+use Rattle.fr_slots.specs.Admission.{letter_of}
+use Rattle.fr_slots.specs.declared.channel.Channel.{Channel}
+use Rattle.fr_slots.specs.declared.channel.Channel.TheVariants.{A, B}
+use Rattle.fr_slots.specs.Parameters.{Parameters}
+
+-- ---- where a static slot begins, and where the next one does
+
+abbrev pub start_of : Parameters → ℕ → ℕ
+start_of p slot = (slot - 1) * p.static_mt
+
+abbrev pub end_of : Parameters → ℕ → ℕ
+end_of p slot = slot * p.static_mt
+
+-- ---- elements
+
+unfoldable pub box_text : ℕ → ℕ → Channel → List ℕ
+box_text left length channel =
+    codes "<rect x='" ++ (decimal left ++ (codes "' y='" ++ (decimal (row_of channel) ++ (codes "' width='"
+    ++ (decimal length ++ codes "' height='420'/>")))))
+
+-- left out where it doesn't fit
+unfoldable pub number_text : ℕ → ℕ → Channel → ℕ → List ℕ
+number_text left length channel node =
+    if nat_lt length 150 then []
+    else codes "<text x='" ++ (decimal left ++ (codes "' y='" ++ (decimal (row_of channel) ++ (codes "' dx='"
+    ++ (decimal (length / 2) ++ (codes "' dy='260'>" ++ (decimal node ++ codes "</text>")))))))
+
+unfoldable pub owned_title : ℕ → Channel → ℕ → List ℕ
+owned_title slot channel node =
+    codes "<g class='owner n" ++ (decimal node ++ (codes "'><title>slot " ++ (decimal slot ++ (codes " on "
+    ++ (letter_of channel ++ (codes ": node " ++ (decimal node ++ codes "</title>")))))))
+
+unfoldable pub free_title : ℕ → Channel → List ℕ
+free_title slot channel =
+    codes "<g class='free'><title>slot " ++ (decimal slot ++ (codes " on " ++ (letter_of channel ++ codes ": nobody</title>")))
+
+abbrev pub end_text : List ℕ
+end_text = codes "</g>" ++ codes "\n"
+
+abbrev pub boxed : Parameters → ℕ → Channel → List ℕ
+boxed p slot channel = box_text (across p (start_of p slot)) (extent p (start_of p slot) (end_of p slot)) channel
+
+abbrev pub numbered : Parameters → ℕ → Channel → ℕ → List ℕ
+numbered p slot channel node = number_text (across p (start_of p slot)) (extent p (start_of p slot) (end_of p slot)) channel node
+
+-- a slot on a channel that the node owns
+abbrev pub owned_element : Parameters → ℕ → Channel → ℕ → List ℕ
+owned_element p slot channel node =
+    owned_title slot channel node ++ boxed p slot channel ++ numbered p slot channel node ++ end_text
+
+-- a slot on a channel that nobody owns
+abbrev pub free_element : Parameters → ℕ → Channel → List ℕ
+free_element p slot channel = free_title slot channel ++ boxed p slot channel ++ end_text
+
+-- ---- the static slots
+
+-- a text of this kind has been written
+abbrev pub Adds : (List ℕ → Type 0) → Option (List ℕ) → Option (List ℕ) → Type 0
+Adds IsText old new = (text : List ℕ) × IsText text × Appends old new text
+
+-- the element of a slot on a channel names its sender, and where it has none, nobody
+abbrev pub IsOwnerText : Description → ℕ → ℕ → Channel → List ℕ → Type 0
+IsOwnerText d cycle slot channel text =
+    ((node : ℕ) × IsSender d cycle slot channel node × (text ≡ owned_element d.params slot channel node))
+    ⊎ (((node : ℕ) → IsSender d cycle slot channel node → ⊥) × (text ≡ free_element d.params slot channel))
+
+-- the elements of so many slots, the first of them first, each on channel A before channel B
+abbrev pub AreOwnerTexts : Description → ℕ → ℕ → List ℕ → Type 0
+AreOwnerTexts d cycle zero text = text ≡ []
+AreOwnerTexts d cycle (suc slot) text =
+    (before : List ℕ) × (a : List ℕ) × (b : List ℕ) × AreOwnerTexts d cycle slot before
+    × IsOwnerText d cycle (suc slot) A a × IsOwnerText d cycle (suc slot) B b × (text ≡ before ++ a ++ b)

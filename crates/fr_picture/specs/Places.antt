@@ -1,0 +1,18 @@
+-- Where things stand in a picture, in tenths of its units (own profile).
+use Rattle.std.specs.Prelude.{ℕ, ◌+◌, ◌-◌, ◌*◌, ◌/◌, max}
+use Rattle.fr_slots.specs.declared.channel.Channel.{Channel}
+use Rattle.fr_slots.specs.declared.channel.Channel.TheVariants.{A, B}
+use Rattle.fr_slots.specs.Parameters.{Parameters}
+
+-- how far a macrotick of the cycle stands from the left: a cycle is as long in each picture
+unfoldable pub across : Parameters → ℕ → ℕ
+across p macrotick = 1400 + macrotick * 10000 / p.cycle_mt
+
+-- how long an interval is, at least 1, so that it is seen
+unfoldable pub extent : Parameters → ℕ → ℕ → ℕ
+extent p start end = max (across p end - across p start) 1
+
+-- how far a channel stands from the top
+unfoldable pub row_of : Channel → ℕ
+row_of A = 1000
+row_of B = 1480

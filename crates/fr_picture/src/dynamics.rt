@@ -1,0 +1,147 @@
+//! The dynamic segment of a channel, with the slots that have a sender in the cycle.
+
+use crate::scale::{CHANNEL_HEIGHT, NUMBER_LENGTH, across, extent, row_of};
+use fr_schedule::cluster::Cluster;
+use fr_slots::channel::Channel;
+use fr_slots::numbers::{Cycle, LAST_SLOT, NodeId, SlotId};
+use fr_slots::plan::Buffer;
+use std::io;
+use std::io::Write;
+
+/// The place of a slot among those of the segment: its left end, and its length.
+#[derive(Clone, Copy)]
+struct Cell {
+    left: u64,
+    length: u64,
+}
+
+/// The node that sends in the dynamic slot of this number in the cycle.
+fn sender_in(
+    cluster: &Cluster,
+    cycle: Cycle,
+    number: u16,
+    channel: Channel,
+) -> Option<(SlotId, NodeId)> {
+    let slot = SlotId::new(number)?;
+    if cluster.params().is_static(slot) {
+        return None;
+    }
+    let node = cluster.sender(cycle, slot, channel)?;
+    Some((slot, node))
+}
+
+/// How many dynamic slots of the channel have a sender in the cycle.
+fn count_senders(cluster: &Cluster, cycle: Cycle, channel: Channel) -> u64 {
+    let mut count: u64 = 0;
+    for number in 1..=LAST_SLOT {
+        if sender_in(cluster, cycle, number, channel).is_some() {
+            count = count.saturating_add(1);
+        }
+    }
+    count
+}
+
+/// The buffer from which the node sends in the slot.
+fn buffer_for(
+    cluster: &Cluster,
+    node: NodeId,
+    cycle: Cycle,
+    slot: SlotId,
+    channel: Channel,
+) -> Option<Buffer> {
+    for buffer in cluster.node(node)?.buffers() {
+        if buffer.transmits() && buffer.filter.admits(cycle, slot, channel) {
+            return Some(*buffer);
+        }
+    }
+    None
+}
+
+/// Writes what a buffer sends: its words, base and repetition.
+fn write_buffer<W: Write>(writer: &mut W, buffer: &Buffer) -> io::Result<()> {
+    if let Some(words) = buffer.words {
+        write!(writer, ", {words} words")?;
+    }
+    let cycles = buffer.filter.cycles;
+    write!(
+        writer,
+        ", base {}, repetition {}",
+        cycles.base(),
+        cycles.repetition()
+    )
+}
+
+/// Writes the element of a dynamic slot, whose cell says nothing of when it comes.
+fn write_slot<W: Write>(
+    writer: &mut W,
+    cluster: &Cluster,
+    cycle: Cycle,
+    slot: SlotId,
+    channel: Channel,
+    node: NodeId,
+    cell: Cell,
+) -> io::Result<()> {
+    let (left, top) = (cell.left, row_of(channel));
+    write!(
+        writer,
+        "<g class='sender n{node}'><title>dynamic slot {slot}"
+    )?;
+    write!(writer, " on {channel}: node {node}")?;
+    if let Some(buffer) = buffer_for(cluster, node, cycle, slot, channel) {
+        write_buffer(writer, &buffer)?;
+    }
+    write!(
+        writer,
+        "</title><rect x='{left}' y='{}' ",
+        top.saturating_add(70)
+    )?;
+    write!(
+        writer,
+        "width='{}' height='{}'/>",
+        cell.length,
+        CHANNEL_HEIGHT - 140
+    )?;
+    if cell.length >= NUMBER_LENGTH {
+        let middle = left.saturating_add(cell.length / 2);
+        write!(
+            writer,
+            "<text x='{middle}' y='{}'>{node}</text>",
+            top.saturating_add(260)
+        )?;
+    }
+    writeln!(writer, "</g>")
+}
+
+/// Writes the dynamic segment of a channel, in which the slots that have a sender share the room in their order.
+pub(crate) fn write_dynamic<W: Write>(
+    writer: &mut W,
+    cluster: &Cluster,
+    cycle: Cycle,
+    channel: Channel,
+) -> io::Result<()> {
+    let params = cluster.params().duplicate();
+    let start = u32::from(params.static_slots) * u32::from(params.static_mt);
+    let end = start + u32::from(params.minislots) * u32::from(params.minislot_mt);
+    if start >= end {
+        return Ok(());
+    }
+    let (left, length) = (across(&params, start), extent(&params, start, end));
+    write!(
+        writer,
+        "<g class='dynamic'><title>dynamic segment on {channel}</title>"
+    )?;
+    write!(writer, "<rect x='{left}' y='{}' ", row_of(channel))?;
+    writeln!(writer, "width='{length}' height='{CHANNEL_HEIGHT}'/></g>")?;
+    let share = (length / count_senders(cluster, cycle, channel).max(1)).max(1);
+    let mut cell = Cell {
+        left,
+        length: share,
+    };
+    for number in 1..=LAST_SLOT {
+        if let Some((slot, node)) = sender_in(cluster, cycle, number, channel) {
+            write_slot(writer, cluster, cycle, slot, channel, node, cell)?;
+            cell.left = cell.left.saturating_add(share);
+        }
+    }
+    Ok(())
+}

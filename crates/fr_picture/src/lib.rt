@@ -1,0 +1,19 @@
+//! Pictures of a cluster's schedule.
+//!
+//! ```text
+//! let cluster = cluster_of(alloc, &mut file)?;
+//! show_schedule(alloc, &mut file, Cycle::from_bits(0), &mut output)?; // an SVG picture of cycle 0
+//! ```
+//!
+//! All lengths in a picture are whole numbers, tenths of its units, and time goes from left to right.
+//!
+//! A chapter in parentheses is one of the FlexRay Protocol Specification 2.1, revision A, whose rule it is.
+//! *(own profile)* marks a rule of this project's own, which says nothing of the standard.
+#![tactic(auto)]
+
+mod dynamics;
+mod frame;
+mod guards;
+pub mod owners;
+pub mod picture;
+pub mod scale;

@@ -1,0 +1,163 @@
+//! The static slots of a channel, each with its owner.
+
+ghost use Rattle.std.specs.Prelude.{◌≡◌, OnOk};
+ghost use Rattle.fr_text.specs.Writing.{Writes};
+ghost use Rattle.fr_picture.specs.Owners.{box_text, end_of, free_element, free_title, number_text, owned_element};
+ghost use Rattle.fr_picture.specs.Owners.{owned_title, start_of};
+ghost use Rattle.fr_picture.specs.Owners.{Adds, AreOwnerTexts, IsOwnerText};
+
+use crate::scale::{NUMBER_LENGTH, across, extent, row_of};
+use fr_schedule::cluster::Cluster;
+use fr_slots::channel::Channel;
+use fr_slots::numbers::{Cycle, NodeId, SlotId};
+use fr_slots::params::Params;
+use std::io;
+use std::io::Write;
+
+/// The macrotick at which a static slot begins.
+fn start_of(params: &Params, slot: SlotId) -> u32
+    ensures { result ≡ start_of params.now slot }
+{
+    let params = params.duplicate();
+    u32::from(slot.number() - 1) * u32::from(params.static_mt)
+}
+
+/// The macrotick at which the slot after it begins.
+fn end_of(params: &Params, slot: SlotId) -> u32
+    ensures { result ≡ end_of params.now slot }
+{
+    let params = params.duplicate();
+    u32::from(slot.number()) * u32::from(params.static_mt)
+}
+
+/// Writes a box in the row of a channel.
+#[tactic(auto, unfolding(crate::specs::Owners::box_text))]
+fn write_box<W: Write>(writer: &mut W, left: u64, length: u64, channel: Channel) -> io::Result<()>
+    ensures { Writes W.contents writer.old writer.new result (box_text left length channel) }
+{
+    let top = row_of(channel);
+    write!(
+        writer,
+        "<rect x='{left}' y='{top}' width='{length}' height='420'/>"
+    )
+}
+
+/// Writes the number of a node into its box, where it fits.
+#[tactic(auto, unfolding(crate::specs::Owners::number_text))]
+fn write_number<W: Write>(
+    writer: &mut W,
+    left: u64,
+    length: u64,
+    channel: Channel,
+    node: u8,
+) -> io::Result<()>
+    ensures { Writes W.contents writer.old writer.new result (number_text left length channel node) }
+{
+    if length < NUMBER_LENGTH {
+        return Ok(());
+    }
+    let (top, half) = (row_of(channel), length / 2);
+    write!(
+        writer,
+        "<text x='{left}' y='{top}' dx='{half}' dy='260'>{node}</text>"
+    )
+}
+
+/// Writes how the element of a slot begins that a node owns.
+#[tactic(auto, unfolding(crate::specs::Owners::owned_title))]
+fn write_owned_title<W: Write>(
+    writer: &mut W,
+    slot: u16,
+    channel: Channel,
+    node: u8,
+) -> io::Result<()>
+    ensures { Writes W.contents writer.old writer.new result (owned_title slot channel node) }
+{
+    write!(
+        writer,
+        "<g class='owner n{node}'><title>slot {slot} on {channel}: node {node}</title>"
+    )
+}
+
+/// Writes how the element of a slot begins that nobody owns.
+#[tactic(auto, unfolding(crate::specs::Owners::free_title))]
+fn write_free_title<W: Write>(writer: &mut W, slot: u16, channel: Channel) -> io::Result<()>
+    ensures { Writes W.contents writer.old writer.new result (free_title slot channel) }
+{
+    write!(
+        writer,
+        "<g class='free'><title>slot {slot} on {channel}: nobody</title>"
+    )
+}
+
+/// Writes the element of a static slot on the channel that a node owns.
+fn write_owned<W: Write>(
+    writer: &mut W,
+    params: &Params,
+    slot: SlotId,
+    channel: Channel,
+    node: NodeId,
+) -> io::Result<()>
+    ensures { Writes W.contents writer.old writer.new result (owned_element params.now slot channel node) }
+{
+    let (start, end) = (start_of(params, slot), end_of(params, slot));
+    let (left, length) = (across(params, start), extent(params, start, end));
+    write_owned_title(writer, slot.number(), channel, node.number())?;
+    write_box(writer, left, length, channel)?;
+    write_number(writer, left, length, channel, node.number())?;
+    writeln!(writer, "</g>")
+}
+
+/// Writes the element of a static slot on the channel that nobody owns.
+fn write_free<W: Write>(
+    writer: &mut W,
+    params: &Params,
+    slot: SlotId,
+    channel: Channel,
+) -> io::Result<()>
+    ensures { Writes W.contents writer.old writer.new result (free_element params.now slot channel) }
+{
+    let (start, end) = (start_of(params, slot), end_of(params, slot));
+    let (left, length) = (across(params, start), extent(params, start, end));
+    write_free_title(writer, slot.number(), channel)?;
+    write_box(writer, left, length, channel)?;
+    writeln!(writer, "</g>")
+}
+
+/// Writes the element of a static slot on the channel, which names its owner.
+fn write_owner<W: Write>(
+    writer: &mut W,
+    cluster: &Cluster,
+    cycle: Cycle,
+    slot: SlotId,
+    channel: Channel,
+) -> io::Result<()>
+    ensures { OnOk result
+        (Adds (IsOwnerText cluster.now cycle slot channel) (W.contents writer.old) (W.contents writer.new)) }
+{
+    match cluster.sender(cycle, slot, channel) {
+        Some(node) => write_owned(writer, cluster.params(), slot, channel, node),
+        None => write_free(writer, cluster.params(), slot, channel),
+    }
+}
+
+/// Writes the elements of the static slots, each with the node that the sender table has for it in the cycle, and of each
+/// slot that on channel A before that on channel B (chapter 5; the picture is own profile).
+///
+/// Fails where the writer fails, and then a part of them may have gone out.
+pub fn write_owners<W: Write>(writer: &mut W, cluster: &Cluster, cycle: Cycle) -> io::Result<()>
+    ensures { OnOk result
+        (Adds
+        (AreOwnerTexts cluster.now cycle cluster.now.params.static_slots)
+        (W.contents writer.old)
+        (W.contents writer.new)) }
+{
+    let params = cluster.params().duplicate();
+    for earlier in 0..params.static_slots {
+        if let Some(slot) = SlotId::new(earlier + 1) {
+            write_owner(writer, cluster, cycle, slot, Channel::A)?;
+            write_owner(writer, cluster, cycle, slot, Channel::B)?;
+        }
+    }
+    Ok(())
+}

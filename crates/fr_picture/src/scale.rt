@@ -1,0 +1,49 @@
+//! Where things stand in a picture.
+
+ghost use Rattle.std.specs.Prelude.{◌≡◌};
+ghost use Rattle.fr_picture.specs.Places.{across, extent, row_of};
+
+use fr_slots::channel::Channel;
+use fr_slots::params::Params;
+
+/// Where a cycle begins, from the left.
+pub const LEFT: u64 = 1400;
+
+/// How long a cycle is.
+pub const LENGTH: u64 = 10_000;
+
+/// The height of what is drawn of a channel.
+pub const CHANNEL_HEIGHT: u64 = 420;
+
+/// What a number takes that is written into a box.
+pub const NUMBER_LENGTH: u64 = 150;
+
+/// How far a macrotick of the cycle stands from the left.
+#[tactic(auto, unfolding(crate::specs::Places::across))]
+pub fn across(params: &Params, macrotick: u32) -> u64
+    ensures { result ≡ across params.now macrotick }
+{
+    let params = params.duplicate();
+    LEFT + u64::from(macrotick) * LENGTH / u64::from(params.cycle_mt)
+}
+
+/// How long the box of an interval is, at least 1.
+#[tactic(auto, unfolding(crate::specs::Places::extent))]
+pub fn extent(params: &Params, start: u32, end: u32) -> u64
+    ensures { result ≡ extent params.now start end }
+{
+    across(params, end)
+        .saturating_sub(across(params, start))
+        .max(1)
+}
+
+/// How far what is drawn of a channel stands from the top.
+#[tactic(auto, unfolding(crate::specs::Places::row_of))]
+pub fn row_of(channel: Channel) -> u64
+    ensures { result ≡ row_of channel }
+{
+    match channel {
+        Channel::A => 1000,
+        Channel::B => 1480,
+    }
+}
