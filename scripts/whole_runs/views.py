@@ -1,0 +1,147 @@
+"""Runs of the second program: captures and tables of traces, pictures of clusters, and its words."""
+import os
+import struct
+from xml.etree import ElementTree
+
+from .runner import EXAMPLES, USAGE, WRITTEN, refused, run
+
+FILE_HEADER = bytes.fromhex("d4c3b2a1 0200 0400 00000000 00000000 08010000 d2000000")
+
+COLUMNS = "time cycle slot channel status error id flags bytes\n"
+
+RECEIVED = """frtrace 1
+params 3 4 1 20 5 0 10 90 0 5
+node 1 0 0 8 12
+begin
+"""
+"""A cycle of three static slots of 20 macroticks and four minislots of 5; it has 90 macroticks."""
+
+DATA_A, DATA_B = "200203c1400a0ba32217", "200203c1400a0b85a2c6"
+"""The data frame of slot 2 in cycle 0 with payload `0a0b`, on each channel."""
+
+
+def record(time, mark, flags, data):
+    """A record by the format: seconds, microseconds, two lengths, the measurement header, and the bytes."""
+    data = bytes([mark, flags]) + bytes.fromhex(data)
+    return struct.pack("<IIII", time // 1_000_000, time % 1_000_000, len(data), len(data)) + data
+
+
+WORKED = {
+    # Both channels, each with its frame; the trailer is left out.
+    f"fetch 0 0 0 2 2 - -\nsee 0 x{DATA_A} x{DATA_B}\n": [
+        (record(20, 0x01, 0, DATA_A[:-6]), "20 0 2 A valid - 2 ---- x0a0b"),
+        (record(20, 0x81, 0, DATA_B[:-6]), "20 0 2 B valid - 2 ---- x0a0b"),
+    ],
+    # A frame of channel A on B has another frame CRC, and one with a turned bit in its ID another header CRC.
+    f"fetch 0 1 0 2 2 - -\nsee 0 x200303c1400a0ba32217 x{DATA_A}\n": [
+        (record(110, 0x01, 0x08, "200303c1400a0b"), "110 1 2 A syntax header - - x200303c1400a0ba32217"),
+        (record(110, 0x81, 0x10, DATA_A[:-6]), f"110 1 2 B syntax frame - - x{DATA_A}"),
+    ],
+    # Bytes without a known trailer are kept whole; a frame for another slot is a content error.
+    f"fetch 0 0 0 3 3 - -\nsee 0 x x{DATA_A}00\nfetch 1 0 0 2 2 - -\nsee 1 x200303bc000a0b3e8bc8 own\n": [
+        (record(40, 0x01, 0x04, ""), "40 0 3 A syntax short - - x"),
+        (record(40, 0x81, 0x04, DATA_A + "00"), f"40 0 3 B syntax length - - x{DATA_A}00"),
+        # The window isn't later in its round, so it is of the next: 64 cycles of 90 macroticks later.
+        (record(64 * 90 + 20, 0x01, 0, "200303bc000a0b"), "5780 0 2 A content - 3 ---- x0a0b"),
+    ],
+    # A minislot, in a channel with a slot and in one without; a null frame of another cycle; nothing of what has no bytes.
+    "fetch 0 63 3 5 - - -\nsee 0 x x00\nfetch 9 1 0 2 2 - -\nsee 9 x000203c1410000d14f6c noise\n": [
+        (record(63 * 90 + 70, 0x01, 0x04, ""), "5740 63 5 A syntax short - - x"),
+        (record(63 * 90 + 70, 0x81, 0x04, "00"), "5740 63 - B - short - - x00"),
+        (record(64 * 90 + 90 + 20, 0x01, 0, "000203c1410000"), "5870 1 2 A valid - 2 -n-- x0000"),
+    ],
+    "": [],
+    "fetch 0 0 0 2 2 - -\nsee 0 - conflict\nfetch 1 0 0 3 3 - -\n": [],
+}
+"""Entries, with the record and the line of each sighting."""
+
+HELP = [b"fr_view schedule FILE", b"fr_view capture", b"fr_view frames", b"fr_view --help"]
+
+
+def local(name):
+    return name.rpartition("}")[2]
+
+
+class Views:
+    """Runs of the second program."""
+
+    def __init__(self, runs, folder):
+        self.runs, self.folder = runs, folder
+
+    def worked(self):
+        for entries, sightings in WORKED.items():
+            given = f"{RECEIVED}{entries}end\n".encode()
+            capture = FILE_HEADER + b"".join(told for told, _ in sightings)
+            table = COLUMNS + "".join(f"{line}\n" for _, line in sightings)
+            self.runs.check_once(f"capture of {entries!r}, {WRITTEN}", ["capture"], (capture, b"", 0), given)
+            self.runs.check_once(f"frames of {entries!r}, {WRITTEN}", ["frames"], (table.encode(), b"", 0), given)
+
+    def examples(self):
+        for trace in sorted(EXAMPLES.glob("*/trace")):
+            given = trace.read_bytes()
+            for command in ("capture", "frames"):
+                self.runs.check(f"{command} of {trace.parent.name}, cut", [command], refused("Truncated"), given=given[:-1])
+            made = trace.with_name("frames")
+            if made.exists():
+                self.runs.check(f"frames of {trace.parent.name}", ["frames"], (made.read_bytes(), b"", 0), given=given)
+        for picture in sorted(EXAMPLES.glob("*/schedule.svg")):
+            words = ["schedule", picture.with_name("cluster.toml")]
+            self.runs.check(f"schedule of {picture.parent.name}", words, (picture.read_bytes(), b"", 0))
+            self.runs.check(f"schedule of {picture.parent.name}, cycle 0", [*words, "--cycle", "0"], (picture.read_bytes(), b"", 0))
+
+    def owners(self):
+        """The owners that a picture names are the lines `slot` of the plan, in their order."""
+        for cluster in sorted(EXAMPLES.glob("*/cluster.toml")):
+            plan = [line.split() for line in cluster.with_name("plan").read_text().splitlines()]
+            wanted = [f"slot {line[1]} on {line[2]}: node {line[3]}" for line in plan if line[0] == "slot"]
+            wanted_open = [f"node {line[1]} on {line[2]}: open from {line[3]} to {line[4]}" for line in plan if line[0] == "guard"]
+            got, got_open = self.titles(["schedule", cluster], "owner"), self.titles(["schedule", cluster], "open")
+            self.runs.compare(f"owners of {cluster.parent.name}", got, wanted)
+            self.runs.compare(f"open intervals of {cluster.parent.name}", got_open, wanted_open)
+
+    def titles(self, words, kind):
+        """The titles of a picture's elements of a kind; each element has one."""
+        text, errors, status = run([self.runs.program, *words])
+        if errors or status:
+            return [f"status {status}, {errors}"]
+        groups = [group for group in ElementTree.fromstring(text) if local(group.tag) == "g"]
+        if any(local(group[0].tag) != "title" for group in groups):
+            return ["an element has no title"]
+        return [group[0].text for group in groups if group.get("class", "").split(" ")[0] == kind]
+
+    def refusals(self):
+        receive = (EXAMPLES / "receive-buffer/trace").read_bytes()
+        texts = {b"": "BadMagic", b"x\n": "BadMagic", b"frtrace 1\n": "Truncated", b"frtrace 1\nnode\n": "BadLine 2",
+                 receive + b"\n": "BadLine 14", receive.replace(b"2:A", b"2:B"): "WrongAnswer 9", receive.replace(b"fetch 1", b"fetch 0"): "Refused 10",
+                 b"frtrace 1\n" + b"x" * 1201: "LineTooLong 2"}
+        for text, error in texts.items():
+            for command in ("capture", "frames"):
+                self.runs.check(f"{command} of {text[:20]}", [command], refused(error), given=text)
+        long = self.folder / "long.toml"
+        long.write_bytes(b"#" * 1_048_577)
+        for name, error in {"missing.toml": "Read", ".": "Read", "": "Read", str(long): "TooLong", "receive-buffer/trace": "Toml"}.items():
+            self.runs.check(f"schedule {name!r}", ["schedule", name], refused(error))
+
+    def words(self):
+        lists = [[], ["audit"], ["plan", "a"], ["help"], ["-h"], ["-V"], ["--help", "--help"], ["capture", "--help"], ["capture", "a"],
+                 ["frames", "a"], ["Capture"], [""], [b"\xff"], ["schedule"], ["schedule", "a", "b"], ["schedule", "a", "--cycle"],
+                 *(["schedule", "a", "--cycle", number] for number in ("64", "00", "04", "+4", "-1", "x", "", "4 ")),
+                 ["schedule", "a", "--cycle", "1", "--cycle", "1"], ["schedule", "a", "--free"], ["schedule", "--cycle", "1"]]
+        for given in lists:
+            self.runs.check(f"the words {given}", given, USAGE)
+        for given in (["schedule", "a", "--cycle", "63"], ["schedule", "--cycle=0", "a"], ["schedule", "--", "a"]):
+            self.runs.check(f"the words {given}", given, refused("Read"))
+        text, errors, status = run([self.runs.program, "--help"])
+        told = [any(line.startswith(word) for line in text.splitlines()) for word in HELP]
+        self.runs.compare("a call for help", (told, errors, status), ([True] * len(HELP), b"", 0))
+
+    def outputs(self):
+        given = (EXAMPLES / "receive-buffer/trace").read_bytes()
+        for words in (["capture"], ["frames"], ["schedule", "three-nodes/cluster.toml"], ["--help"]):
+            with open("/dev/full", "wb") as full:
+                self.runs.check(f"{words} to a full device", words, refused("Write"), given=given, output=full)
+            reading, writing = os.pipe()
+            os.close(reading)
+            self.runs.check(f"{words} to a reader that has left", words, refused("Write"), given=given, output=writing)
+            os.close(writing)
+            self.runs.check(f"{words} to a closed output", words, refused("Write"), given=given, closed=(1,))
