@@ -1,5 +1,7 @@
--- The static slots of a picture: an element for each of them and each channel, which names its owner in the sender table.
-use Rattle.std.specs.Prelude.{◌≡◌, ◌⊎◌, ℕ, zero, suc, ◌+◌, ◌-◌, ◌*◌, ◌/◌, nat_lt, List, [], ◌++◌, codes, Option, if◌then◌else◌}
+-- The static slots of a picture: an element for each of them and each channel, which names its owner in the sender
+-- table.
+use Rattle.std.specs.Prelude.{◌≡◌, ◌⊎◌, ℕ, zero, suc, ◌+◌, ◌-◌, ◌*◌, ◌/◌, nat_lt, List, [], ◌++◌, codes, Option}
+use Rattle.std.specs.Prelude.{if◌then◌else◌}
 use Rattle.std.specs.Fmt.{decimal}
 use Rattle.std.specs.Io.KnownBytes.{Appends}
 use Rattle.fr_picture.specs.Places.{across, extent, row_of}
@@ -39,7 +41,8 @@ owned_title slot channel node =
 
 unfoldable pub free_title : ℕ → Channel → List ℕ
 free_title slot channel =
-    codes "<g class='free'><title>slot " ++ (decimal slot ++ (codes " on " ++ (letter_of channel ++ codes ": nobody</title>")))
+    codes "<g class='free'><title>slot " ++ (decimal slot ++
+    (codes " on " ++ (letter_of channel ++ codes ": nobody</title>")))
 
 abbrev pub end_text : List ℕ
 end_text = codes "</g>" ++ codes "\n"
@@ -48,7 +51,8 @@ abbrev pub boxed : Parameters → ℕ → Channel → List ℕ
 boxed p slot channel = box_text (across p (start_of p slot)) (extent p (start_of p slot) (end_of p slot)) channel
 
 abbrev pub numbered : Parameters → ℕ → Channel → ℕ → List ℕ
-numbered p slot channel node = number_text (across p (start_of p slot)) (extent p (start_of p slot) (end_of p slot)) channel node
+numbered p slot channel node = number_text (across p (start_of p slot))
+    (extent p (start_of p slot) (end_of p slot)) channel node
 
 -- a slot on a channel that the node owns
 abbrev pub owned_element : Parameters → ℕ → Channel → ℕ → List ℕ

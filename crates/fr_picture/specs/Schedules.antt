@@ -5,8 +5,8 @@ use Rattle.fr_commands.specs.declared.error.BenchError.{BenchError}
 use Rattle.fr_picture.specs.Owners.{Adds, AreOwnerTexts}
 use Rattle.fr_schedule.specs.Descriptions.{Description}
 
--- The elements of the static slots stand one after another in the picture of a cycle, and name exactly the owners that the
--- sender table has. What stands before and after them, as the style and the guardians' rows, isn't told here.
+-- The elements of the static slots stand one after another in the picture of a cycle, and name exactly the owners that
+-- the sender table has. What stands before and after them, as the style and the guardians' rows, isn't told here.
 pub record IsPicture (d : Description) (cycle : ℕ) (text : List ℕ) : Type 0 where
   pub before : List ℕ
   pub owners : List ℕ

@@ -13,8 +13,8 @@ pub(crate) const GUARDS_TOP: u64 = 2300;
 /// How far one row of them stands from the next.
 pub(crate) const GUARD_PITCH: u64 = 180;
 
-/// The style of all pictures. The colours are those of Okabe and Ito, which colour-blind people tell apart; nodes 8 to 15
-/// have the same with stripes.
+/// The style of all pictures. The colours are those of Okabe and Ito, which colour-blind people tell apart; nodes 8 to
+/// 15 have the same with stripes.
 const STYLE: &str = "<style>
 text{font-family:sans-serif;font-size:110px;text-anchor:middle;fill:#000;stroke:#fff;stroke-width:24px;paint-order:stroke;stroke-linejoin:round}
 .name text{text-anchor:end}

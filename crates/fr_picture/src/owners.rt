@@ -141,8 +141,8 @@ fn write_owner<W: Write>(
     }
 }
 
-/// Writes the elements of the static slots, each with the node that the sender table has for it in the cycle, and of each
-/// slot that on channel A before that on channel B (chapter 5; the picture is own profile).
+/// Writes the elements of the static slots, each with the node that the sender table has for it in the cycle, and of
+/// each slot that on channel A before that on channel B (chapter 5; the picture is own profile).
 ///
 /// Fails where the writer fails, and then a part of them may have gone out.
 pub fn write_owners<W: Write>(writer: &mut W, cluster: &Cluster, cycle: Cycle) -> io::Result<()>

@@ -61,9 +61,9 @@ fn owners_of(alloc: Global, cluster: &Cluster, cycle: Cycle) -> Result<Vec<u8>, 
 
 /// The picture of a cycle: an SVG text (own profile).
 ///
-/// It has the four segments of the cycle, for each channel the static slots with their owners and the dynamic slots that have
-/// a sender in the cycle, and for each node and channel the intervals in which its guardian is open. Refused with `Memory`
-/// alone.
+/// It has the four segments of the cycle, for each channel the static slots with their owners and the dynamic slots
+/// that have a sender in the cycle, and for each node and channel the intervals in which its guardian is open. Refused
+/// with `Memory` alone.
 pub fn picture_of(alloc: Global, cluster: &Cluster, cycle: Cycle) -> Result<Vec<u8>, BenchError>
     ensures picture { IfOk result (λ text. IsPicture cluster.now cycle text.items) }
     ensures refused { IfErr result (λ e. e ≡ refusal.Memory) }

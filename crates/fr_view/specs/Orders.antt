@@ -1,5 +1,6 @@
 -- Which words are an order, by the rules of `clap`, and how the refusal of words follows from its errors.
-use Rattle.std.specs.Prelude.{◌≡◌, ◌⊎◌, ◌<◌, ℕ, List, [], ◌∷◌, length, Option, Some, None, Result, Ok, Err, true, false, codes}
+use Rattle.std.specs.Prelude.{◌≡◌, ◌⊎◌, ◌<◌, ℕ, List, [], ◌∷◌, length, Option, Some, None, Result, Ok, Err, true, false}
+use Rattle.std.specs.Prelude.{codes}
 use Rattle.std.specs.Prelude.{option_map, option_and_then, Bool, ◌&&◌, ◌||◌, is_some}
 use Rattle.fr_text.specs.Reading.{number_in}
 use Rattle.std.specs.Str.{bytes_eq}
@@ -106,11 +107,12 @@ abbrev pub is_help : List Text → Bool
 is_help (word ∷ []) = bytes_eq word (codes "--help")
 is_help words = false
 
--- The order is the one that the words enter, where `clap` finds no fault with them. Where it finds one they are no command,
--- and else only where they enter none; for want of memory either may stay unanswered.
+-- The order is the one that the words enter, where `clap` finds no fault with them. Where it finds one they are no
+-- command, and else only where they enter none; for want of memory either may stay unanswered.
 abbrev pub IsAnswerTo : List Text → Result Order OrderError → Type 0
 IsAnswerTo words (Ok order) = (fault_of the_commands words ≡ []) × IsOrder (subcommand_of the_commands words) order
-IsAnswerTo words (Err refusal.Usage) = (0 < length (fault_of the_commands words)) ⊎ (asks (subcommand_of the_commands words) ≡ false)
+IsAnswerTo words (Err refusal.Usage) = (0 < length (fault_of the_commands words))
+    ⊎ (asks (subcommand_of the_commands words) ≡ false)
 IsAnswerTo words (Err refusal.Memory) = Unit {0}
 
 abbrev pub IsAnswerBy : Bool → List Text → Result Order OrderError → Type 0

@@ -1,5 +1,5 @@
-//! The bench's program for looking at things. It reads its command from the words after its name, does it, and says by its
-//! exit status how it went: 0 where it is done, 1 where an input is refused, 2 where the words are no command.
+//! The bench's program for looking at things. It reads its command from the words after its name, does it, and says by
+//! its exit status how it went: 0 where it is done, 1 where an input is refused, 2 where the words are no command.
 //!
 //! What it prints on standard output comes only once the command has accepted all its input. A refusal is one line on
 //! standard error.

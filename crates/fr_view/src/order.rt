@@ -91,8 +91,8 @@ fn is_help(words: &[&str]) -> bool
 
 /// The order that the words after the program's name give (own profile).
 ///
-/// Refused with `Memory` where memory for the parse was refused, and else with `Usage` for all words that are no command.
-/// A call for help is the word `--help` alone. A cycle is 0 to 63, without a leading zero.
+/// Refused with `Memory` where memory for the parse was refused, and else with `Usage` for all words that are no
+/// command. A call for help is the word `--help` alone. A cycle is 0 to 63, without a leading zero.
 pub fn order<'a>(alloc: Global, words: &'a [&'a str]) -> Result<Order<'a>, OrderError>
     ensures { IsAnswer (map (λ word. word.now) words.now) result }
 {
