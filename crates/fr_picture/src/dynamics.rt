@@ -132,15 +132,18 @@ pub(crate) fn write_dynamic<W: Write>(
     )?;
     write!(writer, "<rect x='{left}' y='{}' ", row_of(channel))?;
     writeln!(writer, "width='{length}' height='{CHANNEL_HEIGHT}'/></g>")?;
-    let share = (length / count_senders(cluster, cycle, channel).max(1)).max(1);
-    let mut cell = Cell {
-        left,
-        length: share,
-    };
+    let count = count_senders(cluster, cycle, channel).max(1);
+    let mut index: u64 = 0;
     for number in 1..=LAST_SLOT {
         if let Some((slot, node)) = sender_in(cluster, cycle, number, channel) {
+            let start = left.saturating_add(index.saturating_mul(length) / count);
+            index = index.saturating_add(1);
+            let end = left.saturating_add(index.saturating_mul(length) / count);
+            let cell = Cell {
+                left: start,
+                length: end.saturating_sub(start).max(1),
+            };
             write_slot(writer, cluster, cycle, slot, channel, node, cell)?;
-            cell.left = cell.left.saturating_add(share);
         }
     }
     Ok(())

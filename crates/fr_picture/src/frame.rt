@@ -19,7 +19,7 @@ const STYLE: &str = "<style>
 text{font-family:sans-serif;font-size:110px;text-anchor:middle;fill:#000;stroke:#fff;stroke-width:24px;paint-order:stroke;stroke-linejoin:round}
 .name text{text-anchor:end}
 .head text{font-size:170px;text-anchor:start}
-rect{stroke:#fff;stroke-width:6px}
+rect{stroke:#fff}
 .page rect,.stripe{stroke:none}
 .page rect{fill:#fff}
 .free rect{fill:#eee}
@@ -61,6 +61,15 @@ fn write_stripes<W: Write>(writer: &mut W) -> io::Result<()> {
     writeln!(writer, "</defs>")
 }
 
+/// Writes how far boxes stand apart: less where static slots are short, so that these are seen.
+fn write_gaps<W: Write>(writer: &mut W, params: &Params) -> io::Result<()> {
+    let params = params.duplicate();
+    let gap = (extent(&params, 0, u32::from(params.static_mt)) / 12).min(6);
+    writer.write_all(b"<style>rect{stroke-width:")?;
+    write!(writer, "{gap}px")?;
+    writer.write_all(b"}</style>\n")
+}
+
 /// Writes how a picture begins, up to its first row.
 pub(crate) fn write_head<W: Write>(
     writer: &mut W,
@@ -73,6 +82,7 @@ pub(crate) fn write_head<W: Write>(
     writeln!(writer, "viewBox='0 0 11600 {height}'>")?;
     writeln!(writer, "<title>Schedule of cycle {cycle}</title>")?;
     writer.write_all(STYLE.as_bytes())?;
+    write_gaps(writer, cluster.params())?;
     write_stripes(writer)?;
     write!(
         writer,
@@ -89,7 +99,12 @@ pub(crate) fn write_head<W: Write>(
         "{} macroticks, ",
         cluster.params().duplicate().cycle_mt
     )?;
-    writeln!(writer, "{} nodes</text></g>", cluster.nodes())
+    let name = if cluster.nodes() == 1 {
+        "node"
+    } else {
+        "nodes"
+    };
+    writeln!(writer, "{} {name}</text></g>", cluster.nodes())
 }
 
 /// Writes a segment of the cycle with its name, where it has any macroticks.
@@ -110,7 +125,7 @@ fn write_segment<W: Write>(
     write!(writer, "<rect x='{left}' y='620' ")?;
     write!(writer, "width='{length}' height='260'/>")?;
     // So many letters fit that take some 65 each.
-    if length / 65 > name.len() as u64 {
+    if length / 65 >= name.len() as u64 {
         let middle = left.saturating_add(length / 2);
         write!(writer, "<text x='{middle}' y='790'>{name}</text>")?;
     }
