@@ -1,8 +1,7 @@
-use Rattle.std.proofs.Common.{◌≡◌, ◌≤◌, ◌<◌, ◌+◌, ◌++◌, List, ℕ, Option, length, sym, subst, ◌∙◌, arith, ap, vec_len}
+use Rattle.std.proofs.Common.{◌≤◌, ◌<◌, ◌+◌, ◌++◌, List, ℕ, Option, length, sym, subst, ◌∙◌, arith, ap}
 use Rattle.std.specs.Io.KnownBytes.{Appends}
-use Rattle.std.specs.List.{flat_map}
 use Rattle.std.specs.Prelude.{OnOk}
-use Rattle.fr_capture.specs.Shows.{heading, shown, shown_of}
+use Rattle.fr_capture.specs.Shows.{heading, shown_of}
 use Rattle.fr_capture.specs.declared.moment.Moment.{Moment}
 use Rattle.fr_journal.specs.declared.entry.Entry.{Entry}
 use Rattle.fr_slots.specs.Parameters.{Parameters}

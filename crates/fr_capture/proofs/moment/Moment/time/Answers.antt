@@ -1,4 +1,4 @@
-use Rattle.std.proofs.Common.{◌+◌, ◌*◌, ◌<◌, ◌≤◌, ◌^◌, arith}
+use Rattle.std.proofs.Common.{◌*◌, ◌≤◌, arith}
 use Rattle.fr_capture.proofs.StartLemmas.{few_time}
 use Rattle.fr_capture.proofs.moment.Moment.time.Goals as goal
 
