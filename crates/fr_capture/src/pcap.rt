@@ -6,7 +6,7 @@ ghost use Rattle.fr_capture.specs.Pcap.{captured_bytes, channel_mark, error_flag
 ghost use Rattle.fr_capture.specs.Pcap.{record_of};
 
 use crate::sighting::SeenBytes;
-use fr_frame::decode::{DecodeError, decode};
+use fr_frame::decode::{DecodeError, decode_lent};
 use fr_slots::channel::Channel;
 use std::io;
 use std::io::Write;
@@ -75,7 +75,7 @@ pub(crate) fn write_record<W: Write>(writer: &mut W, seen: &SeenBytes<'_>) -> io
     requires { seen.now.time < 2 ^ 32 * 1000000 }
     ensures { Writes W.contents writer.old writer.new result (record_of seen.now) }
 {
-    let error = decode(seen.bytes, seen.channel).err();
+    let error = decode_lent(seen.bytes, seen.channel).err();
     let captured = captured_bytes(error, seen.bytes);
     write_record_header(writer, seen.time, captured.len() as u32 + 2)?;
     writer.write_all(&[channel_mark(seen.channel), error_flags(error)])?;

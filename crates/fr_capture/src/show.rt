@@ -26,7 +26,7 @@ use fr_slots::channel::Channel;
 use fr_slots::numbers::{Cycle, SlotId};
 use fr_slots::params::Params;
 use fr_status::seen::Seen;
-use fr_status::status::status_of;
+use fr_status::status::lent_status_of;
 use fr_trace::audit::interface_of;
 use fr_trace::error::TraceError;
 use std::alloc::Global;
@@ -61,7 +61,7 @@ fn status_word_in(
 {
     match slot {
         Some(slot) => {
-            let (status, _) = status_of(params, cycle, slot, channel, seen);
+            let (status, _) = lent_status_of(params, cycle, slot, channel, seen);
             status_word(&status)
         }
         None => "-",

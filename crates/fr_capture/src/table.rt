@@ -10,8 +10,8 @@ ghost use Rattle.fr_frame.specs.Decoding.{decoded};
 ghost use Rattle.fr_frame.specs.Refusal.{refusal};
 
 use crate::sighting::SeenBytes;
-use fr_frame::decode::{DecodeError, decode};
-use fr_frame::frame::Frame;
+use fr_frame::decode::{DecodeError, decode_lent};
+use fr_frame::lent::LentFrame;
 use fr_slots::numbers::SlotId;
 use fr_status::status::SlotStatus;
 use fr_text::hexes::write_hex;
@@ -64,7 +64,7 @@ fn mark(letter: &'static str, is_so: bool) -> &'static str
 
 /// Writes the letters of a frame's indicators.
 #[tactic(auto, unfolding(crate::specs::Table::indicators))]
-fn write_indicators<W: Write>(writer: &mut W, frame: &Frame) -> io::Result<()>
+fn write_indicators<W: Write>(writer: &mut W, frame: &LentFrame<'_>) -> io::Result<()>
     ensures { Writes W.contents writer.old writer.new result (indicators frame.now) }
 {
     let (preamble, null) = (mark("p", frame.preamble), mark("n", !frame.has_data));
@@ -83,13 +83,13 @@ fn write_slot<W: Write>(writer: &mut W, slot: Option<SlotId>) -> io::Result<()>
 }
 
 /// Writes the end of the line of a frame.
-fn write_frame<W: Write>(writer: &mut W, frame: &Frame) -> io::Result<()>
+fn write_frame<W: Write>(writer: &mut W, frame: &LentFrame<'_>) -> io::Result<()>
     ensures { Writes W.contents writer.old writer.new result (line_text (frame_words frame.now)) }
 {
     write!(writer, "- {} ", frame.id)?;
     write_indicators(writer, frame)?;
     writer.write_all(b" ")?;
-    write_hex(writer, frame.payload.as_slice())?;
+    write_hex(writer, frame.payload)?;
     writer.write_all(b"\n")
 }
 
@@ -112,7 +112,7 @@ fn write_content<W: Write>(writer: &mut W, seen: &SeenBytes<'_>) -> io::Result<(
         (decoded seen.now.channel seen.now.bytes)
         seen.now.bytes) }
 {
-    match decode(seen.bytes, seen.channel) {
+    match decode_lent(seen.bytes, seen.channel) {
         Ok(frame) => write_frame(writer, &frame),
         Err(error) => write_bytes(writer, error, seen.bytes),
     }
