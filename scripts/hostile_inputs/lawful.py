@@ -51,12 +51,15 @@ class Buffer:
         return self.last if self.is_pending or self.kind == "state" else None
 
 
-def buffers(random, params, owned):
-    """Some buffers of a node that owns a static slot on both channels, and may send early in the dynamic segment."""
+def buffers(random, params, owned, own_cycles):
+    """Some buffers of a node that owns a static slot on both channels in these cycles, and may send early in the dynamic
+    segment."""
     slots, minislots, words = params[:3]
     made = [Buffer(random, "receive", random.randint(1, slots), random.choice(("A", "B", "AB")), words)]
     if owned:
         made.append(Buffer(random, random.choice(("event", "state")), owned, random.choice(("A", "B", "AB")), words))
+        if own_cycles != (0, 1):
+            made[-1].base, made[-1].repetition = own_cycles
     if minislots:
         made.append(Buffer(random, random.choice(("event", "state")), slots + 1 + owned % 3, random.choice("AB"), 1))
         made.append(Buffer(random, "receive", slots + random.randint(1, 4), random.choice(("A", "B", "AB")), 1))
@@ -65,18 +68,22 @@ def buffers(random, params, owned):
 
 
 class Journal:
-    """The lines of a trace, and what the calls on its interface leave of the buffers and the queue."""
+    """The lines of a trace, and what the calls on its interface leave of the buffers and the queue. The node owns a slot
+    in every cycle, or divides it with others."""
 
     def __init__(self, random):
         self.random, self.params = random, random.choice(CYCLES)
-        self.owned = random.choice((0, 1, 1))
-        self.buffers = buffers(random, self.params, self.owned)
+        self.owned, self.own_cycles = random.choice((0, 1, 1)), random.choice(FILTERS)
+        self.buffers = buffers(random, self.params, self.owned, self.own_cycles)
         self.capacity = random.choice((0, 1, 2, 3))
         self.queue, self.lines = [], []
 
     def text(self):
-        plan = ["frtrace 1", f"params {' '.join(map(str, self.params))}", f"node 2 {min(3, self.params[1])} 0 64 128"]
-        plan += [f"own {self.owned} AB 0 0"] if self.owned else []
+        is_divided = self.owned and self.own_cycles != (0, 1)
+        version = 3 if is_divided else self.random.choice((1, 2, 3))
+        plan = [f"frtrace {version}", f"params {' '.join(map(str, self.params))}", f"node 2 {min(3, self.params[1])} 0 64 128"]
+        cycles = " {} {}".format(*self.own_cycles) if version == 3 else ""
+        plan += [f"own {self.owned} AB 0 0{cycles}"] if self.owned else []
         for it in self.buffers:
             head = f"{it.slot} {it.channels} {it.base} {it.repetition}"
             words = "-" if it.slot <= self.params[0] else it.words
@@ -106,7 +113,9 @@ class Journal:
         given = next((it for it in self.buffers if it.kind != "receive" and it.admits(slot, channel, cycle)), None)
         entry = given.ready() if given else None
         if minislot == 0:
-            return ("null" if entry is None else entry) if slot == self.owned else "-", given
+            base, repetition = self.own_cycles
+            is_own = slot == self.owned and cycle % repetition == base
+            return ("null" if entry is None else entry) if is_own else "-", given
         return "-" if entry is None or channel == "B" or minislot > 3 else entry, given
 
     def window(self, cycle, minislot, slot):
@@ -154,17 +163,20 @@ class Cluster:
         self.random, self.params = random, random.choice(CYCLES)
         self.nodes = []
         for number in range(random.randint(1, 4)):
-            owned = number + 1 if number < self.params[0] else 0
-            made = [it for it in buffers(random, self.params, owned)
+            owned, cycles = number + 1 if number < self.params[0] else 0, random.choice(FILTERS)
+            if number and self.nodes[-1][:2] == (number, (0, 2)) and random.random() < 0.6:
+                owned, cycles = number, (1, 2)
+            made = [it for it in buffers(random, self.params, owned, cycles)
                     if it.kind == "receive" or it.slot == owned or number < 3]
-            self.nodes.append((owned, random.randint(1, 3), made, random.random() < 0.4))
+            self.nodes.append((owned, cycles, random.randint(1, 3), made, random.random() < 0.4))
 
     def text(self):
         guard = self.random.choice(("", 'guard = "AB"', 'guard = "A"', 'guard = "B"', 'guard = "none"'))
         lines = [guard, "[params]", *(f"{key} = {value}" for key, value in zip(KEYS, self.params))]
-        for owned, tasks, made, has_queue in self.nodes:
+        for owned, (base, repetition), tasks, made, has_queue in self.nodes:
             lines += ["[[node]]", f"tasks = {tasks}", f"latest_a = {min(3, self.params[1])}"]
             flag = self.random.choice(("", ", sync = true", ", sync = true, startup = true"))
+            flag += f", base = {base}, repetition = {repetition}" if repetition > 1 else ""
             lines += [f'own = [{{slot = {owned}, channels = "AB"{flag}}}]'] if owned else []
             lines += ['queue = {capacity = 2, first = 1, last = 2047, channels = "AB"}'] if has_queue else []
             told = [self.buffer(it) for it in made]
@@ -181,7 +193,7 @@ class Cluster:
         return told
 
     def host_line(self, number, task, cycle):
-        _, tasks, made, has_queue = self.nodes[number]
+        _, _, tasks, made, has_queue = self.nodes[number]
         if has_queue and self.random.random() < 0.3:
             return f"pop {number} {task} {cycle}"
         if not made:
@@ -207,7 +219,7 @@ class Cluster:
 
     def scenario(self, cycles):
         lines = []
-        for number, (_, tasks, _, _) in enumerate(self.nodes):
+        for number, (_, _, tasks, _, _) in enumerate(self.nodes):
             for task in range(tasks):
                 when = sorted(self.random.randrange(cycles) for _ in range(self.random.randint(0, 4)))
                 lines += [self.host_line(number, task, cycle) for cycle in when]

@@ -64,13 +64,16 @@ class Clusters:
         self.node("a buffer has no kind", f'buffer = [{receive}}}, {{kind = "none"}}]', refused("BadBuffer 0 1"))
         self.node("keys without a meaning are there", f'buffer = [{receive}, preamble = 1, words = "x"}}]', SMALL)
         state = 'buffer = [{kind = "state", slot = 1, channels = "A", words = 500}]'
-        self.node("such keys are there in a static slot", f'own = [{{slot = 1, channels = "A", base = "x"}}]\n{state}', SMALL)
+        self.node("such keys are there in a static slot", f'own = [{{slot = 1, channels = "A", words = "x"}}]\n{state}', SMALL)
+        for cycles in ('base = "x"', "base = 1", "repetition = 3", "base = 2, repetition = 2", "base = -1, repetition = 2",
+                       "repetition = 128"):
+            self.node(f"a slot is owned with {cycles}", f'own = [{{slot = 1, channels = "A", {cycles}}}]', bad)
 
     def faults(self):
         """Faults among the lines of all nodes."""
         own, buffer = "own = [{slot = 2,", '  {kind = "receive", slot = 2, channels = "A"},\n'
         self.check("a slot has two owners", self.three.replace(own, 'own = [{slot = 1, channels = "AB"}, {slot = 2,'),
-                   refused("SlotTaken 1 A"))
+                   refused("Overlap 1 A 0"))
         third = '  {kind = "event", slot = 4, channels = "A", base = 1, repetition = 2, words = 1},\n'
         self.check("a divided slot overlaps", self.three.replace(buffer, buffer + third), refused("Overlap 4 A 1"))
         state = 'buffer = [{kind = "state", slot = 2, channels = "AB"}]'
@@ -82,6 +85,30 @@ class Clusters:
         late = 'buffer = [{kind = "event", slot = 8, channels = "A", words = 4}]'
         self.node("four words begin at the tenth minislot", f"latest_a = 10\n{late}", refused("TooLong 0 0"))
         self.node("four words begin at the ninth", f"latest_a = 9\n{late}", SMALL)
+
+    def divided(self):
+        """Static slots that nodes divide by cycles."""
+        cluster = (EXAMPLES / "divided-slot/cluster.toml").read_text()
+        accepted = (EXAMPLES / "divided-slot/check").read_bytes(), b"", 0
+        line = '{slot = 3, channels = "A", base = 0, repetition = 2}'
+        self.check("two nodes share a cycle", cluster.replace(line, line.replace("base = 0, repetition = 2", "base = 1, repetition = 4")),
+                   refused("Overlap 3 A 1"))
+        buffer = '  {kind = "receive", slot = 2, channels = "A"},\n'
+        third = '  {kind = "event", slot = 3, channels = "A"%s},\n'
+        self.check("a buffer is for the cycles of another node", cluster.replace(buffer, buffer + third % "", 1), refused("NotOwned 0 2"))
+        self.check("a buffer is for its node's cycles", cluster.replace(buffer, buffer + third % ", base = 0, repetition = 2", 1), accepted)
+        self.check("a buffer is for one of its node's cycles", cluster.replace(buffer, buffer + third % ", base = 62, repetition = 64", 1),
+                   accepted)
+        own = 'own = [{slot = 2, channels = "A", base = %d, repetition = %d}, {slot = 2, channels = "A", base = %d, repetition = %d}]\n'
+        state = 'buffer = [{kind = "state", slot = 2, channels = "A"%s}]'
+        for (one, other), cycles, wanted in (
+            (((0, 2), (1, 2)), "", SMALL), (((0, 2), (1, 4)), "", refused("NotOwned 0 0")), (((0, 2), (1, 4)), ", base = 1, repetition = 4", SMALL),
+            (((0, 2), (2, 4)), ", repetition = 2", refused("Overlap 2 A 2")), (((0, 1), (63, 64)), "", refused("Overlap 2 A 63")),
+        ):
+            self.node(f"its own cycles are {one} and {other}, a buffer's {cycles or 'all'}", own % (*one, *other) + state % cycles, wanted)
+        taken = 'own = [{slot = 3, channels = "B"}, {slot = 3, channels = "B"}]\n'
+        twice = 'buffer = [{kind = "event", slot = 4, channels = "A", words = 1}, {kind = "event", slot = 4, channels = "A", words = 1}]'
+        self.node("lines and buffers overlap", f"{taken}{twice}", refused("Overlap 3 B 0"))
 
     def parameters(self):
         """Each parameter just below its least value and just above its greatest, and a file that has none of the keys."""
@@ -103,7 +130,7 @@ class Clusters:
         ]
         latest, twice = "latest_a = 10\nlatest_b = 10\n", 'own = [{slot = 3, channels = "A"}, {slot = 3, channels = "A"}]\n'
         both, alone = buffers[:3], [*buffers[:2], buffers[2].replace("AB", "A")]
-        for told, own, left in (("SlotTaken 3 A", twice, buffers), ("NotOwned 0 3", "", buffers), ("DynamicBoth 0 2", "", both),
+        for told, own, left in (("NotOwned 0 3", twice, buffers), ("DynamicBoth 0 2", twice, both), ("Overlap 3 A 0", twice, alone),
                                 ("Overlap 6 A 0", "", alone), ("TooLong 0 0", "", buffers[:2])):
             self.node(f"the first fault is {told}", f"{latest}{own}buffer = [{', '.join(left)}]", refused(told))
         halves = '{kind = "event", slot = 4, channels = "A", base = %d, repetition = %d, words = 1}'
@@ -120,14 +147,14 @@ class Clusters:
             owned = ", ".join(f'{{slot = {slot}, channels = "AB"}}' for slot in range(node + 1, slots + 1, nodes))
             lines += ["[[node]]", f"own = [{owned}]"]
         lines += ["latest_b = 1090", 'buffer = [{kind = "event", slot = 2047, channels = "B", base = 63, repetition = 64, words = 0}]']
-        wanted = [f"slot {slot} {channel} {(slot - 1) % nodes}" for slot in range(1, slots + 1) for channel in "AB"]
+        wanted = [f"slot {slot} {channel} {(slot - 1) % nodes} 0 1" for slot in range(1, slots + 1) for channel in "AB"]
         wanted.append("dynamic 2047 B 15 63 64")
         for node in range(nodes):
             opened = [((slot - 1) * length, slot * length) for slot in range(node + 1, slots + 1, nodes)]
             dynamic = segment, segment + 2200
             if opened[-1][1] == segment:
                 dynamic = opened.pop()[0], dynamic[1]
-            wanted += [f"guard {node} {channel} {start} {end}" for channel in "AB" for start, end in [*opened, dynamic]]
+            wanted += [f"guard {node} {channel} 0 {start} {end}" for channel in "AB" for start, end in [*opened, dynamic]]
         self.path.write_text("".join(f"{line}\n" for line in lines))
         told = "".join(f"{line}\n" for line in wanted).encode()
         self.runs.check("plan of a full cycle", ["plan", self.path], (told, b"", 0))
@@ -135,15 +162,21 @@ class Clusters:
     def windows(self):
         """When the channels are open to a node that owns slots 1 and 2 of three, or slot 3."""
         first, last = 'own = [{slot = 1, channels = "AB"}, {slot = 2, channels = "AB"}]', 'own = [{slot = 3, channels = "A"}]'
-        apart = ["slot 1 A 0", "slot 1 B 0", "slot 2 A 0", "slot 2 B 0"]
+        apart = [f"slot {slot} {channel} 0 0 1" for slot in (1, 2) for channel in "AB"]
+        quarter = 'own = [{slot = 2, channels = "AB", base = 2, repetition = 4}]'
         short = SMALL_CYCLE.replace("minislots = 10", "minislots = 0").replace("cycle_mt = 120", "cycle_mt = 70")
         for name, text, wanted in (
             ("two slots touch", f"{SMALL_CYCLE}[[node]]\n{first}\n",
-             [*apart, "guard 0 A 0 40", "guard 0 A 60 110", "guard 0 B 0 40", "guard 0 B 60 110"]),
-            ("a slot touches the dynamic segment", f"{SMALL_CYCLE}[[node]]\n{last}\n", ["slot 3 A 0", "guard 0 A 40 110", "guard 0 B 60 110"]),
+             [*apart, "guard 0 A 0 0 40", "guard 0 A 0 60 110", "guard 0 B 0 0 40", "guard 0 B 0 60 110"]),
+            ("a slot touches the dynamic segment", f"{SMALL_CYCLE}[[node]]\n{last}\n", ["slot 3 A 0 0 1", "guard 0 A 0 40 110", "guard 0 B 0 60 110"]),
             ("channel B isn't guarded", f'guard = "A"\n{SMALL_CYCLE}[[node]]\n{first}\n',
-             [*apart, "guard 0 A 0 40", "guard 0 A 60 110", "guard 0 B 0 110"]),
-            ("there are no minislots", f"{short}[[node]]\n{first}\n", [*apart, "guard 0 A 0 40", "guard 0 B 0 40"]),
+             [*apart, "guard 0 A 0 0 40", "guard 0 A 0 60 110", "guard 0 B 0 0 110"]),
+            ("there are no minislots", f"{short}[[node]]\n{first}\n", [*apart, "guard 0 A 0 0 40", "guard 0 B 0 0 40"]),
+            ("a slot is left to nobody in three cycles of four", f'guard = "A"\n{SMALL_CYCLE}[[node]]\n{quarter}\n[[node]]\n',
+             ["slot 2 A 0 2 4", "slot 2 B 0 2 4", "guard 0 A 0 60 110", "guard 0 A 1 60 110", "guard 0 A 2 20 40", "guard 0 A 2 60 110",
+              "guard 0 A 3 60 110",
+              *(f"guard {node} {channel} {cycle} {start} 110" for node, channel, start in ((0, "B", 0), (1, "A", 60), (1, "B", 0))
+                for cycle in range(4))]),
         ):
             self.path.write_text(text)
             told = "".join(f"{line}\n" for line in wanted).encode()

@@ -13,8 +13,8 @@ class Scenarios:
         words = ["run", "three-nodes/cluster.toml", self.path, "--cycles", "4"]
         self.runs.check(f"run where {name}", words, refused(error))
 
-    def line(self, line, error="BadLine 2"):
-        self.check(f"the line is {line!r}", f"frscenario 1\n{line}\nend\n", error)
+    def line(self, line, error="BadLine 2", version=1):
+        self.check(f"the line is {line!r} in version {version}", f"frscenario {version}\n{line}\nend\n", error)
 
     def texts(self):
         for text in ("", "frscenario 1", "frscenario 9\nend\n", "frscenario 1 \nend\n", "frscenario 1\r\nend\n",
@@ -34,6 +34,11 @@ class Scenarios:
                      "babble 0 A 0 s1 x0", "babble 0 A 0 s1  x00", "babble 0 A 0 s1 x00 ", f"babble 0 A 0 s1 x{'00' * 263}",
                      "withdraw 0 0 0 0", " pop 0 0 0", "pop 0 0 0\r"):
             self.line(line)
+        for line in ("withdraw 0 0 0", "withdraw 0 0 0 0 x", "withdraw 16 0 0 0", "withdraw 0 8 0 0", "withdraw 0 0 1024 0",
+                     "withdraw 0 0 0 64", "withdraw 0 0 0 -"):
+            self.line(line, version=2)
+        for line in ("withdraw 0 2 0 0", "withdraw 0 0 0 1", "withdraw 0 0 0 9", "withdraw 3 0 0 0", "withdraw 0 0 4 0"):
+            self.line(line, "BadScript 0", version=2)
         self.line("commit 15 7 1023 63 x", "BadScript 0")
         self.line("babble 15 A 1023 m8000 x", "BadFault 0")
         self.line("corrupt B 1023 s8000 65535", "BadFault 0")
@@ -130,6 +135,7 @@ def scenes(runs, folder):
     few = scenes.cluster.replace("[[node]]\ntasks = 2\nown = [{slot = 1", "[[node]]\ntasks = 2\nhost_entries = 2\nown = [{slot = 1")
     scenes.check("run of three lines with room for two", refused("NoRoom 0"), cluster=few)
     babbles(scenes)
+    withdraws(scenes)
     faults(scenes)
     long_runs(scenes)
     free_runs(scenes)
@@ -175,12 +181,26 @@ def faulty_nodes(scenes, both, quiet):
     scenes.outcome_with("run where node 2 loses and babbles in minislots too", lines, cluster=both, scenario=dynamic)
 
 
+def withdraws(scenes):
+    """Commits taken back: one before its slot, one that was sent already, one in the same cycle, and one too late."""
+    scenes.check("run of the same scenario in version 2", (scenes.outcome.encode(), b"", 0),
+                 scenario=scenes.scenario.replace("frscenario 1", "frscenario 2"))
+    lines = ["commit 0 0 0 0 x0a0b", "withdraw 0 0 0 0", "commit 0 1 2 0 x0c0d", "pop 0 1 2", "withdraw 0 1 3 0",
+             "commit 1 0 0 0 x1111", "withdraw 1 0 2 0", "commit 1 1 3 0 x2222", "withdraw 1 1 3 0", "read 1 0 3 1",
+             "commit 2 0 0 0 x7001", "commit 2 1 1 0 x7002", "commit 2 0 3 0 x7003", "withdraw 2 0 3 0"]
+    outcome = ["node 0", "tx 0 2 1 0 0 1", "rx 1 35:A x1111", "queue 1 0", "A 6 0 0 0 0", "B 4 0 0 0 0",
+               "node 1", "tx 0 2 1 0 0 1", "rx 1 31:A x0c0d", "rx 2 31:B x0c0d", "A 6 0 0 0 0", "B 4 0 0 0 0",
+               "node 2", "tx 0 3 2 0 0 1", "rx 1 33:A x1111", "A 8 0 0 0 0", "B 8 0 0 0 0", "windows 28", "settled"]
+    scenario, wanted = ("".join(f"{line}\n" for line in text) for text in (["frscenario 2", *lines, "end"], outcome))
+    scenes.check("run with withdraws", (wanted.encode(), b"", 0), scenario=scenario)
+
+
 def faults(scenes):
     """One commit of node 0 in slot 1, and one fault in its window."""
     muted = scenes.with_line("mute 0 A 0 s1", scenes.one_commit)
-    scenes.told("run with a muted owner", [(0, "tx 0 1 1 0 0"), (1, "rx 1 - -"), (1, "rx 2 1:B x0a0b")], scenario=muted)
+    scenes.told("run with a muted owner", [(0, "tx 0 1 1 0 0 0"), (1, "rx 1 - -"), (1, "rx 2 1:B x0a0b")], scenario=muted)
     babbles = scenes.with_line("babble 0 A 0 s1 x20010346809999e937d0", muted)
-    lines = [(0, "tx 0 1 1 0 0"), (1, "rx 1 1:A x9999"), (1, "rx 2 1:B x0a0b")]
+    lines = [(0, "tx 0 1 1 0 0 0"), (1, "rx 1 1:A x9999"), (1, "rx 2 1:B x0a0b")]
     scenes.told("run with a muted owner that babbles a frame", lines, scenario=babbles)
     corrupt = scenes.with_line("corrupt A 0 s1 40", scenes.one_commit)
     lines = [(1, "rx 1 - -"), (1, "rx 2 1:B x0a0b"), (1, "A 3 1 0 0 0"), (1, "B 4 0 0 0 0"), (2, "A 7 1 0 0 0")]
@@ -192,7 +212,7 @@ def faults(scenes):
 def long_runs(scenes):
     """Cycles of a run go on after 63: lines and faults of cycle 65 come in it, and those of cycle 0 not in cycle 64."""
     scenario = "frscenario 1\ncommit 0 0 65 0 x0a0b\ncorrupt A 0 s1 40\ncorrupt A 65 s2 40\nmute 0 B 65 s1\nend\n"
-    lines = [(0, "tx 0 1 1 0 0"), (0, "A 65 1 0 0 0"), (0, "B 66 0 0 0 0"), (1, "rx 1 911:A x0a0b"), (1, "rx 2 - -"),
+    lines = [(0, "tx 0 1 1 0 0 0"), (0, "A 65 1 0 0 0"), (0, "B 66 0 0 0 0"), (1, "rx 1 911:A x0a0b"), (1, "rx 2 - -"),
              (1, "A 65 1 0 0 0"), (1, "B 65 0 0 0 0"), (2, "A 130 2 0 0 0"), (2, "B 131 0 0 0 0"), (2, "windows 462")]
     words = scenes.words(scenes.cluster, scenario, 66)
     scenes.compare_lines("run of 66 cycles", words, lines, lambda told, line: told == line)

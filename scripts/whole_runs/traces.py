@@ -63,6 +63,7 @@ class Traces:
         self.runs = runs
         self.frames = (EXAMPLES / "receive-buffer/trace").read_text().splitlines()
         self.commits = (EXAMPLES / "three-commits/trace").read_text().splitlines()
+        self.withdrawn = (EXAMPLES / "withdrawn-commits/trace").read_text().splitlines()
         self.queue = QUEUE.splitlines()
 
     def check(self, name, lines, wanted):
@@ -116,9 +117,55 @@ class Traces:
                      "fetch 0 0 0 1 1 7 -"):
             self.changed(self.commits, 9, line, "WrongAnswer")
 
-    def told(self, name, plan, entries, report, params=ONE_WORD):
+    def withdraws(self):
+        for line in ("withdraw 0 0 -", "withdraw 0 0 1", "withdraw 0 0 4294967295"):
+            self.changed(self.withdrawn, 8, line, "WrongAnswer")
+        for line in ("withdraw 1 0 0", "withdraw 0 1 0", "withdraw 0 63 -"):
+            self.changed(self.withdrawn, 8, line, "Refused")
+        for line in ("withdraw 8 0 0", "withdraw 0 64 0", "withdraw 0 0 4294967296", "withdraw 0 0 00", "withdraw 0 0 null",
+                     "withdraw 0 0", "withdraw 0 0 0 0", "withdraw"):
+            self.changed(self.withdrawn, 8, line, "BadLine")
+        self.check("a withdraw stands in version 1", ["frtrace 1", *self.withdrawn[1:]], refused("BadLine 8"))
+        for name, lines in (("receive-buffer", self.frames), ("three-commits", self.commits)):
+            report = (EXAMPLES / name / "report").read_bytes()
+            self.check(f"{name} is told in version 2", ["frtrace 2", *lines[1:]], (report, b"", 0))
+        receiver = ["frtrace 2", ONE_WORD, "node 1 0 0 8 8", "rx 2 AB 0 1", "begin", "withdraw 0 0 -", "end"]
+        self.check("a receive buffer is withdrawn", receiver, refused("Refused 6"))
+        full = ["frtrace 2", ONE_WORD, "node 1 0 0 1 8", "own 1 A 0 0", "tx state 1 A 0 1 - 0", "begin", "commit 0 0 x0001"]
+        self.check("a withdraw has no room", [*full, "withdraw 0 0 0", "end"], refused("Refused 8"))
+        for mode in ("event", "state"):
+            plan = ["node 1 0 0 8 8", "own 2 AB 0 0", f"tx {mode} 2 AB 0 1 - 0"]
+            entries = ["commit 0 0 x0001", *window(0, "own", "own", "0 0"), "withdraw 0 0 -", "commit 0 0 x0002", "withdraw 0 0 4",
+                       *window(1, "own", "own", "null null"), "commit 0 0 x0003", "withdraw 0 0 8", "withdraw 0 0 -"]
+            report = ["tx 0 3 1 0 0 2", "A 0 0 0 0 0", "B 0 0 0 0 0"]
+            self.told(f"commits are withdrawn in {mode} mode", plan, entries, report, version=2)
+
+    def divided(self):
+        """A slot that nodes divide by cycles, and the form of an ownership line in each version."""
+        lines = (EXAMPLES / "divided-slot/trace").read_text().splitlines()
+        for version in (1, 2):
+            self.check(f"an ownership line has cycles in version {version}", [f"frtrace {version}", *lines[1:]], refused("BadLine 4"))
+            self.check(f"they are all cycles in version {version}", [f"frtrace {version}", *lines[1:3], "own 3 A 0 0 0 1", *lines[4:]],
+                       refused("BadLine 4"))
+        for line in ("own 3 A 0 0", "own 3 A 0 0 0", "own 3 A 0 0 0 3", "own 3 A 0 0 2 2", "own 3 A 0 0 0 2 0", "own 3 A 0 0 00 2",
+                     "own 3 A 0 1 0 2", "own 3 A 0 0 - 2"):
+            self.changed(lines, 4, line, "BadLine")
+        for line in ("own 3 A 0 0 1 2", "own 3 A 0 0 0 4", "own 3 B 0 0 0 2"):
+            self.check(f"a buffer is for other cycles than {line!r}", [*lines[:3], line, *lines[4:]], refused("Refused 6"))
+        for line, wanted in (("own 3 A 0 0 1 2", "Truncated"), ("own 3 A 0 0 2 4", "Refused 7"), ("own 3 B 0 0 0 2", "Truncated")):
+            self.check(f"there is {line!r} too", [*lines[:4], line, *lines[4:6]], refused(wanted))
+        for place, line in ((8, "fetch 0 1 0 3 3 null -"), (8, "fetch 0 1 0 3 3 0 -"), (10, "fetch 1 2 0 3 3 null -")):
+            self.changed(lines, place, line, "WrongAnswer")
+        withdrawn = [*self.withdrawn[:3], f"{self.withdrawn[3]} 0 1", *self.withdrawn[4:]]
+        report = (EXAMPLES / "withdrawn-commits/report").read_bytes()
+        self.check("commits are withdrawn in version 3", ["frtrace 3", *withdrawn[1:]], (report, b"", 0))
+        entries = [*window(0, "-", "-", "- -"), *window(1, "own", "own", "null null"), *window(2, "-", "-", "- -")]
+        plan = ["node 1 0 0 8 8", "own 2 AB 1 1 1 4", "own 3 A 0 0 0 1"]
+        self.told("a null frame goes out in one cycle of four", plan, entries, ["A 0 0 0 0 0", "B 0 0 0 0 0"], version=3)
+
+    def told(self, name, plan, entries, report, params=ONE_WORD, version=1):
         """That a trace of this plan is legal, and that its report has these lines."""
-        lines = ["frtrace 1", params, *plan, "begin", *entries, "end"]
+        lines = [f"frtrace {version}", params, *plan, "begin", *entries, "end"]
         self.check(name, lines, ("".join(f"{line}\n" for line in report).encode(), b"", 0))
 
     def refused_at_last(self, name, plan, entries):
@@ -159,9 +206,9 @@ class Traces:
             plan = ["node 1 0 0 8 8", "own 2 AB 0 0", f"tx {mode} 2 AB 0 1 - 0"]
             entries = ["commit 0 0 x0001", "commit 0 0 x0002", "fetch 0 0 0 2 2 1 1", "commit 0 0 x0003", "see 0 own own",
                        *window(1, "own", "own", "3 3"), f"fetch 2 2 0 2 2 {last}"]
-            report = ["tx 0 3 2 1 0", "A 0 0 0 0 0", "B 0 0 0 0 0"]
+            report = ["tx 0 3 2 1 0 0", "A 0 0 0 0 0", "B 0 0 0 0 0"]
             self.told(f"there are three commits in {mode} mode", plan, entries, report)
-        for latest, offer, report in ((5, "0", "tx 0 1 1 0 0"), (4, "-", "tx 0 1 0 0 1"), (0, "-", "tx 0 1 0 0 1")):
+        for latest, offer, report in ((5, "0", "tx 0 1 1 0 0 0"), (4, "-", "tx 0 1 0 0 1 0"), (0, "-", "tx 0 1 0 0 1 0")):
             plan = [f"node 1 {latest} 0 8 8", "tx event 8 A 0 1 4 0"]
             entries = ["commit 0 0 x0101010101010101", f"fetch 0 0 5 8 - {offer} -"]
             report = [report, "A 0 0 0 0 0", "B 0 0 0 0 0"]
@@ -174,7 +221,7 @@ class Traces:
         for line in ("commit 1 0 x0001", "commit 0 1 x0001", "commit 0 0 x00010002", "read 0 0 -", "pop 0 -"):
             self.refused_at_last(f"the call is {line!r}", sender, [line])
         self.refused_at_last("a third commit has no room", sender, [commit, commit, commit])
-        told = ["tx 0 2 1 1 0", "A 0 0 0 0 0", "B 0 0 0 0 0"]
+        told = ["tx 0 2 1 1 0 0", "A 0 0 0 0 0", "B 0 0 0 0 0"]
         self.told("windows go on where commits have no room", sender, [commit, commit, *window(0, "own", "own", "1 1")], told)
         owner = ["node 1 0 0 1 3", "own 2 A 1 0"]
         first = window(0, "own", "-", "null -")
@@ -200,19 +247,20 @@ class Traces:
             entries = [*commits, *windows[:done]]
             for line in ("commit 0 0 x0003", "read 0 1 -", "pop 0 -"):
                 self.refused_at_last(f"{line!r} has no room after {done} entries of windows", plan, [*entries, line])
-            report = [f"tx 0 2 {int(done > 0)} 1 {int(done == 0)}", "rx 1 - -", "queue 0 0", *counted[done // 2]]
+            report = [f"tx 0 2 {int(done > 0)} 1 {int(done == 0)} 0", "rx 1 - -", "queue 0 0", *counted[done // 2]]
             self.told(f"{done} entries of windows go on where no host call has room", plan, entries, report)
         self.refused_at_last("a fourth window has no room", plan, [*commits, *windows, "fetch 3 3 0 2 2 null -"])
 
     def ends(self):
         """Traces that are cut, and bytes after the end."""
-        for lines, error in ((["frtrace 1"], "Truncated"), ([], "BadMagic"), (["frtrace 2"], "BadMagic"),
+        for lines, error in ((["frtrace 1"], "Truncated"), ([], "BadMagic"), (["frtrace 2"], "Truncated"), (["frtrace 3"], "Truncated"),
+                             (["frtrace 4"], "BadMagic"),
                              ([*self.frames, "x"], f"BadLine {len(self.frames) + 1}")):
             self.check(f"the lines are {[line[:10] for line in lines[-1:]]}", lines, refused(error))
         text = "\n".join(self.frames)
         for name, rest, error in (("its last line feed is missing", "", "Truncated"), ("a byte stands after it", "\nx", "BadLine 14")):
             self.runs.check(f"audit where {name}", ["audit"], refused(error), given=f"{text}{rest}".encode())
-        self.runs.check("audit of a magic line without its end", ["audit"], refused("BadMagic"), given=b"frtrace 1")
+        self.runs.check("audit of a magic line without its end", ["audit"], refused("BadMagic"), given=b"frtrace 2")
         for name, lines, error in (("first", [], "BadMagic"), ("eighth", self.frames[:7], "LineTooLong 8")):
             for size, wanted in ((1200, "Truncated" if lines else "BadMagic"), (1201, error)):
                 given = "".join(f"{line}\n" for line in lines) + "a" * size

@@ -90,14 +90,19 @@ class Views:
             self.runs.check(f"schedule of {picture.parent.name}, cycle 0", [*words, "--cycle", "0"], (picture.read_bytes(), b"", 0))
 
     def owners(self):
-        """The owners that a picture names are the lines `slot` of the plan, in their order."""
+        """The owners that a picture names are the lines `slot` of the plan for its cycle, in their order."""
         for cluster in sorted(EXAMPLES.glob("*/cluster.toml")):
             plan = [line.split() for line in cluster.with_name("plan").read_text().splitlines()]
-            wanted = [f"slot {line[1]} on {line[2]}: node {line[3]}" for line in plan if line[0] == "slot"]
-            wanted_open = [f"node {line[1]} on {line[2]}: open from {line[3]} to {line[4]}" for line in plan if line[0] == "guard"]
-            got, got_open = self.titles(["schedule", cluster], "owner"), self.titles(["schedule", cluster], "open")
-            self.runs.compare(f"owners of {cluster.parent.name}", got, wanted)
-            self.runs.compare(f"open intervals of {cluster.parent.name}", got_open, wanted_open)
+            owned, opened = ([line for line in plan if line[0] == kind] for kind in ("slot", "guard"))
+            cycles = 1 + max(int(line[3]) for line in opened)
+            for cycle in sorted({0, 1, 7, 63}) if cycles > 1 else [0]:
+                wanted = [f"slot {line[1]} on {line[2]}: node {line[3]}" for line in owned if cycle % int(line[5]) == int(line[4])]
+                wanted_open = [f"node {line[1]} on {line[2]}: open from {line[4]} to {line[5]}" for line in opened
+                               if cycle % cycles == int(line[3])]
+                words = ["schedule", cluster, "--cycle", str(cycle)]
+                got, got_open = self.titles(words, "owner"), self.titles(words, "open")
+                self.runs.compare(f"owners of {cluster.parent.name} in cycle {cycle}", got, wanted)
+                self.runs.compare(f"open intervals of {cluster.parent.name} in cycle {cycle}", got_open, wanted_open)
 
     def titles(self, words, kind):
         """The titles of a picture's elements of a kind; each element has one."""
@@ -111,7 +116,8 @@ class Views:
 
     def refusals(self):
         receive = (EXAMPLES / "receive-buffer/trace").read_bytes()
-        texts = {b"": "BadMagic", b"x\n": "BadMagic", b"frtrace 1\n": "Truncated", b"frtrace 1\nnode\n": "BadLine 2",
+        texts = {b"": "BadMagic", b"x\n": "BadMagic", b"frtrace 1\n": "Truncated", b"frtrace 2\n": "Truncated",
+                 b"frtrace 3\n": "Truncated", b"frtrace 4\n": "BadMagic", b"frtrace 1\nnode\n": "BadLine 2",
                  receive + b"\n": "BadLine 14", receive.replace(b"2:A", b"2:B"): "WrongAnswer 9", receive.replace(b"fetch 1", b"fetch 0"): "Refused 10",
                  b"frtrace 1\n" + b"x" * 1201: "LineTooLong 2"}
         for text, error in texts.items():

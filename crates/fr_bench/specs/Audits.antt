@@ -5,7 +5,7 @@ use Rattle.fr_trace.specs.Audit.{IsTextOf, StopsAt, StopsAtEnd}
 use Rattle.fr_trace.specs.declared.error.TraceError.{TraceError}
 use Rattle.fr_trace.specs.declared.error.TraceError.TheVariants.{Memory}
 
--- the text is that of a legal interface
+-- the text is one of a legal interface
 abbrev pub IsAccepted : List ℕ → Type 0
 IsAccepted text = (s : State) × IsTextOf s (Some text) × IsLegalInterface s
 

@@ -1,9 +1,9 @@
 //! `fr_bench audit`.
-ghost use Rattle.std.specs.Prelude.{◌≡◌, Some};
+ghost use Rattle.std.specs.Prelude.{IsSomeAnd};
 ghost use Rattle.fr_bench.specs.Audits.{Ends};
 ghost use Rattle.fr_interface.specs.State.{State, IsLegalInterface};
 ghost use Rattle.fr_trace.specs.Audit.{Audits, IsNotRefused};
-ghost use Rattle.fr_trace.specs.TraceText.{trace_text};
+ghost use Rattle.fr_trace.specs.TraceText.{IsTraceOf};
 
 use fr_trace::error::TraceError;
 use std::alloc::Global;
@@ -21,12 +21,12 @@ pub fn audit<R: Read, W: Write>(
     reader: &mut R,
     writer: &mut W,
 ) -> Result<(), TraceError>
-    // What is accepted is the text of a legal interface, whose report is written, and nothing else.
+    // What is accepted is a text of a legal interface, whose report is written, and nothing else.
     ensures found { Audits (R.remaining reader.old) (W.contents writer.old) (W.contents writer.new) result }
     // It reads in pieces of at most 4096 bytes, and none after the one that has the fault.
     ensures read { Ends (R.remaining reader.old) (R.remaining reader.new) result }
-    // The text of a legal interface is not refused.
-    ensures only { (s : State) → IsLegalInterface s → R.remaining reader.old ≡ Some (trace_text s)
+    // A text of a legal interface is not refused, in whichever version.
+    ensures only { (s : State) → IsLegalInterface s → IsSomeAnd (R.remaining reader.old) (λ text. IsTraceOf s text)
         → IsNotRefused result }
 {
     let mut report = Vec::new(alloc);

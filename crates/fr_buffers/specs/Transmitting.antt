@@ -5,15 +5,18 @@ use Rattle.fr_journal.specs.declared.fate.Tally.{Tally}
 use Rattle.fr_slots.specs.declared.plan.Mode.{Mode}
 use Rattle.fr_slots.specs.declared.plan.Mode.TheVariants.{Event, State, Receive}
 
--- its mode, its last commit, and what became of all of its commits
+-- its mode, the commit that it holds, and what became of all of its commits
 pub record Transmitter : Type 0 where
   pub mode : Mode
   pub last : Option HeldCommit
   pub tally : Tally
 
+abbrev pub no_commits : Tally
+no_commits = record { committed = 0; sent = 0; overwritten = 0; pending = 0; withdrawn = 0 }
+
 abbrev pub new_transmitter : Mode → Transmitter
 new_transmitter mode =
-    record { mode = mode; last = None; tally = record { committed = 0; sent = 0; overwritten = 0; pending = 0 } }
+    record { mode = mode; last = None; tally = no_commits }
 
 -- one commit more; what was pending is overwritten
 abbrev pub with_commit : Transmitter → HeldCommit → Transmitter
@@ -26,10 +29,11 @@ with_commit b c = record {
     overwritten = b.tally.overwritten
         + b.tally.pending;
     pending = 1;
+    withdrawn = b.tally.withdrawn;
   };
 }
 
--- the entry of the last commit, and its payload
+-- the entry of the commit that it holds, and its payload
 abbrev pub entry_of : Transmitter → Option ℕ
 entry_of b = option_map (λ c. c.entry) b.last
 
@@ -55,5 +59,27 @@ after_send b = record {
     sent = b.tally.sent + b.tally.pending;
     overwritten = b.tally.overwritten;
     pending = 0;
+    withdrawn = b.tally.withdrawn;
   };
 }
+
+-- the commit that a withdraw takes back, by the number of its entry: the one that it holds, where that is pending
+abbrev pub pending_of : Transmitter → Option ℕ
+pending_of b = if b.tally.pending == 1 then entry_of b else None
+
+abbrev pub emptied : Transmitter → Transmitter
+emptied b = record {
+  mode = b.mode;
+  last = None;
+  tally = record {
+    committed = b.tally.committed;
+    sent = b.tally.sent;
+    overwritten = b.tally.overwritten;
+    pending = 0;
+    withdrawn = b.tally.withdrawn + 1;
+  };
+}
+
+-- a pending commit was taken back, and nothing earlier is there again
+abbrev pub after_withdraw : Transmitter → Transmitter
+after_withdraw b = if b.tally.pending == 1 then emptied b else b

@@ -3,7 +3,7 @@
 ghost use Rattle.std.specs.Prelude.{◌≡◌, ◌+◌, ◌<◌, ◌≤◌, ◌^◌, IsSome, option_map};
 ghost use Rattle.std.specs.Option.{option_copied};
 ghost use Rattle.fr_buffers.specs.Transmitting.{new_transmitter, with_commit, entry_of, payload_of, offer_of};
-ghost use Rattle.fr_buffers.specs.Transmitting.{after_send};
+ghost use Rattle.fr_buffers.specs.Transmitting.{after_send, pending_of, after_withdraw};
 
 use fr_frame::payload::Payload;
 use fr_journal::fate::Tally;
@@ -19,8 +19,8 @@ pub struct HeldCommit {
     pub payload: Payload,
 }
 
-/// What a node keeps of a buffer that transmits: its mode, its last commit, and what became of all of them (chapter 9;
-/// the modes and the tally are own profile).
+/// What a node keeps of a buffer that transmits: its mode, its last commit unless that was withdrawn, and what became
+/// of all of them (chapter 9; the modes, withdraws and the tally are own profile).
 #[derive(Debug, Drop)]
 pub struct TxBuffer {
     mode: Mode,
@@ -53,6 +53,7 @@ impl TxBuffer {
                 sent: 0,
                 overwritten: 0,
                 pending: 0,
+                withdrawn: 0,
             },
         }
     }
@@ -77,11 +78,12 @@ impl TxBuffer {
             sent: self.tally.sent,
             overwritten: self.tally.overwritten + self.tally.pending,
             pending: 1,
+            withdrawn: self.tally.withdrawn,
         };
     }
 
     /// The entry of the commit that it offers where it admits a slot and may begin: in event mode the last one
-    /// where it is pending, in state mode the last one.
+    /// where it is pending, in state mode the last one unless it was withdrawn.
     pub fn offers(&self) -> Option<u32>
         ensures { result ≡ offer_of self.now }
     {
@@ -128,13 +130,32 @@ impl TxBuffer {
             sent: self.tally.sent + self.tally.pending,
             overwritten: self.tally.overwritten,
             pending: 0,
+            withdrawn: self.tally.withdrawn,
         };
     }
 
-    /// What became of its commits: each was sent or overwritten or is pending, and at most one is pending.
+    /// Takes the commit back that it holds, where that is pending, and tells its entry (own profile).
+    ///
+    /// The buffer is empty then: no commit before that one comes back. Where no commit is pending, nothing changes: a
+    /// commit that was sent stays, and is offered again in state mode.
+    pub fn withdraw(&mut self) -> Option<u32>
+        ensures answer { result ≡ pending_of self.old }
+        ensures buffer { self.new ≡ after_withdraw self.old }
+    {
+        if self.tally.pending != 1 {
+            return None;
+        }
+        let entry = self.entry();
+        self.last = None;
+        self.tally.pending = 0;
+        self.tally.withdrawn += 1;
+        entry
+    }
+
+    /// What became of its commits: each was sent, overwritten or withdrawn or is pending, and at most one is pending.
     pub fn tally(&self) -> Tally
         ensures value { result ≡ self.now.tally }
-        ensures fates { result.committed ≡ result.sent + result.overwritten + result.pending }
+        ensures fates { result.committed ≡ result.sent + result.overwritten + result.pending + result.withdrawn }
         ensures one_pending { result.pending ≤ 1 }
     {
         self.tally

@@ -87,7 +87,7 @@ pub passed_sends : (d : Description) → IsCluster d → (r : Recorded) → All 
 passed_sends d cluster r sent channel slot t static guarded opened of_passed =
     let passed : All (λ (u : Sent). passes d u.node r.window channel ≡ true) (all_passed channel r.sent) =
     All-kept (passed_on channel) (λ (u : Sent). passes d u.node r.window channel ≡ true) r.sent (λ k x within. sent k x within channel) in
-    passing_sends d cluster r.window.cycle t.node slot r.window channel static guarded opened
+    passing_sends d cluster t.node slot r.window channel static guarded opened
     (All-contains (λ (u : Sent). passes d u.node r.window channel ≡ true) (all_passed channel r.sent) t passed of_passed)
 
 pub one_sender : (b : BusState) → IsRun b → OneSenderEach b.cluster b.sealed

@@ -1,5 +1,5 @@
 -- A window with a babbling node, and the windows of a dynamic segment, worked out.
-use Rattle.std.proofs.Common.{◌≡◌, ℕ, true, false, List, [], ◌∷◌, ◌++◌, Option, Some, None, refl}
+use Rattle.std.proofs.Common.{◌≡◌, ℕ, true, false, List, [], ◌∷◌, ◌++◌, map, Option, Some, None, refl}
 use Rattle.arrayvec.specs.ArrayVec.{ArrayVec}
 use Rattle.fr_bus.specs.declared.outcome.Fate.{Fate}
 use Rattle.fr_bus.specs.declared.outcome.Fate.TheVariants.{Passed, Blocked, Muted}
@@ -10,6 +10,7 @@ use Rattle.fr_bus.specs.Windows.{following}
 use Rattle.fr_bus.specs.Outcome.{sent_from}
 use Rattle.fr_bus.specs.Record.{Recorded, seen_by}
 use Rattle.fr_schedule.specs.Descriptions.{Description}
+use Rattle.fr_slots.specs.Admission.{CycleClass}
 use Rattle.fr_slots.specs.declared.channel.Channel.TheVariants.{A, B}
 use Rattle.fr_slots.specs.declared.channel.Channels.TheVariants as channels
 use Rattle.fr_slots.specs.Parameters.{Parameters}
@@ -21,8 +22,11 @@ use Rattle.fr_status.specs.declared.seen.Seen.TheVariants.{Silence, Own as Owns,
 abbrev one_word : Parameters
 one_word = record { static_slots = 3; minislots = 4; static_words = 1; static_mt = 20; minislot_mt = 5; symbol_mt = 0; nit_mt = 10; cycle_mt = 90; idle = 0; words_per_minislot = 5 }
 
+abbrev owning_in : CycleClass → ℕ → Plan
+owning_in cycles slot = record (empty_plan 2 0 0 256 4096) { owned = record { slot = slot; channels = channels.Both; sync = false; startup = false; cycles = cycles } ∷ [] }
+
 abbrev owning : ℕ → Plan
-owning slot = record (empty_plan 2 0 0 256 4096) { owned = record { slot = slot; channels = channels.Both; sync = false; startup = false } ∷ [] }
+owning slot = owning_in (record { base = 0; repetition = 1 }) slot
 
 -- nodes 0 and 1 own slots 1 and 2, and channel A is guarded
 abbrev three_nodes : Description
@@ -88,6 +92,26 @@ a_muted_offer_is_lost = refl
 
 pub a_muted_slot_is_silent : Sees muted 0 Silence Noise × Sees muted 1 Silence Conflict × Sees muted 2 Silence Conflict
 a_muted_slot_is_silent = ((refl, refl), (refl, refl), (refl, refl))
+
+-- ---- a slot that two nodes divide by cycles
+
+-- slot 3 is node 0's in every fourth cycle from 0 on, and node 1's in every fourth from 1 on
+abbrev two_owners : Description
+two_owners = record {
+  params = one_word;
+  guard = Some channels.A;
+  plans = owning_in (record { base = 0; repetition = 4 }) 3 ∷ owning_in (record { base = 1; repetition = 4 }) 3 ∷ [];
+}
+
+-- what becomes of both nodes' offers: of node 0's on A and on B, and of node 1's
+abbrev fates_in : ℕ → List Fate
+fates_in cycle = map (λ (t : Sent). t.fate) (sent_from two_owners (static_window 1 cycle 3) 0 (sender offering ∷ sender offering ∷ []))
+
+-- on A the owner of the cycle passes alone, and nobody does in a cycle without an owner
+pub a_divided_slot_is_guarded_by_cycles :
+    (fates_in 0 ≡ Passed ∷ Passed ∷ Blocked ∷ Passed ∷ []) × (fates_in 1 ≡ Blocked ∷ Passed ∷ Passed ∷ Passed ∷ [])
+    × (fates_in 2 ≡ Blocked ∷ Passed ∷ Blocked ∷ Passed ∷ []) × (fates_in 60 ≡ Passed ∷ Passed ∷ Blocked ∷ Passed ∷ [])
+a_divided_slot_is_guarded_by_cycles = (refl, refl, refl, refl)
 
 -- ---- a dynamic segment: ten minislots of four words, one idle after a transmission
 

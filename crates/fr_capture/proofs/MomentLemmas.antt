@@ -7,7 +7,7 @@ use Rattle.fr_capture.specs.declared.moment.Moment.{Moment}
 use Rattle.fr_capture.specs.Moments.{begins_round, fetched, is_not_later, last_window, place_in_round, round_length, rounds, time_of}
 use Rattle.fr_capture.specs.Sightings.{in_window, sighting, sightings, sightings_at}
 use Rattle.fr_journal.specs.declared.entry.Entry.{Entry}
-use Rattle.fr_journal.specs.declared.entry.Entry.TheVariants.{Commit, Read, Pop, Fetch, Observe}
+use Rattle.fr_journal.specs.declared.entry.Entry.TheVariants.{Commit, Withdraw, Read, Pop, Fetch, Observe}
 use Rattle.fr_journal.specs.declared.entry.Offered.{Offered}
 use Rattle.fr_slots.proofs.HistoryLemmas.{last_after-snoc, each_after-snoc, count_after-snoc}
 use Rattle.fr_slots.specs.declared.channel.Channel.TheVariants.{A, B}
@@ -67,6 +67,7 @@ fetch_moment p before (Some m) w a b h = (
 
 pub one_moment : (p : Parameters) (before : List Entry) (last : Option Moment) (e : Entry) → IsMoment p before last → IsMoment p (before ++ e ∷ []) (moment_after p last e)
 one_moment p before last (Commit task buffer payload) h = let e = Commit task buffer payload in IsMoment-same p before (before ++ e ∷ []) last (last_window-snoc before e) (rounds-snoc p before e) h
+one_moment p before last (Withdraw task buffer of) h = let e = Withdraw task buffer of in IsMoment-same p before (before ++ e ∷ []) last (last_window-snoc before e) (rounds-snoc p before e) h
 one_moment p before last (Read task buffer from) h = let e = Read task buffer from in IsMoment-same p before (before ++ e ∷ []) last (last_window-snoc before e) (rounds-snoc p before e) h
 one_moment p before last (Pop task from) h = let e = Pop task from in IsMoment-same p before (before ++ e ∷ []) last (last_window-snoc before e) (rounds-snoc p before e) h
 one_moment p before last (Fetch w a b) h = fetch_moment p before last w a b h
@@ -86,6 +87,7 @@ window_same p before (Some m) a b h =
 
 pub seen_same : (p : Parameters) (before : List Entry) (last : Option Moment) (e : Entry) → IsMoment p before last → sightings_at p before e ≡ seen_after p last e
 seen_same p before last (Commit task buffer payload) h = refl
+seen_same p before last (Withdraw task buffer of) h = refl
 seen_same p before last (Read task buffer from) h = refl
 seen_same p before last (Pop task from) h = refl
 seen_same p before last (Fetch w a b) h = refl

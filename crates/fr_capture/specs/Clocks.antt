@@ -1,11 +1,11 @@
 -- The window fetched last with its time, one entry after another, as the code goes along a journal. That it is what
 -- `Moments` says stands in the proofs.
-use Rattle.std.specs.Prelude.{◌≡◌, ℕ, ◌+◌, ◌*◌, ◌≤◌, List, [], ◌++◌, Option, Some, None, length, nat_le, if◌then◌else◌}
+use Rattle.std.specs.Prelude.{◌≡◌, ℕ, ◌+◌, ◌*◌, ◌≤◌, List, [], ◌++◌, Option, Some, None, nat_le, if◌then◌else◌}
 use Rattle.fr_capture.specs.declared.moment.Moment.{Moment}
 use Rattle.fr_capture.specs.Moments.{last_window, place_in_round, round_length, rounds}
 use Rattle.fr_capture.specs.Sightings.{Sighting, sighting}
 use Rattle.fr_journal.specs.declared.entry.Entry.{Entry}
-use Rattle.fr_journal.specs.declared.entry.Entry.TheVariants.{Commit, Read, Pop, Fetch, Observe}
+use Rattle.fr_journal.specs.declared.entry.Entry.TheVariants.{Commit, Withdraw, Read, Pop, Fetch, Observe}
 use Rattle.fr_slots.specs.declared.channel.Channel.TheVariants.{A, B}
 use Rattle.fr_slots.specs.Parameters.{Parameters}
 use Rattle.fr_slots.specs.Windows.{Opportunity}
@@ -24,6 +24,7 @@ moment_of p w last = record { window = w; rounds = rounds_at (place_in_round p w
 
 abbrev pub moment_after : Parameters → Option Moment → Entry → Option Moment
 moment_after p last (Commit task buffer payload) = last
+moment_after p last (Withdraw task buffer of) = last
 moment_after p last (Read task buffer from) = last
 moment_after p last (Pop task from) = last
 moment_after p last (Fetch window a b) = Some (moment_of p window last)
@@ -36,6 +37,7 @@ in_moment p (Some m) a b = sighting (time_at p m) m.window A a ++ sighting (time
 
 abbrev pub seen_after : Parameters → Option Moment → Entry → List Sighting
 seen_after p last (Commit task buffer payload) = []
+seen_after p last (Withdraw task buffer of) = []
 seen_after p last (Read task buffer from) = []
 seen_after p last (Pop task from) = []
 seen_after p last (Fetch window a b) = []

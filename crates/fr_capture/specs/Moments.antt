@@ -2,7 +2,7 @@
 -- which the first window was, and a macrotick is one of them (own profile).
 use Rattle.std.specs.Prelude.{ℕ, ◌+◌, ◌*◌, nat_le, Bool, false, List, [], Option, Some, None, unwrap_or}
 use Rattle.fr_journal.specs.declared.entry.Entry.{Entry}
-use Rattle.fr_journal.specs.declared.entry.Entry.TheVariants.{Commit, Read, Pop, Fetch, Observe}
+use Rattle.fr_journal.specs.declared.entry.Entry.TheVariants.{Commit, Withdraw, Read, Pop, Fetch, Observe}
 use Rattle.fr_slots.specs.History.{last_after, count_after}
 use Rattle.fr_slots.specs.Numbers.{cycle_count}
 use Rattle.fr_slots.specs.Parameters.{Parameters}
@@ -34,6 +34,7 @@ round_length p = cycle_count * p.cycle_mt
 
 abbrev pub fetched : List Entry → Entry → Option Opportunity
 fetched before (Commit task buffer payload) = None
+fetched before (Withdraw task buffer of) = None
 fetched before (Read task buffer from) = None
 fetched before (Pop task from) = None
 fetched before (Fetch window a b) = Some window
@@ -51,6 +52,7 @@ is_not_later p w (Some before) = nat_le (place_in_round p w) (place_in_round p b
 
 abbrev pub begins_round : Parameters → List Entry → Entry → Bool
 begins_round p before (Commit task buffer payload) = false
+begins_round p before (Withdraw task buffer of) = false
 begins_round p before (Read task buffer from) = false
 begins_round p before (Pop task from) = false
 begins_round p before (Fetch window a b) = is_not_later p window (last_window before)

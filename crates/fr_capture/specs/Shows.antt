@@ -33,7 +33,7 @@ text_of form s = shown_of form s.params s.entries
 
 -- ---- a command
 
--- The text is that of a legal interface, of which this is written, or the writer failed at that. Or nothing is written,
+-- The text is one of a legal interface, of which this is written, or the writer failed at that. Or nothing is written,
 -- and the text is refused by its first line at fault, or memory ran out, or the reader failed.
 abbrev pub Shows : (State → List ℕ) → Option (List ℕ) → Option (List ℕ) → Option (List ℕ) → Result (Unit {0}) TraceError
     → Type 0
@@ -43,7 +43,7 @@ Shows written text old new (Err Read) = Keeps old new
 Shows written text old new (Err Memory) = HasBegin text × Keeps old new
 Shows written text old new (Err e) = IsRefusedBy e text × Keeps old new
 
--- the text is that of a legal interface
+-- the text is one of a legal interface
 abbrev pub IsAccepted : List ℕ → Type 0
 IsAccepted text = (s : State) × IsTextOf s (Some text) × IsLegalInterface s
 

@@ -1,7 +1,7 @@
 -- The bytes that a controller saw, each with where and when it saw them.
 use Rattle.std.specs.Prelude.{ℕ, List, [], ◌∷◌, ◌++◌, Option, Some, None}
 use Rattle.fr_journal.specs.declared.entry.Entry.{Entry}
-use Rattle.fr_journal.specs.declared.entry.Entry.TheVariants.{Commit, Read, Pop, Fetch, Observe}
+use Rattle.fr_journal.specs.declared.entry.Entry.TheVariants.{Commit, Withdraw, Read, Pop, Fetch, Observe}
 use Rattle.fr_slots.specs.declared.channel.Channel.{Channel}
 use Rattle.fr_slots.specs.declared.channel.Channel.TheVariants.{A, B}
 use Rattle.fr_slots.specs.History.{each_after}
@@ -39,6 +39,7 @@ in_window p before (Some w) a b = sighting (time_of p before w) w A a ++ sightin
 
 abbrev pub sightings_at : Parameters → List Entry → Entry → List Sighting
 sightings_at p before (Commit task buffer payload) = []
+sightings_at p before (Withdraw task buffer of) = []
 sightings_at p before (Read task buffer from) = []
 sightings_at p before (Pop task from) = []
 sightings_at p before (Fetch window a b) = []

@@ -1,6 +1,6 @@
 //! A trace, read and shown.
 
-ghost use Rattle.std.specs.Prelude.{◌≡◌, ◌<◌, ◌≤◌, ◌^◌, ◌*◌, ◌⊎◌, [], Some, IfErr, IfSome, OnOk, option_map};
+ghost use Rattle.std.specs.Prelude.{◌≡◌, ◌<◌, ◌≤◌, ◌^◌, ◌*◌, ◌⊎◌, [], IfErr, IfSome, IsSomeAnd, OnOk, option_map};
 ghost use Rattle.fr_status.specs.Status.{status_in};
 ghost use Rattle.fr_capture.specs.Table.{status_word};
 ghost use Rattle.std.specs.Io.KnownBytes.{Appends, Keeps};
@@ -9,7 +9,7 @@ ghost use Rattle.fr_text.specs.Writing.{Writes};
 ghost use Rattle.fr_interface.specs.State.{State, IsLegalInterface};
 ghost use Rattle.fr_trace.specs.Audit.{IsNotRefused};
 ghost use Rattle.fr_trace.specs.Refusals.{LineIsNamed};
-ghost use Rattle.fr_trace.specs.TraceText.{trace_text};
+ghost use Rattle.fr_trace.specs.TraceText.{IsTraceOf};
 ghost use Rattle.fr_capture.specs.Clocks.{seen_after, time_at, HasRounds};
 ghost use Rattle.fr_capture.specs.Shows.{heading, shown, shown_of, text_of, Ends, Shows};
 ghost use Rattle.fr_capture.specs.Sightings.{bytes_sighted, sighting};
@@ -209,15 +209,15 @@ pub fn show_trace<R: Read, W: Write>(
     reader: &mut R,
     writer: &mut W,
 ) -> Result<(), TraceError>
-    // What is accepted is the text of a legal interface, whose sightings are written in order, and nothing else.
+    // What is accepted is a text of a legal interface, whose sightings are written in order, and nothing else.
     ensures found { Shows (text_of form) (R.remaining reader.old) (W.contents writer.old)
         (W.contents writer.new) result }
     // It reads in pieces of at most 4096 bytes, and none after the one that has the fault.
     ensures read { Ends (R.remaining reader.old) (R.remaining reader.new) result }
     // The line that an error names is that of the byte with which the first fault shows.
     ensures line { IfSome (R.remaining reader.old) (λ text. LineIsNamed result text) }
-    // The text of a legal interface is not refused.
-    ensures only { (s : State) → IsLegalInterface s → R.remaining reader.old ≡ Some (trace_text s)
+    // A text of a legal interface is not refused, in whichever version.
+    ensures only { (s : State) → IsLegalInterface s → IsSomeAnd (R.remaining reader.old) (λ text. IsTraceOf s text)
         → IsNotRefused result }
 {
     let interface = interface_of(alloc, reader)?;

@@ -1,25 +1,34 @@
--- The text of a plan, one node, one slot or one interval more.
-use Rattle.std.proofs.Common.{◌≡◌, ℕ, zero, suc, ◌+◌, true, List, [], ◌∷◌, ◌++◌, length, take, Option, Some, Result, Ok}
-use Rattle.std.proofs.Common.{Err}
+-- The text of a plan, one node, one slot, one cycle or one interval more.
+use Rattle.std.proofs.Common.{◌≡◌, ℕ, zero, suc, ◌+◌, ◌-◌, ◌%◌, ◌<◌, ◌≤◌, ◌==◌, true, false, ◌&&◌, List, [], ◌∷◌, ◌++◌, length, take}
+use Rattle.std.proofs.Common.{Option, Some, Result, Ok, Err}
 use Rattle.std.proofs.Common.{refl, sym, ap, subst, ◌∙◌, append_assoc, append-nil, add-one, arith}
 use Rattle.std.specs.Io.KnownBytes.{Appends}
 use Rattle.std.specs.List.{flat_map, range_with_len}
 use Rattle.std.specs.Prelude.{slice_get, OnOk}
 use Rattle.std.proofs.KnownBytes.{Appends-nil, Appends-trans}
+use Rattle.std.proofs.Math.Nat.{mod-eq_of_lt}
 use Rattle.std.proofs.lemmas.Grind.{flat_map-append}
 use Rattle.std.proofs.lemmas.List.{take_all}
+use Rattle.std.proofs.lemmas.Option.{same_Some}
 use Rattle.std.specs.List.{list_any}
-use Rattle.std.proofs.lemmas.Bool.{cond-true, cond-false, false_from_ne_true}
-use Rattle.fr_schedule.specs.Clusters.{IsCluster}
+use Rattle.std.proofs.lemmas.Bool.{cond-true, cond-false, false_from_ne_true, and_parts, and_from, or_parts, both_ways}
+use Rattle.std.proofs.lemmas.Bool.{eqb-true, eq-eqb}
+use Rattle.fr_schedule.specs.Clusters.{IsNode, IsCluster}
 use Rattle.fr_schedule.specs.Descriptions.{Description}
+use Rattle.fr_schedule.specs.FileFaults.{all_owned}
 use Rattle.fr_schedule.specs.SenderTable.{IsSender}
+use Rattle.fr_schedule.proofs.ClusterLemmas.{each_at}
+use Rattle.fr_guardian.proofs.PeriodLemmas.{AreWithin, within_period}
 use Rattle.fr_slots.specs.declared.channel.Channel.{Channel}
-use Rattle.fr_slots.specs.Faults.{is_owned, sends_at}
+use Rattle.fr_slots.specs.declared.plan.Own.{Own}
+use Rattle.fr_slots.specs.Admission.{includes}
+use Rattle.fr_slots.specs.Faults.{claims, is_owned, sends_at}
 use Rattle.fr_slots.specs.Parameters.{is_static_slot}
 use Rattle.fr_slots.specs.declared.channel.Channel.TheVariants.{A, B}
-use Rattle.fr_slots.specs.Plans.{Plan}
-use Rattle.fr_commands.specs.PlanText.{of_nodes, owner_text, owners_text, slot_line, static_text, dynamic_text}
-use Rattle.fr_commands.specs.PlanText.{IsGuardText, AreGuardTexts, IsPlanText, Adds}
+use Rattle.fr_slots.specs.Plans.{Plan, IsOwn, Each}
+use Rattle.fr_commands.specs.PlanText.{of_nodes, begins_at, own_text, owner_text, base_text, owners_text, slot_line}
+use Rattle.fr_commands.specs.PlanText.{static_text, dynamic_text, cycles_told, IsGuardText, AreCycleTexts}
+use Rattle.fr_commands.specs.PlanText.{AreGuardTexts, IsPlanText, Adds}
 
 -- ---- nodes
 
@@ -99,38 +108,116 @@ of_nodes-one text node (x ∷ plans) (suc m) plan at others =
     ap (λ (n : ℕ). text n other) after ∙ others (suc place) other there (λ same. differ (omega (arith, same))))
     ∙ ap (λ (n : ℕ). text n plan) next
 
-module _ (d : Description) (slot : ℕ) (channel : Channel) (static : is_static_slot d.params slot ≡ true) where
-  sender_owns : (n : ℕ) → (sender : IsSender d 0 slot channel n) → is_owned sender.plan.owned slot channel ≡ true
-  sender_owns n sender =
-      sym (cond-true (is_static_slot d.params slot) (is_owned sender.plan.owned slot channel) (list_any (sends_at slot channel 0) sender.plan.buffers) static) ∙ sender.sends
+-- a line that begins at a cycle is for it
+begun_claims : (slot : ℕ) (channel : Channel) (base : ℕ) (own : Own) → IsOwn own → begins_at slot channel base own ≡ true
+    → claims slot channel base own ≡ true
+begun_claims slot channel base own lawful begins =
+    let (front, first) = and_parts (own.slot == slot && includes own.channels channel) (own.cycles.base == base) begins in
+    let base_is = eqb-true own.cycles.base base first in
+    let below : base < own.cycles.repetition = omega (arith, base_is, lawful.cycles_are.base_below) in
+    and_from _ _ front (eq-eqb (base % own.cycles.repetition) own.cycles.base (mod-eq_of_lt below ∙ sym base_is))
 
-  owner_is : (n : ℕ) (plan : Plan) → slice_get d.plans n ≡ Some plan → is_owned plan.owned slot channel ≡ true → IsSender d 0 slot channel n
+-- where no line is for the cycle, none begins at it
+unowned_text : (slot : ℕ) (channel : Channel) (base node : ℕ) (owned : List Own) → Each IsOwn owned → is_owned owned slot channel base ≡ false
+    → flat_map (own_text slot channel base node) owned ≡ []
+unowned_text slot channel base node [] lawful unowned = refl
+unowned_text slot channel base node (own ∷ owned) lawful unowned =
+    let (here, later) = or_parts (claims slot channel base own) (is_owned owned slot channel base) unowned in
+    ap (λ (text : List ℕ). text ++ flat_map (own_text slot channel base node) owned)
+    (cond-false (begins_at slot channel base own) (slot_line slot channel node own.cycles) []
+    (false_from_ne_true _ (λ begins. both_ways _ here (begun_claims slot channel base own lawful.0 begins))))
+    ∙ unowned_text slot channel base node owned lawful.1 later
+
+module _ (d : Description) (lawful : IsCluster d) (slot : ℕ) (channel : Channel) (base : ℕ) (static : is_static_slot d.params slot ≡ true) where
+  owner_is : (n : ℕ) (plan : Plan) → slice_get d.plans n ≡ Some plan → is_owned plan.owned slot channel base ≡ true → IsSender d base slot channel n
   owner_is n plan at owns = record {
     plan = plan;
     at = at;
-    sends = cond-true (is_static_slot d.params slot) (is_owned plan.owned slot channel) (list_any (sends_at slot channel 0) plan.buffers) static ∙ owns;
+    sends = cond-true (is_static_slot d.params slot) (is_owned plan.owned slot channel base) (list_any (sends_at slot channel base) plan.buffers) static ∙ owns;
   }
 
-  no_line : (n : ℕ) (plan : Plan) → slice_get d.plans n ≡ Some plan → (IsSender d 0 slot channel n → ⊥) → owner_text slot channel n plan ≡ []
-  no_line n plan at never =
-      cond-false (is_owned plan.owned slot channel) (slot_line slot channel n) [] (false_from_ne_true _ (λ owns. never (owner_is n plan at owns)))
+  no_line : (n : ℕ) (plan : Plan) → slice_get d.plans n ≡ Some plan → (IsSender d base slot channel n → ⊥) → (node : ℕ) → owner_text slot channel base node plan ≡ []
+  no_line n plan at never node =
+      unowned_text slot channel base node plan.owned (each_at (IsNode d.params) d.plans n plan lawful.nodes_are at).0.owned_are
+      (false_from_ne_true _ (λ owns. never (owner_is n plan at owns)))
 
   from_zero : (n : ℕ) → 0 + n ≡ n
   from_zero n = omega arith
 
-  pub owner_line : IsCluster d → (n : ℕ) → IsSender d 0 slot channel n → owners_text d.plans slot channel ≡ slot_line slot channel n
-  owner_line lawful n sender =
-      of_nodes-one (owner_text slot channel) 0 d.plans n sender.plan sender.at
-      (λ place other at differ.
-      ap (λ (k : ℕ). owner_text slot channel k other) (from_zero place)
-      ∙ no_line place other at (λ sends. differ (lawful.one_sender 0 slot channel place n (omega arith) sends sender)))
-      ∙ ap (λ (k : ℕ). owner_text slot channel k sender.plan) (from_zero n)
-      ∙ cond-true (is_owned sender.plan.owned slot channel) (slot_line slot channel n) [] (sender_owns n sender)
+  -- only the sender can have a line that begins there
+  pub owner_line : base < 64 → (n : ℕ) (plan : Plan) → slice_get d.plans n ≡ Some plan → IsSender d base slot channel n
+      → base_text d.plans slot channel base ≡ owner_text slot channel base n plan
+  owner_line few n plan at sender =
+      of_nodes-one (owner_text slot channel base) 0 d.plans n plan at
+      (λ place other there differ.
+      no_line place other there (λ sends. differ (lawful.one_sender base slot channel place n few sends sender)) (0 + place))
+      ∙ ap (λ (k : ℕ). owner_text slot channel base k plan) (from_zero n)
 
-  pub no_owner : ((n : ℕ) → IsSender d 0 slot channel n → ⊥) → owners_text d.plans slot channel ≡ []
-  no_owner never =
-      of_nodes-none (owner_text slot channel) 0 d.plans
-      (λ place plan at. ap (λ (k : ℕ). owner_text slot channel k plan) (from_zero place) ∙ no_line place plan at (never place))
+  pub no_owner : ((n : ℕ) → IsSender d base slot channel n → ⊥) → base_text d.plans slot channel base ≡ []
+  no_owner never = of_nodes-none (owner_text slot channel base) 0 d.plans (λ place plan at. no_line place plan at (never place) (0 + place))
+
+-- ---- no line begins at a cycle from the greatest repetition on
+
+each_front : {X : Type 0} (P : X → Type 0) (xs ys : List X) → Each P (xs ++ ys) → Each P xs × Each P ys
+each_front P [] ys all = (tt, all)
+each_front P (x ∷ xs) ys all = let (front, back) = each_front P xs ys all.1 in ((all.0, front), back)
+
+-- what is so of all lines is so of those of a node
+of_plan : (P : Own → Type 0) (plans : List Plan) (n : ℕ) (plan : Plan) → Each P (all_owned plans) → slice_get plans n ≡ Some plan → Each P plan.owned
+of_plan P [] n plan all at = cc at
+of_plan P (first ∷ plans) zero plan all at =
+    subst (λ (x : Plan). Each P x.owned) (same_Some first plan at) (each_front P first.owned (all_owned plans) all).0
+of_plan P (first ∷ plans) (suc n) plan all at = of_plan P plans n plan (each_front P first.owned (all_owned plans) all).1 at
+
+late_text : (slot : ℕ) (channel : Channel) (base node most : ℕ) (owned : List Own) → Each IsOwn owned → AreWithin most owned → most ≤ base
+    → flat_map (own_text slot channel base node) owned ≡ []
+late_text slot channel base node most [] lawful within late = refl
+late_text slot channel base node most (own ∷ owned) lawful within late =
+    ap (λ (text : List ℕ). text ++ flat_map (own_text slot channel base node) owned)
+    (cond-false (begins_at slot channel base own) (slot_line slot channel node own.cycles) []
+    (false_from_ne_true _ (λ begins.
+    let (front, first) = and_parts (own.slot == slot && includes own.channels channel) (own.cycles.base == base) begins in
+    let base_is = eqb-true own.cycles.base base first in
+    let no : ⊥ = omega (arith, base_is, lawful.0.cycles_are.base_below, within.0, late) in no)))
+    ∙ late_text slot channel base node most owned lawful.1 within.1 late
+
+none_begins : (d : Description) → IsCluster d → (slot : ℕ) (channel : Channel) (base : ℕ) → cycles_told d ≤ base → base_text d.plans slot channel base ≡ []
+none_begins d lawful slot channel base late =
+    of_nodes-none (owner_text slot channel base) 0 d.plans
+    (λ place plan at.
+    late_text slot channel base (0 + place) (cycles_told d) plan.owned (each_at (IsNode d.params) d.plans place plan lawful.nodes_are at).0.owned_are
+    (of_plan (λ own. own.cycles.repetition ≤ cycles_told d) d.plans place plan (within_period (all_owned d.plans)) at) late)
+
+nothing_from : (text : ℕ → List ℕ) (first : ℕ) → ((n : ℕ) → first ≤ n → text n ≡ []) → (count : ℕ) → flat_map text (range_with_len first count) ≡ []
+nothing_from text first none zero = refl
+nothing_from text first none (suc count) =
+    ap (λ (t : List ℕ). t ++ flat_map text (range_with_len (first + 1) count)) (none first (omega arith))
+    ∙ nothing_from text (first + 1) (λ n le. none n (omega arith)) count
+
+range-split : (first m n : ℕ) → range_with_len first (m + n) ≡ range_with_len first m ++ range_with_len (first + m) n
+range-split first zero n =
+    let none : 0 + n ≡ n = omega arith in
+    let here : first ≡ first + 0 = omega arith in
+    ap (range_with_len first) none ∙ ap (λ (k : ℕ). range_with_len k n) here
+range-split first (suc m) n =
+    let all : suc m + n ≡ suc (m + n) = omega arith in
+    let next : first + 1 + m ≡ first + suc m = omega arith in
+    ap (range_with_len first) all
+    ∙ ap (λ (xs : List ℕ). first ∷ xs) (range-split (first + 1) m n ∙ ap (λ (k : ℕ). range_with_len (first + 1) m ++ range_with_len k n) next)
+
+-- the lines of the cycles below the greatest repetition are all lines
+pub owners_all : (d : Description) → IsCluster d → (slot : ℕ) (channel : Channel) (cycles : ℕ) → cycles ≡ cycles_told d → cycles ≤ 64
+    → flat_map (base_text d.plans slot channel) (range_with_len 0 cycles) ≡ owners_text d.plans slot channel
+unfolding owners_text
+owners_all d lawful slot channel cycles is few =
+    let text = base_text d.plans slot channel in
+    let all : 64 ≡ cycles + (64 - cycles) = omega (arith, few) in
+    sym (ap (λ (n : ℕ). flat_map text (range_with_len 0 n)) all
+    ∙ ap (flat_map text) (range-split 0 cycles (64 - cycles))
+    ∙ flat_map-append text (range_with_len 0 cycles) (range_with_len (0 + cycles) (64 - cycles))
+    ∙ ap (λ (t : List ℕ). flat_map text (range_with_len 0 cycles) ++ t)
+    (nothing_from text (0 + cycles) (λ n le. none_begins d lawful slot channel n (omega (arith, is, le))) (64 - cycles))
+    ∙ append-nil (flat_map text (range_with_len 0 cycles)))
 
 -- ---- slots
 
@@ -142,21 +229,23 @@ range-more first (suc count) =
     ap (λ (n : ℕ). range_with_len first n) next
     ∙ ap (λ (xs : List ℕ). first ∷ xs) (range-more (first + 1) count ∙ ap (λ (n : ℕ). range_with_len (first + 1) count ++ n ∷ []) here)
 
-pub one_slot : (text : ℕ → List ℕ) (count : ℕ) (old mid new : Option (List ℕ)) → Appends old mid (flat_map text (range_with_len 1 count)) → Appends mid new (text (count + 1))
-    → Appends old new (flat_map text (range_with_len 1 (count + 1)))
-one_slot text count old mid new before more =
-    let here : 1 + count ≡ count + 1 = omega arith in
-    let texts = ap (flat_map text) (range-more 1 count ∙ ap (λ (n : ℕ). range_with_len 1 count ++ n ∷ []) here)
-    ∙ flat_map-append text (range_with_len 1 count) ((count + 1) ∷ []) ∙ ap (λ (t : List ℕ). flat_map text (range_with_len 1 count) ++ t) (append-nil (text (count + 1))) in
-    subst (λ (t : List ℕ). Appends old new t) (sym texts) (Appends-trans old mid new (flat_map text (range_with_len 1 count)) (text (count + 1)) before more)
+-- one number more
+pub one_more : (text : ℕ → List ℕ) (first count : ℕ) (old mid new : Option (List ℕ)) → Appends old mid (flat_map text (range_with_len first count))
+    → Appends mid new (text (first + count)) → Appends old new (flat_map text (range_with_len first (count + 1)))
+one_more text first count old mid new before more =
+    let texts = ap (flat_map text) (range-more first count)
+    ∙ flat_map-append text (range_with_len first count) ((first + count) ∷ [])
+    ∙ ap (λ (t : List ℕ). flat_map text (range_with_len first count) ++ t) (append-nil (text (first + count))) in
+    subst (λ (t : List ℕ). Appends old new t) (sym texts) (Appends-trans old mid new (flat_map text (range_with_len first count)) (text (first + count)) before more)
 
 -- ---- guards
 
 pub no_guard : (d : Description) (old : Option (List ℕ)) → Adds (AreGuardTexts d 0) old old
 no_guard d old = ([], refl, Appends-nil old)
 
-pub one_guard : (d : Description) (node : ℕ) (old mid first new : Option (List ℕ)) → Adds (AreGuardTexts d node) old mid → Adds (IsGuardText d node A) mid first
-    → Adds (IsGuardText d node B) first new → Adds (AreGuardTexts d (node + 1)) old new
+pub one_guard : (d : Description) (node : ℕ) (old mid first new : Option (List ℕ)) → Adds (AreGuardTexts d node) old mid
+    → Adds (AreCycleTexts d node A (cycles_told d)) mid first → Adds (AreCycleTexts d node B (cycles_told d)) first new
+    → Adds (AreGuardTexts d (node + 1)) old new
 one_guard d node old mid first new before on_a on_b =
     let (texts, texts_are, added) = before in
     let (a, a_is, added_a) = on_a in
@@ -164,6 +253,19 @@ one_guard d node old mid first new before on_a on_b =
       texts ++ a ++ b,
       subst (λ (n : ℕ). AreGuardTexts d n (texts ++ a ++ b)) (sym (add-one node)) (texts, a, b, texts_are, a_is, b_is, refl),
       Appends-trans old first new (texts ++ a) b (Appends-trans old mid first texts a added added_a) added_b,
+    )
+
+pub no_cycle : (d : Description) (node : ℕ) (channel : Channel) (old : Option (List ℕ)) → Adds (AreCycleTexts d node channel 0) old old
+no_cycle d node channel old = ([], refl, Appends-nil old)
+
+pub one_cycle : (d : Description) (node : ℕ) (channel : Channel) (cycle : ℕ) (old mid new : Option (List ℕ)) → Adds (AreCycleTexts d node channel cycle) old mid
+    → Adds (IsGuardText d node channel cycle) mid new → Adds (AreCycleTexts d node channel (cycle + 1)) old new
+one_cycle d node channel cycle old mid new before here =
+    let (texts, texts_are, added) = before in
+    let (last, last_is, added_last) = here in (
+      texts ++ last,
+      subst (λ (n : ℕ). AreCycleTexts d node channel n (texts ++ last)) (sym (add-one cycle)) (texts, last, texts_are, last_is, refl),
+      Appends-trans old mid new texts last added added_last,
     )
 
 -- ---- the plan

@@ -3,7 +3,7 @@
 //!
 //! ```text
 //! check_text(alloc, &mut file, &mut output)?; // params 3 4 1 20 5 0 10 90 0 5
-//! plan_text(alloc, &mut file, &mut output)?; // slot 1 A 0, dynamic 4 A 2 0 1, guard 0 A 0 20 and so on
+//! plan_text(alloc, &mut file, &mut output)?; // slot 1 A 0 0 1, dynamic 4 A 2 0 1, guard 0 A 0 0 20 and so on
 //! midpoint_text(alloc, &mut numbers, &mut output)?; // 4 2 6
 //! ```
 //!

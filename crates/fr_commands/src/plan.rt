@@ -1,12 +1,15 @@
 //! `fr_bench plan`.
-ghost use Rattle.std.specs.Prelude.{◌≡◌, ◌≤◌, true, OnOk, IfSome};
+ghost use Rattle.std.specs.Prelude.{◌≡◌, ◌<◌, ◌≤◌, true, OnOk, IfSome};
 ghost use Rattle.fr_commands.specs.Checks.{Plans};
 ghost use Rattle.std.specs.Io.KnownBytes.{Appends};
 ghost use Rattle.std.specs.List.{flat_map};
-ghost use Rattle.fr_commands.specs.PlanText.{slot_line, owners_text, slot_text, static_text};
+ghost use Rattle.fr_commands.specs.PlanText.{slot_line, begins_at, own_text, owner_text, base_text, owners_text};
+ghost use Rattle.fr_commands.specs.PlanText.{slot_text, static_text, cycles_told};
 ghost use Rattle.fr_commands.specs.PlanText.{dynamic_line, buffer_text, node_text, dynamic_text};
 ghost use Rattle.fr_slots.specs.Parameters.{is_static_slot};
-ghost use Rattle.fr_commands.specs.PlanText.{guard_line, IsGuardText, AreGuardTexts, IsPlanText, Adds};
+ghost use Rattle.fr_commands.specs.PlanText.{guard_line, IsGuardText, AreCycleTexts, AreGuardTexts, IsPlanText, Adds};
+ghost use Rattle.fr_slots.specs.Numbers.{cycle_count};
+ghost use Rattle.fr_schedule.specs.Clusters.{IsCluster};
 
 use crate::cluster_file::cluster_of;
 use crate::error::BenchError;
@@ -15,59 +18,152 @@ use fr_guardian::guardian::Guardian;
 use fr_lines::writing::channels_word;
 use fr_schedule::cluster::Cluster;
 use fr_slots::channel::Channel;
+use fr_slots::filter::CycleFilter;
 use fr_slots::numbers::{Cycle, NodeId, SlotId};
 use fr_slots::params::Params;
-use fr_slots::plan::{Buffer, NodePlan};
+use fr_slots::plan::{Buffer, NodePlan, Own};
 use std::alloc::Global;
 use std::io::{self, Read, Write};
 
-/// Writes the line of a static slot on the channel, where it has an owner.
-fn write_owner<W: Write>(
+/// Whether the ownership line is for the slot on the channel, and this is the first of its cycles.
+fn begins_at(own: &Own, slot: SlotId, channel: Channel, base: Cycle) -> bool
+    ensures { result ≡ begins_at slot channel base own.now }
+{
+    own.slot == slot && own.channels.includes(channel) && own.cycles.base() == base.number()
+}
+
+/// Writes the line of an ownership line of the node, where it is for the slot on the channel and this is the first of
+/// its cycles.
+fn write_own<W: Write>(
     writer: &mut W,
-    cluster: &Cluster,
     slot: SlotId,
     channel: Channel,
+    base: Cycle,
+    node: NodeId,
+    own: &Own,
 ) -> io::Result<()>
-    requires { is_static_slot cluster.now.params slot ≡ true }
     ensures { OnOk result
-        (Appends (W.contents writer.old) (W.contents writer.new) (owners_text cluster.now.plans slot channel)) }
+        (Appends (W.contents writer.old) (W.contents writer.new) (own_text slot channel base node own.now)) }
 {
-    // It sends in every cycle.
-    match cluster.sender(Cycle::from_bits(0), slot, channel) {
-        Some(node) => write_owner_line(writer, slot, channel, node),
-        None => Ok(()),
+    if begins_at(own, slot, channel, base) {
+        write_slot_line(writer, slot, channel, node, own.cycles)
+    } else {
+        Ok(())
     }
 }
 
-/// Writes the line of a static slot on the channel that the node owns.
-fn write_owner_line<W: Write>(
+/// Writes the line of a static slot on the channel that the node owns in these cycles.
+fn write_slot_line<W: Write>(
     writer: &mut W,
     slot: SlotId,
     channel: Channel,
     node: NodeId,
+    cycles: CycleFilter,
 ) -> io::Result<()>
-    ensures { OnOk result (Appends (W.contents writer.old) (W.contents writer.new) (slot_line slot channel node)) }
+    ensures { OnOk result
+        (Appends (W.contents writer.old) (W.contents writer.new) (slot_line slot channel node cycles)) }
 {
-    writeln!(writer, "slot {} {channel} {}", slot.number(), node.number())
+    write!(writer, "slot {} {channel}", slot.number())?;
+    writeln!(
+        writer,
+        " {} {} {}",
+        node.number(),
+        cycles.base(),
+        cycles.repetition()
+    )
+}
+
+/// Writes the lines of those of the node's ownership lines that are for the slot on the channel, this being the first
+/// of their cycles.
+fn write_owner<W: Write>(
+    writer: &mut W,
+    slot: SlotId,
+    channel: Channel,
+    base: Cycle,
+    node: NodeId,
+    plan: &NodePlan,
+) -> io::Result<()>
+    ensures { OnOk result
+        (Appends (W.contents writer.old) (W.contents writer.new) (owner_text slot channel base node plan.now)) }
+{
+    for own in plan.owned() {
+        write_own(writer, slot, channel, base, node, own)?;
+    }
+    Ok(())
+}
+
+/// Writes the line of the ownership line for the static slot on the channel whose first cycle this is, where there is
+/// one.
+fn write_base<W: Write>(
+    writer: &mut W,
+    cluster: &Cluster,
+    slot: SlotId,
+    channel: Channel,
+    base: Cycle,
+) -> io::Result<()>
+    requires is_static { is_static_slot cluster.now.params slot ≡ true }
+    requires is_cycle { base < cycle_count }
+    ensures { OnOk result
+        (Appends (W.contents writer.old) (W.contents writer.new) (base_text cluster.now.plans slot channel base)) }
+{
+    // Only the node that sends in this cycle can have that line.
+    let Some(node) = cluster.sender(base, slot, channel) else {
+        return Ok(());
+    };
+    let Some(plan) = cluster.node(node) else {
+        return Ok(());
+    };
+    write_owner(writer, slot, channel, base, node, plan)
+}
+
+/// Writes the lines of a static slot on the channel, one for each of its ownership lines.
+fn write_owners<W: Write>(
+    writer: &mut W,
+    cluster: &Cluster,
+    slot: SlotId,
+    channel: Channel,
+    cycles: u8,
+) -> io::Result<()>
+    requires lawful { IsCluster cluster.now }
+    requires is_static { is_static_slot cluster.now.params slot ≡ true }
+    requires cycles { cycles ≡ cycles_told cluster.now }
+    requires few { cycles ≤ cycle_count }
+    ensures { OnOk result
+        (Appends (W.contents writer.old) (W.contents writer.new) (owners_text cluster.now.plans slot channel)) }
+{
+    for number in 0..cycles {
+        write_base(writer, cluster, slot, channel, Cycle::from_bits(number))?;
+    }
+    Ok(())
 }
 
 /// Writes the lines of a static slot.
-fn write_slot<W: Write>(writer: &mut W, cluster: &Cluster, slot: SlotId) -> io::Result<()>
-    requires { is_static_slot cluster.now.params slot ≡ true }
+fn write_slot<W: Write>(
+    writer: &mut W,
+    cluster: &Cluster,
+    slot: SlotId,
+    cycles: u8,
+) -> io::Result<()>
+    requires lawful { IsCluster cluster.now }
+    requires is_static { is_static_slot cluster.now.params slot ≡ true }
+    requires cycles { cycles ≡ cycles_told cluster.now }
+    requires few { cycles ≤ cycle_count }
     ensures { OnOk result (Appends (W.contents writer.old) (W.contents writer.new) (slot_text cluster.now.plans slot)) }
 {
-    write_owner(writer, cluster, slot, Channel::A)?;
-    write_owner(writer, cluster, slot, Channel::B)
+    write_owners(writer, cluster, slot, Channel::A, cycles)?;
+    write_owners(writer, cluster, slot, Channel::B, cycles)
 }
 
 /// Writes the lines of the static slots.
-fn write_slots<W: Write>(writer: &mut W, cluster: &Cluster) -> io::Result<()>
+fn write_slots<W: Write>(writer: &mut W, cluster: &Cluster, cycles: u8) -> io::Result<()>
+    requires cycles { cycles ≡ cycles_told cluster.now }
+    requires few { cycles ≤ cycle_count }
     ensures { OnOk result (Appends (W.contents writer.old) (W.contents writer.new) (static_text cluster.now)) }
 {
     let params = cluster.params().duplicate();
     for earlier in 0..params.static_slots {
         if let Some(slot) = SlotId::new(earlier + 1) {
-            write_slot(writer, cluster, slot)?;
+            write_slot(writer, cluster, slot, cycles)?;
         }
     }
     Ok(())
@@ -138,38 +234,63 @@ fn write_dynamics<W: Write>(writer: &mut W, cluster: &Cluster) -> io::Result<()>
     Ok(())
 }
 
-/// Writes a line for each of the intervals.
+/// Writes a line for each of the intervals of the cycle.
 fn write_spans<W: Write>(
     writer: &mut W,
     number: u8,
     channel: Channel,
+    cycle: Cycle,
     spans: &[(u32, u32)],
 ) -> io::Result<()>
     ensures { OnOk result
-        (Appends (W.contents writer.old) (W.contents writer.new) (flat_map (guard_line number channel) spans.now)) }
+        (Appends (W.contents writer.old) (W.contents writer.new) (flat_map (guard_line number channel cycle) spans.now)) }
 {
     for (start, end) in spans {
-        writeln!(writer, "guard {number} {channel} {start} {end}")?;
+        writeln!(
+            writer,
+            "guard {number} {channel} {} {start} {end}",
+            cycle.number()
+        )?;
     }
     Ok(())
 }
 
-/// Writes the lines of the intervals in which the channel is open to the node.
+/// Writes the lines of the intervals in which the channel is open to the node in the cycle.
 fn write_guard<W: Write>(
     writer: &mut W,
     guardian: &Guardian,
     node: NodeId,
     channel: Channel,
+    cycle: Cycle,
 ) -> io::Result<()>
     ensures { OnOk result
-        (Adds (IsGuardText guardian.now node channel) (W.contents writer.old) (W.contents writer.new)) }
+        (Adds (IsGuardText guardian.now node channel cycle) (W.contents writer.old) (W.contents writer.new)) }
 {
     write_spans(
         writer,
         node.number(),
         channel,
-        guardian.windows(node, channel),
+        cycle,
+        guardian.windows(node, cycle, channel),
     )
+}
+
+/// Writes the lines of the node's open intervals on the channel in so many cycles.
+fn write_cycles<W: Write>(
+    writer: &mut W,
+    guardian: &Guardian,
+    node: NodeId,
+    channel: Channel,
+    cycles: u8,
+) -> io::Result<()>
+    requires { cycles ≤ cycle_count }
+    ensures { OnOk result
+        (Adds (AreCycleTexts guardian.now node channel cycles) (W.contents writer.old) (W.contents writer.new)) }
+{
+    for number in 0..cycles {
+        write_guard(writer, guardian, node, channel, Cycle::from_bits(number))?;
+    }
+    Ok(())
 }
 
 /// Writes the lines of the open intervals of so many nodes.
@@ -177,17 +298,20 @@ fn write_guards<W: Write>(writer: &mut W, guardian: &Guardian, nodes: u8) -> io:
     requires { nodes ≤ 16 }
     ensures { OnOk result (Adds (AreGuardTexts guardian.now nodes) (W.contents writer.old) (W.contents writer.new)) }
 {
+    let cycles = guardian.cycles();
     for number in 0..nodes {
         if let Some(node) = NodeId::new(number) {
-            write_guard(writer, guardian, node, Channel::A)?;
-            write_guard(writer, guardian, node, Channel::B)?;
+            write_cycles(writer, guardian, node, Channel::A, cycles)?;
+            write_cycles(writer, guardian, node, Channel::B, cycles)?;
         }
     }
     Ok(())
 }
 
-/// Writes the plan of a cluster: a line for each static slot and channel that has an owner, one for each dynamic
-/// transmit buffer, and one for each interval of a cycle in which a channel is open to a node (own profile).
+/// Writes the plan of a cluster: for each static slot and channel a line for each of its ownership lines, by base, a
+/// line for each dynamic transmit buffer, and one for each interval of a cycle in which a channel is open to a node, in
+/// the cycles below the greatest repetition of the ownership lines, or in the first one where there are none (own
+/// profile).
 ///
 /// Fails where the writer fails, and then a part of the text may have gone out.
 pub fn write_plan<W: Write>(
@@ -198,13 +322,13 @@ pub fn write_plan<W: Write>(
     requires { guardian.now ≡ cluster.now }
     ensures { OnOk result (Adds (IsPlanText cluster.now) (W.contents writer.old) (W.contents writer.new)) }
 {
-    write_slots(writer, cluster)?;
+    write_slots(writer, cluster, guardian.cycles())?;
     write_dynamics(writer, cluster)?;
     write_guards(writer, guardian, cluster.nodes())
 }
 
-/// Reads a cluster file to its end, and writes who sends where and when each channel is open to each node (own
-/// profile).
+/// Reads a cluster file to its end, and writes who sends where and when each channel is open to each node, cycle by
+/// cycle (own profile).
 ///
 /// Refused as `check` is. On every refusal but `Write` nothing is written.
 pub fn plan_text<R: Read, W: Write>(

@@ -53,27 +53,27 @@ transmitter_same plan w channel slot cycle is timed =
 
 -- ---- who owns
 
-owner_line : (owned : List Own) (slot : ℕ) (channel : Channel) → is_owned owned slot channel ≡ true → is_some (ownership owned slot channel) ≡ true
-owner_line owned slot channel e =
-    let (k, own, below, is, claimed) = Any-from_list_any (claims slot channel) owned e in
-    let found = found_in (claims slot channel) owned k own (position (claims slot channel) owned) refl (slice_get-get_or owned k own below ∙ ap (λ (o : Own). Some o) is) claimed in
-    let first = position-Some (claims slot channel) owned found.place own found.at in
+owner_line : (owned : List Own) (slot : ℕ) (channel : Channel) (cycle : ℕ) → is_owned owned slot channel cycle ≡ true → is_some (ownership owned slot channel cycle) ≡ true
+owner_line owned slot channel cycle e =
+    let (k, own, below, is, claimed) = Any-from_list_any (claims slot channel cycle) owned e in
+    let found = found_in (claims slot channel cycle) owned k own (position (claims slot channel cycle) owned) refl (slice_get-get_or owned k own below ∙ ap (λ (o : Own). Some o) is) claimed in
+    let first = position-Some (claims slot channel cycle) owned found.place own found.at in
     ap (λ (o : Option ℕ). is_some (option_and_then (slice_get owned) o)) found.at ∙ ap is_some (slice_get-get_or owned found.place own first.0)
 
 -- an owner offers what is ready, or a null frame
-offers : (plan : Plan) (before : List Entry) (w : Opportunity) (channel : Channel) (slot : ℕ) → is_static w ≡ true → slot_of w channel ≡ Some slot → is_owned plan.owned slot channel ≡ true
+offers : (plan : Plan) (before : List Entry) (w : Opportunity) (channel : Channel) (slot : ℕ) → is_static w ≡ true → slot_of w channel ≡ Some slot → is_owned plan.owned slot channel w.cycle ≡ true
     → offered plan before w channel ≡ data_or Null (option_and_then (ready_in plan before) (transmitter plan w channel))
 offers plan before w channel slot still is owned =
     let ready_there = option_and_then (ready_in plan before) (transmitter plan w channel) in
     ap (offered_at plan before w channel) is
-    ∙ ap (λ (t : Bool). data_or (cond (is_some (cond t (ownership plan.owned slot channel) None)) Null Nothing) (cond (t || nat_le w.minislot (latest_on plan channel)) ready_there None)) still
-    ∙ ap (λ (t : Bool). data_or (cond t Null Nothing) ready_there) (owner_line plan.owned slot channel owned)
+    ∙ ap (λ (t : Bool). data_or (cond (is_some (cond t (ownership plan.owned slot channel w.cycle) None)) Null Nothing) (cond (t || nat_le w.minislot (latest_on plan channel)) ready_there None)) still
+    ∙ ap (λ (t : Bool). data_or (cond t Null Nothing) ready_there) (owner_line plan.owned slot channel w.cycle owned)
 
 -- ---- the frames
 
 module _ (p : Parameters) (plan : Plan) (before : List Entry) (w : Opportunity) (channel : Channel) (slot cycle : ℕ) (still : is_static w ≡ true) (is : slot_of w channel ≡ Some slot) (timed : w.cycle ≡ cycle % 64) where
   line_same : line_of plan w channel slot ≡ line_of plan (turn_of slot cycle) channel slot
-  line_same = ap (λ (t : Bool). cond t (ownership plan.owned slot channel) None) still
+  line_same = ap (λ (t : Bool). cond t (ownership plan.owned slot channel w.cycle) None) still ∙ ap (ownership plan.owned slot channel) timed
 
   null_same : null_frame p plan w channel slot ≡ null_frame p plan (turn_of slot cycle) channel slot
   null_same =
@@ -116,13 +116,13 @@ no_receive true e = absurd (let none : ⊥ = cc in none)
 module _ (p : Parameters) (plan : Plan) (before : List Entry) (w : Opportunity) (channel : Channel) (slot : ℕ) (is : slot_of w channel ≡ Some slot) (static : is_static_slot p slot ≡ true) (one : HasOneSender plan)
     (legal : AllAfter (IsLegal p plan) [] before) (ranges : AllAfter (λ (b : List Entry) (e : Entry). IsEntry e) [] before) (timed : (s : ℕ) → AllAfter (IsTimed s) [] before) where
   of_buffer : (k : ℕ) (found : Option Buffer) → buffer_at plan k ≡ found → transmitter plan w channel ≡ Some k
-      → option_and_then (λ (b : Buffer). left_over b k None (account plan slot before)) found ≡ option_map (payload_of before) (option_and_then (λ (b : Buffer). ready b.mode k before) found)
+      → option_and_then (λ (b : Buffer). left_over b k (account plan slot before)) found ≡ option_map (payload_of before) (option_and_then (λ (b : Buffer). ready b.mode k before) found)
   of_buffer k None at e = refl
   of_buffer k (Some b) at e =
       let a = transmitter_admits plan w channel k b e at in
       let same : b.filter.slot ≡ slot = same_some b.filter.slot slot (sym a.slot_is ∙ is) in
       let sends_it : transmits b ≡ true = transmitter_transmits plan w channel k b e at in
-      ap (λ (s : ℕ). left_over b k None (account plan s before)) (sym same)
+      ap (λ (s : ℕ). left_over b k (account plan s before)) (sym same)
       ∙ account_is_ready p plan k b at (ap (is_static_slot p) same ∙ static) sends_it one
       (both (transmits b) (b.filter.slot == b.filter.slot) sends_it (eq-eqb b.filter.slot b.filter.slot refl)) (no_receive (is_receive b.mode) sends_it) before legal ranges (timed b.filter.slot)
 
@@ -131,12 +131,12 @@ module _ (p : Parameters) (plan : Plan) (before : List Entry) (w : Opportunity) 
   of_transmitter None e = refl
   of_transmitter (Some k) e = of_buffer k (buffer_at plan k) refl e
 
--- what the node offers in each window of a static slot that it owns is what its account gives, where the windows before
+-- what the node offers in each window of a static slot that it owns in the window's cycle is what its account gives, where the windows before
 -- it were timed
 abbrev pub IsAccountable : State → Type 0
 IsAccountable s = (before after : List Entry) (w : Opportunity) (a b : Offered) (channel : Channel) (slot cycle : ℕ) → s.entries ≡ before ++ Fetch w a b ∷ after
     → ((n : ℕ) → AllAfter (IsTimed n) [] before) → is_static w ≡ true
-    → slot_of w channel ≡ Some slot → is_owned s.plan.owned slot channel ≡ true → w.cycle ≡ cycle % 64
+    → slot_of w channel ≡ Some slot → is_owned s.plan.owned slot channel w.cycle ≡ true → w.cycle ≡ cycle % 64
     → bytes_of channel (frame_with s.params s.plan before w channel (offered_on channel a b))
     ≡ bytes_of channel (Some (frame_by_account s.params s.plan slot channel cycle (account s.plan slot before)))
 

@@ -28,13 +28,13 @@ use Rattle.fr_core.specs.declared.carried.Carried.TheVariants.{Idle, Knows, Offe
 use Rattle.fr_core.specs.declared.error.StepError.{StepError}
 use Rattle.fr_core.specs.declared.error.StepError.TheVariants.{UnknownNode}
 use Rattle.fr_core.specs.declared.event.Event.{Event}
-use Rattle.fr_core.specs.declared.event.Event.TheVariants.{Commit, Read, Pop, Look, Fetch, Put, Take, Observe, Inject}
-use Rattle.fr_core.specs.declared.event.Event.TheVariants.{Seal, Advance}
+use Rattle.fr_core.specs.declared.event.Event.TheVariants.{Commit, Withdraw, Read, Pop, Look, Fetch, Put, Take}
+use Rattle.fr_core.specs.declared.event.Event.TheVariants.{Observe, Inject, Seal, Advance}
 use Rattle.fr_core.specs.Steps.{step_refusal, step_done, if_node, with_interface, with_carried, with_bus, offer_of}
 use Rattle.fr_core.specs.Steps.{look_in_turn, take_in_turn, looked, fetched, put_on_bus, taken, observed}
 use Rattle.fr_core.specs.Worlds.{WorldState, has_node, interface_at, carried_at, no_interface, new_interface}
 use Rattle.fr_core.specs.Worlds.{opening_world}
-use Rattle.fr_interface.specs.State.{State, with_entry, read_entry, pop_entry, fetch_entry}
+use Rattle.fr_interface.specs.State.{State, with_entry, withdraw_entry, read_entry, pop_entry, fetch_entry}
 use Rattle.fr_journal.specs.declared.entry.Entry.{Entry}
 use Rattle.fr_journal.specs.declared.entry.Entry.TheVariants as entries
 use Rattle.fr_journal.specs.OpenWindow.{window_mark}
@@ -300,6 +300,7 @@ there_is w n refusal free = ltb-true n (length w.interfaces) (known (has_node w 
 
 pub keeps_done : (w : WorldState) (event : Event) → step_refusal w event ≡ None → length w.interfaces ≡ length w.carried → Agreement w → Agreement (step_done w event)
 keeps_done w (Commit n task buffer payload) free few a = keeps_host w n (entries.Commit task buffer payload) refl refl refl few a (there_is w n _ free)
+keeps_done w (Withdraw n task buffer) free few a = keeps_host w n (withdraw_entry (interface_at w n) task buffer) refl refl refl few a (there_is w n _ free)
 keeps_done w (Read n task buffer) free few a = keeps_host w n (read_entry (interface_at w n) task buffer) refl refl refl few a (there_is w n _ free)
 keeps_done w (Pop n task) free few a = keeps_host w n (pop_entry (interface_at w n) task) refl refl refl few a (there_is w n _ free)
 keeps_done w (Look n) free few a = keeps_look w n (carried_at w n) (collecting_of w.bus) refl refl (known (has_node w n) _ free).1 few a (there_is w n _ free)

@@ -10,10 +10,12 @@ use Rattle.fr_bus.specs.Record.{Recorded, corrupt_on, seen_by}
 use Rattle.fr_core.specs.Accounts.{is_fetch_of, before_fetch, account_at, Kept, account, turn_of, frame_by_account}
 use Rattle.fr_core.specs.Accounts.{own, of_owner, IsSeenByAccount, IsHarmless, mute_of, babble_of, IsSamePart}
 use Rattle.fr_core.specs.Accounts.{AreAlike, sent_by_account, recorded_cycle}
+use Rattle.fr_core.proofs.TimingLemmas.{AreTimed, same_cycle}
+use Rattle.fr_core.specs.Receivers.{IsOwner}
 use Rattle.fr_interface.specs.State.{State, IsLegalInterface}
 use Rattle.fr_slots.proofs.PlaceLemmas.{AllAfter-front, AllAfter-cut}
 use Rattle.fr_journal.specs.declared.entry.Entry.{Entry}
-use Rattle.fr_journal.specs.declared.entry.Entry.TheVariants.{Commit, Read, Pop, Fetch, Observe}
+use Rattle.fr_journal.specs.declared.entry.Entry.TheVariants.{Commit, Withdraw, Read, Pop, Fetch, Observe}
 use Rattle.fr_journal.specs.declared.entry.Offered.{Offered}
 use Rattle.fr_journal.specs.Legal.{IsLegal, IsLegalFetch}
 use Rattle.fr_journal.specs.OpenWindow.{fetched_number, last_number}
@@ -62,7 +64,9 @@ keeps_last p plan sofar e h legal number among = subst (IsAtMostLast number) (sy
     step : (x : Entry) → IsLegal p plan sofar x → ((list_any (is_fetch_of number) sofar ≡ true) ⊎ (is_fetch_of number x ≡ true)) → IsAtMostLast number (option_or (fetched_number sofar x) (last_number sofar))
     step (Commit task buffer payload) l (inl before) = h number before
     step (Commit task buffer payload) l (inr here) = absurd (let none : ⊥ = cc in none)
+    step (Withdraw task buffer of) l (inl before) = h number before
     step (Read task buffer from) l (inl before) = h number before
+    step (Withdraw task buffer of) l (inr here) = absurd (let none : ⊥ = cc in none)
     step (Read task buffer from) l (inr here) = absurd (let none : ⊥ = cc in none)
     step (Pop task from) l (inl before) = h number before
     step (Pop task from) l (inr here) = absurd (let none : ⊥ = cc in none)
@@ -129,13 +133,14 @@ same_part p r t cycle mine theirs owner channel slot legal_mine legal_theirs par
     ∙ sym (y.seen n)
 
 -- two harmless runs of one cluster are alike
-pub alike : (d : Description) (interfaces others : List State) (rs ts : List Recorded) → IsHarmless d interfaces rs → IsHarmless d others ts
+pub alike : (d : Description) (interfaces others : List State) (rs ts : List Recorded) → IsHarmless d interfaces rs → IsHarmless d others ts → AreTimed rs → AreTimed ts
     → ((n : ℕ) (s : State) → slice_get interfaces n ≡ Some s → IsLegalInterface s) → ((n : ℕ) (s : State) → slice_get others n ≡ Some s → IsLegalInterface s)
     → ((n : ℕ) (mine theirs : State) → slice_get interfaces n ≡ Some mine → slice_get others n ≡ Some theirs → mine.params ≡ theirs.params)
     → ((n : ℕ) (mine theirs : State) → slice_get interfaces n ≡ Some mine → slice_get others n ≡ Some theirs → mine.plan ≡ theirs.plan)
     → AreAlike d interfaces rs others ts
-alike d interfaces others rs ts h g lawful legal params plans = λ k j owner slot r t mine theirs channel at there mine_at theirs_at static still guarded on_r on_t own_it cycle same n.
+alike d interfaces others rs ts h g timed_r timed_t lawful legal params plans = λ k j owner slot r t mine theirs channel at there mine_at theirs_at static still guarded on_r on_t own_it cycle same n.
     let x = h.owned k owner slot r mine channel at mine_at static guarded on_r own_it in
-    let y = g.owned j owner slot t theirs channel there theirs_at still guarded on_t own_it in
+    let own_there : IsOwner d t.window.cycle slot channel owner = subst (λ (c : ℕ). IsOwner d c slot channel owner) (same_cycle rs ts k j r t timed_r timed_t at there static still cycle) own_it in
+    let y = g.owned j owner slot t theirs channel there theirs_at still guarded on_t own_there in
     same_part d.params r t (recorded_cycle rs k) mine theirs owner channel slot (lawful owner mine mine_at) (legal owner theirs theirs_at) (params owner mine theirs mine_at theirs_at) (plans owner mine theirs mine_at theirs_at) x
     (subst (λ (c : ℕ). IsSeenByAccount d.params t c theirs owner channel slot) (sym cycle) y) same n

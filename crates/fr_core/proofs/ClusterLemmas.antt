@@ -7,8 +7,8 @@ use Rattle.fr_core.specs.declared.carried.Carried.{Carried}
 use Rattle.fr_core.specs.declared.carried.Carried.TheVariants.{Idle, Knows, Offers, Waits, Took}
 use Rattle.fr_core.specs.declared.error.StepError.{StepError}
 use Rattle.fr_core.specs.declared.event.Event.{Event}
-use Rattle.fr_core.specs.declared.event.Event.TheVariants.{Commit, Read, Pop, Look, Fetch, Put, Take, Observe, Inject}
-use Rattle.fr_core.specs.declared.event.Event.TheVariants.{Seal, Advance}
+use Rattle.fr_core.specs.declared.event.Event.TheVariants.{Commit, Withdraw, Read, Pop, Look, Fetch, Put, Take}
+use Rattle.fr_core.specs.declared.event.Event.TheVariants.{Observe, Inject, Seal, Advance}
 use Rattle.fr_core.specs.declared.event.Reply.{Reply}
 use Rattle.fr_core.specs.Runs.{Answer, StepsAll}
 use Rattle.fr_core.specs.Steps.{Steps, step_done, looked, fetched, put_on_bus, taken, observed}
@@ -60,6 +60,7 @@ observed_cluster w n (Took window a b) = refl
 
 done_cluster : (w : WorldState) (event : Event) → (step_done w event).bus.cluster ≡ w.bus.cluster
 done_cluster w (Commit n task buffer payload) = refl
+done_cluster w (Withdraw n task buffer) = refl
 done_cluster w (Read n task buffer) = refl
 done_cluster w (Pop n task) = refl
 done_cluster w (Look n) = looked_cluster w n (collecting_of w.bus)

@@ -12,12 +12,12 @@ use Rattle.fr_core.specs.declared.carried.Carried.TheVariants.{Idle, Knows, Offe
 use Rattle.fr_core.specs.declared.error.StepError.{StepError}
 use Rattle.fr_core.specs.declared.error.StepError.TheVariants.{UnknownNode}
 use Rattle.fr_core.specs.declared.event.Event.{Event}
-use Rattle.fr_core.specs.declared.event.Event.TheVariants.{Commit, Read, Pop, Look, Fetch, Put, Take, Observe, Inject}
-use Rattle.fr_core.specs.declared.event.Event.TheVariants.{Seal, Advance}
+use Rattle.fr_core.specs.declared.event.Event.TheVariants.{Commit, Withdraw, Read, Pop, Look, Fetch, Put, Take}
+use Rattle.fr_core.specs.declared.event.Event.TheVariants.{Observe, Inject, Seal, Advance}
 use Rattle.fr_core.specs.Runs.{Answer, is_commit_at, commits_by}
 use Rattle.fr_core.specs.Steps.{Steps, step_refusal, step_done, if_node, looked, fetched, put_on_bus, taken, observed}
 use Rattle.fr_core.specs.Worlds.{WorldState, has_node, interface_at, carried_at, no_interface}
-use Rattle.fr_interface.specs.State.{State, with_entry, read_entry, pop_entry, fetch_entry}
+use Rattle.fr_interface.specs.State.{State, with_entry, withdraw_entry, read_entry, pop_entry, fetch_entry}
 use Rattle.fr_journal.specs.declared.entry.Entry.{Entry}
 use Rattle.fr_journal.specs.declared.entry.Entry.TheVariants as entries
 use Rattle.fr_slots.specs.Windows.{Opportunity}
@@ -108,6 +108,7 @@ there_is w n refusal free = ltb-true n (length w.interfaces) (known_node (has_no
 
 done_counts : (w : WorldState) (event : Event) (m : ℕ) → step_refusal w event ≡ None → counted (step_done w event) m ≡ counted w m + digit (is_commit_at m event && true)
 done_counts w (Commit n task buffer payload) m free = commit_counts w n m task buffer payload (there_is w n _ free)
+done_counts w (Withdraw n task buffer) m free = omega (arith, other_counts w n m (withdraw_entry (interface_at w n) task buffer) refl (there_is w n _ free))
 done_counts w (Read n task buffer) m free = omega (arith, other_counts w n m (read_entry (interface_at w n) task buffer) refl (there_is w n _ free))
 done_counts w (Pop n task) m free = omega (arith, other_counts w n m (pop_entry (interface_at w n) task) refl (there_is w n _ free))
 done_counts w (Look n) m free = omega (arith, looked_counts w n m (collecting_of w.bus))

@@ -9,6 +9,7 @@ use Rattle.fr_core.specs.Receivers.{Receivers}
 use Rattle.fr_core.specs.Worlds.{WorldState, no_interface, interface_at, carried_at, without_entries, new_interface}
 use Rattle.fr_core.proofs.JudgedLemmas.{are_judged}
 use Rattle.fr_core.proofs.ReceiverLemmas.{receivers}
+use Rattle.fr_core.proofs.TimingLemmas.{are_timed}
 use Rattle.fr_interface.specs.State.{State, IsLegalInterface}
 use Rattle.fr_core.proofs.AlikeLemmas.{alike}
 use Rattle.fr_core.proofs.HarmlessLemmas.{harmless}
@@ -78,10 +79,11 @@ same_node w v kept other same n mine theirs at there =
       same_some mine.plan theirs.plan (sym c.plan_at ∙ ap (λ (d : Description). slice_get d.plans n) same ∙ e.plan_at),
     )
 
-pub worlds_alike : (w v : WorldState) → IsWorld w → IsWorld v → IsHarmless w.bus.cluster w.interfaces w.bus.sealed → IsHarmless v.bus.cluster v.interfaces v.bus.sealed
+pub worlds_alike : (w v : WorldState) → IsWorld w → IsWorld v → IsRun w.bus → IsRun v.bus → IsHarmless w.bus.cluster w.interfaces w.bus.sealed → IsHarmless v.bus.cluster v.interfaces v.bus.sealed
     → All IsLegalInterface w.interfaces → All IsLegalInterface v.interfaces → WorldsAlike w v
-worlds_alike w v kept other harmless_w harmless_v lawful legal = λ same.
+worlds_alike w v kept other run_w run_v harmless_w harmless_v lawful legal = λ same.
     alike w.bus.cluster w.interfaces v.interfaces w.bus.sealed v.bus.sealed harmless_w
-    (subst (λ (d : Description). IsHarmless d v.interfaces v.bus.sealed) (sym same) harmless_v) (legal_at w.interfaces lawful) (legal_at v.interfaces legal)
+    (subst (λ (d : Description). IsHarmless d v.interfaces v.bus.sealed) (sym same) harmless_v) (are_timed w.bus.cluster w.bus.cycles w.bus.sealed run_w.recorded) (are_timed v.bus.cluster v.bus.cycles v.bus.sealed run_v.recorded)
+    (legal_at w.interfaces lawful) (legal_at v.interfaces legal)
     (λ n mine theirs at there. let e = same_node w v kept other same n mine theirs at there in e.0)
     (λ n mine theirs at there. let e = same_node w v kept other same n mine theirs at there in e.1)

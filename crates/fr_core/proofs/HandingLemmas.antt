@@ -1,5 +1,5 @@
 -- What a journal handed to the bus as a data frame is a commit of it.
-use Rattle.std.proofs.Common.{◌≡◌, drop, ℕ, zero, suc, ◌+◌, ◌*◌, ◌%◌, ◌≤◌, ◌<◌, ◌^◌, Bool, true, false, cond, List}
+use Rattle.std.proofs.Common.{◌≡◌, ℕ, zero, suc, ◌*◌, ◌%◌, ◌≤◌, ◌<◌, ◌^◌, Bool, true, false, cond, List}
 use Rattle.std.proofs.Common.{[], ◌∷◌, ◌++◌, length, replicate, Option, Some, None, refl, sym, ap, subst, ◌∙◌, arith}
 use Rattle.std.proofs.Common.{slice_get}
 use Rattle.std.specs.Option.{option_and_then}
@@ -10,6 +10,7 @@ use Rattle.arrayvec.specs.ArrayVec.{ArrayVec}
 use Rattle.fr_slots.proofs.PlaceLemmas.{same_some, IsCutAt, get-append, get-after, AllAfter-cut, last_after-at}
 use Rattle.fr_slots.proofs.PlaceLemmas.{each_after-at}
 use Rattle.fr_core.proofs.CaseLemmas.{kept}
+use Rattle.fr_core.proofs.ReadyLemmas.{ready_is_last}
 use Rattle.fr_core.specs.Agreeing.{Handed, handed_at, fetched}
 use Rattle.fr_core.specs.Receivers.{offered_on, HandsOver}
 use Rattle.fr_frame.specs.Decoding.{decoded}
@@ -19,11 +20,11 @@ use Rattle.fr_frame.specs.Payload.{IsPayload}
 use Rattle.fr_frame.proofs.EncodingLemmas.{encoded_is_decoded}
 use Rattle.fr_interface.specs.State.{State, IsLegalInterface}
 use Rattle.fr_journal.specs.declared.entry.Entry.{Entry}
-use Rattle.fr_journal.specs.declared.entry.Entry.TheVariants.{Commit, Read, Pop, Fetch, Observe}
+use Rattle.fr_journal.specs.declared.entry.Entry.TheVariants.{Commit, Withdraw, Read, Pop, Fetch, Observe}
 use Rattle.fr_journal.specs.declared.entry.Offered.{Offered}
 use Rattle.fr_journal.specs.declared.entry.Offered.TheVariants.{Nothing, Null, Data}
 use Rattle.fr_journal.specs.Entries.{IsEntry}
-use Rattle.fr_journal.specs.Fate.{is_commit_on, commit_on, last_commit, if_pending, is_pending, fate_of}
+use Rattle.fr_journal.specs.Fate.{is_commit_on, commit_on, last_commit}
 use Rattle.fr_journal.specs.Legal.{AreEntries, IsLegal, IsLegalFetch}
 use Rattle.fr_journal.specs.Offers.{ready, ready_in, transmitter, may_begin, commit_offered, owns, data_or}
 use Rattle.fr_journal.specs.Offers.{offered_at, offered, payload_in, payload_of, null_frame, data_frame_of}
@@ -33,7 +34,6 @@ use Rattle.fr_slots.specs.declared.channel.Channel.{Channel}
 use Rattle.fr_slots.specs.declared.channel.Channel.TheVariants.{A, B}
 use Rattle.fr_slots.specs.declared.plan.Buffer.{Buffer}
 use Rattle.fr_slots.specs.declared.plan.Mode.{Mode}
-use Rattle.fr_slots.specs.declared.plan.Mode.TheVariants as mode
 use Rattle.fr_slots.specs.History.{AllAfter}
 use Rattle.fr_slots.specs.Parameters.{Parameters, IsParameters}
 use Rattle.fr_slots.specs.Windows.{Opportunity, IsInRange, IsSlotOrNone, slot_of}
@@ -59,6 +59,7 @@ commit_here buffer number before after (Commit task b payload) e = record {
   at = subst (λ (k : ℕ). slice_get (before ++ Commit task b payload ∷ after) k ≡ Some (Commit task b payload)) (number_is (is_commit_on buffer (Commit task b payload)) (length before) number e)
       (get-after before after (Commit task b payload));
 }
+commit_here buffer number before after (Withdraw task b of) e = absurd (let none : ⊥ = cc in none)
 commit_here buffer number before after (Read task b from) e = absurd (let none : ⊥ = cc in none)
 commit_here buffer number before after (Pop task from) e = absurd (let none : ⊥ = cc in none)
 commit_here buffer number before after (Fetch w x y) e = absurd (let none : ⊥ = cc in none)
@@ -69,18 +70,8 @@ last_is_commit buffer number entries e =
     let c = last_after-at (commit_on buffer) [] entries number e in
     subst (λ (l : List Entry). IsCommitAt l number) (sym c.cut) (commit_here buffer number c.inner c.after c.here c.holds)
 
-pub pending_is : (buffer number : ℕ) (entries : List Entry) (o : Option ℕ) → option_and_then (if_pending buffer entries) o ≡ Some number → o ≡ Some number
-pending_is buffer number entries None e = e
-pending_is buffer number entries (Some k) e = ap Some (kept (is_pending (fate_of buffer k (drop (k + 1) entries))) e)
-  where
-    kept : (b : Bool) → cond b (Some k) None ≡ Some number → k ≡ number
-    kept true h = cc
-    kept false h = absurd (let none : ⊥ = cc in none)
-
 ready_is : (m : Mode) (buffer number : ℕ) (entries : List Entry) → ready m buffer entries ≡ Some number → IsCommitAt entries number
-ready_is mode.Event buffer number entries e = last_is_commit buffer number entries (pending_is buffer number entries (last_commit buffer entries) e)
-ready_is mode.State buffer number entries e = last_is_commit buffer number entries e
-ready_is mode.Receive buffer number entries e = absurd (let none : ⊥ = cc in none)
+ready_is m buffer number entries e = last_is_commit buffer number entries (ready_is_last m buffer number entries e)
 
 ready_of : (buffer number : ℕ) (entries : List Entry) (b : Option Buffer) → option_and_then (λ (x : Buffer). ready x.mode buffer entries) b ≡ Some number → IsCommitAt entries number
 ready_of buffer number entries None e = absurd (let none : ⊥ = cc in none)
@@ -172,6 +163,7 @@ only_one x y (suc k) e = absurd (let none : ⊥ = cc in none)
 
 pub fetch_in : (s : State) (before : List Entry) (e : Entry) (h : Handed) (k : ℕ) → slice_get (handed_at s.params s.plan before e) k ≡ Some h → IsFetchOf s before e h
 fetch_in s before (Commit task buffer payload) h k e = absurd (let none : ⊥ = cc in none)
+fetch_in s before (Withdraw task buffer of) h k e = absurd (let none : ⊥ = cc in none)
 fetch_in s before (Read task buffer from) h k e = absurd (let none : ⊥ = cc in none)
 fetch_in s before (Pop task from) h k e = absurd (let none : ⊥ = cc in none)
 fetch_in s before (Observe w a b) h k e = absurd (let none : ⊥ = cc in none)
@@ -211,6 +203,7 @@ no_bytes = record { short = omega arith; even = refl }
 payload_if : (entries : List Entry) (k : ℕ) (e : Option Entry) → slice_get entries k ≡ e → ((x : Entry) → slice_get entries k ≡ Some x → IsEntry x) → IsPayload (payload_in e)
 payload_if entries k None is all = no_bytes
 payload_if entries k (Some (Commit task buffer payload)) is all = (all (Commit task buffer payload) is).2
+payload_if entries k (Some (Withdraw task buffer of)) is all = no_bytes
 payload_if entries k (Some (Read task buffer from)) is all = no_bytes
 payload_if entries k (Some (Pop task from)) is all = no_bytes
 payload_if entries k (Some (Fetch w a b)) is all = no_bytes

@@ -54,25 +54,25 @@ seen_static p w x c n (t ∷ u ∷ ts) e f = refl
 -- ---- owners
 
 owner_in : (d : Description) (node slot : ℕ) (w : Opportunity) (channel : Channel) (found : Option Plan) → slice_get d.plans node ≡ found → is_static w ≡ true → is_guarded d.guard channel ≡ true
-    → passes_in d w channel found (Some slot) ≡ true → IsOwner d slot channel node
+    → passes_in d w channel found (Some slot) ≡ true → IsOwner d w.cycle slot channel node
 owner_in d node slot w channel None is static guarded e = absurd (let none : ⊥ = cc in none)
 owner_in d node slot w channel (Some plan) is static guarded e =
-    record { plan = plan; at = is; owns = watched (is_static w) (is_guarded d.guard channel) (is_owned plan.owned slot channel) static guarded e }
+    record { plan = plan; at = is; owns = watched (is_static w) (is_guarded d.guard channel) (is_owned plan.owned slot channel w.cycle) static guarded e }
   where
     watched : (p q o : Bool) → p ≡ true → q ≡ true → (not (p && q) || o) ≡ true → o ≡ true
     watched true true o a b h = h
     watched true false o a b h = differ b refl
     watched false q o a b h = differ a refl
 
--- a node that passes in a guarded static slot owns it
+-- a node that passes in a guarded static slot owns it in the window's cycle
 passing_owns : (d : Description) (node slot : ℕ) (w : Opportunity) (channel : Channel) → is_static w ≡ true → is_guarded d.guard channel ≡ true → slot_of w channel ≡ Some slot
-    → passes d node w channel ≡ true → IsOwner d slot channel node
+    → passes d node w channel ≡ true → IsOwner d w.cycle slot channel node
 passing_owns d node slot w channel static guarded is e =
     owner_in d node slot w channel (slice_get d.plans node) refl static guarded (ap (passes_in d w channel (slice_get d.plans node)) (sym is) ∙ e)
 
 -- where no node owns the slot, none passes
 none_passes : (d : Description) (node slot : ℕ) (w : Opportunity) (channel : Channel) → is_static w ≡ true → is_guarded d.guard channel ≡ true → slot_of w channel ≡ Some slot
-    → ((owner : ℕ) → IsOwner d slot channel owner → ⊥) → (b : Bool) → passes d node w channel ≡ b → b ≡ false
+    → ((owner : ℕ) → IsOwner d w.cycle slot channel owner → ⊥) → (b : Bool) → passes d node w channel ≡ b → b ≡ false
 none_passes d node slot w channel static guarded is nobody false e = refl
 none_passes d node slot w channel static guarded is nobody true e =
     absurd (nobody node (passing_owns d node slot w channel static guarded is e))
@@ -97,7 +97,7 @@ recorded_own d r channel owner slot o within is passing =
 -- with the fetch that handed the offer over
 by_fetch : (d : Description) (r : Recorded) (s : State) (channel : Channel) (owner slot cycle : ℕ) (before after : List Entry) (e : Entry) → IsCluster d → IsOutcome d r → IsAccountable s
     → owner < length d.plans → is_static r.window ≡ true → is_guarded d.guard channel ≡ true → slot_of r.window channel ≡ Some slot → passes d owner r.window channel ≡ true
-    → is_owned s.plan.owned slot channel ≡ true → r.window.cycle ≡ cycle % 64 → s.entries ≡ before ++ e ∷ after → ((m : ℕ) → AllAfter (IsTimed m) [] before) → IsFetchOf s before e (offers_of owner r)
+    → is_owned s.plan.owned slot channel r.window.cycle ≡ true → r.window.cycle ≡ cycle % 64 → s.entries ≡ before ++ e ∷ after → ((m : ℕ) → AllAfter (IsTimed m) [] before) → IsFetchOf s before e (offers_of owner r)
     → IsSeenByAccount d.params r cycle s owner channel slot
 by_fetch d r s channel owner slot cycle before after e cluster o accounts within static guarded is passing owned timed cut earlier x =
     let window : x.window ≡ r.window = ap (λ (h : Handed). h.window) x.handed_is in
@@ -139,7 +139,7 @@ harmless d cycles interfaces rs cluster all lawful plans follow = record {
       let c = fetch_of_window owner s rs k r (follow owner s s_at) (are_on_time d cycles rs all) at in
       by_fetch d r s channel owner slot (recorded_cycle rs k) c.before c.after c.fetch cluster (recorded_at d cycles rs k r all at).1 (accountable s (lawful owner s s_at))
       (slice_get_within d.plans owner s.plan (plans owner s s_at)) static guarded is passing
-      (ap (λ (x : Plan). is_owned x.owned slot channel) (sym plan) ∙ own_it.owns) (are_timed d cycles rs all k r at static) c.cut c.timed c.is;
+      (ap (λ (x : Plan). is_owned x.owned slot channel r.window.cycle) (sym plan) ∙ own_it.owns) (are_timed d cycles rs all k r at static) c.cut c.timed c.is;
   unowned = λ k slot n r channel at static guarded is nobody.
       silent d d.params r channel n (λ node. none_passes d node slot r.window channel static guarded is nobody (passes d node r.window channel) refl)
       (outcome_judged d r (recorded_at d cycles rs k r all at).1);

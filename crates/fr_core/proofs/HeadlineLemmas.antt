@@ -29,4 +29,4 @@ headline_of w lent bus p q lawful accounted run one_sender kept =
     (subst (λ (b : BusState). OneSenderEach b.cluster b.sealed) q one_sender) kept
 
 pub alike_worlds : (w v : WorldState) → Headline w → Headline v → WorldsAlike w v
-alike_worlds w v a b = worlds_alike w v a.agrees b.agrees a.harmless b.harmless a.legal b.legal
+alike_worlds w v a b = worlds_alike w v a.agrees b.agrees a.run b.run a.harmless b.harmless a.legal b.legal

@@ -17,6 +17,7 @@ pub mod HandingLemmas
 pub mod ReceiverLemmas
 pub mod TimingLemmas
 pub mod TimedLemmas
+pub mod ReadyLemmas
 pub mod LeftOverLemmas
 pub mod TakingLemmas
 pub mod SendingLemmas

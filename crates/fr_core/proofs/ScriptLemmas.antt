@@ -14,7 +14,7 @@ use Rattle.fr_core.specs.Walks.{FindsTask, done_by, HasLine, HaveLines, IsCourse
 use Rattle.fr_core.specs.Walks.{Suits, SuitsAt, AreScripts, new_courses}
 use Rattle.fr_interface.specs.State.{State}
 use Rattle.fr_journal.specs.declared.entry.Entry.{Entry}
-use Rattle.fr_journal.specs.declared.entry.Entry.TheVariants.{Commit, Read, Pop, Fetch, Observe}
+use Rattle.fr_journal.specs.declared.entry.Entry.TheVariants.{Commit, Withdraw, Read, Pop, Fetch, Observe}
 use Rattle.fr_slots.specs.History.{each_after}
 use Rattle.fr_slots.specs.Numbers.{last_task, most_tasks, most_entries}
 
@@ -74,6 +74,7 @@ other_task t task d other = elim (eqb_tells t task) [
 module _ (s : State) (k : ℕ) where
   none_done : (task : ℕ) (e : Entry) → done_by s k e ≡ None → deed_in s task k e ≡ None
   none_done task (Commit t buffer payload) none = absurd (let no : ⊥ = cc in no)
+  none_done task (Withdraw t buffer of) none = absurd (let no : ⊥ = cc in no)
   none_done task (Read t buffer from) none = absurd (let no : ⊥ = cc in no)
   none_done task (Pop t from) none = absurd (let no : ⊥ = cc in no)
   none_done task (Fetch window a b) none = refl
@@ -87,6 +88,7 @@ module _ (s : State) (k : ℕ) where
 
       by_entry : (x : Entry) → done_by s k x ≡ Some done → deed_in s done.0 k x ≡ Some done.1
       by_entry (Commit t buffer payload) told = of_pair t _ (some_alike _ done told)
+      by_entry (Withdraw t buffer of) told = of_pair t _ (some_alike _ done told)
       by_entry (Read t buffer from) told = of_pair t _ (some_alike _ done told)
       by_entry (Pop t from) told = of_pair t _ (some_alike _ done told)
       by_entry (Fetch window a b) told = absurd (let none : ⊥ = cc in none)
@@ -100,6 +102,7 @@ module _ (s : State) (k : ℕ) where
 
       by_entry : (x : Entry) → done_by s k x ≡ Some done → deed_in s task k x ≡ None
       by_entry (Commit t buffer payload) told = of_pair t _ (some_alike _ done told)
+      by_entry (Withdraw t buffer of) told = of_pair t _ (some_alike _ done told)
       by_entry (Read t buffer from) told = of_pair t _ (some_alike _ done told)
       by_entry (Pop t from) told = of_pair t _ (some_alike _ done told)
       by_entry (Fetch window a b) told = refl

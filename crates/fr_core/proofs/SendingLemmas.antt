@@ -1,6 +1,6 @@
 -- A window that a static transmit buffer admits sends what it has ready, so the account leaves over what is ready.
 use Rattle.std.proofs.Common.{◌≡◌, ◌<◌, ℕ, ◌%◌, Bool, true, false, cond, ◌&&◌, ◌||◌, List, [], ◌∷◌, ◌++◌, Option}
-use Rattle.std.proofs.Common.{Some, None, refl, sym, ap, subst, ◌∙◌, slice_get, get_or}
+use Rattle.std.proofs.Common.{Some, None, refl, sym, ap, subst, ◌∙◌, slice_get, get_or, option_map}
 use Rattle.std.specs.Prelude.{◌==◌, nat_le}
 use Rattle.std.specs.List.{position}
 use Rattle.std.specs.Option.{option_and_then}
@@ -9,13 +9,13 @@ use Rattle.std.proofs.lemmas.Iterator.Adapters.{position_from-zero}
 use Rattle.std.proofs.lemmas.List.Quantifiers.{position-Some}
 use Rattle.std.proofs.lemmas.Option.{slice_get-get_or}
 use Rattle.fr_core.proofs.TimingLemmas.{IsTimed}
-use Rattle.fr_core.specs.Accounts.{is_slot_at, is_window_of, is_buffer_of, run_cycle, account, is_event, takes_it}
+use Rattle.fr_core.specs.Accounts.{is_slot_at, is_window_of, is_buffer_of, run_cycle, account, is_turn_of}
 use Rattle.fr_core.specs.Accounts.{left_over}
-use Rattle.fr_core.proofs.LeftOverLemmas.{Takes, IsTaking, pay, left_over_is}
+use Rattle.fr_core.proofs.LeftOverLemmas.{Takes, IsTaking, left_over_is}
 use Rattle.fr_core.proofs.CaseLemmas.{both, both_first, both_rest, differ}
-use Rattle.fr_core.proofs.TakingLemmas.{unsent}
+use Rattle.fr_core.proofs.TakingLemmas.{unsent, sent_is_ready}
 use Rattle.fr_journal.specs.declared.entry.Entry.{Entry}
-use Rattle.fr_journal.specs.declared.entry.Entry.TheVariants.{Commit, Read, Pop, Fetch, Observe}
+use Rattle.fr_journal.specs.declared.entry.Entry.TheVariants.{Commit, Withdraw, Read, Pop, Fetch, Observe}
 use Rattle.fr_journal.specs.declared.entry.Offered.{Offered}
 use Rattle.fr_journal.specs.declared.entry.Offered.TheVariants.{Nothing, Null, Data}
 use Rattle.fr_journal.specs.Entries.{IsEntry}
@@ -23,6 +23,7 @@ use Rattle.fr_journal.specs.Fate.{is_data_of, sends}
 use Rattle.fr_journal.specs.Legal.{IsLegal, IsLegalFetch}
 use Rattle.fr_slots.specs.Plans.{admits_slot, buffer_at, Plan, is_receive}
 use Rattle.fr_journal.specs.Offers.{is_admitting, transmitter, ready, ready_in, owns, data_or, offered_at, offered}
+use Rattle.fr_journal.specs.Offers.{payload_of}
 use Rattle.fr_slots.specs.Admission.{includes, cycle_admitted}
 use Rattle.fr_slots.specs.declared.channel.Channel.{Channel}
 use Rattle.fr_slots.specs.declared.channel.Channel.TheVariants.{A, B}
@@ -110,14 +111,14 @@ module _ (p : Parameters) (plan : Plan) (k : ℕ) (b : Buffer) (at : buffer_at p
 
   -- a window that takes the commit sends it
   sent : (before : List Entry) (w : Opportunity) (x y : Offered) (number cycle : ℕ) → IsLegalFetch p plan before w x y → IsInRange w
-      → (is_window_of b.filter.slot w ≡ true → cycle % 64 ≡ w.cycle) → (is_window_of b.filter.slot w && takes_it b cycle) ≡ true
+      → (is_window_of b.filter.slot w ≡ true → cycle % 64 ≡ w.cycle) → (is_window_of b.filter.slot w && is_turn_of b cycle) ≡ true
       → ready b.mode k before ≡ Some number → sends number (Fetch w x y) ≡ true
   sent before w x y number cycle legal range timed taking ready_is =
-      let window : is_window_of b.filter.slot w ≡ true = both_first (is_window_of b.filter.slot w) (takes_it b cycle) taking in
+      let window : is_window_of b.filter.slot w ≡ true = both_first (is_window_of b.filter.slot w) (is_turn_of b cycle) taking in
       let still : is_static w ≡ true = both_first (is_static w) (is_slot_at b.filter.slot w.a) window in
       let on_a : w.a ≡ Some b.filter.slot = slot_at b.filter.slot w.a (both_rest (is_static w) (is_slot_at b.filter.slot w.a) window) in
       let admitted : cycle_admitted b.filter.cycles w.cycle ≡ true =
-      ap (cycle_admitted b.filter.cycles) (sym (timed window)) ∙ both_rest (is_event b.mode) (cycle_admitted b.filter.cycles (cycle % 64)) (both_rest (is_window_of b.filter.slot w) (takes_it b cycle) taking) in
+      ap (cycle_admitted b.filter.cycles) (sym (timed window)) ∙ both_rest (is_window_of b.filter.slot w) (is_turn_of b cycle) taking in
       let c = included b.filter.channels in
       let is : slot_of w c.channel ≡ Some b.filter.slot = slot_on w c.channel b.filter.slot range still on_a in
       let slot_fits : IsSlot b.filter.slot = subst IsSlotOrNone on_a range.slot_a in
@@ -127,23 +128,23 @@ module _ (p : Parameters) (plan : Plan) (k : ℕ) (b : Buffer) (at : buffer_at p
   -- ---- over a journal
 
   module _ (of_slot : is_buffer_of b.filter.slot (Some b) ≡ true) (sending : is_receive b.mode ≡ false) where
-    fetch_takes : (before : List Entry) (w : Opportunity) (x y : Offered) (t : Bool) → (is_window_of b.filter.slot w && takes_it b (run_cycle (before ++ Fetch w x y ∷ []))) ≡ t
+    fetch_takes : (before : List Entry) (w : Opportunity) (x y : Offered) (t : Bool) → (is_window_of b.filter.slot w && is_turn_of b (run_cycle (before ++ Fetch w x y ∷ []))) ≡ t
         → IsLegalFetch p plan before w x y → IsInRange w → (is_window_of b.filter.slot w ≡ true → run_cycle (before ++ Fetch w x y ∷ []) % 64 ≡ w.cycle)
         → Takes plan b.filter.slot k b at of_slot sending t before (Fetch w x y)
-    fetch_takes before w x y true is legal range timed =
-        let cycle = run_cycle (before ++ Fetch w x y ∷ []) in (
-          both_first (is_event b.mode) (cycle_admitted b.filter.cycles (cycle % 64)) (both_rest (is_window_of b.filter.slot w) (takes_it b cycle) is),
-          λ number ready_is. sent before w x y number cycle legal range timed is ready_is,
-        )
+    fetch_takes before w x y true is legal range timed = (
+      λ number ready_is. sent before w x y number (run_cycle (before ++ Fetch w x y ∷ [])) legal range timed is ready_is,
+      λ number last out. sent_is_ready p plan k b at static before w x y number legal last out,
+    )
     fetch_takes before w x y false is legal range timed =
-        λ event number last. unsent p plan k b at static event before w x y number (run_cycle (before ++ Fetch w x y ∷ [])) legal range timed last is
+        λ number last. unsent p plan k b at static before w x y number (run_cycle (before ++ Fetch w x y ∷ [])) legal range timed last is
 
     entry_takes : (before : List Entry) (e : Entry) → IsLegal p plan before e → IsEntry e → IsTimed b.filter.slot before e → IsTaking plan b.filter.slot k b at of_slot sending before e
     entry_takes before (Commit task j payload) legal range timed = tt
+    entry_takes before (Withdraw task j of) legal range timed = legal.found
     entry_takes before (Read task j from) legal range timed = tt
     entry_takes before (Pop task from) legal range timed = tt
     entry_takes before (Fetch w x y) legal range timed =
-        fetch_takes before w x y (is_window_of b.filter.slot w && takes_it b (run_cycle (before ++ Fetch w x y ∷ []))) refl legal range.window_is timed
+        fetch_takes before w x y (is_window_of b.filter.slot w && is_turn_of b (run_cycle (before ++ Fetch w x y ∷ []))) refl legal range.window_is timed
     entry_takes before (Observe number x y) legal range timed = tt
 
     all_take : (before es : List Entry) → AllAfter (IsLegal p plan) before es → AllAfter (λ (b : List Entry) (e : Entry). IsEntry e) before es → AllAfter (IsTimed b.filter.slot) before es
@@ -154,5 +155,5 @@ module _ (p : Parameters) (plan : Plan) (k : ℕ) (b : Buffer) (at : buffer_at p
 
     -- in a legal journal the account leaves over the payload that the buffer has ready
     pub account_is_ready : (es : List Entry) → AllAfter (IsLegal p plan) [] es → AllAfter (λ (b : List Entry) (e : Entry). IsEntry e) [] es → AllAfter (IsTimed b.filter.slot) [] es
-        → left_over b k None (account plan b.filter.slot es) ≡ pay b.mode k es
+        → left_over b k (account plan b.filter.slot es) ≡ option_map (payload_of es) (ready b.mode k es)
     account_is_ready es legal ranges timed = left_over_is plan b.filter.slot k b at of_slot sending es (all_take [] es legal ranges timed)

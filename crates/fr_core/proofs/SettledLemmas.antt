@@ -34,7 +34,7 @@ use Rattle.fr_core.specs.Worlds.{is_between}
 use Rattle.fr_guardian.specs.Guarding.{passes}
 use Rattle.fr_interface.specs.State.{State}
 use Rattle.fr_journal.specs.declared.entry.Entry.{Entry}
-use Rattle.fr_journal.specs.declared.entry.Entry.TheVariants.{Commit, Read, Pop, Fetch, Observe}
+use Rattle.fr_journal.specs.declared.entry.Entry.TheVariants.{Commit, Withdraw, Read, Pop, Fetch, Observe}
 use Rattle.fr_journal.specs.OpenWindow.{open_window}
 use Rattle.fr_schedule.specs.Clusters.{IsCluster}
 use Rattle.fr_schedule.specs.Descriptions.{Description}
@@ -58,6 +58,7 @@ each_map g f h same before (x ∷ xs) =
 
 window_handed : (p : Parameters) (plan : Plan) (before : List Entry) (e : Entry) → map (λ (h : Handed). h.window) (handed_at p plan before e) ≡ fetches_at before e
 window_handed p plan before (Commit task buffer payload) = refl
+window_handed p plan before (Withdraw task buffer of) = refl
 window_handed p plan before (Read task buffer from) = refl
 window_handed p plan before (Pop task from) = refl
 window_handed p plan before (Fetch window a b) = refl
@@ -65,6 +66,7 @@ window_handed p plan before (Observe number a b) = refl
 
 window_sighted : (before : List Entry) (e : Entry) → map (λ (x : Sight). x.window) (sight_at before e) ≡ observes_at before e
 window_sighted before (Commit task buffer payload) = refl
+window_sighted before (Withdraw task buffer of) = refl
 window_sighted before (Read task buffer from) = refl
 window_sighted before (Pop task from) = refl
 window_sighted before (Fetch window a b) = refl
@@ -143,6 +145,7 @@ few_after f one before (x ∷ xs) =
 
 one_fetch : (before : List Entry) (e : Entry) → length (fetches_at before e) ≤ 1
 one_fetch before (Commit task buffer payload) = omega arith
+one_fetch before (Withdraw task buffer of) = omega arith
 one_fetch before (Read task buffer from) = omega arith
 one_fetch before (Pop task from) = omega arith
 one_fetch before (Fetch window a b) = omega arith

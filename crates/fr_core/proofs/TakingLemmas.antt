@@ -1,17 +1,18 @@
 -- Which windows take the commit of a static transmit buffer: those that it admits.
 use Rattle.std.proofs.Common.{◌≡◌, ℕ, ◌%◌, Bool, true, false, not, cond, ◌&&◌, ◌||◌, List, [], ◌∷◌, ◌++◌, length}
-use Rattle.std.proofs.Common.{Option, Some, None, refl, sym, ap, subst, ◌∙◌, slice_get}
+use Rattle.std.proofs.Common.{Option, Some, None, refl, sym, ap, subst, ◌∙◌, slice_get, inl, inr, ◌⊎◌}
 use Rattle.std.specs.Prelude.{◌==◌, nat_le}
 use Rattle.std.specs.Option.{option_and_then}
 use Rattle.std.proofs.lemmas.Bool.{eqb-true, eq-eqb}
 use Rattle.std.proofs.lemmas.List.Quantifiers.{position-Some}
 use Rattle.std.proofs.lemmas.Option.{get_or_from_slice_get}
-use Rattle.fr_core.specs.Accounts.{is_slot_at, is_window_of, is_event, takes_it}
+use Rattle.fr_core.specs.Accounts.{is_slot_at, is_window_of, is_turn_of}
 use Rattle.fr_core.proofs.CaseLemmas.{both, both_first, both_rest, differ, kept, kept_if}
 use Rattle.fr_slots.proofs.PlaceLemmas.{same_some, get-after, last_after-at}
-use Rattle.fr_core.proofs.HandingLemmas.{pending_is, data_is}
+use Rattle.fr_core.proofs.HandingLemmas.{data_is}
+use Rattle.fr_core.proofs.ReadyLemmas.{ready_is_last}
 use Rattle.fr_journal.specs.declared.entry.Entry.{Entry}
-use Rattle.fr_journal.specs.declared.entry.Entry.TheVariants.{Commit, Read, Pop, Fetch, Observe}
+use Rattle.fr_journal.specs.declared.entry.Entry.TheVariants.{Commit, Withdraw, Read, Pop, Fetch, Observe}
 use Rattle.fr_journal.specs.declared.entry.Offered.{Offered}
 use Rattle.fr_journal.specs.declared.entry.Offered.TheVariants.{Nothing, Null, Data}
 use Rattle.fr_journal.specs.Fate.{commit_on, last_commit, is_data_of, sends}
@@ -26,8 +27,6 @@ use Rattle.fr_slots.specs.declared.channel.Channel.{Channel}
 use Rattle.fr_slots.specs.declared.channel.Channel.TheVariants.{A, B}
 use Rattle.fr_slots.specs.declared.filter.Filter.{Filter}
 use Rattle.fr_slots.specs.declared.plan.Buffer.{Buffer}
-use Rattle.fr_slots.specs.declared.plan.Mode.{Mode}
-use Rattle.fr_slots.specs.declared.plan.Mode.TheVariants as mode
 use Rattle.fr_slots.specs.Faults.{transmits}
 use Rattle.fr_slots.specs.Parameters.{is_static_slot, Parameters}
 
@@ -47,6 +46,7 @@ by_entry k number before after (Commit task j payload) e =
       payload = payload;
       at = ap (slice_get (before ++ Commit task j payload ∷ after)) (sym place) ∙ get-after before after (Commit task j payload) ∙ ap (λ (i : ℕ). Some (Commit task i payload)) same;
     }
+by_entry k number before after (Withdraw task j of) e = absurd (let none : ⊥ = cc in none)
 by_entry k number before after (Read task j from) e = absurd (let none : ⊥ = cc in none)
 by_entry k number before after (Pop task from) e = absurd (let none : ⊥ = cc in none)
 by_entry k number before after (Fetch w x y) e = absurd (let none : ⊥ = cc in none)
@@ -60,6 +60,7 @@ committed_by k number es e =
 buffer_in : Option Entry → ℕ
 buffer_in None = 0
 buffer_in (Some (Commit task j payload)) = j
+buffer_in (Some (Withdraw task j of)) = 0
 buffer_in (Some (Read task j from)) = 0
 buffer_in (Some (Pop task from)) = 0
 buffer_in (Some (Fetch w x y)) = 0
@@ -72,16 +73,12 @@ same_buffer j k number es e f =
     let d = committed_by k number es f in
     ap buffer_in (sym c.at ∙ d.at)
 
-ready_is_last : (m : Mode) (k number : ℕ) (es : List Entry) → ready m k es ≡ Some number → last_commit k es ≡ Some number
-ready_is_last mode.Event k number es e = pending_is k number es (last_commit k es) e
-ready_is_last mode.State k number es e = e
-ready_is_last mode.Receive k number es e = absurd (let none : ⊥ = cc in none)
-
 -- ---- the buffer that offers
 
 record IsOfferedBy (plan : Plan) (es : List Entry) (w : Opportunity) (channel : Channel) (number : ℕ) : Type 0 where
   buffer : ℕ
   at : transmitter plan w channel ≡ Some buffer
+  is_ready : ready_in plan es buffer ≡ Some number
   last : last_commit buffer es ≡ Some number
 
 ready_last_of : (j number : ℕ) (es : List Entry) (b : Option Buffer) → option_and_then (λ (x : Buffer). ready x.mode j es) b ≡ Some number → last_commit j es ≡ Some number
@@ -91,7 +88,7 @@ ready_last_of j number es (Some b) e = ready_is_last b.mode j number es e
 by_transmitter : (plan : Plan) (es : List Entry) (w : Opportunity) (channel : Channel) (number : ℕ) (t : Option ℕ) → transmitter plan w channel ≡ t → option_and_then (ready_in plan es) t ≡ Some number
     → IsOfferedBy plan es w channel number
 by_transmitter plan es w channel number None is e = absurd (let none : ⊥ = cc in none)
-by_transmitter plan es w channel number (Some j) is e = record { buffer = j; at = is; last = ready_last_of j number es (buffer_at plan j) e }
+by_transmitter plan es w channel number (Some j) is e = record { buffer = j; at = is; is_ready = e; last = ready_last_of j number es (buffer_at plan j) e }
 
 in_slot : (plan : Plan) (es : List Entry) (w : Opportunity) (channel : Channel) (number : ℕ) (slot : Option ℕ) → offered_at plan es w channel slot ≡ Data number → IsOfferedBy plan es w channel number
 in_slot plan es w channel number None e = absurd (let none : ⊥ = cc in none)
@@ -157,10 +154,10 @@ data_of number Nothing e = absurd (let none : ⊥ = cc in none)
 data_of number Null e = absurd (let none : ⊥ = cc in none)
 data_of number (Data k) e = ap Data (eqb-true k number e)
 
-module _ (p : Parameters) (plan : Plan) (k : ℕ) (b : Buffer) (at : buffer_at plan k ≡ Some b) (static : is_static_slot p b.filter.slot ≡ true) (event : is_event b.mode ≡ true) where
+module _ (p : Parameters) (plan : Plan) (k : ℕ) (b : Buffer) (at : buffer_at plan k ≡ Some b) (static : is_static_slot p b.filter.slot ≡ true) where
   takes : (before : List Entry) (w : Opportunity) (channel : Channel) (number cycle : ℕ) → IsInRange w → window_fits p w ≡ true
       → (is_window_of b.filter.slot w ≡ true → cycle % 64 ≡ w.cycle) → last_commit k before ≡ Some number → offered plan before w channel ≡ Data number
-      → (is_window_of b.filter.slot w && takes_it b cycle) ≡ true
+      → (is_window_of b.filter.slot w && is_turn_of b cycle) ≡ true
   takes before w channel number cycle range fits timed last e =
       let o = in_slot plan before w channel number (slot_of w channel) e in
       let mine : o.buffer ≡ k = same_buffer o.buffer k number before o.last last in
@@ -168,12 +165,11 @@ module _ (p : Parameters) (plan : Plan) (k : ℕ) (b : Buffer) (at : buffer_at p
       let still : is_static w ≡ true = window_is_static p w channel b.filter.slot (is_static w) refl a.slot_is static fits in
       let on_a : is_slot_at b.filter.slot w.a ≡ true = ap (is_slot_at b.filter.slot) (slot_on_a w channel b.filter.slot range still a.slot_is) ∙ eq-eqb b.filter.slot b.filter.slot refl in
       let window : is_window_of b.filter.slot w ≡ true = both (is_static w) (is_slot_at b.filter.slot w.a) still on_a in
-      both (is_window_of b.filter.slot w) (takes_it b cycle) window
-      (both (is_event b.mode) (cycle_admitted b.filter.cycles (cycle % 64)) event (ap (cycle_admitted b.filter.cycles) (timed window) ∙ a.cycle_is))
+      both (is_window_of b.filter.slot w) (is_turn_of b cycle) window (ap (cycle_admitted b.filter.cycles) (timed window) ∙ a.cycle_is)
 
   unsent_on : (before : List Entry) (w : Opportunity) (channel : Channel) (number cycle : ℕ) (o : Offered) (t : Bool) → is_data_of number o ≡ t → o ≡ offered plan before w channel → IsInRange w
       → window_fits p w ≡ true → (is_window_of b.filter.slot w ≡ true → cycle % 64 ≡ w.cycle) → last_commit k before ≡ Some number
-      → (is_window_of b.filter.slot w && takes_it b cycle) ≡ false → is_data_of number o ≡ false
+      → (is_window_of b.filter.slot w && is_turn_of b cycle) ≡ false → is_data_of number o ≡ false
   unsent_on before w channel number cycle o false is same range fits timed last none = is
   unsent_on before w channel number cycle o true is same range fits timed last none =
       differ (takes before w channel number cycle range fits timed last (sym same ∙ data_of number o is)) none
@@ -181,8 +177,26 @@ module _ (p : Parameters) (plan : Plan) (k : ℕ) (b : Buffer) (at : buffer_at p
   -- a window that doesn't take the last commit doesn't send it
   pub unsent : (before : List Entry) (w : Opportunity) (x y : Offered) (number cycle : ℕ) → IsLegalFetch p plan before w x y → IsInRange w
       → (is_window_of b.filter.slot w ≡ true → cycle % 64 ≡ w.cycle) → last_commit k before ≡ Some number
-      → (is_window_of b.filter.slot w && takes_it b cycle) ≡ false → sends number (Fetch w x y) ≡ false
+      → (is_window_of b.filter.slot w && is_turn_of b cycle) ≡ false → sends number (Fetch w x y) ≡ false
   unsent before w x y number cycle legal range timed last none =
       either (is_data_of number x) (is_data_of number y)
       (unsent_on before w A number cycle x (is_data_of number x) refl legal.offer_a range legal.fits timed last none)
       (unsent_on before w B number cycle y (is_data_of number y) refl legal.offer_b range legal.fits timed last none)
+
+  offered_is_ready : (before : List Entry) (w : Opportunity) (channel : Channel) (number : ℕ) → last_commit k before ≡ Some number → offered plan before w channel ≡ Data number → ready b.mode k before ≡ Some number
+  offered_is_ready before w channel number last e =
+      let o = in_slot plan before w channel number (slot_of w channel) e in
+      let mine : o.buffer ≡ k = same_buffer o.buffer k number before o.last last in
+      ap (λ (found : Option Buffer). option_and_then (λ (x : Buffer). ready x.mode k before) found) (sym at) ∙ ap (ready_in plan before) (sym mine) ∙ o.is_ready
+
+  one_of : (p q : Bool) → (p || q) ≡ true → (p ≡ true) ⊎ (q ≡ true)
+  one_of true q e = inl refl
+  one_of false q e = inr e
+
+  -- a window that sends the last commit finds it ready
+  pub sent_is_ready : (before : List Entry) (w : Opportunity) (x y : Offered) (number : ℕ) → IsLegalFetch p plan before w x y → last_commit k before ≡ Some number
+      → sends number (Fetch w x y) ≡ true → ready b.mode k before ≡ Some number
+  sent_is_ready before w x y number legal last e = elim (one_of (is_data_of number x) (is_data_of number y) e) [
+    | inl on_a ↦ offered_is_ready before w A number last (sym legal.offer_a ∙ data_of number x on_a)
+    | inr on_b ↦ offered_is_ready before w B number last (sym legal.offer_b ∙ data_of number y on_b)
+  ]

@@ -15,7 +15,7 @@ use Rattle.fr_slots.proofs.PlaceLemmas.{same_head, same_tail, get-append, map-ge
 use Rattle.fr_slots.proofs.PlaceLemmas.{AllAfter-take, front-map}
 use Rattle.fr_interface.specs.State.{State}
 use Rattle.fr_journal.specs.declared.entry.Entry.{Entry}
-use Rattle.fr_journal.specs.declared.entry.Entry.TheVariants.{Commit, Read, Pop, Fetch, Observe}
+use Rattle.fr_journal.specs.declared.entry.Entry.TheVariants.{Commit, Withdraw, Read, Pop, Fetch, Observe}
 use Rattle.fr_journal.specs.declared.entry.Offered.{Offered}
 use Rattle.fr_slots.specs.History.{AllAfter, each_after}
 use Rattle.fr_slots.specs.Parameters.{Parameters}
@@ -49,6 +49,8 @@ unfolding AllAfter each_after
 journal_timed p plan slot n sofar rs before [] same is on_time = tt
 journal_timed p plan slot n sofar rs before (Commit task buffer payload ∷ es) same is on_time =
     (tt, journal_timed p plan slot n sofar rs (before ++ Commit task buffer payload ∷ []) es (counted_none (cycles_begun sofar) before (Commit task buffer payload) refl same) is on_time)
+journal_timed p plan slot n sofar rs before (Withdraw task buffer of ∷ es) same is on_time =
+    (tt, journal_timed p plan slot n sofar rs (before ++ Withdraw task buffer of ∷ []) es (counted_none (cycles_begun sofar) before (Withdraw task buffer of) refl same) is on_time)
 journal_timed p plan slot n sofar rs before (Read task buffer from ∷ es) same is on_time =
     (tt, journal_timed p plan slot n sofar rs (before ++ Read task buffer from ∷ []) es (counted_none (cycles_begun sofar) before (Read task buffer from) refl same) is on_time)
 journal_timed p plan slot n sofar rs before (Pop task from ∷ es) same is on_time =

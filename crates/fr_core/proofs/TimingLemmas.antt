@@ -8,7 +8,7 @@ use Rattle.std.proofs.lemmas.Bool.{ne_eqb}
 use Rattle.std.proofs.lemmas.List.Sums.{sum_by-append}
 use Rattle.fr_core.specs.Accounts.{is_window_of, run_cycle, recorded_cycle}
 use Rattle.fr_journal.specs.declared.entry.Entry.{Entry}
-use Rattle.fr_journal.specs.declared.entry.Entry.TheVariants.{Commit, Read, Pop, Fetch, Observe}
+use Rattle.fr_journal.specs.declared.entry.Entry.TheVariants.{Commit, Withdraw, Read, Pop, Fetch, Observe}
 use Rattle.fr_bus.specs.States.{IsRecorded}
 use Rattle.fr_schedule.specs.Descriptions.{Description}
 use Rattle.fr_bus.specs.Windows.{begins_cycle, cycles_begun, with_window, this_cycle, is_static_one, opens_any}
@@ -34,9 +34,15 @@ AreOnTime before rs = AllAfter (λ b r. IsOnTime (cycles_begun b) r.window) befo
 abbrev pub AreTimed : List Recorded → Type 0
 AreTimed rs = (k : ℕ) (r : Recorded) → slice_get rs k ≡ Some r → is_static r.window ≡ true → r.window.cycle ≡ recorded_cycle rs k % 64
 
+-- static windows of one run cycle have one cycle
+pub same_cycle : (rs ts : List Recorded) (k j : ℕ) (r t : Recorded) → AreTimed rs → AreTimed ts → slice_get rs k ≡ Some r → slice_get ts j ≡ Some t
+    → is_static r.window ≡ true → is_static t.window ≡ true → recorded_cycle rs k ≡ recorded_cycle ts j → r.window.cycle ≡ t.window.cycle
+same_cycle rs ts k j r t timed others at there still static same = timed k r at still ∙ ap (λ n. n % 64) same ∙ sym (others j t there static)
+
 -- the cycle of a window of the slot is its run cycle's
 abbrev pub IsTimed : ℕ → List Entry → Entry → Type 0
 IsTimed slot before (Commit task buffer payload) = Unit {0}
+IsTimed slot before (Withdraw task buffer of) = Unit {0}
 IsTimed slot before (Read task buffer from) = Unit {0}
 IsTimed slot before (Pop task from) = Unit {0}
 IsTimed slot before (Fetch w a b) = is_window_of slot w ≡ true → run_cycle (before ++ Fetch w a b ∷ []) % 64 ≡ w.cycle

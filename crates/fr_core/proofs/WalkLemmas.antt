@@ -20,7 +20,7 @@ use Rattle.fr_interface.specs.Handing.{offered_on, bytes_in_entry, bytes_handed}
 use Rattle.fr_interface.specs.State.{State}
 use Rattle.fr_journal.proofs.OpenWindowLemmas.{open_window-snoc}
 use Rattle.fr_journal.specs.declared.entry.Entry.{Entry}
-use Rattle.fr_journal.specs.declared.entry.Entry.TheVariants.{Commit, Read, Pop, Fetch, Observe}
+use Rattle.fr_journal.specs.declared.entry.Entry.TheVariants.{Commit, Withdraw, Read, Pop, Fetch, Observe}
 use Rattle.fr_journal.specs.declared.entry.Offered.{Offered}
 use Rattle.fr_journal.specs.declared.entry.Offered.TheVariants.{Nothing, Null, Data}
 use Rattle.fr_journal.specs.Offers.{frame_with, frame_of_offer, bytes_of}
@@ -206,6 +206,7 @@ silent_nothing p plan before channel o e at silent = ap (option_and_then (bytes_
 
     by_entry : (x : Entry) → is_silent channel x ≡ true → bytes_in_entry p plan before channel x ≡ None
     by_entry (Commit task buffer payload) is = refl
+    by_entry (Withdraw task buffer of) is = refl
     by_entry (Read task buffer from) is = refl
     by_entry (Pop task from) is = refl
     by_entry (Fetch window a b) is = by_offer window (offered_on channel a b) is
@@ -238,6 +239,7 @@ module _ (s : State) (n : ℕ) (rs : List Recorded) where
 
     pub fetches_on : (e : Entry) (y : Fetches) → slice_get s.entries k ≡ Some e → FetchesNext s n rs k x e y → AreFetches s n rs (k + 1) y
     fetches_on (Commit task buffer payload) y at next = none_more (Commit task buffer payload) y at refl refl next
+    fetches_on (Withdraw task buffer of) y at next = none_more (Withdraw task buffer of) y at refl refl next
     fetches_on (Read task buffer from) y at next = none_more (Read task buffer from) y at refl refl next
     fetches_on (Pop task from) y at next = none_more (Pop task from) y at refl refl next
     fetches_on (Observe number a b) y at next = none_more (Observe number a b) y at refl refl next
@@ -253,6 +255,7 @@ module _ (s : State) (n : ℕ) (rs : List Recorded) where
 
 sight_given : (before : List Entry) (e : Entry) → sight_at before e ≡ option_to_list (sight_told (open_window before) e)
 sight_given before (Commit task buffer payload) = refl
+sight_given before (Withdraw task buffer of) = refl
 sight_given before (Read task buffer from) = refl
 sight_given before (Pop task from) = refl
 sight_given before (Fetch window a b) = refl
@@ -260,6 +263,7 @@ sight_given before (Observe number a b) = refl
 
 window_given : (before : List Entry) (e : Entry) → observes_at before e ≡ option_to_list (option_map (λ (x : Sight). x.window) (sight_told (open_window before) e))
 window_given before (Commit task buffer payload) = refl
+window_given before (Withdraw task buffer of) = refl
 window_given before (Read task buffer from) = refl
 window_given before (Pop task from) = refl
 window_given before (Fetch window a b) = refl
@@ -271,6 +275,7 @@ window_given before (Observe number a b) = by_window (open_window before)
 
 opened-snoc : (before : List Entry) (e : Entry) → open_window (before ++ e ∷ []) ≡ opened_after (open_window before) e
 opened-snoc before (Commit task buffer payload) = open_window-snoc before (Commit task buffer payload)
+opened-snoc before (Withdraw task buffer of) = open_window-snoc before (Withdraw task buffer of)
 opened-snoc before (Read task buffer from) = open_window-snoc before (Read task buffer from)
 opened-snoc before (Pop task from) = open_window-snoc before (Pop task from)
 opened-snoc before (Fetch window a b) = open_window-snoc before (Fetch window a b)

@@ -5,12 +5,12 @@ use Rattle.arrayvec.specs.ArrayVec.{ArrayVec}
 use Rattle.fr_bus.specs.declared.outcome.Fate.TheVariants.{Blocked, Muted}
 use Rattle.fr_bus.specs.declared.outcome.Sent.{Sent}
 use Rattle.fr_bus.specs.Outcome.{all_passed, seen_of}
-use Rattle.fr_core.specs.Accounts.{Kept, commits, turns, account, frame_by_account, turn_of, own, of_owner, mute_of}
-use Rattle.fr_core.specs.Accounts.{babble_of}
+use Rattle.fr_core.specs.Accounts.{Kept, commits, withdraws, turns, account, frame_by_account, turn_of, own, of_owner}
+use Rattle.fr_core.specs.Accounts.{mute_of, babble_of}
 use Rattle.fr_core.specs.Receivers.{is_clean}
 use Rattle.fr_frame.specs.Fields.{Fields}
 use Rattle.fr_journal.specs.declared.entry.Entry.{Entry}
-use Rattle.fr_journal.specs.declared.entry.Entry.TheVariants.{Commit, Fetch, Observe}
+use Rattle.fr_journal.specs.declared.entry.Entry.TheVariants.{Commit, Withdraw, Fetch, Observe}
 use Rattle.fr_journal.specs.declared.entry.Offered.TheVariants.{Nothing, Null, Data}
 use Rattle.fr_slots.specs.declared.channel.Channel.TheVariants.{A, B}
 use Rattle.fr_slots.specs.declared.channel.Channels.TheVariants as channels
@@ -50,7 +50,7 @@ even_cycles m slot = record {
 -- buffer 0 is of slot 1, and buffer 1 of slot 2
 abbrev planned : Mode → Plan
 planned m = record (empty_plan 1 0 0 8 8) {
-  owned = record { slot = 1; channels = channels.A; sync = false; startup = false } ∷ [];
+  owned = record { slot = 1; channels = channels.A; sync = false; startup = false; cycles = record { base = 0; repetition = 1 } } ∷ [];
   buffers = even_cycles m 1 ∷ even_cycles m 2 ∷ [];
 }
 
@@ -86,6 +86,52 @@ pub an_event_commit_is_sent_in_one_admitted_cycle :
     ∷ sent_in_cycle mode.State 4 (kept ++ turns 2 ∷ []) ∷ sent_in_cycle mode.State 65 kept ∷ []
     ≡ None ∷ third ∷ None ∷ third ∷ None ∷ []
 an_event_commit_is_sent_in_one_admitted_cycle = refl
+
+-- a commit that cycle 0 sends, a withdraw that finds none pending, one on another slot's buffer, and a commit that is
+-- withdrawn
+abbrev journal_with_withdraws : List Entry
+journal_with_withdraws =
+    Commit 0 0 (0 ∷ 1 ∷ []) ∷ Fetch (static_window 0 0 1) (Data 0) Nothing ∷ Observe 0 Owns Silence
+    ∷ Withdraw 0 0 None ∷ Withdraw 0 1 None ∷ Commit 0 0 (0 ∷ 2 ∷ []) ∷ Withdraw 0 0 (Some 5) ∷ []
+
+abbrev sent_first : List Kept
+sent_first = commits 0 (0 ∷ 1 ∷ []) ∷ turns 0 ∷ withdraws 0 ∷ []
+
+abbrev then_withdrawn : List Kept
+then_withdrawn = sent_first ++ commits 0 (0 ∷ 2 ∷ []) ∷ withdraws 0 ∷ []
+
+pub an_account_keeps_withdraws_on_its_slot : account (planned mode.State) 1 journal_with_withdraws ≡ then_withdrawn
+unfolding each_after
+an_account_keeps_withdraws_on_its_slot = refl
+
+-- in state mode a sent commit stands, and a withdrawn one leaves nothing, also not the one before it
+pub a_withdraw_takes_a_pending_commit_alone :
+    sent_in_cycle mode.State 2 sent_first ∷ sent_in_cycle mode.Event 2 sent_first
+    ∷ sent_in_cycle mode.State 2 then_withdrawn ∷ sent_in_cycle mode.Event 2 then_withdrawn ∷ []
+    ≡ Some (0 ∷ 1 ∷ []) ∷ None ∷ None ∷ None ∷ []
+a_withdraw_takes_a_pending_commit_alone = refl
+
+-- a window of cycle 1, which isn't admitted, leaves the third commit pending, so a withdraw takes it
+pub a_commit_is_pending_until_an_admitted_cycle :
+    sent_in_cycle mode.State 2 (kept ++ withdraws 0 ∷ []) ∷ sent_in_cycle mode.Event 2 (kept ++ withdraws 0 ∷ [])
+    ∷ sent_in_cycle mode.State 4 (kept ++ turns 2 ∷ withdraws 0 ∷ []) ∷ []
+    ≡ None ∷ None ∷ third ∷ []
+a_commit_is_pending_until_an_admitted_cycle = refl
+
+-- ---- a divided slot
+
+-- slot 1 is the node's on channel A in each cycle, in the even ones with sync frames
+abbrev divided : Plan
+divided = record (empty_plan 1 0 0 8 8) {
+  owned = record { slot = 1; channels = channels.A; sync = true; startup = false; cycles = record { base = 0; repetition = 2 } }
+      ∷ record { slot = 1; channels = channels.A; sync = false; startup = false; cycles = record { base = 1; repetition = 2 } } ∷ [];
+}
+
+abbrev is_sync_in : ℕ → Bool
+is_sync_in cycle = (frame_by_account one_word divided 1 A cycle []).sync
+
+pub a_frame_is_that_of_the_line_of_its_cycle : is_sync_in 0 ∷ is_sync_in 1 ∷ is_sync_in 64 ∷ is_sync_in 67 ∷ [] ≡ true ∷ false ∷ true ∷ false ∷ []
+a_frame_is_that_of_the_line_of_its_cycle = refl
 
 -- ---- mutes and babbles
 

@@ -12,8 +12,8 @@ use Rattle.fr_core.specs.declared.carried.Carried.{Carried}
 use Rattle.fr_core.specs.declared.carried.Carried.TheVariants.{Idle, Knows, Offers, Waits, Took}
 use Rattle.fr_core.specs.declared.error.StepError.{StepError}
 use Rattle.fr_core.specs.declared.event.Event.{Event}
-use Rattle.fr_core.specs.declared.event.Event.TheVariants.{Commit, Read, Pop, Look, Fetch, Put, Take, Observe, Inject}
-use Rattle.fr_core.specs.declared.event.Event.TheVariants.{Seal, Advance}
+use Rattle.fr_core.specs.declared.event.Event.TheVariants.{Commit, Withdraw, Read, Pop, Look, Fetch, Put, Take}
+use Rattle.fr_core.specs.declared.event.Event.TheVariants.{Observe, Inject, Seal, Advance}
 use Rattle.fr_core.specs.declared.event.Reply.{Reply}
 use Rattle.fr_core.specs.Steps.{Steps, step_done, with_interface, with_carried, with_bus, looked, fetched, put_on_bus}
 use Rattle.fr_core.specs.Steps.{taken}
@@ -91,6 +91,7 @@ kept_observed w n (Took window a b) kept = kept_carried _ n _ (kept_interface w 
 
 kept_done : (w : WorldState) (event : Event) → HasShape w → HasShape (step_done w event)
 kept_done w (Commit n task buffer payload) kept = kept_interface w n _ refl kept
+kept_done w (Withdraw n task buffer) kept = kept_interface w n _ refl kept
 kept_done w (Read n task buffer) kept = kept_interface w n _ refl kept
 kept_done w (Pop n task) kept = kept_interface w n _ refl kept
 kept_done w (Look n) kept = kept_looked w n (collecting_of w.bus) kept

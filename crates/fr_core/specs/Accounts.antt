@@ -12,7 +12,7 @@ use Rattle.fr_core.specs.Receivers.{IsOwner, is_muted}
 use Rattle.fr_frame.specs.Fields.{Fields}
 use Rattle.fr_interface.specs.State.{State}
 use Rattle.fr_journal.specs.declared.entry.Entry.{Entry}
-use Rattle.fr_journal.specs.declared.entry.Entry.TheVariants.{Commit, Read, Pop, Fetch, Observe}
+use Rattle.fr_journal.specs.declared.entry.Entry.TheVariants.{Commit, Withdraw, Read, Pop, Fetch, Observe}
 use Rattle.fr_journal.specs.declared.entry.Offered.{Offered}
 use Rattle.fr_journal.specs.Offers.{transmitter, null_frame, preamble_in, bytes_of}
 use Rattle.fr_schedule.specs.Descriptions.{Description, is_guarded}
@@ -30,9 +30,10 @@ use Rattle.fr_status.specs.declared.seen.Seen.TheVariants.{Silence}
 
 -- ---- what an account keeps of a journal
 
--- a commit of this payload on a buffer of the slot, or a window of the slot in a run cycle
+-- a commit of this payload on a buffer of the slot, a withdraw on one, or a window of the slot in a run cycle
 pub data Kept : Type 0 where
   commits : ℕ → List ℕ → Kept
+  withdraws : ℕ → Kept
   turns : ℕ → Kept
 
 abbrev pub is_slot_at : ℕ → Option ℕ → Bool
@@ -49,6 +50,7 @@ is_buffer_of slot (Some b) = transmits b && b.filter.slot == slot
 
 abbrev pub begins_cycle_at : Entry → Bool
 begins_cycle_at (Commit task buffer payload) = false
+begins_cycle_at (Withdraw task buffer of) = false
 begins_cycle_at (Read task buffer from) = false
 begins_cycle_at (Pop task from) = false
 begins_cycle_at (Fetch w a b) = opens_cycle w
@@ -61,13 +63,15 @@ run_cycle entries = count_by begins_cycle_at entries - 1
 abbrev pub kept_at : Plan → ℕ → List Entry → Entry → List Kept
 kept_at plan slot before (Commit task buffer payload) =
     if is_buffer_of slot (buffer_at plan buffer) then commits buffer payload ∷ [] else []
+kept_at plan slot before (Withdraw task buffer of) =
+    if is_buffer_of slot (buffer_at plan buffer) then withdraws buffer ∷ [] else []
 kept_at plan slot before (Read task buffer from) = []
 kept_at plan slot before (Pop task from) = []
 kept_at plan slot before (Fetch w a b) =
     if is_window_of slot w then turns (run_cycle (before ++ Fetch w a b ∷ [])) ∷ [] else []
 kept_at plan slot before (Observe number a b) = []
 
--- the commits on the node's transmit buffers of the slot, and its windows, these as run cycles
+-- the commits and withdraws on the node's transmit buffers of the slot, and its windows, these as run cycles
 abbrev pub account : Plan → ℕ → List Entry → List Kept
 account plan slot entries = each_after (kept_at plan slot) [] entries
 
@@ -78,18 +82,45 @@ is_event mode.Event = true
 is_event mode.State = false
 is_event mode.Receive = false
 
--- in event mode a window of a cycle that the buffer admits takes the commit
-abbrev pub takes_it : Buffer → ℕ → Bool
-takes_it b cycle = is_event b.mode && cycle_admitted b.filter.cycles (cycle % 64)
+-- what an account leaves a buffer: the payload that it offers, and whether the last kept commit on it is still pending
+pub record Left : Type 0 where
+  pub payload : Option (List ℕ)
+  pub pending : Bool
 
--- the payload of the last kept commit on the buffer, unless a window took it
-abbrev pub left_over : Buffer → ℕ → Option (List ℕ) → List Kept → Option (List ℕ)
-left_over b buffer now [] = now
-left_over b buffer now (commits k payload ∷ rest) = left_over b buffer (if k == buffer then Some payload else now) rest
-left_over b buffer now (turns cycle ∷ rest) = left_over b buffer (if takes_it b cycle then None else now) rest
+abbrev pub empty : Left
+empty = record { payload = None; pending = false }
+
+-- a commit is offered, and is pending
+abbrev pub given : List ℕ → Left
+given payload = record { payload = Some payload; pending = true }
+
+-- a withdraw that finds the last commit pending leaves nothing to offer, and any other changes nothing
+abbrev pub taken_back : Left → Left
+taken_back now = if now.pending then empty else now
+
+-- a window of a cycle that the buffer admits sends the last commit, and in event mode takes it
+abbrev pub sent_out : Buffer → Left → Left
+sent_out b now = record { payload = if is_event b.mode then None else now.payload; pending = false }
+
+-- a window of the slot in a run cycle that the buffer admits
+abbrev pub is_turn_of : Buffer → ℕ → Bool
+is_turn_of b cycle = cycle_admitted b.filter.cycles (cycle % 64)
+
+-- what is left after all that is kept
+abbrev pub left_after : Buffer → ℕ → Left → List Kept → Left
+left_after b buffer now [] = now
+left_after b buffer now (commits k payload ∷ rest) =
+    left_after b buffer (if k == buffer then given payload else now) rest
+left_after b buffer now (withdraws k ∷ rest) = left_after b buffer (if k == buffer then taken_back now else now) rest
+left_after b buffer now (turns cycle ∷ rest) =
+    left_after b buffer (if is_turn_of b cycle then sent_out b now else now) rest
+
+-- the payload of the last kept commit on the buffer, unless a window took it or a withdraw found it pending
+abbrev pub left_over : Buffer → ℕ → List Kept → Option (List ℕ)
+left_over b buffer kept = (left_after b buffer empty kept).payload
 
 abbrev pub left_over_in : Plan → List Kept → ℕ → Option (List ℕ)
-left_over_in plan kept buffer = option_and_then (λ b. left_over b buffer None kept) (buffer_at plan buffer)
+left_over_in plan kept buffer = option_and_then (λ b. left_over b buffer kept) (buffer_at plan buffer)
 
 -- the window of the slot in a run cycle, whatever its number is
 abbrev pub turn_of : ℕ → ℕ → Opportunity
@@ -158,24 +189,25 @@ pub record IsSeenByAccount (p : Parameters) (r : Recorded) (cycle : ℕ) (s : St
 abbrev pub recorded_cycle : List Recorded → ℕ → ℕ
 recorded_cycle rs k = cycles_begun (take (k + 1) rs) - 1
 
--- A babbling node is harmless in guarded static slots: where the slot has an owner, each node sees what the owner's
--- account gives, and where it has none, silence.
+-- A babbling node is harmless in guarded static slots: where the slot has an owner in the window's cycle, each node
+-- sees what the owner's account gives, and where it has none, silence.
 pub record IsHarmless (d : Description) (interfaces : List State) (rs : List Recorded) : Type 0 where
   pub owned : (k owner slot : ℕ) (r : Recorded) (s : State) (channel : Channel)
       → slice_get rs k ≡ Some r → slice_get interfaces owner ≡ Some s
       → is_static r.window ≡ true → is_guarded d.guard channel ≡ true → slot_of r.window channel ≡ Some slot
-      → IsOwner d slot channel owner
+      → IsOwner d r.window.cycle slot channel owner
       → IsSeenByAccount d.params r (recorded_cycle rs k) s owner channel slot
   pub unowned : (k slot n : ℕ) (r : Recorded) (channel : Channel)
       → slice_get rs k ≡ Some r
       → is_static r.window ≡ true → is_guarded d.guard channel ≡ true → slot_of r.window channel ≡ Some slot
-      → ((owner : ℕ) → IsOwner d slot channel owner → ⊥)
+      → ((owner : ℕ) → IsOwner d r.window.cycle slot channel owner → ⊥)
       → seen_by d.params r channel n ≡ Silence
 
 -- ---- two runs of one cluster
 
 abbrev pub is_fetch_of : ℕ → Entry → Bool
 is_fetch_of number (Commit task buffer payload) = false
+is_fetch_of number (Withdraw task buffer of) = false
 is_fetch_of number (Read task buffer from) = false
 is_fetch_of number (Pop task from) = false
 is_fetch_of number (Fetch w a b) = w.number == number
@@ -206,7 +238,7 @@ AreAlike d interfaces rs others ts = (k j owner slot : ℕ) (r t : Recorded) (mi
     → slice_get interfaces owner ≡ Some mine → slice_get others owner ≡ Some theirs
     → is_static r.window ≡ true → is_static t.window ≡ true → is_guarded d.guard channel ≡ true
     → slot_of r.window channel ≡ Some slot → slot_of t.window channel ≡ Some slot
-    → IsOwner d slot channel owner
+    → IsOwner d r.window.cycle slot channel owner
     → recorded_cycle rs k ≡ recorded_cycle ts j
     → IsSamePart slot owner channel r t mine theirs
     → (n : ℕ) → seen_by d.params r channel n ≡ seen_by d.params t channel n

@@ -12,7 +12,7 @@ use Rattle.fr_interface.specs.State.{IsLegalInterface}
 pub record Headline (w : WorldState) : Type 0 where
   -- each interface's journal is legal, so its buffers, queue and counters are what its journal gives
   pub legal : All IsLegalInterface w.interfaces
-  -- each of its commits is sent, overwritten or pending
+  -- each of its commits is sent, overwritten, withdrawn or pending
   pub accounted : All AreAccounted w.interfaces
   -- the record is that of a run of the cluster
   pub run : IsRun w.bus

@@ -26,11 +26,11 @@ use Rattle.fr_slots.specs.Windows.{Opportunity, slot_of, is_static}
 
 -- ---- owners
 
--- the node owns the static slot on the channel (chapter 5)
-pub record IsOwner (d : Description) (slot : ℕ) (channel : Channel) (node : ℕ) : Type 0 where
+-- the node owns the static slot on the channel in the cycle (chapter 5)
+pub record IsOwner (d : Description) (cycle slot : ℕ) (channel : Channel) (node : ℕ) : Type 0 where
   pub plan : Plan
   pub at : slice_get d.plans node ≡ Some plan
-  pub owns : is_owned plan.owned slot channel ≡ true
+  pub owns : is_owned plan.owned slot channel cycle ≡ true
 
 -- ---- faultless slots
 
@@ -43,14 +43,14 @@ is_muted Muted = true
 abbrev pub is_clean : Channel → ℕ → Sent → Bool
 is_clean channel node t = not ((is_of node t && is_channel t.channel channel) && (t.babble || is_muted t.fate))
 
--- The recorded window has a static slot, guarded on the channel, of this owner, and there is neither a fault of the
--- owner in it nor a corrupt bit. Other nodes may have faults there.
+-- The recorded window has a static slot, guarded on the channel, which in its cycle is this owner's, and there is
+-- neither a fault of the owner in it nor a corrupt bit. Other nodes may have faults there.
 pub record IsFaultlessAt (d : Description) (r : Recorded) (channel : Channel) (owner : ℕ) : Type 0 where
   pub static : is_static r.window ≡ true
   pub guarded : is_guarded d.guard channel ≡ true
   pub slot : ℕ
   pub slot_is : slot_of r.window channel ≡ Some slot
-  pub owned : IsOwner d slot channel owner
+  pub owned : IsOwner d r.window.cycle slot channel owner
   pub clean : list_all (is_clean channel owner) r.sent ≡ true
   pub whole : corrupt_on r channel ≡ None
 

@@ -5,8 +5,8 @@ use Rattle.std.specs.Result.{is_ok}
 use Rattle.fr_interface.specs.Commits.{commits_of}
 use Rattle.fr_core.specs.declared.error.StepError.{StepError}
 use Rattle.fr_core.specs.declared.event.Event.{Event}
-use Rattle.fr_core.specs.declared.event.Event.TheVariants.{Commit, Read, Pop, Look, Fetch, Put, Take, Observe, Inject}
-use Rattle.fr_core.specs.declared.event.Event.TheVariants.{Seal, Advance}
+use Rattle.fr_core.specs.declared.event.Event.TheVariants.{Commit, Withdraw, Read, Pop, Look, Fetch, Put, Take}
+use Rattle.fr_core.specs.declared.event.Event.TheVariants.{Observe, Inject, Seal, Advance}
 use Rattle.fr_core.specs.declared.event.Reply.{Reply}
 use Rattle.fr_core.specs.Steps.{Steps}
 use Rattle.fr_core.specs.Worlds.{WorldState, interface_at}
@@ -24,6 +24,7 @@ StepsAll old (event ∷ events) (answer ∷ answers) new =
 
 abbrev pub is_commit_at : ℕ → Event → Bool
 is_commit_at n (Commit node task buffer payload) = node == n
+is_commit_at n (Withdraw node task buffer) = false
 is_commit_at n (Read node task buffer) = false
 is_commit_at n (Pop node task) = false
 is_commit_at n (Look node) = false

@@ -4,14 +4,14 @@ use Rattle.std.specs.Prelude.{IfSome, option_to_list, if◌then◌else◌}
 use Rattle.std.specs.List.{list_any}
 use Rattle.std.specs.Option.{option_and_then}
 use Rattle.fr_core.specs.declared.event.Reply.{Reply}
-use Rattle.fr_core.specs.declared.event.Reply.TheVariants.{Committed, Frame}
+use Rattle.fr_core.specs.declared.event.Reply.TheVariants.{Committed, Withdrawn, Frame}
 use Rattle.fr_core.specs.declared.script.Action.{Action}
 use Rattle.fr_core.specs.declared.script.Action.TheVariants as action
 use Rattle.fr_core.specs.declared.script.Deed.{Deed}
 use Rattle.fr_core.specs.declared.script.Line.{Line}
 use Rattle.fr_interface.specs.State.{State}
 use Rattle.fr_journal.specs.declared.entry.Entry.{Entry}
-use Rattle.fr_journal.specs.declared.entry.Entry.TheVariants.{Commit, Read, Pop, Fetch, Observe}
+use Rattle.fr_journal.specs.declared.entry.Entry.TheVariants.{Commit, Withdraw, Read, Pop, Fetch, Observe}
 use Rattle.fr_journal.specs.declared.entry.Origin.{Origin}
 use Rattle.fr_journal.specs.Held.{frame_named}
 use Rattle.fr_slots.specs.History.{each_after}
@@ -36,6 +36,8 @@ abbrev pub deed_in : State → ℕ → ℕ → Entry → Option Deed
 deed_in s task number (Commit t buffer payload) =
     if t == task then Some (deed (action.Commit buffer payload) (Committed (record { task = t; entry = number })))
     else None
+deed_in s task number (Withdraw t buffer of) =
+    if t == task then Some (deed (action.Withdraw buffer) (Withdrawn of)) else None
 deed_in s task number (Read t buffer from) =
     if t == task then Some (deed (action.Read buffer) (frame_reply s from)) else None
 deed_in s task number (Pop t from) = if t == task then Some (deed action.Pop (frame_reply s from)) else None

@@ -20,7 +20,7 @@ use Rattle.fr_core.specs.Worlds.{is_between}
 use Rattle.fr_guardian.specs.Guarding.{passes}
 use Rattle.fr_interface.specs.State.{State}
 use Rattle.fr_journal.specs.declared.entry.Entry.{Entry}
-use Rattle.fr_journal.specs.declared.entry.Entry.TheVariants.{Commit, Read, Pop, Fetch, Observe}
+use Rattle.fr_journal.specs.declared.entry.Entry.TheVariants.{Commit, Withdraw, Read, Pop, Fetch, Observe}
 use Rattle.fr_journal.specs.OpenWindow.{open_window}
 use Rattle.fr_schedule.specs.Descriptions.{Description}
 use Rattle.fr_slots.specs.History.{each_after}
@@ -68,6 +68,7 @@ windows_of rs = map (λ (r : Recorded). r.window) rs
 -- the window that an entry fetched
 abbrev pub fetched_window : Entry → Option Opportunity
 fetched_window (Commit task buffer payload) = None
+fetched_window (Withdraw task buffer of) = None
 fetched_window (Read task buffer from) = None
 fetched_window (Pop task from) = None
 fetched_window (Fetch window a b) = Some window
@@ -76,6 +77,7 @@ fetched_window (Observe number a b) = None
 -- the window that an entry observed, where this one is open before it
 abbrev pub observed_window : Option Opportunity → Entry → Option Opportunity
 observed_window opened (Commit task buffer payload) = None
+observed_window opened (Withdraw task buffer of) = None
 observed_window opened (Read task buffer from) = None
 observed_window opened (Pop task from) = None
 observed_window opened (Fetch window a b) = None

@@ -10,15 +10,17 @@ use Rattle.fr_core.specs.declared.carried.Carried.TheVariants.{Idle, Knows, Offe
 use Rattle.fr_core.specs.declared.error.StepError.{StepError}
 use Rattle.fr_core.specs.declared.error.StepError.TheVariants.{UnknownNode, WrongTurn, Host, Slot, Bus}
 use Rattle.fr_core.specs.declared.event.Event.{Event}
-use Rattle.fr_core.specs.declared.event.Event.TheVariants.{Commit, Read, Pop, Look, Fetch, Put, Take, Observe, Inject}
-use Rattle.fr_core.specs.declared.event.Event.TheVariants.{Seal, Advance}
+use Rattle.fr_core.specs.declared.event.Event.TheVariants.{Commit, Withdraw, Read, Pop, Look, Fetch, Put, Take}
+use Rattle.fr_core.specs.declared.event.Event.TheVariants.{Observe, Inject, Seal, Advance}
 use Rattle.fr_core.specs.declared.event.Reply.{Reply}
-use Rattle.fr_core.specs.declared.event.Reply.TheVariants.{Committed, Frame, Window, Done}
+use Rattle.fr_core.specs.declared.event.Reply.TheVariants.{Committed, Withdrawn, Frame, Window, Done}
 use Rattle.fr_core.specs.Worlds.{WorldState, has_node, interface_at, carried_at}
 use Rattle.fr_interface.specs.declared.interface.Offer.{Offer}
-use Rattle.fr_interface.specs.State.{State, with_entry, read_entry, pop_entry, fetch_entry, received_by, oldest_of}
-use Rattle.fr_interface.specs.State.{commit_refusal, read_refusal, pop_refusal, fetch_refusal, observe_refusal}
+use Rattle.fr_interface.specs.State.{State, with_entry, withdraw_entry, read_entry, pop_entry, fetch_entry}
+use Rattle.fr_interface.specs.State.{received_by, oldest_of, commit_refusal, withdraw_refusal, read_refusal}
+use Rattle.fr_interface.specs.State.{pop_refusal, fetch_refusal, observe_refusal}
 use Rattle.fr_journal.specs.declared.entry.Entry.TheVariants as entries
+use Rattle.fr_journal.specs.Fate.{pending_commit}
 use Rattle.fr_journal.specs.Held.{frame_of}
 use Rattle.fr_journal.specs.Offers.{frame_offered, bytes_of}
 use Rattle.fr_slots.specs.declared.channel.Channel.TheVariants.{A, B}
@@ -135,6 +137,8 @@ if_node w n refusal = if has_node w n then refusal else Some UnknownNode
 abbrev pub step_refusal : WorldState → Event → Option StepError
 step_refusal w (Commit n task buffer payload) =
     if_node w n (option_map Host (commit_refusal (interface_at w n) task buffer payload))
+step_refusal w (Withdraw n task buffer) =
+    if_node w n (option_map Host (withdraw_refusal (interface_at w n) task buffer))
 step_refusal w (Read n task buffer) = if_node w n (option_map Host (read_refusal (interface_at w n) task buffer))
 step_refusal w (Pop n task) = if_node w n (option_map Host (pop_refusal (interface_at w n) task))
 step_refusal w (Look n) = if_node w n (look_in_turn w (carried_at w n))
@@ -153,6 +157,7 @@ window_shown (Some window) = Window window
 abbrev pub step_reply : WorldState → Event → Reply
 step_reply w (Commit n task buffer payload) =
     Committed (record { task = task; entry = length (interface_at w n).entries })
+step_reply w (Withdraw n task buffer) = Withdrawn (pending_commit buffer (interface_at w n).entries)
 step_reply w (Read n task buffer) = Frame (option_map frame_of (received_by (interface_at w n) buffer))
 step_reply w (Pop n task) = Frame (option_map frame_of (oldest_of (interface_at w n)))
 step_reply w (Look n) = window_shown (collecting_of w.bus)
@@ -168,6 +173,8 @@ step_reply w Advance = Done
 abbrev pub step_done : WorldState → Event → WorldState
 step_done w (Commit n task buffer payload) =
     with_interface w n (with_entry (interface_at w n) (entries.Commit task buffer payload))
+step_done w (Withdraw n task buffer) =
+    with_interface w n (with_entry (interface_at w n) (withdraw_entry (interface_at w n) task buffer))
 step_done w (Read n task buffer) =
     with_interface w n (with_entry (interface_at w n) (read_entry (interface_at w n) task buffer))
 step_done w (Pop n task) = with_interface w n (with_entry (interface_at w n) (pop_entry (interface_at w n) task))

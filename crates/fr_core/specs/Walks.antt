@@ -5,7 +5,7 @@ use Rattle.std.specs.Prelude.{Option, Some, None, option_map, IfSome}
 use Rattle.std.specs.List.{list_any}
 use Rattle.fr_bus.specs.Record.{Recorded}
 use Rattle.fr_core.specs.Agreeing.{Handed, Sight, sight_of, handed_at, sight_at, offers_of, sights_of}
-use Rattle.fr_core.specs.declared.event.Reply.TheVariants.{Committed}
+use Rattle.fr_core.specs.declared.event.Reply.TheVariants.{Committed, Withdrawn}
 use Rattle.fr_core.specs.declared.script.Action.TheVariants as action
 use Rattle.fr_core.specs.declared.script.Deed.{Deed}
 use Rattle.fr_core.specs.declared.script.Line.{Line}
@@ -21,7 +21,7 @@ use Rattle.fr_core.specs.Settling.{fetches_at, observes_at, windows_of}
 use Rattle.fr_interface.specs.Handing.{bytes_handed, offered_on}
 use Rattle.fr_interface.specs.State.{State}
 use Rattle.fr_journal.specs.declared.entry.Entry.{Entry}
-use Rattle.fr_journal.specs.declared.entry.Entry.TheVariants.{Commit, Read, Pop, Fetch, Observe}
+use Rattle.fr_journal.specs.declared.entry.Entry.TheVariants.{Commit, Withdraw, Read, Pop, Fetch, Observe}
 use Rattle.fr_journal.specs.declared.entry.Offered.{Offered}
 use Rattle.fr_journal.specs.declared.entry.Offered.TheVariants.{Nothing, Null, Data}
 use Rattle.fr_journal.specs.OpenWindow.{open_window}
@@ -125,6 +125,7 @@ is_nothing (Data commit) = false
 -- the entry handed nothing over on the channel
 abbrev pub is_silent : Channel → Entry → Bool
 is_silent channel (Commit task buffer payload) = true
+is_silent channel (Withdraw task buffer of) = true
 is_silent channel (Read task buffer from) = true
 is_silent channel (Pop task from) = true
 is_silent channel (Fetch window a b) = is_nothing (offered_on channel a b)
@@ -133,6 +134,7 @@ is_silent channel (Observe number a b) = true
 -- the window that is open after an entry, where this one is open before it
 abbrev pub opened_after : Option Opportunity → Entry → Option Opportunity
 opened_after opened (Commit task buffer payload) = opened
+opened_after opened (Withdraw task buffer of) = opened
 opened_after opened (Read task buffer from) = opened
 opened_after opened (Pop task from) = opened
 opened_after opened (Fetch window a b) = Some window
@@ -141,6 +143,7 @@ opened_after opened (Observe number a b) = None
 -- what an entry saw, where this window is open before it
 abbrev pub sight_told : Option Opportunity → Entry → Option Sight
 sight_told opened (Commit task buffer payload) = None
+sight_told opened (Withdraw task buffer of) = None
 sight_told opened (Read task buffer from) = None
 sight_told opened (Pop task from) = None
 sight_told opened (Fetch window a b) = None
@@ -150,6 +153,7 @@ sight_told opened (Observe number a b) = option_map (sight_of a b) opened
 abbrev pub done_by : State → ℕ → Entry → Option (ℕ × Deed)
 done_by s number (Commit t buffer payload) =
     Some (t, deed (action.Commit buffer payload) (Committed (record { task = t; entry = number })))
+done_by s number (Withdraw t buffer of) = Some (t, deed (action.Withdraw buffer) (Withdrawn of))
 done_by s number (Read t buffer from) = Some (t, deed (action.Read buffer) (frame_reply s from))
 done_by s number (Pop t from) = Some (t, deed action.Pop (frame_reply s from))
 done_by s number (Fetch window a b) = None
@@ -177,6 +181,7 @@ pub record AreFetches (s : State) (n : ℕ) (rs : List Recorded) (k : ℕ) (x : 
 -- what the entry of this number adds
 abbrev pub FetchesNext : State → ℕ → List Recorded → ℕ → Fetches → Entry → Fetches → Type 0
 FetchesNext s n rs k x (Commit task buffer payload) y = y ≡ x
+FetchesNext s n rs k x (Withdraw task buffer of) y = y ≡ x
 FetchesNext s n rs k x (Read task buffer from) y = y ≡ x
 FetchesNext s n rs k x (Pop task from) y = y ≡ x
 FetchesNext s n rs k x (Fetch window a b) y =

@@ -17,6 +17,12 @@ pub enum Event {
         buffer: u8,
         payload: Payload,
     },
+    /// The task takes back the last commit on the node's transmit buffer of this number, if that is pending.
+    Withdraw {
+        node: NodeId,
+        task: TaskId,
+        buffer: u8,
+    },
     /// The task reads the node's receive buffer of this number (chapter 9).
     Read {
         node: NodeId,
@@ -51,6 +57,8 @@ pub enum Event {
 pub enum Reply {
     /// Whose commit it is, and which entry of its interface's journal.
     Committed(Receipt),
+    /// Which entry of its interface's journal is the commit that was taken back. None where no commit was pending.
+    Withdrawn(Option<u32>),
     /// The frame that was read or popped. None where the buffer or the queue is empty.
     Frame(Option<Frame>),
     /// The window that the controller saw open.

@@ -15,7 +15,8 @@ fn each_legal(interfaces: &[Interface])
     }
 }
 
-/// That each interface is legal, and each of its commits sent, overwritten or pending. It does nothing but tell so.
+/// That each interface is legal, and each of its commits sent, overwritten, withdrawn or pending. It does nothing but
+/// tell so.
 pub(crate) fn known(interfaces: &[Interface])
     ensures legal { All IsLegalInterface interfaces.now }
     ensures accounted { All AreAccounted interfaces.now }

@@ -145,6 +145,15 @@ impl Machine {
         Ok(Reply::Committed(receipt))
     }
 
+    /// A task takes back what is pending on a transmit buffer.
+    fn withdraw(&mut self, node: NodeId, task: TaskId, buffer: u8) -> Result<Reply, StepError>
+        ensures { Steps self.old (event.Withdraw node task buffer) result self.new }
+    {
+        let place = self.place(node)?;
+        let of = self.interfaces[place].withdraw(task, buffer)?;
+        Ok(Reply::Withdrawn(of))
+    }
+
     /// A task reads a receive buffer.
     fn read(&mut self, node: NodeId, task: TaskId, buffer: u8) -> Result<Reply, StepError>
         ensures { Steps self.old (event.Read node task buffer) result self.new }
@@ -275,6 +284,7 @@ impl Machine {
                 buffer,
                 payload,
             } => self.commit(*node, *task, *buffer, payload),
+            Event::Withdraw { node, task, buffer } => self.withdraw(*node, *task, *buffer),
             Event::Read { node, task, buffer } => self.read(*node, *task, *buffer),
             Event::Pop { node, task } => self.pop(*node, *task),
             Event::Look(node) => self.look(*node),

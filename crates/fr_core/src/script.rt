@@ -10,6 +10,8 @@ use std::marker::Model;
 pub enum Action {
     /// It gives the payload to the transmit buffer of this number.
     Commit { buffer: u8, payload: Payload },
+    /// It takes back the last commit on the transmit buffer of this number, if that is pending.
+    Withdraw { buffer: u8 },
     /// It reads the receive buffer of this number.
     Read { buffer: u8 },
     /// It takes the oldest frame of the receive queue.

@@ -365,8 +365,8 @@ fn judge(
 /// between two windows settles with its own cluster, interfaces and bus, but for the scripts.
 ///
 /// Where all agrees, no static slot of a channel that the cluster guards carries two senders in the record, and a frame
-/// that a receive buffer or a queue holds from a faultless slot is one that the slot's owner committed and handed over,
-/// whatever cluster the bus was made with.
+/// that a receive buffer or a queue holds from a faultless slot is one that the slot's owner in that cycle committed
+/// and handed over, whatever cluster the bus was made with.
 pub fn settle(
     alloc: Global,
     cluster: &Cluster,

@@ -69,6 +69,10 @@ fn done_by(interface: &Interface, number: u32, entry: &Entry) -> Option<(TaskId,
             };
             (*task, action, Reply::Committed(receipt))
         }
+        Entry::Withdraw { task, buffer, of } => {
+            let action = Action::Withdraw { buffer: *buffer };
+            (*task, action, Reply::Withdrawn(*of))
+        }
         Entry::Read { task, buffer, from } => {
             let action = Action::Read { buffer: *buffer };
             (*task, action, frame_reply(interface, *from))

@@ -16,8 +16,8 @@ use std::marker::Model;
 /// one of its steps to the next (own profile).
 ///
 /// In each window a controller looks at the bus for the open window, fetches it at its interface, puts what that hands
-/// out on the bus, takes what it sees once the window is sealed, and observes it at its interface. Tasks commit, read
-/// and pop at any moment.
+/// out on the bus, takes what it sees once the window is sealed, and observes it at its interface. Tasks commit,
+/// withdraw, read and pop at any moment.
 #[derive(Drop)]
 pub struct World {
     machine: Machine,
@@ -99,13 +99,13 @@ impl World {
 
     /// The headline promise, which holds of every world, whatever list of events led to it (own profile).
     ///
-    /// Each interface is legal, and each of its commits is sent, overwritten or pending. The record is that of a run,
-    /// and no static slot of a guarded channel carries two senders. The interfaces are those of the cluster's nodes,
-    /// and all journals agree with the record, but for at most one step that each controller carries. A frame that a
-    /// receive buffer or a queue holds from a faultless slot is one that the slot's owner committed and handed over. In
-    /// a static slot of a guarded channel each node sees what the account of the slot's owner gives, with the owner's
-    /// own babble and mute and the corrupt bit, whatever other nodes commit, babble or lose; where the slot has no
-    /// owner, each sees silence. It does nothing but tell so.
+    /// Each interface is legal, and each of its commits is sent, overwritten, withdrawn or pending. The record is that
+    /// of a run, and no static slot of a guarded channel carries two senders. The interfaces are those of the cluster's
+    /// nodes, and all journals agree with the record, but for at most one step that each controller carries. A frame
+    /// that a receive buffer or a queue holds from a faultless slot is one that the slot's owner in that cycle
+    /// committed and handed over. In a static slot of a guarded channel each node sees what the account of the slot's
+    /// owner in that cycle gives, with the owner's own babble and mute and the corrupt bit, whatever other nodes
+    /// commit, babble or lose; where the slot has no owner in the cycle, each sees silence. It does nothing but tell so.
     pub fn known(&self)
         ensures headline { Headline self.now }
     {
@@ -114,8 +114,8 @@ impl World {
     }
 
     /// What a babbling node can't change: in two worlds of one cluster, a static slot of a guarded channel in a run
-    /// cycle shows each node the same, where the owner's account before it, its babble and mute there and the corrupt
-    /// bit are the same, whatever else differs (own profile). It does nothing but tell so.
+    /// cycle shows each node the same, where the account before it of the slot's owner in that cycle, its babble and
+    /// mute there and the corrupt bit are the same, whatever else differs (own profile). It does nothing but tell so.
     pub fn alike(&self, other: &World)
         ensures { WorldsAlike self.now other.now }
     {

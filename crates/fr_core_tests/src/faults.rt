@@ -1,9 +1,10 @@
 //! Faults in a guarded static slot, with lists of events.
 
-use crate::worlds::{commit, counters, payload_if_any, read_of, tally, three_nodes, window};
+use crate::worlds::{
+    commit, counters, payload_if_any, read_of, step_all, tally, three_nodes, window,
+};
 use fr_bus::fault::Fault;
 use fr_core::event::Event;
-use fr_core::run::run_events;
 use fr_core::world::World;
 use fr_frame::encode::encode;
 use fr_frame::frame::Frame;
@@ -20,7 +21,7 @@ fn passed_with(alloc: Global, faults: [Option<Fault>; 2]) -> Result<World, Fail>
     for fault in faults.into_iter().flatten() {
         world.step(&Event::Inject(fault))?;
     }
-    run_events(&mut world, &window(alloc)?);
+    step_all(&mut world, &window(alloc)?)?;
     Ok(world)
 }
 

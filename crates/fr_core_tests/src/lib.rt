@@ -12,6 +12,8 @@ mod bus_faults;
 #[cfg(test)]
 mod bus_runs;
 #[cfg(test)]
+mod divided;
+#[cfg(test)]
 mod faults;
 #[cfg(test)]
 mod frame;
@@ -31,5 +33,7 @@ mod steps;
 mod timing;
 #[cfg(test)]
 mod turns;
+#[cfg(test)]
+mod withdrawing;
 #[cfg(test)]
 mod worlds;

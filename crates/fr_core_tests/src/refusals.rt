@@ -1,11 +1,12 @@
 //! Which runs can be had. What a scenario can ask for is tried by `scripts/commands`.
 
-use crate::asked::{answer, answer_to, commit, mute, script, script_of};
+use crate::asked::{answer, answer_to, commit, line, mute, script, script_of};
 use fr_core::script::Action;
 use fr_runs::check::RunRefusal;
 use fr_runs::fault_line::{FaultCycles, FaultPlace};
 use fr_slots::window::Window;
-use fr_testing::{cycle, slot};
+use fr_testing::{cycle, node, slot};
+use std::alloc::Global;
 use std::test::Fail;
 
 #[test]
@@ -34,6 +35,34 @@ fn lines_of_a_script_suit_buffers_and_queue(rt: HostRuntime) -> Result<(), Fail>
         answer_to(alloc, script_of(alloc, 0, 1, 0, Action::Pop)?)?,
     ];
     assert_eq!(rt; answers, [Ok(()); 3]);
+    Ok(())
+}
+
+/// The answer to a run with a script of so many withdraws from this buffer.
+fn answer_to_withdraws(
+    alloc: Global,
+    buffer: u8,
+    count: usize,
+) -> Result<Result<(), RunRefusal>, Fail> {
+    let mut lines = Vec::new(alloc);
+    for _line in 0..count {
+        lines.push(line(3, Action::Withdraw { buffer }))?;
+    }
+    answer_to(alloc, script(0, 0, lines)?)
+}
+
+#[test]
+fn withdraws_are_from_transmit_buffers_and_take_room(rt: HostRuntime) -> Result<(), Fail> {
+    let alloc = rt.alloc();
+    let answers = [
+        answer_to_withdraws(alloc, 0, 2)?,
+        answer_to_withdraws(alloc, 0, 3)?,
+        answer_to_withdraws(alloc, 1, 1)?,
+        answer_to_withdraws(alloc, 2, 1)?,
+    ];
+    let full = Err(RunRefusal::NoRoom(node(0)?));
+    let bad = Err(RunRefusal::BadScript(0));
+    assert_eq!(rt; answers, [Ok(()), full, bad, bad]);
     Ok(())
 }
 

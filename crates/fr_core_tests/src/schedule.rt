@@ -9,7 +9,7 @@ use std::alloc::Global;
 use std::test::Fail;
 
 /// A cycle of four minislots, of five words each, and guardians on channel A.
-const ONE_WORD_CYCLE: &str = "guard = \"A\"
+pub(crate) const ONE_WORD_CYCLE: &str = "guard = \"A\"
 [params]
 static_slots = 3
 minislots = 4
@@ -46,7 +46,7 @@ buffer = [
 ";
 
 /// The third node.
-const THIRD_NODE: &str = "[[node]]
+pub(crate) const THIRD_NODE: &str = "[[node]]
 tasks = 2
 latest_a = 4
 buffer = [

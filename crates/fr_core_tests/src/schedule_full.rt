@@ -1,4 +1,4 @@
-//! A cycle whose 1,023 static slots are owned in turn by 16 nodes, 64 each and the last 63.
+//! A cycle of 1,023 static slots. Its 16 nodes own them one after another, each 64 but the last, which has 63.
 
 use fr_guardian::guardian::Guardian;
 use fr_schedule::cluster::Cluster;

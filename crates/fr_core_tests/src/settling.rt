@@ -1,10 +1,9 @@
 //! What a settling tells of worlds after their first window, of interfaces and a record of different worlds, and of
 //! scripts.
 
-use crate::worlds::{commit, three_node_cluster, three_nodes, window};
+use crate::worlds::{commit, step_all, three_node_cluster, three_nodes, window};
 use fr_bus::fault::Fault;
 use fr_core::event::{Event, Reply};
-use fr_core::run::run_events;
 use fr_core::script::{Action, Line, Script};
 use fr_core::settle::{SettleError, Settled, settle};
 use fr_core::world::World;
@@ -24,8 +23,7 @@ fn after_window(alloc: Global, before: Option<&Event>) -> Result<World, Fail> {
     if let Some(event) = before {
         world.step(event)?;
     }
-    let events = window(alloc)?;
-    let _accepted = run_events(&mut world, &events);
+    step_all(&mut world, &window(alloc)?)?;
     Ok(world)
 }
 

@@ -53,11 +53,11 @@ fn a_list_of_events_runs_a_window(rt: HostRuntime) -> Result<(), Fail> {
         bit: 999,
     }))?;
     let accepted = run_events(&mut world, &events);
-    let payload = payload_read(&mut world, &read(1)?)?;
-    assert_eq!(rt; payload, Payload::from_slice(&[0x0a, 0x0b])?);
     assert_eq!(rt;
         (accepted, windows(&world), world.interfaces().len()),
         (17, 1, usize::from(NODES))
     );
+    let payload = payload_read(&mut world, &read(1)?)?;
+    assert_eq!(rt; payload, Payload::from_slice(&[0x0a, 0x0b])?);
     Ok(())
 }

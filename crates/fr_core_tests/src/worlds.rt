@@ -99,6 +99,14 @@ pub(crate) fn refusal(world: &mut World, event: &Event) -> Option<StepError> {
     world.step(event).err()
 }
 
+/// Does the events in order. One that is refused fails the test and says why.
+pub(crate) fn step_all(world: &mut World, events: &[Event]) -> Result<(), Fail> {
+    for event in events {
+        world.step(event)?;
+    }
+    Ok(())
+}
+
 /// The controller looks, fetches and puts.
 pub(crate) fn offer(world: &mut World, number: u8) -> Result<(), Fail> {
     world.step(&Event::Look(node(number)?))?;

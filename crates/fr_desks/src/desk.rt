@@ -6,9 +6,11 @@ ghost use Rattle.std.specs.List.{All};
 ghost use Rattle.std.specs.Result.{result_err};
 ghost use Rattle.fr_interface.specs.Commits.{commits_of, AreAccounted};
 ghost use Rattle.fr_desks.specs.Passes.{Pass};
-ghost use Rattle.fr_interface.specs.State.{with_entry, read_entry, pop_entry, fetch_entry, oldest_of, commit_refusal};
+ghost use Rattle.fr_interface.specs.State.{with_entry, withdraw_entry, read_entry, pop_entry, fetch_entry, oldest_of};
+ghost use Rattle.fr_interface.specs.State.{commit_refusal, withdraw_refusal};
 ghost use Rattle.fr_interface.specs.State.{read_refusal, pop_refusal, fetch_refusal, observe_refusal, received_by};
 ghost use Rattle.fr_journal.specs.declared.entry.Entry.TheVariants as entries;
+ghost use Rattle.fr_journal.specs.Fate.{pending_commit};
 ghost use Rattle.fr_journal.specs.Held.{IsReceivable, frame_of};
 ghost use Rattle.fr_journal.specs.Offers.{frame_offered, bytes_of};
 ghost use Rattle.fr_ledger.specs.Posts.{parts_for};
@@ -98,6 +100,17 @@ impl<L: Ledger> Counted<L> {
         let receipt = interface.commit(task, buffer, payload)?;
         post(book, share);
         Ok(receipt)
+    }
+
+    /// The interface's withdraw. It is no commit, so nothing is posted.
+    fn withdraw(&mut self, task: TaskId, buffer: u8) -> Result<Option<u32>, HostError>
+        ensures refusal { result_err result ≡ withdraw_refusal self.old.interface task buffer }
+        ensures answer { IfOk result (λ of. of ≡ pending_commit buffer self.old.interface.entries) }
+        ensures accepted { OnOk result
+            (self.new.interface ≡ with_entry self.old.interface (withdraw_entry self.old.interface task buffer)) }
+        ensures refused { OnErr result (self.new.interface ≡ self.old.interface) }
+    {
+        self.interface.withdraw(task, buffer)
     }
 
     /// The interface's read.
@@ -227,6 +240,27 @@ impl<L: Ledger> Desk<L> {
         answer
     }
 
+    /// The interface's withdraw, as the pass's task: the number of the commit that was taken back, or none.
+    ///
+    /// It is refused as the interface's is. The pass counts the commit still, which is withdrawn and not undone.
+    pub fn withdraw<R: Wait, G: Gate>(
+        &self,
+        rt: &R,
+        gate: &G,
+        me: &mut TaskPass<L>,
+        buffer: u8,
+    ) -> Result<Option<u32>, HostError>
+        ensures same { me.new ≡ me.old }
+    {
+        pass(gate, Actor::Task(self.node, me.task), Side::Before);
+        let mut counted = self.lock.lock(rt);
+        pass(gate, Actor::Task(self.node, me.task), Side::Inside);
+        let answer = counted.withdraw(me.task, buffer);
+        drop(counted);
+        pass(gate, Actor::Task(self.node, me.task), Side::After);
+        answer
+    }
+
     /// The interface's read, as the pass's task.
     ///
     /// It is refused as the interface's is. A frame that it answers has its data flag, and an ID of 1 to 2047.
@@ -306,7 +340,7 @@ impl<L: Ledger> Desk<L> {
 
     /// The interface, the book of its commits and the desk's own share, which counts none.
     ///
-    /// Each commit was sent, overwritten or is pending.
+    /// Each commit was sent, overwritten or withdrawn or is pending.
     pub fn close(self) -> (Interface, Book<L>, Share<L>)
         ensures counted { result.1 ≡ commits_of result.0 }
         ensures unused { result.2 ≡ 0 }

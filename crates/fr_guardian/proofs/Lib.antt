@@ -4,3 +4,4 @@ pub mod PostLemmas
 pub mod SameLemmas
 pub mod AloneLemmas
 pub mod SearchLemmas
+pub mod PeriodLemmas

@@ -80,14 +80,14 @@ or_owned : (b : Bool) → (not true || b) ≡ b
 or_owned true = refl
 or_owned false = refl
 
-pub within_if_owned : (p : Parameters) → IsParameters p → (owned : List Own) (channel : Channel) (slot : ℕ) (spans : List Span) (answer : Bool)
-    → (is_owned owned slot channel ≡ true → is_static_slot p slot ≡ true) → AreMaximalIntervals (IsOpenTo p true owned channel) spans
-    → IsSlotWithin p spans slot answer → answer ≡ is_owned owned slot channel
-within_if_owned p lawful owned channel slot spans answer only_static maximal h =
-    elim (cases_Bool (is_owned owned slot channel)) [
+pub within_if_owned : (p : Parameters) → IsParameters p → (owned : List Own) (cycle : ℕ) (channel : Channel) (slot : ℕ) (spans : List Span) (answer : Bool)
+    → (is_owned owned slot channel cycle ≡ true → is_static_slot p slot ≡ true) → AreMaximalIntervals (IsOpenTo p true owned cycle channel) spans
+    → IsSlotWithin p spans slot answer → answer ≡ is_owned owned slot channel cycle
+within_if_owned p lawful owned cycle channel slot spans answer only_static maximal h =
+    elim (cases_Bool (is_owned owned slot channel cycle)) [
       | inl owns ↦
           (let static = only_static owns in
-          let here = slot_open p lawful true owned channel (slot - 1) (below static) (ap (λ (s : ℕ). not true || is_owned owned s channel) slot_is ∙ or_owned _ ∙ owns)
+          let here = slot_open p lawful true owned cycle channel (slot - 1) (below static) (ap (λ (s : ℕ). not true || is_owned owned s channel cycle) slot_is ∙ or_owned _ ∙ owns)
           ((slot - 1) * p.static_mt) (omega arith) (omega (arith, lawful.static_mt_fit.from_least)) in
           h.tells.1 (static, maximal.covers ((slot - 1) * p.static_mt) here) ∙ sym owns)
       | inr not_owned ↦
@@ -95,7 +95,7 @@ within_if_owned p lawful owned channel slot spans answer only_static maximal h =
           (λ yes.
           let (static, covered) = h.tells.0 yes in
           let opens = maximal.covers_only ((slot - 1) * p.static_mt) covered in
-          slot_closed p true owned channel (slot - 1) (below static) (ap (λ (s : ℕ). not true || is_owned owned s channel) slot_is ∙ or_owned _ ∙ not_owned)
+          slot_closed p true owned cycle channel (slot - 1) (below static) (ap (λ (s : ℕ). not true || is_owned owned s channel cycle) slot_is ∙ or_owned _ ∙ not_owned)
           ((slot - 1) * p.static_mt) (omega arith) (omega (arith, lawful.static_mt_fit.from_least)) opens)
           ∙ sym not_owned
     ]
@@ -109,24 +109,24 @@ within_if_owned p lawful owned channel slot spans answer only_static maximal h =
 -- the answer of the search is what passes
 pub passes_found : (d : Description) → IsCluster d → (node : ℕ) (w : Opportunity) (channel : Channel) (plan : Plan) (slot : ℕ) (spans : List Span) (answer : Bool)
     → slice_get d.plans node ≡ Some plan → slot_of w channel ≡ Some slot → (is_static w && is_guarded d.guard channel) ≡ true
-    → AreMaximalIntervals (IsOpenMacrotick d node channel) spans → IsSlotWithin d.params spans slot answer → answer ≡ passes d node w channel
+    → AreMaximalIntervals (IsOpenMacrotick d node w.cycle channel) spans → IsSlotWithin d.params spans slot answer → answer ≡ passes d node w channel
 passes_found d lawful node w channel plan slot spans answer at opened watched maximal h =
-    within_if_owned d.params lawful.params_are plan.owned channel slot spans answer
-    (λ owns. static_if_owned d.params plan slot channel (faultless d.params plan (each_at (IsNode d.params) d.plans node plan lawful.nodes_are at).1) owns)
-    (same_set (IsOpenMacrotick d node channel) (IsOpenTo d.params true plan.owned channel) spans there back maximal)
+    within_if_owned d.params lawful.params_are plan.owned w.cycle channel slot spans answer
+    (λ owns. static_if_owned d.params plan slot channel w.cycle (faultless d.params plan (each_at (IsNode d.params) d.plans node plan lawful.nodes_are at).1) owns)
+    (same_set (IsOpenMacrotick d node w.cycle channel) (IsOpenTo d.params true plan.owned w.cycle channel) spans there back maximal)
     h
     ∙ sym (ap (λ (o : Option Plan). passes_in d w channel o (slot_of w channel)) at
     ∙ ap (passes_in d w channel (Some plan)) opened
-    ∙ ap (λ (b : Bool). not b || is_owned plan.owned slot channel) watched ∙ or_owned _)
+    ∙ ap (λ (b : Bool). not b || is_owned plan.owned slot channel w.cycle) watched ∙ or_owned _)
   where
     guarded : is_guarded d.guard channel ≡ true
     guarded = (and_parts (is_static w) (is_guarded d.guard channel) watched).1
 
-    there : (n : ℕ) → IsOpenMacrotick d node channel n → IsOpenTo d.params true plan.owned channel n
+    there : (n : ℕ) → IsOpenMacrotick d node w.cycle channel n → IsOpenTo d.params true plan.owned w.cycle channel n
     there n opens =
         let same : opens.plan ≡ plan = (let a = opens.of_node in cc) in
-        subst (λ (b : Bool). IsOpenTo d.params b plan.owned channel n) guarded
-        (subst (λ (x : Plan). IsOpenTo d.params (is_guarded d.guard channel) x.owned channel n) same opens.open_to)
+        subst (λ (b : Bool). IsOpenTo d.params b plan.owned w.cycle channel n) guarded
+        (subst (λ (x : Plan). IsOpenTo d.params (is_guarded d.guard channel) x.owned w.cycle channel n) same opens.open_to)
 
-    back : (n : ℕ) → IsOpenTo d.params true plan.owned channel n → IsOpenMacrotick d node channel n
-    back n opens = record { plan = plan; of_node = at; open_to = subst (λ (b : Bool). IsOpenTo d.params b plan.owned channel n) (sym guarded) opens }
+    back : (n : ℕ) → IsOpenTo d.params true plan.owned w.cycle channel n → IsOpenMacrotick d node w.cycle channel n
+    back n opens = record { plan = plan; of_node = at; open_to = subst (λ (b : Bool). IsOpenTo d.params b plan.owned w.cycle channel n) (sym guarded) opens }

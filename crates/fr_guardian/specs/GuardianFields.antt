@@ -1,6 +1,7 @@
 -- The fields of `Guardian` as the cluster's description, and what they hold.
-use Rattle.std.specs.Prelude.{◌≡◌, ℕ, ◌-◌, ◌*◌, ◌<◌, ◌↔◌, IsTrue, Bool, true, false, List, map}
-use Rattle.std.specs.Prelude.{length, slice_index_or}
+use Rattle.std.specs.Prelude.{◌≡◌, ℕ, ◌-◌, ◌*◌, ◌%◌, ◌<◌, ◌↔◌, IsTrue, Bool, true, false, List, map}
+use Rattle.std.specs.Prelude.{length, slice_index_or, slice_get, Some, Vec}
+use Rattle.std.specs.declared.alloc.Global.{Global}
 use Rattle.std.specs.List.{All}
 use Rattle.fr_slots.specs.declared.channel.Channel.{Channel}
 use Rattle.fr_slots.specs.declared.channel.Channel.TheVariants.{A, B}
@@ -10,15 +11,38 @@ use Rattle.fr_guardian.specs.declared.guardian.Guardian.TheInside.{Inside}
 use Rattle.fr_guardian.specs.declared.guardian.Post.{Post}
 use Rattle.fr_guardian.specs.Guarding.{IsOpenTo}
 use Rattle.fr_guardian.specs.Intervals.{Span, AreMaximalIntervals, IsCovered}
+use Rattle.fr_guardian.specs.Periods.{period}
 use Rattle.fr_slots.specs.Numbers.{IsSlot}
 use Rattle.fr_slots.specs.Parameters.{Parameters, is_static_slot}
 use Rattle.fr_schedule.specs.Clusters.{IsCluster}
 use Rattle.fr_schedule.specs.Descriptions.{Description, is_guarded}
 
+-- the intervals of a cycle, as the code keeps them
+abbrev pub Row : Type 0
+Row = Vec Span Global
+
+-- the intervals that the post keeps for the channel, cycle by cycle
+abbrev pub rows_on : Post → Channel → List Row
+rows_on post A = post.a.items
+rows_on post B = post.b.items
+
+-- a row for each cycle below the period of what the node owns, with the macroticks that are open to it in that cycle
+pub record AreRows (p : Parameters) (guarded : Bool) (owned : List Own) (channel : Channel)
+    (rows : List Row) : Type 0 where
+  pub size : length rows ≡ period owned
+  pub each : (cycle : ℕ) (row : Row) → slice_get rows cycle ≡ Some row
+      → AreMaximalIntervals (IsOpenTo p guarded owned cycle channel) row.items
+
+-- these are the intervals of the cycle, where the rows come again and again
+pub record IsRowAt (rows : List Row) (cycle : ℕ) (spans : List Span) : Type 0 where
+  pub row : Row
+  pub at : slice_get rows (cycle % length rows) ≡ Some row
+  pub spans_are : row.items ≡ spans
+
 -- the intervals that the post keeps are the open macroticks of its node in this cluster
 pub record IsPost (d : Description) (post : Post) : Type 0 where
-  pub on_a : AreMaximalIntervals (IsOpenTo d.params (is_guarded d.guard A) post.plan.owned A) post.a.items
-  pub on_b : AreMaximalIntervals (IsOpenTo d.params (is_guarded d.guard B) post.plan.owned B) post.b.items
+  pub on_a : AreRows d.params (is_guarded d.guard A) post.plan.owned A post.a.items
+  pub on_b : AreRows d.params (is_guarded d.guard B) post.plan.owned B post.b.items
 
 -- the posts of the cluster's nodes, in their order
 pub record ArePosts (d : Description) (posts : List Post) : Type 0 where
@@ -37,7 +61,7 @@ pub record IsSlotWithin (p : Parameters) (spans : List Span) (slot : ℕ) (answe
   pub slot_is : IsSlot slot
   pub tells : IsTrue answer ↔ ((is_static_slot p slot ≡ true) × IsCovered spans ((slot - 1) * p.static_mt))
 
--- for each number whether it is a slot that the node owns on the channel
-pub record AreOwnedSlots (owned : List Own) (channel : Channel) (slots : List Bool) : Type 0 where
+-- for each number whether it is a slot that the node owns on the channel in the cycle
+pub record AreOwnedSlots (owned : List Own) (cycle : ℕ) (channel : Channel) (slots : List Bool) : Type 0 where
   pub size : length slots ≡ 2048
-  pub each : (slot : ℕ) → slot < 2048 → slice_index_or slots slot false ≡ is_owned owned slot channel
+  pub each : (slot : ℕ) → slot < 2048 → slice_index_or slots slot false ≡ is_owned owned slot channel cycle

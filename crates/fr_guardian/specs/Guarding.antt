@@ -13,9 +13,11 @@ use Rattle.fr_schedule.specs.Descriptions.{Description, is_guarded}
 
 -- ---- what passes
 
--- in a static slot on a guarded channel the owner's transmissions pass, and everywhere else all do
+-- in a static slot on a guarded channel the transmissions of its owner in the window's cycle pass, and everywhere else
+-- all do
 abbrev pub lets_pass : Description → Opportunity → Channel → Plan → ℕ → Bool
-lets_pass d w channel plan slot = not (is_static w && is_guarded d.guard channel) || is_owned plan.owned slot channel
+lets_pass d w channel plan slot =
+    not (is_static w && is_guarded d.guard channel) || is_owned plan.owned slot channel w.cycle
 
 -- nothing passes of a node that the cluster doesn't have, or on a channel without a slot
 abbrev pub passes_in : Description → Opportunity → Channel → Option Plan → Option ℕ → Bool
@@ -35,23 +37,23 @@ PassesAlone d node w channel =
 
 -- ---- the open macroticks of a cycle
 
--- the part is open to a node that owns this, where the channel is guarded or not: its own static slots, or all of them,
--- and the dynamic segment
-abbrev pub is_open : Bool → List Own → Channel → Part → Bool
-is_open guarded owned channel (static_slot slot) = not guarded || is_owned owned slot channel
-is_open guarded owned channel (minislot number) = true
-is_open guarded owned channel symbol_window = false
-is_open guarded owned channel idle_time = false
+-- the part is open in the cycle to a node that owns this, where the channel is guarded or not: the static slots that
+-- are its own then, or all of them, and the dynamic segment
+abbrev pub is_open : Bool → List Own → ℕ → Channel → Part → Bool
+is_open guarded owned cycle channel (static_slot slot) = not guarded || is_owned owned slot channel cycle
+is_open guarded owned cycle channel (minislot number) = true
+is_open guarded owned cycle channel symbol_window = false
+is_open guarded owned cycle channel idle_time = false
 
 -- the macrotick lies in an open part
-pub record IsOpenTo (p : Parameters) (guarded : Bool) (owned : List Own) (channel : Channel)
+pub record IsOpenTo (p : Parameters) (guarded : Bool) (owned : List Own) (cycle : ℕ) (channel : Channel)
     (macrotick : ℕ) : Type 0 where
   pub place : Place
   pub at : IsAt p macrotick place
-  pub opens : is_open guarded owned channel (part_of place) ≡ true
+  pub opens : is_open guarded owned cycle channel (part_of place) ≡ true
 
--- the macrotick is open to the node on the channel, and none is to a node that the cluster doesn't have
-pub record IsOpenMacrotick (d : Description) (node : ℕ) (channel : Channel) (macrotick : ℕ) : Type 0 where
+-- the macrotick of the cycle is open to the node on the channel, and none is to a node that the cluster doesn't have
+pub record IsOpenMacrotick (d : Description) (node cycle : ℕ) (channel : Channel) (macrotick : ℕ) : Type 0 where
   pub plan : Plan
   pub of_node : slice_get d.plans node ≡ Some plan
-  pub open_to : IsOpenTo d.params (is_guarded d.guard channel) plan.owned channel macrotick
+  pub open_to : IsOpenTo d.params (is_guarded d.guard channel) plan.owned cycle channel macrotick

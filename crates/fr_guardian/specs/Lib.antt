@@ -1,3 +1,4 @@
 pub mod Guarding
 pub mod GuardianFields
 pub mod Intervals
+pub mod Periods

@@ -1,29 +1,33 @@
 //! The bus guardians of a cluster.
 
-ghost use Rattle.std.specs.Prelude.{◌≡◌, option_map, slice_get, length, IfOk, List, true, ◌&&◌};
+ghost use Rattle.std.specs.Prelude.{◌≡◌, ◌≤◌, ◌↔◌, ◌%◌, ℕ, option_map, slice_get, length, IfOk, List, true, ◌&&◌, map};
 ghost use Rattle.fr_slots.specs.Windows.{is_static};
-ghost use Rattle.fr_guardian.specs.GuardianFields.{IsPost, ArePosts};
+ghost use Rattle.fr_guardian.specs.GuardianFields.{rows_on, IsRowAt, AreRows, IsPost, ArePosts};
 ghost use Rattle.fr_guardian.specs.Guarding.{passes, PassesAlone, IsOpenTo, IsOpenMacrotick};
 ghost use Rattle.fr_schedule.specs.Clusters.{IsCluster};
 ghost use Rattle.fr_schedule.specs.Descriptions.{is_guarded};
+ghost use Rattle.fr_schedule.specs.FileFaults.{all_owned};
+ghost use Rattle.fr_slots.specs.Numbers.{cycle_count};
 ghost use Rattle.fr_guardian.specs.Intervals.{AreMaximalIntervals, Span};
+ghost use Rattle.fr_guardian.specs.Periods.{period};
 
 use crate::intervals::{is_slot_within, open_intervals};
 use fr_schedule::cluster::Cluster;
 use fr_slots::channel::{Channel, Channels};
-use fr_slots::numbers::NodeId;
+use fr_slots::numbers::{Cycle, NodeId};
 use fr_slots::params::Params;
 use fr_slots::plan::{NodePlan, Own};
 use fr_slots::window::Window;
 use std::alloc::{AllocError, Global};
 use std::marker::Model;
 
-/// The guardian of one node: the node's plan, and in which macroticks of a cycle each channel is open to it.
+/// The guardian of one node: the node's plan, and in which macroticks each channel is open to it, for each cycle below
+/// the node's period.
 #[derive(Drop)]
 struct Post {
     plan: NodePlan,
-    a: Vec<(u32, u32)>,
-    b: Vec<(u32, u32)>,
+    a: Vec<Vec<(u32, u32)>>,
+    b: Vec<Vec<(u32, u32)>>,
 }
 
 /// The bus guardians of a cluster, one for each node and channel (chapter 5; that they watch over the static slots
@@ -76,8 +80,22 @@ impl Guardian {
         self.posts.len() as u8
     }
 
+    /// After how many cycles the open macroticks of all nodes come again: the greatest repetition of the ownership
+    /// lines of the cluster, 1 to 64, or 1 where there are none (own profile).
+    pub fn cycles(&self) -> u8
+        ensures value { result ≡ period (all_owned self.now.plans) }
+        ensures some { 1 ≤ result }
+        ensures few { result ≤ cycle_count }
+        ensures again { (node cycle macrotick : ℕ) (channel : Channel)
+            → IsOpenMacrotick self.now node (cycle % result) channel macrotick
+            ↔ IsOpenMacrotick self.now node cycle channel macrotick }
+    {
+        cycles_of(self.posts.as_slice())
+    }
+
     /// Whether a transmission of the node passes in the window on the channel. In a static slot of a guarded channel
-    /// only those of the slot's owner pass, and everywhere else all do (own profile).
+    /// only those of the slot's owner in the window's cycle pass, so that none does in a cycle in which nobody owns it,
+    /// and everywhere else all do (own profile).
     ///
     /// Nothing passes where the window has no slot on the channel, and nothing of a node that the cluster doesn't have.
     pub fn passes(&self, node: NodeId, window: &Window, channel: Channel) -> bool
@@ -89,25 +107,26 @@ impl Guardian {
             return false;
         };
         !is_watched(self.guard, window, channel)
-            || is_slot_within(&self.params, self.windows(node, channel), slot)
+            || is_slot_within(
+                &self.params,
+                self.windows(node, window.cycle, channel),
+                slot,
+            )
     }
 
-    /// The macroticks of a cycle in which the channel is open to the node, as half-open intervals from the first
+    /// The macroticks of the cycle in which the channel is open to the node, as half-open intervals from the first
     /// macrotick up to the one after the last, in their order and as long as can be: the dynamic segment, and of the
-    /// static one the slots that it owns, or all of it where the channel isn't guarded (own profile).
+    /// static one the slots that it owns in this cycle, or all of it where the channel isn't guarded (own profile).
     ///
     /// There are none for a node that the cluster doesn't have.
-    pub fn windows(&self, node: NodeId, channel: Channel) -> &[(u32, u32)]
-        ensures found { AreMaximalIntervals (IsOpenMacrotick self.now node channel) result.now }
+    pub fn windows(&self, node: NodeId, cycle: Cycle, channel: Channel) -> &[(u32, u32)]
+        ensures found { AreMaximalIntervals (IsOpenMacrotick self.now node cycle channel) result.now }
         ensures only { (spans : List Span)
-            → AreMaximalIntervals (IsOpenMacrotick self.now node channel) spans
+            → AreMaximalIntervals (IsOpenMacrotick self.now node cycle channel) spans
             → spans ≡ result.now }
     {
         match post_at(self.posts.as_slice(), node) {
-            Some(post) => match channel {
-                Channel::A => post.a.as_slice(),
-                Channel::B => post.b.as_slice(),
-            },
+            Some(post) => row_at(rows_on(post, channel), cycle),
             None => &[],
         }
     }
@@ -118,6 +137,48 @@ fn post_at(posts: &[Post], node: NodeId) -> Option<&Post>
     ensures { option_map (λ post. post.now) result ≡ slice_get posts.now node }
 {
     posts.get(usize::from(node.number()))
+}
+
+/// The post's intervals on the channel, for each cycle below the node's period.
+fn rows_on(post: &Post, channel: Channel) -> &[Vec<(u32, u32)>]
+    ensures { result.now ≡ rows_on post.now channel }
+{
+    match channel {
+        Channel::A => post.a.as_slice(),
+        Channel::B => post.b.as_slice(),
+    }
+}
+
+/// The intervals of the cycle, which come again after as many cycles as there are rows.
+fn row_at(rows: &[Vec<(u32, u32)>], cycle: Cycle) -> &[(u32, u32)]
+    requires { 1 ≤ length rows.now }
+    ensures { IsRowAt rows.now cycle result.now }
+{
+    rows[usize::from(cycle.number()) % rows.len()].as_slice()
+}
+
+/// The greatest repetition of the ownership lines, 1 to 64, or 1 where there are none.
+fn period_of(owned: &[Own]) -> u8
+    ensures value { result ≡ period owned.now }
+    ensures few { result ≤ cycle_count }
+{
+    let mut most = 1;
+    for own in owned {
+        most = own.cycles.repetition().max(most);
+    }
+    most
+}
+
+/// The greatest repetition of the ownership lines of all posts, 1 to 64, or 1 where there are none.
+fn cycles_of(posts: &[Post]) -> u8
+    ensures value { result ≡ period (all_owned (map (λ post. post.plan) posts.now)) }
+    ensures few { result ≤ cycle_count }
+{
+    let mut most = 1;
+    for post in posts {
+        most = period_of(post.plan.owned()).max(most);
+    }
+    most
 }
 
 /// Whether the channel is among the guarded ones.
@@ -166,8 +227,8 @@ fn post_of(alloc: Global, cluster: &Cluster, plan: &NodePlan) -> Result<Post, Al
     ensures plan { IfOk result (λ post. post.plan ≡ plan.now) }
 {
     let owned = plan.owned();
-    let a = intervals_on(alloc, cluster, owned, Channel::A)?;
-    let b = intervals_on(alloc, cluster, owned, Channel::B)?;
+    let a = rows_of(alloc, cluster, owned, Channel::A)?;
+    let b = rows_of(alloc, cluster, owned, Channel::B)?;
     Ok(Post {
         plan: plan.duplicate(),
         a,
@@ -175,17 +236,36 @@ fn post_of(alloc: Global, cluster: &Cluster, plan: &NodePlan) -> Result<Post, Al
     })
 }
 
-/// The intervals of a cycle in which the channel is open to a node that owns this.
-fn intervals_on(
+/// The intervals in which the channel is open to a node that owns this, for each cycle below the node's period.
+fn rows_of(
     alloc: Global,
     cluster: &Cluster,
     owned: &[Own],
+    channel: Channel,
+) -> Result<Vec<Vec<(u32, u32)>>, AllocError>
+    ensures { IfOk result
+        (λ rows. AreRows cluster.now.params (is_guarded cluster.now.guard channel) owned.now channel rows.items) }
+{
+    let mut rows = Vec::new(alloc);
+    for number in 0..period_of(owned) {
+        let cycle = Cycle::from_bits(number);
+        rows.push(intervals_in(alloc, cluster, owned, cycle, channel)?)?;
+    }
+    Ok(rows)
+}
+
+/// The intervals of the cycle in which the channel is open to a node that owns this.
+fn intervals_in(
+    alloc: Global,
+    cluster: &Cluster,
+    owned: &[Own],
+    cycle: Cycle,
     channel: Channel,
 ) -> Result<Vec<(u32, u32)>, AllocError>
     ensures { IfOk result
         (λ intervals.
         AreMaximalIntervals
-        (IsOpenTo cluster.now.params (is_guarded cluster.now.guard channel) owned.now channel)
+        (IsOpenTo cluster.now.params (is_guarded cluster.now.guard channel) owned.now cycle channel)
         intervals.items) }
 {
     open_intervals(
@@ -193,6 +273,7 @@ fn intervals_on(
         cluster.params(),
         cluster.guarded(channel),
         owned,
+        cycle,
         channel,
     )
 }

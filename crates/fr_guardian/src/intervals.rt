@@ -8,7 +8,7 @@ ghost use Rattle.fr_guardian.specs.GuardianFields.{IsSlotWithin, AreOwnedSlots};
 ghost use Rattle.fr_guardian.specs.Intervals.{AreMaximalIntervals, IsCovered, run};
 
 use fr_slots::channel::Channel;
-use fr_slots::numbers::{LAST_SLOT, SlotId};
+use fr_slots::numbers::{Cycle, LAST_SLOT, SlotId};
 use fr_slots::params::Params;
 use fr_slots::plan::Own;
 use std::alloc::{AllocError, Global};
@@ -16,13 +16,13 @@ use std::alloc::{AllocError, Global};
 /// As many numbers as reach the last slot's.
 const SLOTS: usize = LAST_SLOT as usize + 1;
 
-/// For each number whether it is a slot that the node owns on the channel.
-fn owned_slots(owned: &[Own], channel: Channel) -> [bool; SLOTS]
-    ensures { AreOwnedSlots owned.now channel result }
+/// For each number whether it is a slot that the node owns on the channel in the cycle.
+fn owned_slots(owned: &[Own], cycle: Cycle, channel: Channel) -> [bool; SLOTS]
+    ensures { AreOwnedSlots owned.now cycle channel result }
 {
     let mut slots = [false; SLOTS];
     for own in owned {
-        if own.channels.includes(channel) {
+        if own.claims(cycle, own.slot, channel) {
             slots[usize::from(own.slot.number())] = true;
         }
     }
@@ -67,22 +67,23 @@ pub fn is_slot_within(params: &Params, spans: &[(u32, u32)], slot: SlotId) -> bo
     params.is_static(slot) && is_covered(spans, start)
 }
 
-/// The macroticks of a cycle in which a channel is open to a node, as half-open intervals: the static slots that it
-/// owns, or all of them where the channel isn't guarded, and the dynamic segment. Where such parts touch they are in
-/// one interval.
+/// The macroticks of the cycle in which a channel is open to a node, as half-open intervals: the static slots that it
+/// owns then, or all of them where the channel isn't guarded, and the dynamic segment. Where such parts touch they are
+/// in one interval.
 pub fn open_intervals(
     alloc: Global,
     params: &Params,
     guarded: bool,
     owned: &[Own],
+    cycle: Cycle,
     channel: Channel,
 ) -> Result<Vec<(u32, u32)>, AllocError>
     ensures { IfOk result
-        (λ intervals. AreMaximalIntervals (IsOpenTo params.now guarded owned.now channel) intervals.items) }
+        (λ intervals. AreMaximalIntervals (IsOpenTo params.now guarded owned.now cycle channel) intervals.items) }
 {
     let params = params.duplicate();
     let static_mt = u32::from(params.static_mt);
-    let slots = owned_slots(owned, channel);
+    let slots = owned_slots(owned, cycle, channel);
     let mut intervals = Vec::new(alloc);
     // where the interval begins that goes on, or would
     let mut since = 0;

@@ -4,8 +4,8 @@
 //! let cluster = Cluster::from_text(alloc, text)?;
 //! let guardian = Guardian::new(alloc, &cluster)?;
 //! let passes = guardian.passes(node, &window, Channel::A);
-//! for (start, end) in guardian.windows(node, Channel::A) {
-//!     // open from macrotick start up to the one before end
+//! for (start, end) in guardian.windows(node, cycle, Channel::A) {
+//!     // open in that cycle from macrotick start up to the one before end
 //! }
 //! ```
 //!

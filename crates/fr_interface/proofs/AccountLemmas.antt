@@ -1,4 +1,4 @@
--- Each commit of a legal journal is on one buffer of the plan, where it is sent, overwritten or pending.
+-- Each commit of a legal journal is on one buffer of the plan, where it is sent, overwritten, withdrawn or pending.
 use Rattle.std.proofs.Common.{◌≡◌, ℕ, zero, suc, ◌+◌, ◌<◌, ◌≤◌, Bool, true, false, cond, eqb, List, [], ◌∷◌, ◌++◌}
 use Rattle.std.proofs.Common.{length, refl, sym, ap}
 use Rattle.std.proofs.Common.{◌∙◌, arith, Option, Some, None, length-append, inl, inr, ◌≢◌, ne_eqb, get_or}
@@ -11,7 +11,7 @@ use Rattle.fr_interface.specs.Commits.{is_commit, met_on, AreAccounted}
 use Rattle.fr_interface.specs.State.{State, IsLegalInterface}
 use Rattle.fr_journal.proofs.TallyLemmas.{fates_fill}
 use Rattle.fr_journal.specs.declared.entry.Entry.{Entry}
-use Rattle.fr_journal.specs.declared.entry.Entry.TheVariants.{Commit, Read, Pop, Fetch, Observe}
+use Rattle.fr_journal.specs.declared.entry.Entry.TheVariants.{Commit, Withdraw, Read, Pop, Fetch, Observe}
 use Rattle.fr_journal.specs.declared.fate.Fate.{Fate}
 use Rattle.fr_journal.specs.Fate.{is_commit_on, fate_of, fates_from, fates}
 use Rattle.fr_journal.specs.Legal.{IsLegal}
@@ -74,6 +74,7 @@ one_in k a (suc n) from to = elim (eqb_tells k a) [
 -- a commit is on a buffer below this number
 abbrev IsBelow : ℕ → Entry → Type 0
 IsBelow most (Commit task buffer payload) = buffer < most
+IsBelow most (Withdraw task buffer of) = Unit {0}
 IsBelow most (Read task buffer from) = Unit {0}
 IsBelow most (Pop task from) = Unit {0}
 IsBelow most (Fetch window a b) = Unit {0}
@@ -82,6 +83,7 @@ IsBelow most (Observe window a b) = Unit {0}
 -- an entry is a commit on one of so many buffers, or on none
 on_one : (most : ℕ) (e : Entry) → IsBelow most e → sum_by (λ b. digit (is_commit_on b e)) (range_with_len 0 most) ≡ digit (is_commit e)
 on_one most (Commit task buffer payload) below = one_in buffer 0 most (omega arith) (omega (arith, below))
+on_one most (Withdraw task buffer of) below = sum_by-none (λ b. 0) (λ b. refl) (range_with_len 0 most)
 on_one most (Read task buffer from) below = sum_by-none (λ b. 0) (λ b. refl) (range_with_len 0 most)
 on_one most (Pop task from) below = sum_by-none (λ b. 0) (λ b. refl) (range_with_len 0 most)
 on_one most (Fetch window a b) below = sum_by-none (λ b. 0) (λ b. refl) (range_with_len 0 most)
@@ -106,6 +108,7 @@ place_of P bs k (Some b) is some = slice_get_within bs k b (sym is)
 
 legal_below : (params : Parameters) (plan : Plan) (before : List Entry) (e : Entry) → IsLegal params plan before e → IsBelow (length plan.buffers) e
 legal_below params plan before (Commit task buffer payload) legal = place_of _ plan.buffers buffer (buffer_at plan buffer) refl legal.transmits
+legal_below params plan before (Withdraw task buffer of) legal = tt
 legal_below params plan before (Read task buffer from) legal = tt
 legal_below params plan before (Pop task from) legal = tt
 legal_below params plan before (Fetch window a b) legal = tt

@@ -3,17 +3,18 @@ use Rattle.std.proofs.Common.{◌≡◌, ℕ, zero, suc, ◌+◌, Bool, true, fa
 use Rattle.std.proofs.Common.{None, refl, sym, ap, ◌∙◌, option_map}
 use Rattle.std.specs.Prelude.{IfSome, slice_get}
 use Rattle.std.specs.Option.{option_and_then}
-use Rattle.fr_buffers.specs.Transmitting.{Transmitter, entry_of}
+use Rattle.fr_buffers.specs.Transmitting.{Transmitter, entry_of, pending_of}
 use Rattle.fr_buffers.specs.Waiting.{Waiting}
 use Rattle.fr_interface.specs.declared.source.Source.TheVariants as source
 use Rattle.fr_interface.specs.Known.{transmitter_of, transmitters, held_in, waiting_of}
 use Rattle.fr_interface.specs.State.{State, received_in, received_by, source_by, source_of, tally_in, tally_by}
 use Rattle.fr_interface.specs.State.{length_of, arrived_of, popped_of, queued_of}
 use Rattle.fr_interface.proofs.ChangeLemmas.{get_each}
-use Rattle.fr_interface.proofs.TransmitLemmas.{entry_of-commit}
+use Rattle.fr_interface.specs.Sending.{pending_at}
+use Rattle.fr_interface.proofs.TransmitLemmas.{entry_of-commit, pending-ready}
 use Rattle.fr_journal.specs.Arrivals.{moves}
 use Rattle.fr_journal.specs.declared.entry.Arrival.{Arrival}
-use Rattle.fr_journal.specs.Fate.{last_commit, tally_of}
+use Rattle.fr_journal.specs.Fate.{held_commit, pending_commit, tally_of}
 use Rattle.fr_journal.specs.Held.{held, origin_of}
 use Rattle.fr_journal.specs.Legal.{IsLegalJournal}
 use Rattle.fr_journal.proofs.BalanceLemmas.{queue_balance}
@@ -46,7 +47,7 @@ module _ (s : State) (number : ℕ) where
     observed-place receive is receives =
         ap (option_map (λ (a : Arrival). source.Observed (origin_of a))) (received-place receive is ∙ ap (option_and_then (received_in s)) there ∙ ap (λ (t : Bool). cond t (held s.params line.filter s.entries) None) receives)
         ∙ sym (ap (option_and_then (source_by s number)) there
-        ∙ ap (λ (t : Bool). cond t (option_map (λ (a : Arrival). source.Observed (origin_of a)) (held s.params line.filter s.entries)) (option_map source.Commit (last_commit number s.entries))) receives)
+        ∙ ap (λ (t : Bool). cond t (option_map (λ (a : Arrival). source.Observed (origin_of a)) (held s.params line.filter s.entries)) (option_map source.Commit (held_commit number s.entries))) receives)
 
     -- ---- transmit buffers
 
@@ -58,9 +59,12 @@ module _ (s : State) (number : ℕ) where
         → option_map source.Commit (option_and_then entry_of (slice_get transmit number)) ≡ source_of s number
     commit-place transmit is transmits =
         ap (λ (o : Option Transmitter). option_map source.Commit (option_and_then entry_of o)) (transmitter_there transmit is)
-        ∙ ap (option_map source.Commit) (entry_of-commit s.entries (last_commit number s.entries))
+        ∙ ap (option_map source.Commit) (entry_of-commit s.entries (held_commit number s.entries))
         ∙ sym (ap (option_and_then (source_by s number)) there
-        ∙ ap (λ (t : Bool). cond t (option_map (λ (a : Arrival). source.Observed (origin_of a)) (held s.params line.filter s.entries)) (option_map source.Commit (last_commit number s.entries))) transmits)
+        ∙ ap (λ (t : Bool). cond t (option_map (λ (a : Arrival). source.Observed (origin_of a)) (held s.params line.filter s.entries)) (option_map source.Commit (held_commit number s.entries))) transmits)
+
+    pub pending-place : (transmit : List Transmitter) → transmit ≡ transmitters s.plan s.entries → pending_at transmit number ≡ pending_commit number s.entries
+    pending-place transmit is = ap (option_and_then pending_of) (transmitter_there transmit is) ∙ pending-ready s.entries number line.mode
 
     pub tally-place : (transmit : List Transmitter) → transmit ≡ transmitters s.plan s.entries → is_receive line.mode ≡ false → option_map (λ (b : Transmitter). b.tally) (slice_get transmit number) ≡ tally_by s number
     tally-place transmit is transmits =

@@ -16,6 +16,12 @@ module _ {X : Type 0} where
   change_at-set f (y ∷ xs) zero x lt is = ap (λ (z : X). f z ∷ xs) is
   change_at-set f (y ∷ xs) (suc place) x lt is = ap (λ (rest : List X). y ∷ rest) (change_at-set f xs place x (omega (arith, lt)) is)
 
+  -- what a place holds
+  pub get-at : (xs : List X) (place : ℕ) (x : X) → place < length xs → x ≡ get_or xs place x → slice_get xs place ≡ Some x
+  get-at [] place x lt is = absurd (omega (arith, lt))
+  get-at (y ∷ xs) zero x lt is = ap (λ (z : X). Some z) (sym is)
+  get-at (y ∷ xs) (suc place) x lt is = get-at xs place x (omega (arith, lt)) is
+
   -- there is no such place
   pub change_at-past : (f : X → X) (xs : List X) (place : ℕ) → length xs ≤ place → change_at f xs place ≡ xs
   change_at-past f [] place le = refl

@@ -5,7 +5,7 @@ use Rattle.std.specs.Prelude.{slice_get}
 use Rattle.std.specs.Option.{option_and_then, option_or}
 use Rattle.std.proofs.lemmas.List.{take_more}
 use Rattle.fr_journal.specs.declared.entry.Entry.{Entry}
-use Rattle.fr_journal.specs.declared.entry.Entry.TheVariants.{Commit, Read, Pop, Fetch, Observe}
+use Rattle.fr_journal.specs.declared.entry.Entry.TheVariants.{Commit, Withdraw, Read, Pop, Fetch, Observe}
 use Rattle.fr_journal.specs.OpenWindow.{open_window, window_mark}
 use Rattle.fr_journal.proofs.OpenWindowLemmas.{open_window-snoc}
 use Rattle.fr_slots.specs.History.{last_after}
@@ -14,6 +14,7 @@ use Rattle.fr_slots.specs.Windows.{Opportunity}
 -- what an entry says of the open window doesn't depend on those before it
 mark_alone : (before : List Entry) (e : Entry) → window_mark before e ≡ window_mark [] e
 mark_alone before (Commit task buffer payload) = refl
+mark_alone before (Withdraw task buffer of) = refl
 mark_alone before (Read task buffer from) = refl
 mark_alone before (Pop task from) = refl
 mark_alone before (Fetch window a b) = refl

@@ -1,7 +1,7 @@
 -- What is known of the windows, with one more entry.
 use Rattle.std.proofs.Common.{◌≡◌, ℕ, List, [], ◌∷◌, ◌++◌, Option, Some, None, refl}
 use Rattle.fr_journal.specs.declared.entry.Entry.{Entry}
-use Rattle.fr_journal.specs.declared.entry.Entry.TheVariants.{Commit, Read, Pop, Fetch, Observe}
+use Rattle.fr_journal.specs.declared.entry.Entry.TheVariants.{Commit, Withdraw, Read, Pop, Fetch, Observe}
 use Rattle.fr_journal.specs.declared.entry.Offered.{Offered}
 use Rattle.fr_journal.specs.declared.entry.Origin.{Origin}
 use Rattle.fr_journal.specs.OpenWindow.{last_number}
@@ -17,6 +17,9 @@ opening-none = refl
 
 pub opening-commit : (xs : List Entry) (task buffer : ℕ) (payload : List ℕ) → opening_of (xs ++ Commit task buffer payload ∷ []) ≡ opening_of xs
 opening-commit xs task buffer payload = λ i. record { window = open_window-snoc xs (Commit task buffer payload) i; last = last_number-snoc xs (Commit task buffer payload) i }
+
+pub opening-withdraw : (xs : List Entry) (task buffer : ℕ) (of : Option ℕ) → opening_of (xs ++ Withdraw task buffer of ∷ []) ≡ opening_of xs
+opening-withdraw xs task buffer of = λ i. record { window = open_window-snoc xs (Withdraw task buffer of) i; last = last_number-snoc xs (Withdraw task buffer of) i }
 
 pub opening-read : (xs : List Entry) (task buffer : ℕ) (from : Option Origin) → opening_of (xs ++ Read task buffer from ∷ []) ≡ opening_of xs
 opening-read xs task buffer from = λ i. record { window = open_window-snoc xs (Read task buffer from) i; last = last_number-snoc xs (Read task buffer from) i }

@@ -1,5 +1,5 @@
 -- What goes out in a window, and the transmit buffers after it.
-use Rattle.std.proofs.Common.{◌≡◌, ℕ, ◌+◌, Bool, true, false, cond, eqb, ◌||◌, List, [], ◌∷◌, ◌++◌, length, drop}
+use Rattle.std.proofs.Common.{◌≡◌, ℕ, ◌+◌, Bool, true, false, cond, eqb, ◌||◌, List, [], ◌∷◌, ◌++◌, length}
 use Rattle.std.proofs.Common.{Option, Some, None, refl, sym, ap, subst, ◌∙◌, arith, option_map}
 use Rattle.std.specs.Prelude.{IfSome, IsSomeAnd, slice_get, is_some, unwrap_or}
 use Rattle.std.specs.Option.{option_and_then, option_or}
@@ -13,18 +13,19 @@ use Rattle.fr_interface.specs.Sending.{ready_at, sender_of, sender_at, sender_in
 use Rattle.fr_interface.specs.Sending.{offered_by, held_payload, payload_at, frame_at, frame_by, send_offered}
 use Rattle.fr_interface.specs.Sending.{after_sender}
 use Rattle.fr_interface.proofs.ChangeLemmas.{change_each, each-same_there, get_each}
-use Rattle.fr_interface.proofs.TransmitLemmas.{offer-ready, tally-other, tally_after, same_commit}
+use Rattle.fr_interface.proofs.TransmitLemmas.{offer-ready, tally-other, tally_after, same_commit, IsOther}
 use Rattle.fr_journal.specs.declared.entry.Entry.{Entry}
-use Rattle.fr_journal.specs.declared.entry.Entry.TheVariants.{Commit, Fetch}
+use Rattle.fr_journal.specs.declared.entry.Entry.TheVariants.{Fetch}
 use Rattle.fr_journal.specs.declared.entry.Offered.{Offered}
 use Rattle.fr_journal.specs.declared.entry.Offered.TheVariants.{Nothing, Null}
 use Rattle.fr_journal.specs.declared.fate.Tally.{Tally}
-use Rattle.fr_journal.specs.Fate.{is_commit_on, is_data_of, is_pending, last_commit, fate_of, sends, tally_of}
-use Rattle.fr_journal.specs.Fate.{if_pending}
+use Rattle.fr_journal.specs.Fate.{is_commit_on, is_data_of, last_commit, held_commit, sends, takes_back, tally_of}
 use Rattle.fr_journal.specs.Offers.{ready, ready_in, may_begin, transmitter, owns, data_or, offered, offered_at}
 use Rattle.fr_journal.specs.Offers.{payload_of, null_frame, data_frame_of, frame_of_offer, frame_offered}
-use Rattle.fr_journal.proofs.FateStepLemmas.{SendsLast, OnlyLast, sends_last_from}
-use Rattle.fr_journal.proofs.LastCommitLemmas.{IsCommitAt, last_commit-there, slice_get-next}
+use Rattle.fr_journal.proofs.FateStepLemmas.{MarksLast, OnlyLast, marks_none, marks_last_from, stands_from}
+use Rattle.fr_journal.proofs.HeldCommitLemmas.{pending_is, held_is, held-some, held-other, pending_stands, withdrawn_at}
+use Rattle.fr_journal.proofs.HeldCommitLemmas.{same_entry, last_there, one_buffer}
+use Rattle.fr_journal.proofs.LastCommitLemmas.{IsCommitAt, slice_get-next}
 use Rattle.fr_slots.specs.declared.channel.Channel.{Channel}
 use Rattle.fr_slots.specs.declared.plan.Buffer.{Buffer}
 use Rattle.fr_slots.specs.declared.plan.Mode.{Mode}
@@ -42,19 +43,20 @@ pub record IsSender (plan : Plan) (xs : List Entry) (s : Sender) : Type 0 where
   pub there : slice_get plan.buffers s.buffer ≡ Some line
   pub offers : ready line.mode s.buffer xs ≡ Some s.commit
 
-kept_by : (t : Bool) (j k : ℕ) → cond t (Some j) None ≡ Some k → Some j ≡ Some k
-kept_by true j k e = e
-kept_by false j k e = absurd cc
+-- what is ready is the commit that the buffer holds
+ready_held : (m : Mode) (number : ℕ) (xs : List Entry) (k : ℕ) → ready m number xs ≡ Some k → held_commit number xs ≡ Some k
+ready_held mode.Event number xs k e =
+    let parts = pending_is number xs k e in
+    held-some number xs k parts.0 (pending_stands number xs k parts.1)
+ready_held mode.State number xs k e = e
+ready_held mode.Receive number xs k e = absurd cc
 
-if_pending_is : (number : ℕ) (xs : List Entry) (o : Option ℕ) (k : ℕ) → option_and_then (if_pending number xs) o ≡ Some k → o ≡ Some k
-if_pending_is number xs None k e = e
-if_pending_is number xs (Some j) k e = kept_by (is_pending (fate_of number j (drop (j + 1) xs))) j k e
-
--- what is ready is the last commit
+-- that is the last one, and isn't withdrawn
 ready_last : (m : Mode) (number : ℕ) (xs : List Entry) (k : ℕ) → ready m number xs ≡ Some k → last_commit number xs ≡ Some k
-ready_last mode.Event number xs k e = if_pending_is number xs (last_commit number xs) k e
-ready_last mode.State number xs k e = e
-ready_last mode.Receive number xs k e = absurd cc
+ready_last m number xs k e = (held_is number xs k (ready_held m number xs k e)).0
+
+ready_stands : (m : Mode) (number : ℕ) (xs : List Entry) (k : ℕ) → ready m number xs ≡ Some k → withdrawn_at number xs k ≡ false
+ready_stands m number xs k e = (held_is number xs k (ready_held m number xs k e)).1
 
 module _ (plan : Plan) (xs : List Entry) where
   ready_each : (number : ℕ) → ready_at (transmitters plan xs) number ≡ ready_in plan xs number
@@ -116,7 +118,7 @@ module _ (plan : Plan) (xs : List Entry) where
   -- the payload of a sender's buffer is that of its commit
   sender_payload : (s : Sender) → IsSender plan xs s → payload_at (transmitters plan xs) s.buffer ≡ payload_of xs s.commit
   sender_payload s is =
-      let last : last_commit s.buffer xs ≡ Some s.commit = ready_last is.line.mode s.buffer xs s.commit is.offers in
+      let last : held_commit s.buffer xs ≡ Some s.commit = ready_held is.line.mode s.buffer xs s.commit is.offers in
       ap (λ (o : Option Transmitter). unwrap_or (option_map held_payload o) []) (get_each (transmitter_of xs) s.buffer plan.buffers ∙ ap (option_map (λ (b : Buffer). transmitter_of xs s.buffer b.mode)) is.there)
       ∙ ap (λ (o : Option ℕ). unwrap_or (option_map (λ c. c.payload) (option_map (commit_of xs) o)) []) last
 
@@ -167,24 +169,9 @@ module _ (plan : Plan) (window : Opportunity) (channel : Channel) where
   pub sent-by : (k : ℕ) (buffers : List Transmitter) → is_data_of k (offered_by plan window channel (sender_on plan buffers window channel)) ≡ sends_by k (sender_on plan buffers window channel)
   sent-by k buffers = sent_where k buffers (slot_of window channel)
 
--- ---- one commit is on one buffer
-
-on_both : (m n : ℕ) (e : Entry) → is_commit_on m e ≡ true → is_commit_on n e ≡ true → m ≡ n
-on_both m n (Commit task buffer payload) p q = sym (eqb-true buffer m p) ∙ eqb-true buffer n q
-on_both m n e p q = absurd cc
-
-same_entry : (m n : ℕ) (o : Option Entry) → IsSomeAnd o (λ e. is_commit_on m e ≡ true) → IsSomeAnd o (λ e. is_commit_on n e ≡ true) → m ≡ n
-same_entry m n None p q = absurd p
-same_entry m n (Some e) p q = on_both m n e p q
+-- ---- which buffer's commit goes out
 
 module _ (xs : List Entry) where
-  last_there : (number k : ℕ) → last_commit number xs ≡ Some k → IsCommitAt number xs k
-  last_there number k is = subst (λ (o : Option ℕ). IfSome o (λ j. IsCommitAt number xs j)) is (last_commit-there number xs)
-
-  -- two buffers have no commit in common
-  one_buffer : (m n k : ℕ) → last_commit m xs ≡ Some k → last_commit n xs ≡ Some k → m ≡ n
-  one_buffer m n k p q = same_entry m n (slice_get xs k) (last_there m k p) (last_there n k q)
-
   same_number : (n : ℕ) → eqb n n ≡ true
   same_number n = eq-eqb n n refl
 
@@ -202,7 +189,7 @@ module _ (xs : List Entry) where
       absurd cc
   selected_by number k s from last false true p q =
       let equal : s.commit ≡ k = eqb-true s.commit k q in
-      let same : number ≡ s.buffer = one_buffer number s.buffer k last (from ∙ ap (λ (n : ℕ). let o : Option ℕ = Some n in o) equal) in
+      let same : number ≡ s.buffer = one_buffer xs number s.buffer k last (from ∙ ap (λ (n : ℕ). let o : Option ℕ = Some n in o) equal) in
       let yes : eqb number s.buffer ≡ true = ap (λ (n : ℕ). eqb number n) (sym same) ∙ same_number number in
       absurd cc
 
@@ -244,7 +231,7 @@ module _ (plan : Plan) (xs : List Entry) (window : Opportunity) (a b : Offered) 
     either k false true p q e = last_of k from_b h.sender_b q
     either k false false p q e = absurd cc
 
-    only : (number : ℕ) (before : List Entry) (x : Entry) (rest : List Entry) → xs ≡ before ++ x ∷ rest → OnlyLast number entry (last_commit number xs) before x
+    only : (number : ℕ) (before : List Entry) (x : Entry) (rest : List Entry) → xs ≡ before ++ x ∷ rest → OnlyLast number (λ k. sends k entry) (last_commit number xs) before x
     only number before x rest is on sends =
         let k : ℕ = length before in
         let from : (s : Sender) × (last_commit s.buffer xs ≡ Some k) = either k (sends_by k from_a) (sends_by k from_b) refl refl (sym (sent k) ∙ sends) in
@@ -253,17 +240,46 @@ module _ (plan : Plan) (xs : List Entry) (window : Opportunity) (a b : Offered) 
         let one : number ≡ from.0.buffer = same_entry number from.0.buffer (slice_get xs k) on_it (last_there xs from.0.buffer k from.1) in
         ap (λ (n : ℕ). last_commit n xs) one ∙ from.1
 
-    all_only : (number : ℕ) (before rest : List Entry) → xs ≡ before ++ rest → AllAfter (OnlyLast number entry (last_commit number xs)) before rest
+    all_only : (number : ℕ) (before rest : List Entry) → xs ≡ before ++ rest → AllAfter (OnlyLast number (λ k. sends k entry) (last_commit number xs)) before rest
     unfolding AllAfter
     all_only number before [] is = tt
     all_only number before (x ∷ rest) is = (only number before x rest is, all_only number (before ++ x ∷ []) rest (is ∙ sym (append_assoc before (x ∷ []) rest)))
 
-    sends_last : (number : ℕ) → SendsLast number 0 (sends_from number) entry xs
-    sends_last number = sends_last_from number (sends_from number) entry (last_commit number xs) None [] xs (sym (or_none (last_commit number xs))) (all_only number [] xs refl) (same number)
-      where
-        or_none : (o : Option ℕ) → option_or o None ≡ o
-        or_none None = refl
-        or_none (Some k) = refl
+    or_none : (o : Option ℕ) → option_or o None ≡ o
+    or_none None = refl
+    or_none (Some k) = refl
+
+    sends_last : (number : ℕ) → MarksLast number 0 (sends_from number) (λ k. sends k entry) xs
+    sends_last number =
+        marks_last_from number (sends_from number) (λ k. sends k entry) (last_commit number xs) None [] xs (sym (or_none (last_commit number xs))) (all_only number [] xs refl) (same number)
+
+    -- what goes out isn't withdrawn
+    stands_by : (number k : ℕ) → last_commit number xs ≡ Some k → (o : Option Sender) → IfSome o (IsSender plan xs) → selects number o ≡ true → withdrawn_at number xs k ≡ false
+    stands_by number k last None is selected = absurd cc
+    stands_by number k last (Some s) is selected =
+        let place : number ≡ s.buffer = eqb-true number s.buffer selected in
+        let there : Some s.commit ≡ Some k = sym (ready_last is.line.mode s.buffer xs s.commit is.offers) ∙ ap (λ (n : ℕ). last_commit n xs) (sym place) ∙ last in
+        let equal : s.commit ≡ k = cc in
+        (λ i. withdrawn_at (place i) xs (sym equal i)) ∙ ready_stands is.line.mode s.buffer xs s.commit is.offers
+
+    stands_either : (number k : ℕ) → last_commit number xs ≡ Some k → (t u : Bool) → selects number from_a ≡ t → selects number from_b ≡ u → (t || u) ≡ true → withdrawn_at number xs k ≡ false
+    stands_either number k last true u p q e = stands_by number k last from_a h.sender_a p
+    stands_either number k last false true p q e = stands_by number k last from_b h.sender_b q
+    stands_either number k last false false p q e = absurd cc
+
+    stands : (number k : ℕ) → last_commit number xs ≡ Some k → sends_from number ≡ true → withdrawn_at number xs k ≡ false
+    stands number k last = stands_either number k last (selects number from_a) (selects number from_b) refl refl
+
+    is_other : (number : ℕ) → IsOther number (sends_from number) false xs entry
+    is_other number = record {
+      off = refl;
+      sending = sends_last number;
+      taking = marks_none number 0 (λ k. takes_back k entry) xs (λ k. refl);
+      stands = stands_from number (sends_from number) xs (last_commit number xs) None [] xs refl (sym (or_none (last_commit number xs))) (stands number);
+    }
+
+    same_held : (number : ℕ) → held_commit number (xs ++ entry ∷ []) ≡ held_commit number xs
+    same_held number = held-other number xs entry refl (λ k last. refl) (λ k last sent. stands number k last (same number k last ∙ sent))
 
     -- ---- each buffer
 
@@ -276,7 +292,7 @@ module _ (plan : Plan) (xs : List Entry) (window : Opportunity) (a b : Offered) 
         by_offer : (t : Bool) → cond t (after_send (after_send b)) (after_send b) ≡ after_send b
         by_offer true =
             let none : b.tally.sent + b.tally.pending + 0 ≡ b.tally.sent + b.tally.pending = omega arith in
-            λ i. record { mode = b.mode; last = b.last; tally = record { committed = b.tally.committed; sent = none i; overwritten = b.tally.overwritten; pending = 0 } }
+            λ i. record { mode = b.mode; last = b.last; tally = record { committed = b.tally.committed; sent = none i; overwritten = b.tally.overwritten; pending = 0; withdrawn = b.tally.withdrawn } }
         by_offer false = refl
 
     both : (b : Transmitter) (t u : Bool) → (t ≡ true → is_some (offer_of b) ≡ true) → (u ≡ true → is_some (offer_of b) ≡ true)
@@ -297,9 +313,9 @@ module _ (plan : Plan) (xs : List Entry) (window : Opportunity) (a b : Offered) 
     one_buffer_after : (number : ℕ) (m : Mode) → cond (sends_from number) (after_send (transmitter_of xs number m)) (transmitter_of xs number m) ≡ transmitter_of (xs ++ entry ∷ []) number m
     one_buffer_after number m =
         let b : Transmitter = transmitter_of xs number m in
-        let tally : tally_after (sends_from number) (tally_of number xs) ≡ tally_of number (xs ++ entry ∷ []) = tally-other (sends_from number) number xs entry refl (sends_last number) in
+        let tally : tally_after (sends_from number) (tally_of number xs) ≡ tally_of number (xs ++ entry ∷ []) = tally-other number xs entry (sends_from number) (is_other number) in
         rest_cond (sends_from number) b (tally_of number (xs ++ entry ∷ [])) (sym tally)
-        ∙ (λ i. record { mode = m; last = same_commit number xs entry refl i; tally = tally_of number (xs ++ entry ∷ []) })
+        ∙ (λ i. record { mode = m; last = same_commit number xs entry (same_held number) i; tally = tally_of number (xs ++ entry ∷ []) })
 
     offers_there : (number : ℕ) (b : Buffer) → slice_get plan.buffers number ≡ Some b → (o : Option Sender) → IfSome o (IsSender plan xs) → selects number o ≡ true → is_some (offer_of (transmitter_of xs number b.mode)) ≡ true
     offers_there number b there None is selected = absurd cc

@@ -12,7 +12,7 @@ use Rattle.fr_journal.specs.Arrivals.{queue_length, queue_content, queue_lost, o
 use Rattle.fr_journal.specs.Arrivals.{queue_arrival_on, queue_arrivals_in}
 use Rattle.fr_journal.specs.declared.entry.Arrival.{Arrival}
 use Rattle.fr_journal.specs.declared.entry.Entry.{Entry}
-use Rattle.fr_journal.specs.declared.entry.Entry.TheVariants.{Commit, Read, Pop, Fetch, Observe}
+use Rattle.fr_journal.specs.declared.entry.Entry.TheVariants.{Commit, Withdraw, Read, Pop, Fetch, Observe}
 use Rattle.fr_journal.specs.declared.entry.Origin.{Origin}
 use Rattle.fr_journal.specs.Held.{arrival_of, data_frame_seen, origin_of}
 use Rattle.fr_journal.specs.Legal.{IsLegalJournal}
@@ -163,6 +163,7 @@ module _ (params : Parameters) (plan : Plan) (q : Queue) where
 
   few_at : (before : List Entry) (e : Entry) → length (arrived (moves_at params plan q before e)) ≤ 2
   few_at before (Commit task buffer payload) = omega arith
+  few_at before (Withdraw task buffer of) = omega arith
   few_at before (Read task buffer from) = omega arith
   few_at before (Pop task from) = omega arith
   few_at before (Fetch window a b) = omega arith

@@ -4,7 +4,7 @@ use Rattle.std.specs.Option.{option_and_then}
 use Rattle.arrayvec.specs.ArrayVec.{ArrayVec}
 use Rattle.fr_interface.specs.State.{State}
 use Rattle.fr_journal.specs.declared.entry.Entry.{Entry}
-use Rattle.fr_journal.specs.declared.entry.Entry.TheVariants.{Commit, Read, Pop, Fetch, Observe}
+use Rattle.fr_journal.specs.declared.entry.Entry.TheVariants.{Commit, Withdraw, Read, Pop, Fetch, Observe}
 use Rattle.fr_journal.specs.declared.entry.Offered.{Offered}
 use Rattle.fr_journal.specs.Offers.{frame_with, bytes_of}
 use Rattle.fr_slots.specs.declared.channel.Channel.{Channel}
@@ -20,6 +20,7 @@ offered_on B a b = b
 -- what an entry handed to the bus on a channel, where these are before it
 abbrev pub bytes_in_entry : Parameters → Plan → List Entry → Channel → Entry → Option (ArrayVec ℕ)
 bytes_in_entry params plan before channel (Commit task buffer payload) = None
+bytes_in_entry params plan before channel (Withdraw task buffer of) = None
 bytes_in_entry params plan before channel (Read task buffer from) = None
 bytes_in_entry params plan before channel (Pop task from) = None
 bytes_in_entry params plan before channel (Fetch window a b) =

@@ -9,7 +9,7 @@ use Rattle.fr_interface.specs.declared.opening.Opening.{Opening}
 use Rattle.fr_journal.specs.Arrivals.{moves, queue_content, queue_lost, is_for_queue}
 use Rattle.fr_journal.specs.declared.entry.Arrival.{Arrival}
 use Rattle.fr_journal.specs.declared.entry.Entry.{Entry}
-use Rattle.fr_journal.specs.Fate.{last_commit, tally_of}
+use Rattle.fr_journal.specs.Fate.{held_commit, tally_of}
 use Rattle.fr_journal.specs.Held.{held, arrival_of}
 use Rattle.fr_journal.specs.Offers.{payload_of}
 use Rattle.fr_journal.specs.OpenWindow.{open_window, last_number}
@@ -40,7 +40,7 @@ abbrev pub transmitter_of : List Entry → ℕ → Mode → Transmitter
 transmitter_of entries number mode =
     record {
       mode = mode;
-      last = option_map (commit_of entries) (last_commit number entries);
+      last = option_map (commit_of entries) (held_commit number entries);
       tally = tally_of number entries;
     }
 

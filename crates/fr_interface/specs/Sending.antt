@@ -3,7 +3,7 @@
 use Rattle.std.specs.Prelude.{ℕ, List, [], slice_get, Option, Some, None, is_some, true, if◌then◌else◌, option_map}
 use Rattle.std.specs.Prelude.{unwrap_or}
 use Rattle.std.specs.Option.{option_and_then}
-use Rattle.fr_buffers.specs.Transmitting.{Transmitter, offer_of, payload_of, after_send}
+use Rattle.fr_buffers.specs.Transmitting.{Transmitter, offer_of, payload_of, pending_of, after_send}
 use Rattle.fr_frame.specs.Fields.{Fields}
 use Rattle.fr_interface.specs.declared.sending.Sender.{Sender}
 use Rattle.fr_interface.specs.Known.{change_at}
@@ -88,6 +88,10 @@ frame_by params plan buffers window channel sender =
 
 abbrev pub send_offered : Transmitter → Transmitter
 send_offered b = if is_some (offer_of b) then after_send b else b
+
+-- the pending commit of the buffer of this number
+abbrev pub pending_at : List Transmitter → ℕ → Option ℕ
+pending_at buffers number = option_and_then pending_of (slice_get buffers number)
 
 -- what is offered has gone out
 abbrev pub after_sender : List Transmitter → Option Sender → List Transmitter

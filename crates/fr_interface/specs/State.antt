@@ -16,7 +16,7 @@ use Rattle.fr_interface.specs.declared.source.Source.{Source}
 use Rattle.fr_interface.specs.declared.source.Source.TheVariants as source
 use Rattle.fr_journal.specs.Arrivals.{moves, arrived, oldest, queue_length, queue_lost, is_answered_pop}
 use Rattle.fr_journal.specs.Entries.{is_host, is_slot}
-use Rattle.fr_journal.specs.Fate.{last_commit, tally_of}
+use Rattle.fr_journal.specs.Fate.{held_commit, pending_commit, tally_of}
 use Rattle.fr_journal.specs.Held.{held, origin_of}
 use Rattle.fr_journal.specs.Legal.{IsLegalJournal, AreEntries}
 use Rattle.fr_journal.specs.Offers.{offered}
@@ -60,7 +60,7 @@ received_by s buffer = option_and_then (received_in s) (buffer_at s.plan buffer)
 abbrev pub source_by : State → ℕ → Buffer → Option Source
 source_by s buffer b =
     if is_receive b.mode then option_map (λ a. source.Observed (origin_of a)) (held s.params b.filter s.entries)
-    else option_map source.Commit (last_commit buffer s.entries)
+    else option_map source.Commit (held_commit buffer s.entries)
 
 -- where what a buffer holds comes from
 abbrev pub source_of : State → ℕ → Option Source
@@ -99,6 +99,9 @@ lost_of s = option_map (λ q. queue_lost s.params s.plan q s.entries) s.plan.que
 
 -- ---- the entries that calls leave, with what they answer
 
+abbrev pub withdraw_entry : State → ℕ → ℕ → Entry
+withdraw_entry s task buffer = entries.Withdraw task buffer (pending_commit buffer s.entries)
+
 abbrev pub read_entry : State → ℕ → ℕ → Entry
 read_entry s task buffer = entries.Read task buffer (option_map origin_of (received_by s buffer))
 
@@ -128,6 +131,15 @@ unless_transmit s payload (Some b) =
 abbrev pub commit_refusal : State → ℕ → ℕ → List ℕ → Option HostError
 commit_refusal s task buffer payload = if nat_le s.plan.tasks task then Some UnknownTask
     else unless_transmit s payload (buffer_at s.plan buffer)
+
+abbrev pub unless_sending : State → Option Buffer → Option HostError
+unless_sending s None = Some UnknownBuffer
+unless_sending s (Some b) = if is_receive b.mode then Some NotTransmit else if is_host_full s then Some HostFull
+    else None
+
+abbrev pub withdraw_refusal : State → ℕ → ℕ → Option HostError
+withdraw_refusal s task buffer = if nat_le s.plan.tasks task then Some UnknownTask
+    else unless_sending s (buffer_at s.plan buffer)
 
 abbrev pub unless_receive : State → Option Buffer → Option HostError
 unless_receive s None = Some UnknownBuffer

@@ -14,7 +14,9 @@ use crate::observed::{Told, arrive_all, count_seen, store_all};
 use crate::offers::{handed_out, offered_by};
 use crate::opening::Opening;
 use crate::receiving::{arrival_at, observed_at, pop_from, receive_buffers, receive_queue};
-use crate::sending::{commit_at, commit_to, send_from, sender_on, tally_at, transmit_buffers};
+use crate::sending::{
+    commit_at, commit_to, send_from, sender_on, tally_at, transmit_buffers, withdraw_from,
+};
 use crate::source::Source;
 use fr_buffers::queue::ReceiveQueue;
 use fr_buffers::receive::RxBuffer;
@@ -85,7 +87,9 @@ impl Interface {
     ghost use Rattle.fr_journal.specs.Held.{frame_named, frame_of, origin_of, IsReceivable};
     ghost use Rattle.fr_journal.specs.Offers.{frame_offered, IsHandedOut, bytes_of};
     ghost use Rattle.fr_interface.specs.Handing.{bytes_handed};
-    ghost use Rattle.fr_interface.specs.State.{with_entry, read_entry, pop_entry, fetch_entry};
+    ghost use Rattle.fr_interface.specs.State.{with_entry, withdraw_entry, read_entry, pop_entry, fetch_entry};
+    ghost use Rattle.fr_interface.specs.State.{withdraw_refusal};
+    ghost use Rattle.fr_journal.specs.Fate.{pending_commit};
     ghost use Rattle.fr_interface.specs.State.{received_by, source_of, tally_by, oldest_of, length_of, lost_of};
     ghost use Rattle.fr_interface.specs.State.{arrived_of, popped_of, queued_of, commit_refusal, read_refusal};
     ghost use Rattle.fr_interface.specs.State.{pop_refusal, fetch_refusal, observe_refusal, IsLegalInterface};
@@ -155,6 +159,37 @@ impl Interface {
         Ok(Receipt { task, entry })
     }
 
+    /// Takes the last commit on a transmit buffer back for a task, where it is pending, and answers the number of its
+    /// entry; none where no commit is pending (own profile).
+    ///
+    /// The buffer is empty after a commit was taken back: it offers nothing, and no commit before that one comes back.
+    /// A commit that was sent stays as it is. A withdraw that finds nothing is accepted, and is an entry too.
+    ///
+    /// Refused, in this order, with `UnknownTask`, `UnknownBuffer`, `NotTransmit` for a receive buffer,
+    /// and `HostFull` where the journal has no room for the withdraw.
+    pub fn withdraw(&mut self, task: TaskId, buffer: u8) -> Result<Option<u32>, HostError>
+        ensures refusal { result_err result ≡ withdraw_refusal self.old task buffer }
+        ensures answer { IfOk result (λ of. of ≡ pending_commit buffer self.old.entries) }
+        ensures accepted { OnOk result (self.new ≡ with_entry self.old (withdraw_entry self.old task buffer)) }
+        ensures refused { OnErr result (self.new ≡ self.old) }
+    {
+        if task.number() >= self.plan.tasks() {
+            return Err(HostError::UnknownTask);
+        }
+        let Some(line) = self.plan.buffer(buffer) else {
+            return Err(HostError::UnknownBuffer);
+        };
+        if line.mode.is_receive() {
+            return Err(HostError::NotTransmit);
+        }
+        if self.journal.host_room() == 0 {
+            return Err(HostError::HostFull);
+        }
+        let of = withdraw_from(&mut self.transmit, buffer);
+        self.journal.push_host(Entry::Withdraw { task, buffer, of });
+        Ok(of)
+    }
+
     /// Reads a receive buffer for a task (chapter 9): the last valid data frame that the buffer admitted, if any.
     ///
     /// Refused, in this order, with `UnknownTask`, `UnknownBuffer`, `NotReceive` for a transmit buffer,
@@ -212,7 +247,7 @@ impl Interface {
 
     /// Opens a window, and hands out what the node sends in it (chapters 5 and 9): on each channel the data frame
     /// of the transmit buffer that admits the slot, if it offers a commit, else a null frame in a static slot
-    /// that the node owns, and else nothing.
+    /// that the node owns in the window's cycle, and else nothing.
     ///
     /// Refused, in this order, with `NotObserved` where a fetched window is open, `BadWindow` for a window
     /// that the parameters don't have, `WindowOrder` for a number that isn't above that of the window
@@ -318,7 +353,7 @@ impl Interface {
     pub fn tally(&self, buffer: u8) -> Option<Tally>
         ensures value { result ≡ tally_by self.now buffer }
         // Each commit met one fate, and at most one is pending.
-        ensures fates { IfSome result (λ t. t.committed ≡ t.sent + t.overwritten + t.pending) }
+        ensures fates { IfSome result (λ t. t.committed ≡ t.sent + t.overwritten + t.pending + t.withdrawn) }
         ensures one_pending { IfSome result (λ t. t.pending ≤ 1) }
     {
         let line = self.plan.buffer(buffer)?;

@@ -69,7 +69,8 @@ fn window_mark(entry: &Entry) -> Option<Option<Window>>
     match entry {
         Entry::Fetch { window, .. } => Some(Some(*window)),
         Entry::Observe { .. } => Some(None),
-        Entry::Commit { .. } | Entry::Read { .. } | Entry::Pop { .. } => None,
+        Entry::Commit { .. } | Entry::Withdraw { .. } | Entry::Read { .. } | Entry::Pop { .. } =>
+            None,
     }
 }
 

@@ -15,7 +15,7 @@ use fr_frame::frame::{Bytes, Frame};
 use fr_frame::payload::Payload;
 use fr_journal::entry::Offered;
 use fr_slots::channel::Channel;
-use fr_slots::numbers::SlotId;
+use fr_slots::numbers::{Cycle, SlotId};
 use fr_slots::params::Params;
 use fr_slots::plan::{Buffer, NodePlan, Own};
 use fr_slots::window::Window;
@@ -52,33 +52,35 @@ pub(crate) fn may_begin(plan: &NodePlan, window: &Window, channel: Channel) -> b
     window.is_static() || window.minislot <= plan.latest(channel)
 }
 
-/// The place of the first line for the slot on the channel.
-fn first_owned_at(owned: &[Own], slot: SlotId, channel: Channel) -> Option<usize>
-    ensures { result ≡ position (claims slot channel) owned.now }
+/// The place of the first line for the slot on the channel in the cycle.
+fn first_owned_at(owned: &[Own], cycle: Cycle, slot: SlotId, channel: Channel) -> Option<usize>
+    ensures { result ≡ position (claims slot channel cycle) owned.now }
 {
-    owned.iter().position(|own| own.claims(slot, channel))
+    owned
+        .iter()
+        .position(|own| own.claims(cycle, slot, channel))
 }
 
-/// The ownership line for the slot on the channel.
-fn ownership(owned: &[Own], slot: SlotId, channel: Channel) -> Option<Own>
-    ensures { result ≡ ownership owned.now slot channel }
+/// The ownership line for the slot on the channel in the cycle.
+fn ownership(owned: &[Own], cycle: Cycle, slot: SlotId, channel: Channel) -> Option<Own>
+    ensures { result ≡ ownership owned.now slot channel cycle }
 {
-    let place = first_owned_at(owned, slot, channel)?;
+    let place = first_owned_at(owned, cycle, slot, channel)?;
     owned.get(place).copied()
 }
 
-/// The ownership line for the slot of a static window on the channel.
+/// The ownership line for the slot of a static window on the channel in the window's cycle.
 fn line_of(plan: &NodePlan, window: &Window, channel: Channel, slot: SlotId) -> Option<Own>
     ensures { result ≡ line_of plan.now window.now channel slot }
 {
     if window.is_static() {
-        ownership(plan.owned(), slot, channel)
+        ownership(plan.owned(), window.cycle, slot, channel)
     } else {
         None
     }
 }
 
-/// Whether the window is static and the node owns the slot on the channel.
+/// Whether the window is static and the node owns the slot on the channel in the window's cycle.
 fn owns(plan: &NodePlan, window: &Window, channel: Channel, slot: SlotId) -> bool
     ensures { result ≡ owns plan.now window.now channel slot }
 {
@@ -143,7 +145,7 @@ fn preamble_in(plan: &NodePlan, window: &Window, channel: Channel) -> bool
     }
 }
 
-/// The null frame of a slot that the node owns.
+/// The null frame of a slot that the node owns in the window's cycle.
 pub(crate) fn null_frame(
     params: &Params,
     plan: &NodePlan,

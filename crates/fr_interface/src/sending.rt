@@ -2,9 +2,10 @@
 
 ghost use Rattle.std.specs.Prelude.{◌≡◌, ◌+◌, ◌<◌, ◌≤◌, ◌^◌, length, map, slice_get, option_map, IfOk, IfSome};
 ghost use Rattle.std.specs.Option.{option_and_then};
-ghost use Rattle.fr_buffers.specs.Transmitting.{new_transmitter, with_commit, entry_of};
+ghost use Rattle.fr_buffers.specs.Transmitting.{new_transmitter, with_commit, entry_of, after_withdraw};
 ghost use Rattle.fr_interface.specs.Known.{change_at};
 ghost use Rattle.fr_interface.specs.Sending.{ready_at, sender_on, held_payload, payload_at, send_offered, after_sender};
+ghost use Rattle.fr_interface.specs.Sending.{pending_at};
 
 use crate::offers::{may_begin, transmitter};
 use crate::source::Source;
@@ -46,7 +47,7 @@ pub(crate) fn commit_at(buffers: &[TxBuffer], number: u8) -> Option<Source>
 /// What became of the commits on the buffer of this number.
 pub(crate) fn tally_at(buffers: &[TxBuffer], number: u8) -> Option<Tally>
     ensures value { result ≡ option_map (λ b. b.tally) (slice_get buffers.now number) }
-    ensures fates { IfSome result (λ t. t.committed ≡ t.sent + t.overwritten + t.pending) }
+    ensures fates { IfSome result (λ t. t.committed ≡ t.sent + t.overwritten + t.pending + t.withdrawn) }
     ensures one_pending { IfSome result (λ t. t.pending ≤ 1) }
 {
     let buffer = buffers.get(usize::from(number))?;
@@ -106,6 +107,20 @@ pub(crate) fn commit_to(buffers: &mut [TxBuffer], number: u8, entry: u32, payloa
 {
     let buffer = &mut buffers[usize::from(number)];
     buffer.commit(entry, payload);
+}
+
+/// Takes the pending commit of the buffer of this number back, if there is one.
+pub(crate) fn withdraw_from(buffers: &mut [TxBuffer], number: u8) -> Option<u32>
+    ensures answer { result ≡ pending_at buffers.old number }
+    ensures fits { IfSome result (λ commit. commit < 2 ^ 32) }
+    ensures buffers { buffers.new ≡ change_at after_withdraw buffers.old number }
+{
+    let place = usize::from(number);
+    if place >= buffers.len() {
+        return None;
+    }
+    let buffer = &mut buffers[place];
+    buffer.withdraw()
 }
 
 /// What is offered goes out.

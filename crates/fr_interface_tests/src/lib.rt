@@ -9,3 +9,5 @@ mod parts;
 mod queue;
 #[cfg(test)]
 mod transmit;
+#[cfg(test)]
+mod withdraws;

@@ -20,7 +20,7 @@ use std::test::Fail;
 /// The null frame of slot 2 in cycle 1, on channel A.
 const NULL_ON_A: [u8; 10] = [0x00, 0x02, 0x03, 0xc1, 0x41, 0x00, 0x00, 0xd1, 0x4f, 0x6c];
 
-fn payload(bytes: &[u8]) -> Result<Payload, Fail> {
+pub fn payload(bytes: &[u8]) -> Result<Payload, Fail> {
     Ok(Payload::from_slice(bytes)?)
 }
 
@@ -29,11 +29,12 @@ fn sent(bytes: &[u8]) -> Result<Option<Bytes>, Fail> {
 }
 
 /// A plan that owns slot 2 on both channels, with a transmit buffer for it.
-fn sender(mode: Mode, host_entries: u16) -> Result<NodePlan, Fail> {
+pub fn sender(mode: Mode, host_entries: u16) -> Result<NodePlan, Fail> {
     let mut plan = NodePlan::new(1, [0, 0], host_entries, 8)?;
     plan.add_own(Own {
         slot: slot(2)?,
         channels: Channels::Both,
+        cycles: CycleFilter::default(),
         sync: false,
         startup: false,
     })?;
@@ -51,13 +52,13 @@ fn sender(mode: Mode, host_entries: u16) -> Result<NodePlan, Fail> {
 }
 
 /// The window of static slot 2 in the cycle of its number.
-fn slot_two(number: u8) -> Result<Window, Fail> {
+pub fn slot_two(number: u8) -> Result<Window, Fail> {
     let cycle = Cycle::new(number).ok_or("no cycle")?;
     Ok(Window::fixed(u32::from(number), cycle, slot(2)?))
 }
 
 /// Fetches and observes static slot 2 in the cycle of this number.
-fn observed(interface: &mut Interface, number: u8) -> Result<(), Fail> {
+pub fn observed(interface: &mut Interface, number: u8) -> Result<(), Fail> {
     interface.fetch(&slot_two(number)?)?;
     interface.observe(u32::from(number), &Seen::Own, &Seen::Own)?;
     Ok(())
@@ -69,6 +70,7 @@ fn tally(committed: u32, sent: u32, overwritten: u32, pending: u32) -> Option<Ta
         sent,
         overwritten,
         pending,
+        withdrawn: 0,
     })
 }
 
@@ -107,6 +109,41 @@ fn an_offer_is_the_spelled_frame(rt: HostRuntime) -> Result<(), Fail> {
         [first.a, first.b, second.a],
         [sent(&DATA_ON_A)?, sent(&DATA_ON_B)?, sent(&NULL_ON_A)?]
     );
+    Ok(())
+}
+
+/// A plan that owns slot 2 on channel A in every fourth cycle from 0 on, with sync frames, and from 1 on without.
+fn divided() -> Result<NodePlan, Fail> {
+    let mut plan = NodePlan::new(1, [0, 0], 1, 8)?;
+    for (base, sync) in [(0, true), (1, false)] {
+        plan.add_own(Own {
+            slot: slot(2)?,
+            channels: Channels::A,
+            cycles: CycleFilter::new(base, 4)?,
+            sync,
+            startup: false,
+        })?;
+    }
+    Ok(plan)
+}
+
+/// What it offers in slot 2 of the cycle of this number, the first of its windows.
+fn offered(alloc: Global, number: u8) -> Result<Offer, Fail> {
+    let mut interface = interface(alloc, ONE_WORD_CYCLE, &divided()?)?;
+    Ok(interface.fetch(&slot_two(number)?)?)
+}
+
+#[test]
+fn a_null_frame_is_that_of_the_line_of_its_cycle(rt: HostRuntime) -> Result<(), Fail> {
+    let offer = offered(rt.alloc(), 1)?;
+    assert_eq!(rt; (offer.a, offer.b), (sent(&NULL_ON_A)?, None));
+    Ok(())
+}
+
+#[test]
+fn nothing_is_sent_in_a_cycle_in_which_the_slot_is_not_owned(rt: HostRuntime) -> Result<(), Fail> {
+    let offer = offered(rt.alloc(), 2)?;
+    assert_eq!(rt; (offer.a, offer.b), (None, None));
     Ok(())
 }
 

@@ -8,7 +8,7 @@ use Rattle.fr_journal.specs.Arrivals.{queue_length, queue_content, oldest, is_an
 use Rattle.fr_journal.specs.Arrivals.{queue_lost}
 use Rattle.fr_journal.specs.declared.entry.Arrival.{Arrival}
 use Rattle.fr_journal.specs.declared.entry.Entry.{Entry}
-use Rattle.fr_journal.specs.declared.entry.Entry.TheVariants.{Commit, Read, Pop, Fetch, Observe}
+use Rattle.fr_journal.specs.declared.entry.Entry.TheVariants.{Commit, Withdraw, Read, Pop, Fetch, Observe}
 use Rattle.fr_journal.specs.declared.entry.Origin.{Origin}
 use Rattle.fr_journal.specs.Held.{origin_of}
 use Rattle.fr_journal.specs.Legal.{IsLegal, IsLegalJournal}
@@ -74,6 +74,7 @@ module _ (params : Parameters) (plan : Plan) (q : Queue) where
 
   IsBalanced-snoc : plan.queue ≡ Some q → (xs : List Entry) (e : Entry) → IsBalanced xs → IsLegal params plan xs e → IsBalanced (xs ++ e ∷ [])
   IsBalanced-snoc there xs (Commit task buffer payload) h legal = by_arrivals xs (Commit task buffer payload) [] refl refl h
+  IsBalanced-snoc there xs (Withdraw task buffer of) h legal = by_arrivals xs (Withdraw task buffer of) [] refl refl h
   IsBalanced-snoc there xs (Read task buffer from) h legal = by_arrivals xs (Read task buffer from) [] refl refl h
   IsBalanced-snoc there xs (Fetch window a b) h legal = by_arrivals xs (Fetch window a b) [] refl refl h
   IsBalanced-snoc there xs (Observe window a b) h legal = by_arrivals xs (Observe window a b) (arrive_all (queue_arrivals_in params plan q (length xs) a b (open_window xs))) refl refl h

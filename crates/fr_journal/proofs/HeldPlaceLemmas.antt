@@ -6,7 +6,7 @@ use Rattle.std.specs.Option.{option_and_then}
 use Rattle.fr_frame.specs.Fields.{Fields}
 use Rattle.fr_journal.specs.declared.entry.Arrival.{Arrival}
 use Rattle.fr_journal.specs.declared.entry.Entry.{Entry}
-use Rattle.fr_journal.specs.declared.entry.Entry.TheVariants.{Commit, Read, Pop, Fetch, Observe}
+use Rattle.fr_journal.specs.declared.entry.Entry.TheVariants.{Commit, Withdraw, Read, Pop, Fetch, Observe}
 use Rattle.fr_journal.specs.Entries.{IsOrigin}
 use Rattle.fr_journal.specs.Held.{held, arrival_at, arrival_by, arrival_in, arrival_on, arrival_of, data_frame_seen}
 use Rattle.fr_journal.specs.Held.{origin_of}
@@ -44,6 +44,7 @@ from_window params filter number a b (Some window) =
 
 from_entry : (params : Parameters) (filter : Filter) (number : ℕ) (window : Option Opportunity) (e : Entry) → IfSome (arrival_by params filter number window e) (IsFrom number)
 from_entry params filter number window (Commit task buffer payload) = tt
+from_entry params filter number window (Withdraw task buffer of) = tt
 from_entry params filter number window (Read task buffer from) = tt
 from_entry params filter number window (Pop task from) = tt
 from_entry params filter number window (Fetch w a b) = tt

@@ -1,6 +1,6 @@
 -- The last commit on a buffer: where it stands, and what one more entry does to it.
-use Rattle.std.proofs.Common.{◌≡◌, ℕ, zero, suc, ◌≤◌, ◌<◌, Bool, true, false, cond, ◌||◌, List, [], ◌∷◌, ◌++◌}
-use Rattle.std.proofs.Common.{length, Option, Some, None, refl, sym, ap, subst, ◌∙◌, arith, length-append}
+use Rattle.std.proofs.Common.{◌≡◌, ℕ, zero, suc, ◌+◌, ◌≤◌, ◌<◌, Bool, true, false, cond, ◌||◌, List, [], ◌∷◌, ◌++◌}
+use Rattle.std.proofs.Common.{drop, length, Option, Some, None, refl, sym, ap, subst, ◌∙◌, arith, length-append}
 use Rattle.std.specs.Prelude.{IfSome, IsSomeAnd, slice_get}
 use Rattle.std.specs.List.{list_any}
 use Rattle.std.specs.Option.{option_or}
@@ -31,6 +31,22 @@ slice_get-front (x ∷ xs) ys (suc n) lt = slice_get-front xs ys n (omega (arith
 pub slice_get-next : {X : Type 0} (front : List X) (x : X) (rest : List X) → slice_get (front ++ x ∷ rest) (length front) ≡ Some x
 slice_get-next [] x rest = refl
 slice_get-next (y ∷ front) x rest = slice_get-next front x rest
+
+-- what follows the element after a front
+pub drop-next : {X : Type 0} (front : List X) (x : X) (rest : List X) → drop (length front + 1) (front ++ x ∷ rest) ≡ rest
+drop-next {X = X} front x rest =
+    let one : length front + 1 ≡ suc (length front) = omega arith in
+    ap (λ (n : ℕ). drop n (front ++ x ∷ rest)) one ∙ behind_front front
+  where
+    behind_front : (ys : List X) → drop (suc (length ys)) (ys ++ x ∷ rest) ≡ rest
+    behind_front [] = refl
+    behind_front (y ∷ ys) = behind_front ys
+
+-- dropped of the front alone
+pub drop-front : {X : Type 0} (xs ys : List X) (n : ℕ) → n ≤ length xs → drop n (xs ++ ys) ≡ drop n xs ++ ys
+drop-front xs ys zero le = refl
+drop-front [] ys (suc n) le = absurd (omega (arith, le))
+drop-front (x ∷ xs) ys (suc n) le = drop-front xs ys n (omega (arith, le))
 
 within : {X : Type 0} (P : X → Type 0) (xs : List X) (n : ℕ) → IsSomeAnd (slice_get xs n) P → n < length xs
 within P [] n h = absurd h

@@ -1,6 +1,7 @@
 pub mod BalanceLemmas
 pub mod ContentLemmas
 pub mod FateStepLemmas
+pub mod HeldCommitLemmas
 pub mod HeldPlaceLemmas
 pub mod KindLemmas
 pub mod LastCommitLemmas

@@ -7,7 +7,7 @@ use Rattle.fr_journal.specs.Arrivals.{Move, is_for_queue, queue_arrival_on, queu
 use Rattle.fr_journal.specs.Arrivals.{queue_length, oldest}
 use Rattle.fr_journal.specs.declared.entry.Arrival.{Arrival}
 use Rattle.fr_journal.specs.declared.entry.Entry.{Entry}
-use Rattle.fr_journal.specs.declared.entry.Entry.TheVariants.{Commit, Read, Pop, Fetch, Observe}
+use Rattle.fr_journal.specs.declared.entry.Entry.TheVariants.{Commit, Withdraw, Read, Pop, Fetch, Observe}
 use Rattle.fr_journal.specs.Entries.{IsOrigin}
 use Rattle.fr_journal.specs.Held.{arrival_of, data_frame_seen, origin_of}
 use Rattle.fr_journal.specs.OpenWindow.{open_window}
@@ -55,6 +55,7 @@ module _ (params : Parameters) (plan : Plan) (q : Queue) where
 
   from_entry : (before : List Entry) (e : Entry) → AreBelow (length before + 1) (arrived (moves_at params plan q before e))
   from_entry before (Commit task buffer payload) = tt
+  from_entry before (Withdraw task buffer of) = tt
   from_entry before (Read task buffer from) = tt
   from_entry before (Pop task from) = tt
   from_entry before (Fetch w a b) = tt

@@ -5,7 +5,7 @@ use Rattle.std.specs.Prelude.{IfSome, count_by}
 use Rattle.std.specs.Option.{option_and_then, option_or}
 use Rattle.std.proofs.lemmas.List.Sums.{sum_by-append}
 use Rattle.fr_journal.specs.declared.entry.Entry.{Entry}
-use Rattle.fr_journal.specs.declared.entry.Entry.TheVariants.{Commit, Read, Pop, Fetch, Observe}
+use Rattle.fr_journal.specs.declared.entry.Entry.TheVariants.{Commit, Withdraw, Read, Pop, Fetch, Observe}
 use Rattle.fr_journal.specs.Entries.{is_slot}
 use Rattle.fr_journal.specs.Legal.{IsLegal, IsLegalJournal}
 use Rattle.fr_journal.specs.OpenWindow.{open_window, window_mark}
@@ -30,6 +30,7 @@ still_room plan xs e host unmarked h =
 
 HasRoom-snoc : (params : Parameters) (plan : Plan) (xs : List Entry) (e : Entry) → HasRoom plan xs → IsLegal params plan xs e → HasRoom plan (xs ++ e ∷ [])
 HasRoom-snoc params plan xs (Commit task buffer payload) h legal = still_room plan xs (Commit task buffer payload) refl refl h
+HasRoom-snoc params plan xs (Withdraw task buffer of) h legal = still_room plan xs (Withdraw task buffer of) refl refl h
 HasRoom-snoc params plan xs (Read task buffer from) h legal = still_room plan xs (Read task buffer from) refl refl h
 HasRoom-snoc params plan xs (Pop task from) h legal = still_room plan xs (Pop task from) refl refl h
 HasRoom-snoc params plan xs (Fetch window a b) h legal =

@@ -12,7 +12,7 @@ use Rattle.fr_journal.specs.Arrivals.{queue_content, queue_length, oldest}
 use Rattle.fr_journal.specs.Counts.{seen_on}
 use Rattle.fr_journal.specs.declared.entry.Arrival.{Arrival}
 use Rattle.fr_journal.specs.declared.entry.Entry.{Entry}
-use Rattle.fr_journal.specs.declared.entry.Entry.TheVariants.{Commit, Read, Pop, Fetch, Observe}
+use Rattle.fr_journal.specs.declared.entry.Entry.TheVariants.{Commit, Withdraw, Read, Pop, Fetch, Observe}
 use Rattle.fr_journal.specs.Entries.{IsEntry}
 use Rattle.fr_journal.specs.Held.{held, arrival_at, arrival_in, arrival_on, arrival_of, data_frame_seen, with_data}
 use Rattle.fr_journal.specs.Held.{frame_of, IsReceivable}
@@ -99,6 +99,7 @@ module _ (params : Parameters) (filter : Filter) where
 
   from_entry : (before : List Entry) (e : Entry) (a : Arrival) → arrival_at params filter before e ≡ Some a → IsSeenBy params before e a
   from_entry before (Commit task buffer payload) a e = absurd (let none : ⊥ = cc in none)
+  from_entry before (Withdraw task buffer of) a e = absurd (let none : ⊥ = cc in none)
   from_entry before (Read task buffer from) a e = absurd (let none : ⊥ = cc in none)
   from_entry before (Pop task from) a e = absurd (let none : ⊥ = cc in none)
   from_entry before (Fetch w x y) a e = absurd (let none : ⊥ = cc in none)
@@ -144,6 +145,7 @@ module _ (params : Parameters) (plan : Plan) (q : Queue) where
 
   queued_entry : (before : List Entry) (e : Entry) (k : ℕ) (a : Arrival) → slice_get (arrived (moves_at params plan q before e)) k ≡ Some a → IsSeenBy params before e a
   queued_entry before (Commit task buffer payload) k a e = absurd (let none : ⊥ = cc in none)
+  queued_entry before (Withdraw task buffer of) k a e = absurd (let none : ⊥ = cc in none)
   queued_entry before (Read task buffer from) k a e = absurd (let none : ⊥ = cc in none)
   queued_entry before (Pop task from) k a e = absurd (let none : ⊥ = cc in none)
   queued_entry before (Fetch w x y) k a e = absurd (let none : ⊥ = cc in none)
@@ -173,6 +175,7 @@ module _ (params : Parameters) (plan : Plan) (q : Queue) where
 -- a window that is open was fetched, so its numbers are in range
 fetched_fits : (before : List Entry) (e : Entry) (w : Opportunity) → window_mark before e ≡ Some (Some w) → IsEntry e → IsInRange w
 fetched_fits before (Commit task buffer payload) w e h = absurd (let none : ⊥ = cc in none)
+fetched_fits before (Withdraw task buffer of) w e h = absurd (let none : ⊥ = cc in none)
 fetched_fits before (Read task buffer from) w e h = absurd (let none : ⊥ = cc in none)
 fetched_fits before (Pop task from) w e h = absurd (let none : ⊥ = cc in none)
 fetched_fits before (Fetch window a b) w e h = subst IsInRange (same_some window w (same_some (Some window) (Some w) e)) h.window_is

@@ -44,6 +44,7 @@ seen-more pool more (short_seen.Bytes s) h = stretch-more pool more _ s h
 
 short-more : (pool more : List ℕ) (s : ShortEntry) → IsShort (length pool) s → IsShort (length (pool ++ more)) s
 short-more pool more (short.Commit task buffer payload) h = (stretch-more pool more _ payload h.0, h.1)
+short-more pool more (short.Withdraw task buffer of) h = tt
 short-more pool more (short.Read task buffer from) h = tt
 short-more pool more (short.Pop task from) h = tt
 short-more pool more (short.Fetch window a b) h = tt
@@ -61,6 +62,7 @@ restored_seen-append pool more (short_seen.Bytes s) h =
 pub restored-append : (pool more : List ℕ) (s : ShortEntry) → IsShort (length pool) s → restored (pool ++ more) s ≡ restored pool s
 restored-append pool more (short.Commit task buffer payload) h =
     ap (λ (bytes : List ℕ). entries.Commit task buffer bytes) (slice_range-append pool more payload.start payload.end h.0.order h.0.within)
+restored-append pool more (short.Withdraw task buffer of) h = refl
 restored-append pool more (short.Read task buffer from) h = refl
 restored-append pool more (short.Pop task from) h = refl
 restored-append pool more (short.Fetch window a b) h = refl

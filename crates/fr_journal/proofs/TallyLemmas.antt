@@ -1,16 +1,16 @@
 -- How many commits met each fate, and how many of them are pending.
 use Rattle.std.proofs.Common.{◌≡◌, ℕ, suc, ◌+◌, ◌-◌, ◌≤◌, Bool, true, false, cond, eqb, ◌&&◌, List, [], ◌∷◌, ◌++◌, drop}
 use Rattle.std.proofs.Common.{length, map, Option, Some, None, refl, ap, ◌∙◌, arith, length-append}
-use Rattle.std.specs.Prelude.{count_by, IsSomeAnd}
+use Rattle.std.specs.Prelude.{count_by, IsSomeAnd, is_some}
 use Rattle.std.specs.List.{list_any}
 use Rattle.std.specs.Option.{option_and_then, option_or}
 use Rattle.std.proofs.lemmas.List.Sums.{sum_by-cons, sum_by-append}
 use Rattle.fr_journal.specs.declared.entry.Entry.{Entry}
 use Rattle.fr_journal.specs.declared.fate.Fate.{Fate}
-use Rattle.fr_journal.specs.declared.fate.Fate.TheVariants.{Sent, Overwritten, Pending}
-use Rattle.fr_journal.specs.Fate.{is_commit_on, commit_on, last_commit, sends, fate_of, fates_from, fates, is_sent}
-use Rattle.fr_journal.specs.Fate.{is_overwritten, is_pending, if_pending, pending_commit}
-use Rattle.fr_journal.proofs.FateStepLemmas.{fate_by, after_commit, after_fetch}
+use Rattle.fr_journal.specs.declared.fate.Fate.TheVariants.{Sent, Withdrawn, Overwritten, Pending}
+use Rattle.fr_journal.specs.Fate.{is_commit_on, commit_on, last_commit, sends, takes_back, fate_of, fates_from, fates}
+use Rattle.fr_journal.specs.Fate.{is_sent, is_withdrawn, is_overwritten, is_pending, if_pending, pending_commit}
+use Rattle.fr_journal.proofs.FateStepLemmas.{fate_by, after_commit, after_other}
 use Rattle.fr_journal.proofs.LastCommitLemmas.{or-false, last-none, last-some}
 use Rattle.fr_slots.specs.History.{last_after}
 
@@ -18,53 +18,78 @@ abbrev digit : Bool → ℕ
 digit b = cond b 1 0
 
 -- each commit has one fate
-one_fate : (f : Fate) → digit (is_sent f) + digit (is_overwritten f) + digit (is_pending f) ≡ 1
+one_fate : (f : Fate) → digit (is_sent f) + digit (is_overwritten f) + digit (is_pending f) + digit (is_withdrawn f) ≡ 1
 one_fate Sent = refl
+one_fate Withdrawn = refl
 one_fate Overwritten = refl
 one_fate Pending = refl
 
-pub fates_fill : (fs : List Fate) → count_by is_sent fs + count_by is_overwritten fs + count_by is_pending fs ≡ length fs
+pub fates_fill : (fs : List Fate) → count_by is_sent fs + count_by is_overwritten fs + count_by is_pending fs + count_by is_withdrawn fs ≡ length fs
 fates_fill [] = refl
-fates_fill (f ∷ fs) = omega (arith, fates_fill fs, one_fate f, sum_by-cons (λ x. cond (is_sent x) 1 0) f fs, sum_by-cons (λ x. cond (is_overwritten x) 1 0) f fs, sum_by-cons (λ x. cond (is_pending x) 1 0) f fs)
+fates_fill (f ∷ fs) =
+    omega (arith, fates_fill fs, one_fate f, sum_by-cons (λ x. cond (is_sent x) 1 0) f fs, sum_by-cons (λ x. cond (is_overwritten x) 1 0) f fs, sum_by-cons (λ x. cond (is_pending x) 1 0) f fs, sum_by-cons (λ x. cond (is_withdrawn x) 1 0) f fs)
 
-pub after_commit-counts : (fs : List Fate) → (count_by is_sent (map after_commit fs) ≡ count_by is_sent fs)
-    × (count_by is_overwritten (map after_commit fs) ≡ count_by is_overwritten fs + count_by is_pending fs) × (count_by is_pending (map after_commit fs) ≡ 0)
-after_commit-counts [] = (refl, refl, refl)
-after_commit-counts (f ∷ fs) =
-    let more = after_commit-counts fs in
-    let here : (digit (is_sent (after_commit f)) ≡ digit (is_sent f)) × (digit (is_overwritten (after_commit f)) ≡ digit (is_overwritten f) + digit (is_pending f)) × (digit (is_pending (after_commit f)) ≡ 0) = one f in (
-      omega (arith, more.0, here.0, sum_by-cons (λ x. cond (is_sent x) 1 0) f fs, sum_by-cons (λ x. cond (is_sent x) 1 0) (after_commit f) (map after_commit fs)),
-      omega (arith, more.1, here.1, sum_by-cons (λ x. cond (is_overwritten x) 1 0) f fs, sum_by-cons (λ x. cond (is_pending x) 1 0) f fs, sum_by-cons (λ x. cond (is_overwritten x) 1 0) (after_commit f) (map after_commit fs)),
-      omega (arith, more.2, here.2, sum_by-cons (λ x. cond (is_pending x) 1 0) (after_commit f) (map after_commit fs)),
-    )
-  where
-    one : (f : Fate) → (digit (is_sent (after_commit f)) ≡ digit (is_sent f)) × (digit (is_overwritten (after_commit f)) ≡ digit (is_overwritten f) + digit (is_pending f)) × (digit (is_pending (after_commit f)) ≡ 0)
-    one Sent = (refl, refl, refl)
-    one Overwritten = (refl, refl, refl)
-    one Pending = (refl, refl, refl)
+-- one more of them, under a change of all
+counted : (p : Fate → Bool) (g : Fate → Fate) (f : Fate) (fs : List Fate) → count_by p (map g (f ∷ fs)) ≡ digit (p (g f)) + count_by p (map g fs)
+counted p g f fs = sum_by-cons (λ x. cond (p x) 1 0) (g f) (map g fs)
 
-pub after_fetch-counts : (t : Bool) (fs : List Fate) → (count_by is_sent (map (after_fetch t) fs) ≡ count_by is_sent fs + cond t (count_by is_pending fs) 0)
-    × (count_by is_overwritten (map (after_fetch t) fs) ≡ count_by is_overwritten fs) × (count_by is_pending (map (after_fetch t) fs) ≡ cond t 0 (count_by is_pending fs))
-after_fetch-counts true [] = (refl, refl, refl)
-after_fetch-counts false [] = (refl, refl, refl)
-after_fetch-counts true (f ∷ fs) =
-    let more = after_fetch-counts true fs in
-    let here : (digit (is_sent (after_fetch true f)) ≡ digit (is_sent f) + digit (is_pending f)) × (digit (is_overwritten (after_fetch true f)) ≡ digit (is_overwritten f)) × (digit (is_pending (after_fetch true f)) ≡ 0) = one f in (
-      omega (arith, more.0, here.0, sum_by-cons (λ x. cond (is_sent x) 1 0) f fs, sum_by-cons (λ x. cond (is_pending x) 1 0) f fs, sum_by-cons (λ x. cond (is_sent x) 1 0) (after_fetch true f) (map (after_fetch true) fs)),
-      omega (arith, more.1, here.1, sum_by-cons (λ x. cond (is_overwritten x) 1 0) f fs, sum_by-cons (λ x. cond (is_overwritten x) 1 0) (after_fetch true f) (map (after_fetch true) fs)),
-      omega (arith, more.2, here.2, sum_by-cons (λ x. cond (is_pending x) 1 0) (after_fetch true f) (map (after_fetch true) fs)),
-    )
-  where
-    one : (f : Fate) → (digit (is_sent (after_fetch true f)) ≡ digit (is_sent f) + digit (is_pending f)) × (digit (is_overwritten (after_fetch true f)) ≡ digit (is_overwritten f)) × (digit (is_pending (after_fetch true f)) ≡ 0)
-    one Sent = (refl, refl, refl)
-    one Overwritten = (refl, refl, refl)
-    one Pending = (refl, refl, refl)
-after_fetch-counts false (f ∷ fs) =
-    let more = after_fetch-counts false fs in (
-      omega (arith, more.0, sum_by-cons (λ x. cond (is_sent x) 1 0) f fs, sum_by-cons (λ x. cond (is_sent x) 1 0) f (map (after_fetch false) fs)),
-      omega (arith, more.1, sum_by-cons (λ x. cond (is_overwritten x) 1 0) f fs, sum_by-cons (λ x. cond (is_overwritten x) 1 0) f (map (after_fetch false) fs)),
-      omega (arith, more.2, sum_by-cons (λ x. cond (is_pending x) 1 0) f fs, sum_by-cons (λ x. cond (is_pending x) 1 0) f (map (after_fetch false) fs)),
-    )
+one_more : (p : Fate → Bool) (f : Fate) (fs : List Fate) → count_by p (f ∷ fs) ≡ digit (p f) + count_by p fs
+one_more p f fs = sum_by-cons (λ x. cond (p x) 1 0) f fs
+
+-- what becomes of the counts of some fates
+pub record Moved (fs gs : List Fate) (sent withdrawn overwritten left : ℕ) : Type 0 where
+  pub sent_is : count_by is_sent gs ≡ count_by is_sent fs + sent
+  pub withdrawn_is : count_by is_withdrawn gs ≡ count_by is_withdrawn fs + withdrawn
+  pub overwritten_is : count_by is_overwritten gs ≡ count_by is_overwritten fs + overwritten
+  pub pending_is : count_by is_pending gs ≡ left
+
+one_moved : {sent withdrawn overwritten left sent_now withdrawn_now overwritten_now left_now : ℕ} (g : Fate → Fate) (f : Fate) (fs : List Fate)
+    → digit (is_sent (g f)) + sent ≡ digit (is_sent f) + sent_now → digit (is_withdrawn (g f)) + withdrawn ≡ digit (is_withdrawn f) + withdrawn_now
+    → digit (is_overwritten (g f)) + overwritten ≡ digit (is_overwritten f) + overwritten_now → digit (is_pending (g f)) + left ≡ left_now
+    → Moved fs (map g fs) sent withdrawn overwritten left → Moved (f ∷ fs) (map g (f ∷ fs)) sent_now withdrawn_now overwritten_now left_now
+one_moved g f fs s w o p more = record {
+  sent_is = omega (arith, more.sent_is, s, counted is_sent g f fs, one_more is_sent f fs);
+  withdrawn_is = omega (arith, more.withdrawn_is, w, counted is_withdrawn g f fs, one_more is_withdrawn f fs);
+  overwritten_is = omega (arith, more.overwritten_is, o, counted is_overwritten g f fs, one_more is_overwritten f fs);
+  pending_is = omega (arith, more.pending_is, p, counted is_pending g f fs);
+}
+
+none_moved : Moved [] [] 0 0 0 0
+none_moved = record { sent_is = refl; withdrawn_is = refl; overwritten_is = refl; pending_is = refl }
+
+pub after_commit-counts : (fs : List Fate) → Moved fs (map after_commit fs) 0 0 (count_by is_pending fs) 0
+after_commit-counts [] = none_moved
+after_commit-counts (Sent ∷ fs) = one_moved after_commit Sent fs refl refl (omega (arith, one_more is_pending Sent fs)) refl (after_commit-counts fs)
+after_commit-counts (Withdrawn ∷ fs) = one_moved after_commit Withdrawn fs refl refl (omega (arith, one_more is_pending Withdrawn fs)) refl (after_commit-counts fs)
+after_commit-counts (Overwritten ∷ fs) = one_moved after_commit Overwritten fs refl refl (omega (arith, one_more is_pending Overwritten fs)) refl (after_commit-counts fs)
+after_commit-counts (Pending ∷ fs) = one_moved after_commit Pending fs refl refl (omega (arith, one_more is_pending Pending fs)) refl (after_commit-counts fs)
+
+-- an entry that sends the last one
+pub sending-counts : (u : Bool) (fs : List Fate) → Moved fs (map (after_other true u) fs) (count_by is_pending fs) 0 0 0
+sending-counts u [] = none_moved
+sending-counts u (Sent ∷ fs) = one_moved (after_other true u) Sent fs (omega (arith, one_more is_pending Sent fs)) refl refl refl (sending-counts u fs)
+sending-counts u (Withdrawn ∷ fs) = one_moved (after_other true u) Withdrawn fs (omega (arith, one_more is_pending Withdrawn fs)) refl refl refl (sending-counts u fs)
+sending-counts u (Overwritten ∷ fs) = one_moved (after_other true u) Overwritten fs (omega (arith, one_more is_pending Overwritten fs)) refl refl refl (sending-counts u fs)
+sending-counts u (Pending ∷ fs) = one_moved (after_other true u) Pending fs (omega (arith, one_more is_pending Pending fs)) refl refl refl (sending-counts u fs)
+
+-- one that takes the last one back
+pub withdrawing-counts : (fs : List Fate) → Moved fs (map (after_other false true) fs) 0 (count_by is_pending fs) 0 0
+withdrawing-counts [] = none_moved
+withdrawing-counts (Sent ∷ fs) = one_moved (after_other false true) Sent fs refl (omega (arith, one_more is_pending Sent fs)) refl refl (withdrawing-counts fs)
+withdrawing-counts (Withdrawn ∷ fs) = one_moved (after_other false true) Withdrawn fs refl (omega (arith, one_more is_pending Withdrawn fs)) refl refl (withdrawing-counts fs)
+withdrawing-counts (Overwritten ∷ fs) = one_moved (after_other false true) Overwritten fs refl (omega (arith, one_more is_pending Overwritten fs)) refl refl (withdrawing-counts fs)
+withdrawing-counts (Pending ∷ fs) = one_moved (after_other false true) Pending fs refl (omega (arith, one_more is_pending Pending fs)) refl refl (withdrawing-counts fs)
+
+-- one that does neither
+pub same_fate : (f : Fate) → after_other false false f ≡ f
+same_fate Sent = refl
+same_fate Withdrawn = refl
+same_fate Overwritten = refl
+same_fate Pending = refl
+
+pub same_fates : (fs : List Fate) → map (after_other false false) fs ≡ fs
+same_fates [] = refl
+same_fates (f ∷ fs) = λ i. same_fate f i ∷ same_fates fs i
 
 -- ---- of the commits on a buffer the last one alone may be pending
 
@@ -77,9 +102,10 @@ fates_from-none buffer n (x ∷ xs) h =
     ap (λ (b : Bool). cond b (fate_of buffer n xs ∷ []) [] ++ fates_from buffer (n + 1) xs) parts.0 ∙ fates_from-none buffer (n + 1) xs parts.1
 
 -- a commit that another one follows
-followed : (sent : Bool) → is_pending (fate_by sent true) ≡ false
-followed true = refl
-followed false = refl
+followed : (sent withdrawn : Bool) → is_pending (fate_by sent withdrawn true) ≡ false
+followed true withdrawn = refl
+followed false true = refl
+followed false false = refl
 
 counted_here : (b : Bool) (f : Fate) → count_by is_pending (cond b (f ∷ []) []) ≡ digit (b && is_pending f)
 counted_here true f = omega (arith, sum_by-cons (λ x. cond (is_pending x) 1 0) f [])
@@ -146,7 +172,8 @@ pending_later : (buffer : ℕ) (before : List Entry) (x : Entry) (xs : List Entr
     → count_by is_pending (fates_from buffer (length before) (x ∷ xs)) ≡ digit (pending_at buffer (length before) (x ∷ xs) (option_or (last_after (commit_on buffer) (before ++ x ∷ []) xs) (commit_on buffer before x)))
 pending_later buffer before x xs more rest =
     let sent : Bool = list_any (sends (length before)) xs in
-    let over : is_pending (fate_of buffer (length before) xs) ≡ false = ap (λ (b : Bool). is_pending (fate_by sent b)) more ∙ followed sent in
+    let taken : Bool = list_any (takes_back (length before)) xs in
+    let over : is_pending (fate_of buffer (length before) xs) ≡ false = ap (λ (b : Bool). is_pending (fate_by sent taken b)) more ∙ followed sent taken in
     let here : digit (is_commit_on buffer x && is_pending (fate_of buffer (length before) xs)) ≡ 0 = ap (λ (b : Bool). digit (is_commit_on buffer x && b)) over ∙ ap digit (and-false (is_commit_on buffer x)) in
     let right : digit (pending_at buffer (length before) (x ∷ xs) (option_or (last_after (commit_on buffer) (before ++ x ∷ []) xs) (commit_on buffer before x))) ≡ digit (pending_at buffer (length (before ++ x ∷ [])) xs (last_after (commit_on buffer) (before ++ x ∷ []) xs)) =
     ap digit (at_later buffer before x xs (last_after (commit_on buffer) (before ++ x ∷ []) xs) (commit_on buffer before x) (last-some buffer (before ++ x ∷ []) xs more)) in
@@ -177,3 +204,18 @@ pending_commit-counts buffer xs = counted (last_commit buffer xs) (pending-from 
   where
     counted : (o : Option ℕ) → count_by is_pending (fates buffer xs) ≡ digit (pending_at buffer 0 xs o) → cond (eqb (count_by is_pending (fates buffer xs)) 1) o None ≡ option_and_then (if_pending buffer xs) o
     counted o is = ap (λ (n : ℕ). cond (eqb n 1) o None) is ∙ chosen buffer xs o
+
+-- so the tally tells whether there is a pending commit
+pub pending-one : (buffer : ℕ) (xs : List Entry) → count_by is_pending (fates buffer xs) ≡ digit (is_some (pending_commit buffer xs))
+unfolding pending_at
+pending-one buffer xs = found (last_commit buffer xs) (pending-from buffer [] xs)
+  where
+    by_test : (b : Bool) (k : ℕ) → digit b ≡ digit (is_some (cond {A = Option ℕ} b (Some k) None))
+    by_test true k = refl
+    by_test false k = refl
+
+    found : (o : Option ℕ) → count_by is_pending (fates buffer xs) ≡ digit (pending_at buffer 0 xs o) → count_by is_pending (fates buffer xs) ≡ digit (is_some (option_and_then (if_pending buffer xs) o))
+    found None is = is
+    found (Some k) is =
+        let place : k + 1 - 0 ≡ k + 1 = omega arith in
+        is ∙ ap (λ (n : ℕ). digit (is_pending (fate_of buffer k (drop n xs)))) place ∙ by_test (is_pending (fate_of buffer k (drop (k + 1) xs))) k

@@ -7,13 +7,13 @@ use Rattle.fr_frame.specs.Decoding.{decoded}
 use Rattle.fr_frame.specs.Encoding.{encoded}
 use Rattle.fr_frame.specs.Spelling.{covered, header}
 use Rattle.fr_journal.specs.declared.entry.Entry.{Entry}
-use Rattle.fr_journal.specs.declared.entry.Entry.TheVariants.{Commit, Pop, Fetch, Observe}
+use Rattle.fr_journal.specs.declared.entry.Entry.TheVariants.{Commit, Withdraw, Pop, Fetch, Observe}
 use Rattle.fr_journal.specs.declared.entry.Offered.{Offered}
 use Rattle.fr_journal.specs.declared.entry.Offered.TheVariants.{Nothing, Null, Data}
 use Rattle.fr_journal.specs.declared.entry.Origin.{Origin}
 use Rattle.fr_journal.specs.declared.fate.Tally.{Tally}
 use Rattle.fr_journal.specs.Arrivals.{moves, oldest, queue_length, queue_lost}
-use Rattle.fr_journal.specs.Fate.{fates_from, tally_of}
+use Rattle.fr_journal.specs.Fate.{fates_from, tally_of, held_commit, pending_commit}
 use Rattle.fr_journal.specs.Held.{held, origin_of}
 use Rattle.fr_journal.specs.Offers.{offered, frame_offered}
 use Rattle.fr_slots.specs.Admission.{CycleClass}
@@ -53,7 +53,7 @@ plan_with latest owned buffers queue = plan_for latest 0 owned buffers queue
 -- static slot 1 on both channels, and a transmit buffer for it
 abbrev sender : Mode → Plan
 sender mode =
-    plan_with 0 (record { slot = 1; channels = channels.Both; sync = false; startup = false } ∷ [])
+    plan_with 0 (record { slot = 1; channels = channels.Both; cycles = every_cycle; sync = false; startup = false } ∷ [])
     (record { mode = mode; filter = slot_on 1 channels.Both; words = None; preamble = false } ∷ []) None
 
 -- what is offered in slot 1 of a cycle, on both channels
@@ -75,7 +75,7 @@ abbrev all_fetched : List Entry
 all_fetched = three_commits ++ Observe 0 Silence Silence ∷ Fetch (static_window 1 1 1) (Data 3) (Data 3) ∷ Observe 1 Silence Silence ∷ []
 
 abbrev tally : ℕ → ℕ → ℕ → ℕ → Tally
-tally committed sent overwritten pending = record { committed = committed; sent = sent; overwritten = overwritten; pending = pending }
+tally committed sent overwritten pending = record { committed = committed; sent = sent; overwritten = overwritten; pending = pending; withdrawn = 0 }
 
 -- one commit, fetched at once
 abbrev one_fetched : List Entry
@@ -95,6 +95,36 @@ a_state_commit_is_offered_again = (refl, refl, refl)
 pub both_channels_send_one_commit : (tally_of 0 two_commits ≡ tally 2 0 1 1) × (tally_of 0 three_commits ≡ tally 3 1 1 1) × (tally_of 0 all_fetched ≡ tally 3 2 1 0) × (tally_of 0 (all_fetched ++ Fetch (static_window 2 2 1) (Data 3) (Data 3) ∷ []) ≡ tally 3 2 1 0)
 unfolding fates_from
 both_channels_send_one_commit = (refl, refl, refl, refl)
+
+-- ---- withdraws
+
+-- a commit that is taken back before its slot, and one that is overwritten and then sent
+abbrev taken_back : List Entry
+taken_back = Commit 0 0 (0 ∷ 1 ∷ []) ∷ Withdraw 0 0 (Some 0) ∷ Fetch (static_window 0 0 1) Null Nothing ∷ Observe 0 Silence Silence ∷ []
+
+abbrev replaced_then_sent : List Entry
+replaced_then_sent = taken_back ++ Withdraw 0 0 None ∷ Commit 0 0 (0 ∷ 2 ∷ []) ∷ Commit 0 0 (0 ∷ 3 ∷ []) ∷ []
+
+abbrev sent_then_nothing : List Entry
+sent_then_nothing = replaced_then_sent ++ Fetch (static_window 1 1 1) (Data 6) Nothing ∷ Withdraw 0 0 None ∷ Observe 1 Silence Silence ∷ []
+
+-- a withdraw takes a pending commit back and finds none in a buffer that is empty or has sent its commit
+pub a_withdraw_takes_back_what_is_pending : (pending_commit 0 (Commit 0 0 (0 ∷ 1 ∷ []) ∷ []) ≡ Some 0) × (pending_commit 0 taken_back ≡ None) × (pending_commit 0 replaced_then_sent ≡ Some 6) × (pending_commit 0 sent_then_nothing ≡ None)
+    × (tally_of 0 sent_then_nothing ≡ record { committed = 3; sent = 1; overwritten = 1; pending = 0; withdrawn = 1 })
+unfolding last_after fates_from
+a_withdraw_takes_back_what_is_pending = (refl, refl, refl, refl, refl)
+
+-- in state mode: one commit is sent, the next one taken back, and the first doesn't come back
+abbrev sent_once : List Entry
+sent_once = Commit 0 0 (0 ∷ 1 ∷ []) ∷ Fetch (static_window 0 0 1) (Data 0) (Data 0) ∷ Observe 0 Silence Silence ∷ Withdraw 0 0 None ∷ []
+
+abbrev emptied : List Entry
+emptied = sent_once ++ Commit 0 0 (0 ∷ 2 ∷ []) ∷ Withdraw 0 0 (Some 4) ∷ []
+
+pub a_state_buffer_is_empty_after_a_withdraw : (offers_in State sent_once 1 ≡ (Data 0, Data 0)) × (offers_in State emptied 1 ≡ (Null, Null)) × (held_commit 0 sent_once ≡ Some 0) × (held_commit 0 emptied ≡ None)
+    × (tally_of 0 (emptied ++ Fetch (static_window 1 1 1) Null Null ∷ []) ≡ record { committed = 2; sent = 1; overwritten = 0; pending = 0; withdrawn = 1 })
+unfolding last_after fates_from
+a_state_buffer_is_empty_after_a_withdraw = (refl, refl, refl, refl, refl)
 
 -- ---- the latest minislot
 
@@ -167,7 +197,7 @@ channel_a_comes_first = (refl, refl, refl, refl)
 -- slot 6, whose frames have the preamble indicator.
 abbrev sync_sender : Plan
 sync_sender =
-    plan_for 4 4 (record { slot = 3; channels = channels.Both; sync = true; startup = true } ∷ [])
+    plan_for 4 4 (record { slot = 3; channels = channels.Both; cycles = every_cycle; sync = true; startup = true } ∷ [])
     (record { mode = State; filter = slot_on 3 channels.Both; words = None; preamble = true }
     ∷ record { mode = State; filter = slot_on 6 channels.B; words = Some 2; preamble = true }
     ∷ [])

@@ -4,7 +4,7 @@ use Rattle.std.specs.Prelude.{None, is_some, if◌then◌else◌, option_map, co
 use Rattle.std.specs.List.{fold, list_any}
 use Rattle.fr_journal.specs.declared.entry.Arrival.{Arrival}
 use Rattle.fr_journal.specs.declared.entry.Entry.{Entry}
-use Rattle.fr_journal.specs.declared.entry.Entry.TheVariants.{Commit, Read, Pop, Fetch, Observe}
+use Rattle.fr_journal.specs.declared.entry.Entry.TheVariants.{Commit, Withdraw, Read, Pop, Fetch, Observe}
 use Rattle.fr_journal.specs.Held.{data_frame_seen, arrival_of}
 use Rattle.fr_journal.specs.OpenWindow.{open_window}
 use Rattle.fr_slots.specs.declared.channel.Channel.{Channel}
@@ -54,6 +54,7 @@ arrive_all (arrival ∷ arrivals) = arrives arrival ∷ arrive_all arrivals
 
 abbrev pub moves_at : Parameters → Plan → Queue → List Entry → Entry → List Move
 moves_at params plan q before (Commit task buffer payload) = []
+moves_at params plan q before (Withdraw task buffer of) = []
 moves_at params plan q before (Read task buffer from) = []
 moves_at params plan q before (Pop task from) = pops ∷ []
 moves_at params plan q before (Fetch window a b) = []
@@ -91,6 +92,7 @@ oldest capacity moves = slice_get (queue_content capacity moves) 0
 
 abbrev pub is_answered_pop : Entry → Bool
 is_answered_pop (Commit task buffer payload) = false
+is_answered_pop (Withdraw task buffer of) = false
 is_answered_pop (Read task buffer from) = false
 is_answered_pop (Pop task from) = is_some from
 is_answered_pop (Fetch window a b) = false

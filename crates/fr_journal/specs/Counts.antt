@@ -1,7 +1,7 @@
 -- The status counters of a channel: how many observed windows had each bit there (chapter 6).
 use Rattle.std.specs.Prelude.{ℕ, Bool, false, List, [], ◌∷◌, Option, Some, None}
 use Rattle.fr_journal.specs.declared.entry.Entry.{Entry}
-use Rattle.fr_journal.specs.declared.entry.Entry.TheVariants.{Commit, Read, Pop, Fetch, Observe}
+use Rattle.fr_journal.specs.declared.entry.Entry.TheVariants.{Commit, Withdraw, Read, Pop, Fetch, Observe}
 use Rattle.fr_journal.specs.OpenWindow.{open_window}
 use Rattle.fr_slots.specs.declared.channel.Channel.{Channel}
 use Rattle.fr_slots.specs.declared.channel.Channel.TheVariants as channel
@@ -29,6 +29,7 @@ bit_in bit params channel a b (Some window) =
 
 abbrev pub has_bit : (SlotStatus → Bool) → Parameters → Channel → List Entry → Entry → Bool
 has_bit bit params channel before (Commit task buffer payload) = false
+has_bit bit params channel before (Withdraw task buffer of) = false
 has_bit bit params channel before (Read task buffer from) = false
 has_bit bit params channel before (Pop task from) = false
 has_bit bit params channel before (Fetch window a b) = false

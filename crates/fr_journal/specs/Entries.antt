@@ -1,8 +1,9 @@
 -- Which entries are of the host, and which numbers and bytes an entry may have.
 use Rattle.std.specs.Prelude.{ℕ, ◌<◌, ◌≤◌, ◌^◌, Bool, true, false, not, List, length, slice_index, Option, Some, None}
+use Rattle.std.specs.Prelude.{IfSome}
 use Rattle.fr_frame.specs.Payload.{IsPayload, most_frame_bytes}
 use Rattle.fr_journal.specs.declared.entry.Entry.{Entry}
-use Rattle.fr_journal.specs.declared.entry.Entry.TheVariants.{Commit, Read, Pop, Fetch, Observe}
+use Rattle.fr_journal.specs.declared.entry.Entry.TheVariants.{Commit, Withdraw, Read, Pop, Fetch, Observe}
 use Rattle.fr_journal.specs.declared.entry.Offered.{Offered}
 use Rattle.fr_journal.specs.declared.entry.Offered.TheVariants as offered
 use Rattle.fr_journal.specs.declared.entry.Origin.{Origin}
@@ -14,6 +15,7 @@ use Rattle.fr_status.specs.declared.seen.Seen.TheVariants as seen
 
 abbrev pub is_host : Entry → Bool
 is_host (Commit task buffer payload) = true
+is_host (Withdraw task buffer of) = true
 is_host (Read task buffer from) = true
 is_host (Pop task from) = true
 is_host (Fetch window a b) = false
@@ -53,6 +55,7 @@ pub record IsFetched (window : Opportunity) (a b : Offered) : Type 0 where
 -- the numbers and bytes of an entry are those that its parts can have
 abbrev pub IsEntry : Entry → Type 0
 IsEntry (Commit task buffer payload) = (task < 8) × (buffer < 256) × IsPayload payload × AreBytes payload
+IsEntry (Withdraw task buffer of) = (task < 8) × (buffer < 256) × IfSome of (λ commit. commit < 2 ^ 32)
 IsEntry (Read task buffer from) = (task < 8) × (buffer < 256) × IsOrigin from
 IsEntry (Pop task from) = (task < 8) × IsOrigin from
 IsEntry (Fetch window a b) = IsFetched window a b

@@ -4,11 +4,11 @@ use Rattle.std.specs.Prelude.{None, if◌then◌else◌, count_by}
 use Rattle.std.specs.List.{list_any}
 use Rattle.std.specs.Option.{option_and_then}
 use Rattle.fr_journal.specs.declared.entry.Entry.{Entry}
-use Rattle.fr_journal.specs.declared.entry.Entry.TheVariants.{Commit, Read, Pop, Fetch, Observe}
+use Rattle.fr_journal.specs.declared.entry.Entry.TheVariants.{Commit, Withdraw, Read, Pop, Fetch, Observe}
 use Rattle.fr_journal.specs.declared.entry.Offered.{Offered}
 use Rattle.fr_journal.specs.declared.entry.Offered.TheVariants.{Nothing, Null, Data}
 use Rattle.fr_journal.specs.declared.fate.Fate.{Fate}
-use Rattle.fr_journal.specs.declared.fate.Fate.TheVariants.{Sent, Overwritten, Pending}
+use Rattle.fr_journal.specs.declared.fate.Fate.TheVariants.{Sent, Withdrawn, Overwritten, Pending}
 use Rattle.fr_journal.specs.declared.fate.Tally.{Tally}
 use Rattle.fr_slots.specs.History.{last_after}
 
@@ -16,6 +16,7 @@ use Rattle.fr_slots.specs.History.{last_after}
 
 abbrev pub is_commit_on : ℕ → Entry → Bool
 is_commit_on buffer (Commit task b payload) = b == buffer
+is_commit_on buffer (Withdraw task b of) = false
 is_commit_on buffer (Read task b from) = false
 is_commit_on buffer (Pop task from) = false
 is_commit_on buffer (Fetch window a b) = false
@@ -42,16 +43,31 @@ is_data_of commit (Data entry) = entry == commit
 -- a fetch that hands this commit to the bus, on one channel or on both
 abbrev pub sends : ℕ → Entry → Bool
 sends commit (Commit task buffer payload) = false
+sends commit (Withdraw task buffer of) = false
 sends commit (Read task buffer from) = false
 sends commit (Pop task from) = false
 sends commit (Fetch window a b) = is_data_of commit a || is_data_of commit b
 sends commit (Observe window a b) = false
 
--- A commit is sent where a later fetch hands it to the bus; else it is overwritten where a later commit on its buffer
--- stands; else it is pending.
+abbrev pub is_number : ℕ → Option ℕ → Bool
+is_number commit None = false
+is_number commit (Some entry) = entry == commit
+
+-- a withdraw that found this commit pending
+abbrev pub takes_back : ℕ → Entry → Bool
+takes_back commit (Commit task buffer payload) = false
+takes_back commit (Withdraw task buffer of) = is_number commit of
+takes_back commit (Read task buffer from) = false
+takes_back commit (Pop task from) = false
+takes_back commit (Fetch window a b) = false
+takes_back commit (Observe window a b) = false
+
+-- A commit is sent where a later fetch hands it to the bus; else it is withdrawn where a later withdraw takes it back;
+-- else it is overwritten where a later commit on its buffer stands; else it is pending.
 abbrev pub fate_of : ℕ → ℕ → List Entry → Fate
 fate_of buffer commit later =
     if list_any (sends commit) later then Sent
+    else if list_any (takes_back commit) later then Withdrawn
     else if list_any (is_commit_on buffer) later then Overwritten
     else Pending
 
@@ -66,16 +82,25 @@ fates buffer entries = fates_from buffer 0 entries
 
 abbrev pub is_sent : Fate → Bool
 is_sent Sent = true
+is_sent Withdrawn = false
 is_sent Overwritten = false
 is_sent Pending = false
 
+abbrev pub is_withdrawn : Fate → Bool
+is_withdrawn Sent = false
+is_withdrawn Withdrawn = true
+is_withdrawn Overwritten = false
+is_withdrawn Pending = false
+
 abbrev pub is_overwritten : Fate → Bool
 is_overwritten Sent = false
+is_overwritten Withdrawn = false
 is_overwritten Overwritten = true
 is_overwritten Pending = false
 
 abbrev pub is_pending : Fate → Bool
 is_pending Sent = false
+is_pending Withdrawn = false
 is_pending Overwritten = false
 is_pending Pending = true
 
@@ -86,6 +111,7 @@ tally_of buffer entries = record {
   sent = count_by is_sent (fates buffer entries);
   overwritten = count_by is_overwritten (fates buffer entries);
   pending = count_by is_pending (fates buffer entries);
+  withdrawn = count_by is_withdrawn (fates buffer entries);
 }
 
 -- ---- the last commit, where it is pending
@@ -96,3 +122,14 @@ if_pending buffer entries commit = if is_pending (fate_of buffer commit (drop (c
 
 abbrev pub pending_commit : ℕ → List Entry → Option ℕ
 pending_commit buffer entries = option_and_then (if_pending buffer entries) (last_commit buffer entries)
+
+-- ---- the commit that a buffer holds
+
+abbrev pub unless_withdrawn : ℕ → List Entry → ℕ → Option ℕ
+unless_withdrawn buffer entries commit = if is_withdrawn (fate_of buffer commit (drop (commit + 1) entries)) then None
+    else Some commit
+
+-- A transmit buffer holds its last commit, sent or not, unless that is withdrawn: then it is empty, and no earlier one
+-- comes back.
+abbrev pub held_commit : ℕ → List Entry → Option ℕ
+held_commit buffer entries = option_and_then (unless_withdrawn buffer entries) (last_commit buffer entries)

@@ -7,7 +7,7 @@ use Rattle.fr_frame.specs.Fields.{Fields}
 use Rattle.fr_journal.specs.Counts.{seen_on}
 use Rattle.fr_journal.specs.declared.entry.Arrival.{Arrival}
 use Rattle.fr_journal.specs.declared.entry.Entry.{Entry}
-use Rattle.fr_journal.specs.declared.entry.Entry.TheVariants.{Commit, Read, Pop, Fetch, Observe}
+use Rattle.fr_journal.specs.declared.entry.Entry.TheVariants.{Commit, Withdraw, Read, Pop, Fetch, Observe}
 use Rattle.fr_journal.specs.declared.entry.Origin.{Origin}
 use Rattle.fr_slots.specs.Plans.{admits_window}
 use Rattle.fr_journal.specs.OpenWindow.{open_window}
@@ -48,6 +48,7 @@ arrival_in params filter number a b window =
 -- what the entry of this number brings, where this window is open before it
 abbrev pub arrival_by : Parameters → Filter → ℕ → Option Opportunity → Entry → Option Arrival
 arrival_by params filter number window (Commit task buffer payload) = None
+arrival_by params filter number window (Withdraw task buffer of) = None
 arrival_by params filter number window (Read task buffer from) = None
 arrival_by params filter number window (Pop task from) = None
 arrival_by params filter number window (Fetch w a b) = None
@@ -75,6 +76,7 @@ IsReceivable f = (f.has_data ≡ true) × IsSlot f.id
 -- what an entry tells of a frame on a channel, where this window is open before it
 abbrev pub frame_in_entry : Parameters → Channel → Option Opportunity → Entry → Option Fields
 frame_in_entry params channel window (Commit task buffer payload) = None
+frame_in_entry params channel window (Withdraw task buffer of) = None
 frame_in_entry params channel window (Read task buffer from) = None
 frame_in_entry params channel window (Pop task from) = None
 frame_in_entry params channel window (Fetch w a b) = None

@@ -3,10 +3,11 @@ use Rattle.std.specs.Prelude.{◌≡◌, ℕ, ◌+◌, ◌*◌, ◌≤◌, ◌<�
 use Rattle.std.specs.Prelude.{IsSomeAnd, option_map}
 use Rattle.fr_journal.specs.Arrivals.{moves, oldest}
 use Rattle.fr_journal.specs.declared.entry.Entry.{Entry}
-use Rattle.fr_journal.specs.declared.entry.Entry.TheVariants.{Commit, Read, Pop, Fetch, Observe}
+use Rattle.fr_journal.specs.declared.entry.Entry.TheVariants.{Commit, Withdraw, Read, Pop, Fetch, Observe}
 use Rattle.fr_journal.specs.declared.entry.Offered.{Offered}
 use Rattle.fr_journal.specs.declared.entry.Origin.{Origin}
 use Rattle.fr_journal.specs.Entries.{is_host, is_slot, IsEntry}
+use Rattle.fr_journal.specs.Fate.{pending_commit}
 use Rattle.fr_journal.specs.Held.{held, origin_of}
 use Rattle.fr_journal.specs.Offers.{offered}
 use Rattle.fr_journal.specs.OpenWindow.{open_window, last_number}
@@ -25,6 +26,13 @@ pub record IsLegalCommit (params : Parameters) (plan : Plan) (before : List Entr
   pub task_is : task < plan.tasks
   pub transmits : IsSomeAnd (buffer_at plan buffer) (λ b. (is_receive b.mode ≡ false)
       × (length payload ≡ 2 * words_of params b))
+  pub room : count_by is_host before < plan.host_entries
+
+-- what is taken back is the buffer's last commit, where that is pending
+pub record IsLegalWithdraw (plan : Plan) (before : List Entry) (task buffer : ℕ) (of : Option ℕ) : Type 0 where
+  pub task_is : task < plan.tasks
+  pub transmits : IsSomeAnd (buffer_at plan buffer) (λ b. is_receive b.mode ≡ false)
+  pub found : of ≡ pending_commit buffer before
   pub room : count_by is_host before < plan.host_entries
 
 pub record IsLegalRead (params : Parameters) (plan : Plan) (before : List Entry) (task buffer : ℕ)
@@ -60,6 +68,7 @@ IsLegalObserve before window = IsSomeAnd (open_window before) (λ w. w.number �
 -- an entry is legal after those before it
 abbrev pub IsLegal : Parameters → Plan → List Entry → Entry → Type 0
 IsLegal params plan before (Commit task buffer payload) = IsLegalCommit params plan before task buffer payload
+IsLegal params plan before (Withdraw task buffer of) = IsLegalWithdraw plan before task buffer of
 IsLegal params plan before (Read task buffer from) = IsLegalRead params plan before task buffer from
 IsLegal params plan before (Pop task from) = IsLegalPop params plan before task from
 IsLegal params plan before (Fetch window a b) = IsLegalFetch params plan before window a b

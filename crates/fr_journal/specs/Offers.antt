@@ -1,4 +1,5 @@
--- What a node offers in a window, decided by the entries before the fetch (chapter 5; the modes are own profile).
+-- What a node offers in a window, decided by the entries before the fetch (chapter 5; the modes, and that nodes divide
+-- a static slot by cycles, are own profile).
 use Rattle.std.specs.Prelude.{ℕ, ◌*◌, nat_le, Bool, true, false, ◌&&◌, ◌||◌, List, [], replicate, slice_get, Option}
 use Rattle.std.specs.Prelude.{Some, None, is_some, option_map, if◌then◌else◌}
 use Rattle.std.specs.List.{position}
@@ -11,7 +12,7 @@ use Rattle.fr_journal.specs.declared.entry.Entry.{Entry}
 use Rattle.fr_journal.specs.declared.entry.Entry.TheVariants.{Commit}
 use Rattle.fr_journal.specs.declared.entry.Offered.{Offered}
 use Rattle.fr_journal.specs.declared.entry.Offered.TheVariants.{Nothing, Null, Data}
-use Rattle.fr_journal.specs.Fate.{last_commit, pending_commit}
+use Rattle.fr_journal.specs.Fate.{held_commit, pending_commit}
 use Rattle.fr_slots.specs.declared.channel.Channel.{Channel}
 use Rattle.fr_slots.specs.declared.plan.Buffer.{Buffer}
 use Rattle.fr_slots.specs.declared.plan.Mode.{Mode}
@@ -38,10 +39,10 @@ may_begin plan window channel = is_static window || nat_le window.minislot (late
 
 -- ---- which commit
 
--- in event mode the last commit where it is pending, in state mode the last commit
+-- in event mode the last commit where it is pending, in state mode the last commit unless it is withdrawn
 abbrev pub ready : Mode → ℕ → List Entry → Option ℕ
 ready mode.Event buffer entries = pending_commit buffer entries
-ready mode.State buffer entries = last_commit buffer entries
+ready mode.State buffer entries = held_commit buffer entries
 ready mode.Receive buffer entries = None
 
 -- what the buffer of this number offers where it admits
@@ -55,13 +56,13 @@ commit_offered plan entries window channel =
 
 -- ---- the offer
 
--- the first ownership line for a slot on a channel
-abbrev pub ownership : List Own → ℕ → Channel → Option Own
-ownership owned slot channel = option_and_then (slice_get owned) (position (claims slot channel) owned)
+-- the first ownership line for a slot on a channel in a cycle
+abbrev pub ownership : List Own → ℕ → Channel → ℕ → Option Own
+ownership owned slot channel cycle = option_and_then (slice_get owned) (position (claims slot channel cycle) owned)
 
--- the ownership line for the slot of a static window; a dynamic slot has none
+-- the ownership line for the slot of a static window in its cycle; a dynamic slot has none
 abbrev pub line_of : Plan → Opportunity → Channel → ℕ → Option Own
-line_of plan window channel slot = if is_static window then ownership plan.owned slot channel else None
+line_of plan window channel slot = if is_static window then ownership plan.owned slot channel window.cycle else None
 
 abbrev pub owns : Plan → Opportunity → Channel → ℕ → Bool
 owns plan window channel slot = is_some (line_of plan window channel slot)
@@ -76,7 +77,7 @@ offered_at plan entries window channel (Some slot) =
     data_or (if owns plan window channel slot then Null else Nothing) (commit_offered plan entries window channel)
 
 -- What the node offers on a channel: nothing where the channel has no slot; the data of its admitting buffer where that
--- offers a commit; else a null frame in a static slot that it owns, and nothing elsewhere.
+-- offers a commit; else a null frame in a static slot that it owns in the cycle, and nothing elsewhere.
 abbrev pub offered : Plan → List Entry → Opportunity → Channel → Offered
 offered plan entries window channel = offered_at plan entries window channel (slot_of window channel)
 

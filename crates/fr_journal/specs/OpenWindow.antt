@@ -2,12 +2,13 @@
 use Rattle.std.specs.Prelude.{ℕ, List, [], Option, Some, None}
 use Rattle.std.specs.Option.{option_and_then}
 use Rattle.fr_journal.specs.declared.entry.Entry.{Entry}
-use Rattle.fr_journal.specs.declared.entry.Entry.TheVariants.{Commit, Read, Pop, Fetch, Observe}
+use Rattle.fr_journal.specs.declared.entry.Entry.TheVariants.{Commit, Withdraw, Read, Pop, Fetch, Observe}
 use Rattle.fr_slots.specs.History.{last_after}
 use Rattle.fr_slots.specs.Windows.{Opportunity}
 
 abbrev pub window_mark : List Entry → Entry → Option (Option Opportunity)
 window_mark before (Commit task buffer payload) = None
+window_mark before (Withdraw task buffer of) = None
 window_mark before (Read task buffer from) = None
 window_mark before (Pop task from) = None
 window_mark before (Fetch window a b) = Some (Some window)
@@ -18,6 +19,7 @@ open_window entries = option_and_then (λ w. w) (last_after window_mark [] entri
 
 abbrev pub fetched_number : List Entry → Entry → Option ℕ
 fetched_number before (Commit task buffer payload) = None
+fetched_number before (Withdraw task buffer of) = None
 fetched_number before (Read task buffer from) = None
 fetched_number before (Pop task from) = None
 fetched_number before (Fetch window a b) = Some window.number

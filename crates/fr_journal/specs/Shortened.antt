@@ -2,7 +2,7 @@
 use Rattle.std.specs.Prelude.{◌≡◌, ℕ, ◌+◌, ◌*◌, ◌-◌, ◌%◌, ◌≤◌, List, [], ◌++◌, length, slice_range}
 use Rattle.fr_frame.specs.Payload.{most_payload_bytes, most_frame_bytes}
 use Rattle.fr_journal.specs.declared.entry.Entry.{Entry}
-use Rattle.fr_journal.specs.declared.entry.Entry.TheVariants.{Commit, Read, Pop, Fetch, Observe}
+use Rattle.fr_journal.specs.declared.entry.Entry.TheVariants.{Commit, Withdraw, Read, Pop, Fetch, Observe}
 use Rattle.fr_journal.specs.declared.short.Stretch.{Stretch}
 use Rattle.fr_journal.specs.declared.short.ShortEntry.{ShortEntry}
 use Rattle.fr_journal.specs.declared.short.ShortEntry.TheVariants as short
@@ -24,6 +24,7 @@ restored_seen pool (short_seen.Bytes s) = seen.Bytes (record { items = bytes_at 
 
 abbrev pub restored : List ℕ → ShortEntry → Entry
 restored pool (short.Commit task buffer payload) = Commit task buffer (bytes_at pool payload)
+restored pool (short.Withdraw task buffer of) = Withdraw task buffer of
 restored pool (short.Read task buffer from) = Read task buffer from
 restored pool (short.Pop task from) = Pop task from
 restored pool (short.Fetch window a b) = Fetch window a b
@@ -61,6 +62,7 @@ IsShortSeen size (short_seen.Bytes s) = IsStretch size most_frame_bytes s
 abbrev pub IsShort : ℕ → ShortEntry → Type 0
 IsShort size (short.Commit task buffer payload) =
     IsStretch size most_payload_bytes payload × ((payload.end - payload.start) % 2 ≡ 0)
+IsShort size (short.Withdraw task buffer of) = Unit {0}
 IsShort size (short.Read task buffer from) = Unit {0}
 IsShort size (short.Pop task from) = Unit {0}
 IsShort size (short.Fetch window a b) = Unit {0}
@@ -70,6 +72,7 @@ IsShort size (short.Observe window a b) = IsShortSeen size a × IsShortSeen size
 
 abbrev pub bytes_in : Entry → List ℕ
 bytes_in (Commit task buffer payload) = payload
+bytes_in (Withdraw task buffer of) = []
 bytes_in (Read task buffer from) = []
 bytes_in (Pop task from) = []
 bytes_in (Fetch window a b) = []

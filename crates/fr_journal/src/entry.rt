@@ -37,7 +37,7 @@ pub enum Offered {
 
 /// An entry of a journal: one accepted call. Entries are numbered from 0 in their order.
 ///
-/// Commits, reads and pops are the host's, fetches and observes the controller's (chapter 9).
+/// Commits, withdraws, reads and pops are the host's, fetches and observes the controller's (chapter 9).
 #[derive(Debug, Drop, PartialEq, Eq)]
 pub enum Entry {
     /// A task gave a payload to a transmit buffer.
@@ -45,6 +45,13 @@ pub enum Entry {
         task: TaskId,
         buffer: u8,
         payload: Payload,
+    },
+    /// A task took a transmit buffer's last commit back: the one of this number, which was pending, or none where none
+    /// was (own profile).
+    Withdraw {
+        task: TaskId,
+        buffer: u8,
+        of: Option<u32>,
     },
     /// A task read a receive buffer, and got the frame of this origin, or none from an empty buffer.
     Read {
@@ -81,7 +88,10 @@ impl Entry {
         ensures { result ≡ is_host self.now }
     {
         match self {
-            Entry::Commit { .. } | Entry::Read { .. } | Entry::Pop { .. } => true,
+            Entry::Commit { .. }
+            | Entry::Withdraw { .. }
+            | Entry::Read { .. }
+            | Entry::Pop { .. } => true,
             Entry::Fetch { .. } | Entry::Observe { .. } => false,
         }
     }
@@ -99,6 +109,11 @@ impl Entry {
                 task: *task,
                 buffer: *buffer,
                 payload: payload.duplicate(),
+            },
+            Entry::Withdraw { task, buffer, of } => Entry::Withdraw {
+                task: *task,
+                buffer: *buffer,
+                of: *of,
             },
             Entry::Read { task, buffer, from } => Entry::Read {
                 task: *task,

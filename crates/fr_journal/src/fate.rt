@@ -5,9 +5,11 @@
 pub enum Fate {
     /// A later fetch handed it to the bus.
     Sent,
-    /// It wasn't sent, and a later commit took its place.
+    /// It wasn't sent, and a later withdraw took it back.
+    Withdrawn,
+    /// It was neither, and a later commit took its place.
     Overwritten,
-    /// Neither.
+    /// None of these.
     Pending,
 }
 
@@ -18,8 +20,10 @@ pub struct Tally {
     pub committed: u32,
     /// Those that a fetch handed to the bus, which may still have muted or blocked them.
     pub sent: u32,
-    /// Those that weren't sent and that a later commit replaced.
+    /// Those that were neither sent nor withdrawn and that a later commit replaced.
     pub overwritten: u32,
-    /// Those that are neither: the last commit, or none.
+    /// Those that are none of these: the last commit, or none.
     pub pending: u32,
+    /// Those that a task took back before they were sent.
+    pub withdrawn: u32,
 }

@@ -42,6 +42,11 @@ pub(crate) enum ShortEntry {
         buffer: u8,
         payload: Stretch,
     },
+    Withdraw {
+        task: TaskId,
+        buffer: u8,
+        of: Option<u32>,
+    },
     Read {
         task: TaskId,
         buffer: u8,
@@ -151,6 +156,11 @@ pub(crate) fn shortened_host(pool: &mut Vec<u8>, entry: &Entry) -> ShortEntry
             buffer,
             payload,
         } => shortened_commit(pool, *task, *buffer, payload),
+        Entry::Withdraw { task, buffer, of } => ShortEntry::Withdraw {
+            task: *task,
+            buffer: *buffer,
+            of: *of,
+        },
         Entry::Read { task, buffer, from } => ShortEntry::Read {
             task: *task,
             buffer: *buffer,
@@ -179,7 +189,8 @@ pub(crate) fn shortened_slot(pool: &mut Vec<u8>, entry: &Entry) -> ShortEntry
             b: *b,
         },
         Entry::Observe { window, a, b } => shortened_observe(pool, *window, a, b),
-        Entry::Commit { .. } | Entry::Read { .. } | Entry::Pop { .. } => unreachable!(),
+        Entry::Commit { .. } | Entry::Withdraw { .. } | Entry::Read { .. } | Entry::Pop { .. } =>
+            unreachable!(),
     }
 }
 
@@ -245,6 +256,7 @@ pub(crate) fn restored(pool: &[u8], entry: ShortEntry) -> Entry
             buffer,
             payload: payload(bytes_at(pool, stretch)),
         },
+        ShortEntry::Withdraw { task, buffer, of } => Entry::Withdraw { task, buffer, of },
         ShortEntry::Read { task, buffer, from } => Entry::Read { task, buffer, from },
         ShortEntry::Pop { task, from } => Entry::Pop { task, from },
         ShortEntry::Fetch { window, a, b } => Entry::Fetch { window, a, b },

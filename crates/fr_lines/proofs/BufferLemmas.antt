@@ -12,6 +12,7 @@ use Rattle.fr_lines.specs.PartReading.{filter_in, flag_in, mode_in, size_in}
 use Rattle.fr_lines.specs.Parts.{channels_word, flag_word, optional_number}
 use Rattle.fr_lines.specs.Reading.{own_in, transmit_in, receive_in, buffer_in}
 use Rattle.fr_lines.specs.Spelled.{IsSpelledBuffer}
+use Rattle.fr_lines.specs.declared.versions.Version.{Version}
 use Rattle.fr_lines.specs.Spelling.{buffer_words, transmit_words, receive_words, words_of_mode, begin_line, end_line}
 use Rattle.fr_slots.specs.declared.filter.Filter.{Filter}
 use Rattle.fr_slots.specs.declared.plan.Buffer.{Buffer}
@@ -23,9 +24,17 @@ use Rattle.fr_text.proofs.LineLemmas.{cons_same, line_of-words_of, words_of-line
 use Rattle.fr_text.proofs.LineLemmas.{length-line_of-le}
 use Rattle.fr_text.specs.Plain.{ArePlain, has_no_feed}
 use Rattle.fr_text.specs.Spaces.{words_of, line_of}
+use Rattle.fr_text.specs.Words.{ended}
 
 abbrev buffer : Mode → Filter → Option ℕ → Bool → Buffer
 buffer m f w p = record { mode = m; filter = f; words = w; preamble = p }
+
+-- a line with a word too many
+pub transmit_more : (mode slot channels base repetition size preamble : List ℕ) (left : List (List ℕ)) → ended left ≡ None
+    → transmit_in (mode ∷ slot ∷ channels ∷ base ∷ repetition ∷ size ∷ preamble ∷ left) ≡ None
+unfolding transmit_in
+transmit_more mode slot channels base repetition size preamble [] more = absurd (cc more)
+transmit_more mode slot channels base repetition size preamble (word ∷ words) more = refl
 
 -- ---- what is read is spelled so
 
@@ -197,14 +206,14 @@ buffer_line_again b is = ap buffer_in (buffer_cut b is) ∙ buffer_again b is
 
 -- ---- no buffer's line is an ownership line, or begins or ends the entries
 
-not_own_at : (m : Mode) (b : Buffer) → own_in (words_of_mode m b) ≡ None
+not_own_at : (v : Version) (m : Mode) (b : Buffer) → own_in v (words_of_mode m b) ≡ None
 unfolding own_in
-not_own_at Event b = refl
-not_own_at State b = refl
-not_own_at Receive b = refl
+not_own_at v Event b = refl
+not_own_at v State b = refl
+not_own_at v Receive b = refl
 
-pub buffer_not_own : (b : Buffer) → IsSpelledBuffer b → own_in (words_of (line_of (buffer_words b))) ≡ None
-buffer_not_own b is = ap own_in (buffer_cut b is) ∙ not_own_at b.mode b
+pub buffer_not_own : (v : Version) (b : Buffer) → IsSpelledBuffer b → own_in v (words_of (line_of (buffer_words b))) ≡ None
+buffer_not_own v b is = ap (own_in v) (buffer_cut b is) ∙ not_own_at v b.mode b
 
 not_begin_at : (b : Buffer) (m : Mode) → b.mode ≡ m → bytes_eq (line_of (buffer_words b)) begin_line ≡ false
 not_begin_at b Event is = rw is refl

@@ -1,21 +1,25 @@
 -- The line of an entry, for the entries that are read.
-use Rattle.std.proofs.Common.{◌≡◌, ℕ, ◌≤◌, ◌^◌, inl, inr, true, false, List, [], ◌∷◌, length, codes, None, Some, refl}
+use Rattle.std.proofs.Common.{◌≡◌, ℕ, ◌≤◌, ◌^◌, inl, inr, true, false, List, [], ◌∷◌, length, codes, Option, None, Some, refl}
 use Rattle.std.proofs.Common.{sym, ap, ◌∙◌, arith, if◌then◌else◌}
+use Rattle.std.proofs.lemmas.Bool.{cases_Bool}
 use Rattle.std.specs.Fmt.{decimal}
 use Rattle.std.specs.Str.{bytes_eq}
 use Rattle.fr_journal.specs.declared.entry.Entry.{Entry}
-use Rattle.fr_journal.specs.declared.entry.Entry.TheVariants.{Commit, Read, Pop, Fetch, Observe}
+use Rattle.fr_journal.specs.declared.entry.Entry.TheVariants.{Commit, Withdraw, Read, Pop, Fetch, Observe}
 use Rattle.fr_lines.proofs.PartLemmas.{word_or, from_takes, from_again, offered_takes, offered_again, seen_takes}
-use Rattle.fr_lines.proofs.PartLemmas.{seen_again}
+use Rattle.fr_lines.proofs.PartLemmas.{seen_again, taken_back_takes, taken_back_again}
 use Rattle.fr_lines.proofs.PlanPartLemmas.{payload_takes, payload_again}
 use Rattle.fr_lines.proofs.WindowLemmas.{window_takes, window_again}
 use Rattle.fr_lines.proofs.WordLemmas.{number_word, long_word, payload_word, slot_word, from_plain, offered_plain}
-use Rattle.fr_lines.proofs.WordLemmas.{seen_plain}
-use Rattle.fr_lines.specs.PartReading.{payload_in, from_in, offered_in, seen_in, window_in}
+use Rattle.fr_lines.proofs.WordLemmas.{seen_plain, taken_back_plain}
+use Rattle.fr_lines.specs.declared.versions.Version.{Version}
+use Rattle.fr_lines.specs.PartReading.{payload_in, taken_back_in, from_in, offered_in, seen_in, window_in}
 use Rattle.fr_lines.specs.Parts.{optional_number, from_word, offered_word, seen_word}
-use Rattle.fr_lines.specs.Reading.{commit_in, read_in, pop_in, fetch_in, observe_in, entry_in}
+use Rattle.fr_lines.specs.Reading.{commit_in, told_withdraw_in, withdraw_in, read_in, pop_in, fetch_in}
+use Rattle.fr_lines.specs.Reading.{observe_in, entry_in}
 use Rattle.fr_lines.specs.Spelled.{IsSpelledEntry}
 use Rattle.fr_lines.specs.Spelling.{entry_words, begin_line, end_line}
+use Rattle.fr_lines.specs.Versions.{has_withdraws, tells}
 use Rattle.fr_slots.specs.Windows.{IsInRange}
 use Rattle.fr_text.proofs.BindLemmas.{bind_some}
 use Rattle.fr_text.proofs.LineLemmas.{cons_same, line_of-words_of, words_of-line_of, has_no_feed-line_of}
@@ -25,15 +29,26 @@ use Rattle.fr_text.specs.Plain.{ArePlain, has_no_feed}
 use Rattle.fr_text.specs.Reading.{number_in}
 use Rattle.fr_text.specs.Spaces.{words_of, line_of}
 use Rattle.fr_text.specs.Spelling.{hex_text}
+use Rattle.fr_text.specs.Words.{ended}
+
+-- a line with a word too many
+pub fetch_more : (number cycle minislot slot_a slot_b offer_a offer_b : List ℕ) (left : List (List ℕ)) → ended left ≡ None
+    → fetch_in (number ∷ cycle ∷ minislot ∷ slot_a ∷ slot_b ∷ offer_a ∷ offer_b ∷ left) ≡ None
+unfolding fetch_in
+fetch_more number cycle minislot slot_a slot_b offer_a offer_b [] more = absurd (cc more)
+fetch_more number cycle minislot slot_a slot_b offer_a offer_b (word ∷ words) more = refl
 
 -- ---- what is read is spelled so
 
-commit_takes : (words : List (List ℕ)) (e : Entry) → commit_in words ≡ Some e → (codes "commit" ∷ words ≡ entry_words e) × IsSpelledEntry e
+abbrev Takes : Version → List (List ℕ) → Entry → Type 0
+Takes v words e = (words ≡ entry_words e) × IsSpelledEntry e × (tells v e ≡ true)
+
+commit_takes : (v : Version) (words : List (List ℕ)) (e : Entry) → commit_in words ≡ Some e → Takes v (codes "commit" ∷ words) e
 unfolding commit_in
-commit_takes [] e h = cc h
-commit_takes (a ∷ []) e h = cc h
-commit_takes (a ∷ b ∷ []) e h = cc h
-commit_takes (a ∷ b ∷ c ∷ []) e h =
+commit_takes v [] e h = cc h
+commit_takes v (a ∷ []) e h = cc h
+commit_takes v (a ∷ b ∷ []) e h = cc h
+commit_takes v (a ∷ b ∷ c ∷ []) e h =
     let (t, ht, h1) = bind_some (number_in 8 a) _ e h in
     let (n, hn, h2) = bind_some (number_in 64 b) _ e h1 in
     let (p, hp, h3) = bind_some (payload_in c) _ e h2 in
@@ -43,15 +58,41 @@ commit_takes (a ∷ b ∷ c ∷ []) e h =
     let payload = payload_takes c p hp in
     let low = task.1 in
     let few = buffer.1 in
-    rw (← is) (cons_same refl (cons_same (sym task.0) (cons_same (sym buffer.0) (cons_same payload.0 refl))), ((low, omega arith, payload.1, payload.2), few))
-commit_takes (a ∷ b ∷ c ∷ d ∷ words) e h = cc h
+    rw (← is) (cons_same refl (cons_same (sym task.0) (cons_same (sym buffer.0) (cons_same payload.0 refl))), ((low, omega arith, payload.1, payload.2), few), refl)
+commit_takes v (a ∷ b ∷ c ∷ d ∷ words) e h = cc h
 
-read_takes : (words : List (List ℕ)) (e : Entry) → read_in words ≡ Some e → (codes "read" ∷ words ≡ entry_words e) × IsSpelledEntry e
+told_withdraw_takes : (v : Version) (words : List (List ℕ)) (e : Entry) → has_withdraws v ≡ true → told_withdraw_in words ≡ Some e → Takes v (codes "withdraw" ∷ words) e
+unfolding told_withdraw_in
+told_withdraw_takes v [] e told h = cc h
+told_withdraw_takes v (a ∷ []) e told h = cc h
+told_withdraw_takes v (a ∷ b ∷ []) e told h = cc h
+told_withdraw_takes v (a ∷ b ∷ c ∷ []) e told h =
+    let (t, ht, h1) = bind_some (number_in 8 a) _ e h in
+    let (n, hn, h2) = bind_some (number_in 64 b) _ e h1 in
+    let (of, ho, h3) = bind_some (taken_back_in c) _ e h2 in
+    let is : Withdraw t n of ≡ e = cc h3 in
+    let task = number_takes 8 a t ht in
+    let buffer = number_takes 64 b n hn in
+    let commit = taken_back_takes c of ho in
+    let low = task.1 in
+    let few = buffer.1 in
+    rw (← is) (cons_same refl (cons_same (sym task.0) (cons_same (sym buffer.0) (cons_same commit.0 refl))), ((low, omega arith, commit.1), few), told)
+told_withdraw_takes v (a ∷ b ∷ c ∷ d ∷ words) e told h = cc h
+
+withdraw_takes : (v : Version) (words : List (List ℕ)) (e : Entry) → withdraw_in v words ≡ Some e → Takes v (codes "withdraw" ∷ words) e
+unfolding withdraw_in
+withdraw_takes v words e h =
+    elim (cases_Bool (has_withdraws v)) [
+      | inl told ↦ told_withdraw_takes v words e told (rw told at h)
+      | inr untold ↦ cc (rw untold at h)
+    ]
+
+read_takes : (v : Version) (words : List (List ℕ)) (e : Entry) → read_in words ≡ Some e → Takes v (codes "read" ∷ words) e
 unfolding read_in
-read_takes [] e h = cc h
-read_takes (a ∷ []) e h = cc h
-read_takes (a ∷ b ∷ []) e h = cc h
-read_takes (a ∷ b ∷ c ∷ []) e h =
+read_takes v [] e h = cc h
+read_takes v (a ∷ []) e h = cc h
+read_takes v (a ∷ b ∷ []) e h = cc h
+read_takes v (a ∷ b ∷ c ∷ []) e h =
     let (t, ht, h1) = bind_some (number_in 8 a) _ e h in
     let (n, hn, h2) = bind_some (number_in 64 b) _ e h1 in
     let (from, hf, h3) = bind_some (from_in c) _ e h2 in
@@ -61,32 +102,32 @@ read_takes (a ∷ b ∷ c ∷ []) e h =
     let origin = from_takes c from hf in
     let low = task.1 in
     let few = buffer.1 in
-    rw (← is) (cons_same refl (cons_same (sym task.0) (cons_same (sym buffer.0) (cons_same origin.0 refl))), ((low, omega arith, origin.1), few))
-read_takes (a ∷ b ∷ c ∷ d ∷ words) e h = cc h
+    rw (← is) (cons_same refl (cons_same (sym task.0) (cons_same (sym buffer.0) (cons_same origin.0 refl))), ((low, omega arith, origin.1), few), refl)
+read_takes v (a ∷ b ∷ c ∷ d ∷ words) e h = cc h
 
-pop_takes : (words : List (List ℕ)) (e : Entry) → pop_in words ≡ Some e → (codes "pop" ∷ words ≡ entry_words e) × IsSpelledEntry e
+pop_takes : (v : Version) (words : List (List ℕ)) (e : Entry) → pop_in words ≡ Some e → Takes v (codes "pop" ∷ words) e
 unfolding pop_in
-pop_takes [] e h = cc h
-pop_takes (a ∷ []) e h = cc h
-pop_takes (a ∷ b ∷ []) e h =
+pop_takes v [] e h = cc h
+pop_takes v (a ∷ []) e h = cc h
+pop_takes v (a ∷ b ∷ []) e h =
     let (t, ht, h1) = bind_some (number_in 8 a) _ e h in
     let (from, hf, h2) = bind_some (from_in b) _ e h1 in
     let is : Pop t from ≡ e = cc h2 in
     let task = number_takes 8 a t ht in
     let origin = from_takes b from hf in
-    rw (← is) (cons_same refl (cons_same (sym task.0) (cons_same origin.0 refl)), (task.1, origin.1))
-pop_takes (a ∷ b ∷ c ∷ words) e h = cc h
+    rw (← is) (cons_same refl (cons_same (sym task.0) (cons_same origin.0 refl)), (task.1, origin.1), refl)
+pop_takes v (a ∷ b ∷ c ∷ words) e h = cc h
 
-fetch_takes : (words : List (List ℕ)) (e : Entry) → fetch_in words ≡ Some e → (codes "fetch" ∷ words ≡ entry_words e) × IsSpelledEntry e
+fetch_takes : (v : Version) (words : List (List ℕ)) (e : Entry) → fetch_in words ≡ Some e → Takes v (codes "fetch" ∷ words) e
 unfolding fetch_in
-fetch_takes [] e h = cc h
-fetch_takes (n ∷ []) e h = cc h
-fetch_takes (n ∷ c ∷ []) e h = cc h
-fetch_takes (n ∷ c ∷ m ∷ []) e h = cc h
-fetch_takes (n ∷ c ∷ m ∷ sa ∷ []) e h = cc h
-fetch_takes (n ∷ c ∷ m ∷ sa ∷ sb ∷ []) e h = cc h
-fetch_takes (n ∷ c ∷ m ∷ sa ∷ sb ∷ oa ∷ []) e h = cc h
-fetch_takes (n ∷ c ∷ m ∷ sa ∷ sb ∷ oa ∷ ob ∷ []) e h =
+fetch_takes v [] e h = cc h
+fetch_takes v (n ∷ []) e h = cc h
+fetch_takes v (n ∷ c ∷ []) e h = cc h
+fetch_takes v (n ∷ c ∷ m ∷ []) e h = cc h
+fetch_takes v (n ∷ c ∷ m ∷ sa ∷ []) e h = cc h
+fetch_takes v (n ∷ c ∷ m ∷ sa ∷ sb ∷ []) e h = cc h
+fetch_takes v (n ∷ c ∷ m ∷ sa ∷ sb ∷ oa ∷ []) e h = cc h
+fetch_takes v (n ∷ c ∷ m ∷ sa ∷ sb ∷ oa ∷ ob ∷ []) e h =
     let (w, hw, h1) = bind_some (window_in n c m sa sb) _ e h in
     let (a, ha, h2) = bind_some (offered_in oa) _ e h1 in
     let (b, hb, h3) = bind_some (offered_in ob) _ e h2 in
@@ -99,15 +140,16 @@ fetch_takes (n ∷ c ∷ m ∷ sa ∷ sb ∷ oa ∷ ob ∷ []) e h =
     rw (← is) (
       cons_same refl (cons_same words.number_is (cons_same words.cycle_is (cons_same words.minislot_is (cons_same words.slot_a_is (cons_same words.slot_b_is (cons_same ta.0 (cons_same tb.0 refl))))))),
       record { window_is = fits; a_fits = ta.1; b_fits = tb.1 },
+      refl,
     )
-fetch_takes (n ∷ c ∷ m ∷ sa ∷ sb ∷ oa ∷ ob ∷ more ∷ words) e h = cc h
+fetch_takes v (n ∷ c ∷ m ∷ sa ∷ sb ∷ oa ∷ ob ∷ more ∷ words) e h = cc h
 
-observe_takes : (words : List (List ℕ)) (e : Entry) → observe_in words ≡ Some e → (codes "see" ∷ words ≡ entry_words e) × IsSpelledEntry e
+observe_takes : (v : Version) (words : List (List ℕ)) (e : Entry) → observe_in words ≡ Some e → Takes v (codes "see" ∷ words) e
 unfolding observe_in
-observe_takes [] e h = cc h
-observe_takes (w ∷ []) e h = cc h
-observe_takes (w ∷ sa ∷ []) e h = cc h
-observe_takes (w ∷ sa ∷ sb ∷ []) e h =
+observe_takes v [] e h = cc h
+observe_takes v (w ∷ []) e h = cc h
+observe_takes v (w ∷ sa ∷ []) e h = cc h
+observe_takes v (w ∷ sa ∷ sb ∷ []) e h =
     let (n, hn, h1) = bind_some (number_in (2 ^ 32) w) _ e h in
     let (a, ha, h2) = bind_some (seen_in sa) _ e h1 in
     let (b, hb, h3) = bind_some (seen_in sb) _ e h2 in
@@ -115,63 +157,82 @@ observe_takes (w ∷ sa ∷ sb ∷ []) e h =
     let window = number_takes (2 ^ 32) w n hn in
     let ta = seen_takes sa a ha in
     let tb = seen_takes sb b hb in
-    rw (← is) (cons_same refl (cons_same (sym window.0) (cons_same ta.0 (cons_same tb.0 refl))), (window.1, ta.1, tb.1))
-observe_takes (w ∷ sa ∷ sb ∷ more ∷ words) e h = cc h
+    rw (← is) (cons_same refl (cons_same (sym window.0) (cons_same ta.0 (cons_same tb.0 refl))), (window.1, ta.1, tb.1), refl)
+observe_takes v (w ∷ sa ∷ sb ∷ more ∷ words) e h = cc h
+
+-- the first word, and those after it
+taken_of : (v : Version) (kind this : List ℕ) (words : List (List ℕ)) (e : Entry) → kind ≡ this → Takes v (this ∷ words) e → Takes v (kind ∷ words) e
+taken_of v kind this words e same t = (cons_same same refl ∙ t.0, t.1, t.2)
 
 -- a fetch or an observe, where it is no entry of the host
-slot_taken : (kind : List ℕ) (words : List (List ℕ)) (e : Entry)
+slot_taken : (v : Version) (kind : List ℕ) (words : List (List ℕ)) (e : Entry)
     → (if bytes_eq kind (codes "fetch") then fetch_in words else if bytes_eq kind (codes "see") then observe_in words else None) ≡ Some e
-    → (kind ∷ words ≡ entry_words e) × IsSpelledEntry e
-slot_taken kind words e h =
+    → Takes v (kind ∷ words) e
+slot_taken v kind words e h =
     elim (word_or kind (codes "fetch") (fetch_in words) _ e h) [
-      | inl fetch ↦ let t = fetch_takes words e fetch.1 in (cons_same fetch.0 refl ∙ t.0, t.1)
+      | inl fetch ↦ taken_of v kind (codes "fetch") words e fetch.0 (fetch_takes v words e fetch.1)
       | inr h1 ↦
           elim (word_or kind (codes "see") (observe_in words) _ e h1) [
-            | inl see ↦ let t = observe_takes words e see.1 in (cons_same see.0 refl ∙ t.0, t.1)
+            | inl see ↦ taken_of v kind (codes "see") words e see.0 (observe_takes v words e see.1)
             | inr h2 ↦ cc h2
           ]
     ]
 
-taken : (words : List (List ℕ)) (e : Entry) → entry_in words ≡ Some e → (words ≡ entry_words e) × IsSpelledEntry e
+taken : (v : Version) (words : List (List ℕ)) (e : Entry) → entry_in v words ≡ Some e → Takes v words e
 unfolding entry_in
-taken [] e h = cc h
-taken (kind ∷ words) e h =
+taken v [] e h = cc h
+taken v (kind ∷ words) e h =
     elim (word_or kind (codes "commit") (commit_in words) _ e h) [
-      | inl commit ↦ let t = commit_takes words e commit.1 in (cons_same commit.0 refl ∙ t.0, t.1)
+      | inl commit ↦ taken_of v kind (codes "commit") words e commit.0 (commit_takes v words e commit.1)
       | inr h1 ↦
-          elim (word_or kind (codes "read") (read_in words) _ e h1) [
-            | inl read ↦ let t = read_takes words e read.1 in (cons_same read.0 refl ∙ t.0, t.1)
+          elim (word_or kind (codes "withdraw") (withdraw_in v words) _ e h1) [
+            | inl withdraw ↦ taken_of v kind (codes "withdraw") words e withdraw.0 (withdraw_takes v words e withdraw.1)
             | inr h2 ↦
-                elim (word_or kind (codes "pop") (pop_in words) _ e h2) [
-                  | inl pop ↦ let t = pop_takes words e pop.1 in (cons_same pop.0 refl ∙ t.0, t.1)
-                  | inr h3 ↦ slot_taken kind words e h3
+                elim (word_or kind (codes "read") (read_in words) _ e h2) [
+                  | inl read ↦ taken_of v kind (codes "read") words e read.0 (read_takes v words e read.1)
+                  | inr h3 ↦
+                      elim (word_or kind (codes "pop") (pop_in words) _ e h3) [
+                        | inl pop ↦ taken_of v kind (codes "pop") words e pop.0 (pop_takes v words e pop.1)
+                        | inr h4 ↦ slot_taken v kind words e h4
+                      ]
                 ]
           ]
     ]
 
-pub entry_takes : (words : List (List ℕ)) (e : Entry) → entry_in words ≡ Some e → words ≡ entry_words e
-entry_takes words e h = (taken words e h).0
+pub entry_takes : (v : Version) (words : List (List ℕ)) (e : Entry) → entry_in v words ≡ Some e → words ≡ entry_words e
+entry_takes v words e h = (taken v words e h).0
 
 -- what is read is in range
-pub entry_fits : (words : List (List ℕ)) (e : Entry) → entry_in words ≡ Some e → IsSpelledEntry e
-entry_fits words e h = (taken words e h).1
+pub entry_fits : (v : Version) (words : List (List ℕ)) (e : Entry) → entry_in v words ≡ Some e → IsSpelledEntry e
+entry_fits v words e h = (taken v words e h).1
 
-pub entry_line_takes : (line : List ℕ) (e : Entry) → entry_in (words_of line) ≡ Some e → line ≡ line_of (entry_words e)
-entry_line_takes line e h = sym (line_of-words_of line) ∙ ap line_of (entry_takes (words_of line) e h)
+-- and the version has a line for it
+pub entry_told : (v : Version) (words : List (List ℕ)) (e : Entry) → entry_in v words ≡ Some e → tells v e ≡ true
+entry_told v words e h = (taken v words e h).2
+
+pub entry_line_takes : (v : Version) (line : List ℕ) (e : Entry) → entry_in v (words_of line) ≡ Some e → line ≡ line_of (entry_words e)
+entry_line_takes v line e h = sym (line_of-words_of line) ∙ ap line_of (entry_takes v (words_of line) e h)
 
 -- ---- what is spelled so is read
 
-pub entry_again : (e : Entry) → IsSpelledEntry e → entry_in (entry_words e) ≡ Some e
+withdraw_again : (v : Version) (task buffer : ℕ) (of : Option ℕ) → IsSpelledEntry (Withdraw task buffer of) → has_withdraws v ≡ true
+    → withdraw_in v (decimal task ∷ decimal buffer ∷ optional_number of ∷ []) ≡ Some (Withdraw task buffer of)
+unfolding withdraw_in told_withdraw_in
+withdraw_again v task buffer of fits told =
+    rw (told, number_again 8 task fits.0.0 (omega arith), number_again 64 buffer fits.1 (omega arith), taken_back_again of fits.0.2) refl
+
+pub entry_again : (v : Version) (e : Entry) → IsSpelledEntry e → tells v e ≡ true → entry_in v (entry_words e) ≡ Some e
 unfolding entry_in commit_in read_in pop_in fetch_in observe_in
-entry_again (Commit task buffer payload) fits =
+entry_again v (Commit task buffer payload) fits told =
     rw (number_again 8 task fits.0.0 (omega arith), number_again 64 buffer fits.1 (omega arith), payload_again payload fits.0.2 fits.0.3) refl
-entry_again (Read task buffer from) fits =
+entry_again v (Withdraw task buffer of) fits told = withdraw_again v task buffer of fits told
+entry_again v (Read task buffer from) fits told =
     rw (number_again 8 task fits.0.0 (omega arith), number_again 64 buffer fits.1 (omega arith), from_again from fits.0.2) refl
-entry_again (Pop task from) fits = rw (number_again 8 task fits.0 (omega arith), from_again from fits.1) refl
-entry_again (Fetch window a b) fits =
+entry_again v (Pop task from) fits told = rw (number_again 8 task fits.0 (omega arith), from_again from fits.1) refl
+entry_again v (Fetch window a b) fits told =
     let is : IsInRange window = fits.window_is in
     rw (window_again window is, offered_again a fits.a_fits, offered_again b fits.b_fits) refl
-entry_again (Observe window a b) fits =
+entry_again v (Observe window a b) fits told =
     rw (number_again (2 ^ 32) window fits.0 (omega arith), seen_again a fits.1, seen_again b fits.2) refl
 
 -- ---- the words are plain
@@ -186,6 +247,18 @@ entry_plain (Commit task buffer payload) fits =
         (
           (number_word 2 buffer (omega arith) (omega arith) (omega arith)).plain,
           ((payload_word payload fits.0.2.short).plain, tt),
+        ),
+      ),
+    )
+entry_plain (Withdraw task buffer of) fits =
+    let t = fits.0.0 in
+    let n = fits.1 in (
+      refl,
+      (
+        (number_word 1 task (omega arith) (omega arith) (omega arith)).plain,
+        (
+          (number_word 2 buffer (omega arith) (omega arith) (omega arith)).plain,
+          ((taken_back_plain of fits.0.2).plain, tt),
         ),
       ),
     )
@@ -235,6 +308,8 @@ entry_no_feed e fits = has_no_feed-line_of (entry_words e) (entry_plain e fits)
 pub entry_cut : (e : Entry) → IsSpelledEntry e → words_of (line_of (entry_words e)) ≡ entry_words e
 entry_cut (Commit task buffer payload) fits =
     words_of-line_of (codes "commit") (decimal task ∷ decimal buffer ∷ hex_text payload ∷ []) (entry_plain (Commit task buffer payload) fits)
+entry_cut (Withdraw task buffer of) fits =
+    words_of-line_of (codes "withdraw") (decimal task ∷ decimal buffer ∷ optional_number of ∷ []) (entry_plain (Withdraw task buffer of) fits)
 entry_cut (Read task buffer from) fits =
     words_of-line_of (codes "read") (decimal task ∷ decimal buffer ∷ from_word from ∷ []) (entry_plain (Read task buffer from) fits)
 entry_cut (Pop task from) fits = words_of-line_of (codes "pop") (decimal task ∷ from_word from ∷ []) (entry_plain (Pop task from) fits)
@@ -244,8 +319,8 @@ entry_cut (Fetch window a b) fits =
 entry_cut (Observe window a b) fits =
     words_of-line_of (codes "see") (decimal window ∷ seen_word a ∷ seen_word b ∷ []) (entry_plain (Observe window a b) fits)
 
-pub entry_line_again : (e : Entry) → IsSpelledEntry e → entry_in (words_of (line_of (entry_words e))) ≡ Some e
-entry_line_again e fits = ap entry_in (entry_cut e fits) ∙ entry_again e fits
+pub entry_line_again : (v : Version) (e : Entry) → IsSpelledEntry e → tells v e ≡ true → entry_in v (words_of (line_of (entry_words e))) ≡ Some e
+entry_line_again v e fits told = ap (entry_in v) (entry_cut e fits) ∙ entry_again v e fits told
 
 -- ---- the line is short
 
@@ -257,6 +332,14 @@ entry_short (Commit task buffer payload) fits =
     let buffer_short = (number_word 2 buffer (omega arith) (omega arith) (omega arith)).short in
     let payload_short = (payload_word payload fits.0.2.short).short in
     let all = length-line_of-le (entry_words (Commit task buffer payload)) in
+    omega arith
+entry_short (Withdraw task buffer of) fits =
+    let t = fits.0.0 in
+    let n = fits.1 in
+    let task_short = (number_word 1 task (omega arith) (omega arith) (omega arith)).short in
+    let buffer_short = (number_word 2 buffer (omega arith) (omega arith) (omega arith)).short in
+    let of_short = (taken_back_plain of fits.0.2).short in
+    let all = length-line_of-le (entry_words (Withdraw task buffer of)) in
     omega arith
 entry_short (Read task buffer from) fits =
     let t = fits.0.0 in
@@ -295,6 +378,7 @@ entry_short (Observe window a b) fits =
 
 pub entry_not_begin : (e : Entry) → bytes_eq (line_of (entry_words e)) begin_line ≡ false
 entry_not_begin (Commit task buffer payload) = refl
+entry_not_begin (Withdraw task buffer of) = refl
 entry_not_begin (Read task buffer from) = refl
 entry_not_begin (Pop task from) = refl
 entry_not_begin (Fetch window a b) = refl
@@ -302,6 +386,7 @@ entry_not_begin (Observe window a b) = refl
 
 pub entry_not_end : (e : Entry) → bytes_eq (line_of (entry_words e)) end_line ≡ false
 entry_not_end (Commit task buffer payload) = refl
+entry_not_end (Withdraw task buffer of) = refl
 entry_not_end (Read task buffer from) = refl
 entry_not_end (Pop task from) = refl
 entry_not_end (Fetch window a b) = refl

@@ -7,5 +7,6 @@ pub mod PartLemmas
 pub mod PlanLineLemmas
 pub mod PlanPartLemmas
 pub mod QueueLemmas
+pub mod VersionLemmas
 pub mod WindowLemmas
 pub mod WordLemmas

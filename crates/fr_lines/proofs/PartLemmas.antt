@@ -1,7 +1,7 @@
 -- A word is the spelling of at most one part of a line.
 use Rattle.std.proofs.Common.{◌≡◌, ℕ, ◌-◌, ◌<◌, ◌≤◌, ◌^◌, ◌&&◌, ◌⊎◌, inl, inr, true, false, List, ◌++◌, length, take}
 use Rattle.std.proofs.Common.{drop, codes, Option, Some, None, refl, sym, ap, ◌∙◌, arith, leb, length-append}
-use Rattle.std.specs.Prelude.{if◌then◌else◌}
+use Rattle.std.specs.Prelude.{IfSome, if◌then◌else◌}
 use Rattle.std.specs.Result.{result_ok}
 use Rattle.std.proofs.lemmas.Bool.{and_parts, cases_Bool, leb-true, leb-false, lt-leb, le-leb}
 use Rattle.std.proofs.lemmas.Bool.Decides.{nat_tests}
@@ -15,7 +15,7 @@ use Rattle.fr_journal.specs.declared.entry.Offered.TheVariants as offered
 use Rattle.fr_journal.specs.declared.entry.Origin.{Origin}
 use Rattle.fr_journal.specs.Entries.{IsOrigin, IsOffered, IsSeen}
 use Rattle.fr_lines.specs.PartReading.{slot_in, optional_slot_in, channels_in, cycles_in, channel_in, origin_in}
-use Rattle.fr_lines.specs.PartReading.{from_in, offered_in, seen_bytes_in, seen_in}
+use Rattle.fr_lines.specs.PartReading.{taken_back_in, from_in, offered_in, seen_bytes_in, seen_in}
 use Rattle.fr_lines.specs.Parts.{absent, optional_number, channels_word, channel_mark, origin_word, from_word}
 use Rattle.fr_lines.specs.Parts.{offered_word, seen_word}
 use Rattle.fr_slots.specs.Admission.{CycleClass, IsCycleClass, cycle_class, is_repetition}
@@ -154,6 +154,27 @@ cycles_again c lawful =
     let base : c.base < 64 = omega arith in
     let repetition : c.repetition < 65 = omega arith in
     rw (number_again 64 c.base base (omega arith), number_again 65 c.repetition repetition (omega arith), lawful.repetition_is, lt-leb c.repetition c.base below) refl
+
+-- ---- what is taken back
+
+pub taken_back_takes : (word : List ℕ) (o : Option ℕ) → taken_back_in word ≡ Some o → (word ≡ optional_number o) × IfSome o (λ n. n < 2 ^ 32)
+unfolding taken_back_in
+taken_back_takes word o h =
+    elim (word_or word absent (Some None) _ o h) [
+      | inl same ↦ let is : None ≡ o = cc same.1 in rw (← is) (same.0, tt)
+      | inr other ↦
+          let (n, hn, h1) = bind_some (number_in (2 ^ 32) word) _ o other in
+          let is : Some n ≡ o = cc h1 in
+          let taken = number_takes (2 ^ 32) word n hn in
+          rw (← is) (sym taken.0, taken.1)
+    ]
+
+pub taken_back_again : (o : Option ℕ) → IfSome o (λ n. n < 2 ^ 32) → taken_back_in (optional_number o) ≡ Some o
+unfolding taken_back_in
+taken_back_again None fits = refl
+taken_back_again (Some n) fits =
+    let small : n < 2 ^ 64 = omega arith in
+    rw (decimal_other n absent small refl, number_again (2 ^ 32) n fits (omega arith)) refl
 
 -- ---- where a frame comes from
 

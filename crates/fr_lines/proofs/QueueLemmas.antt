@@ -12,6 +12,7 @@ use Rattle.fr_lines.specs.PartReading.{slot_in, channels_in, cycles_in}
 use Rattle.fr_lines.specs.Parts.{channels_word}
 use Rattle.fr_lines.specs.Reading.{fitting_queue, reception_in, queue_in, own_in, buffer_in}
 use Rattle.fr_lines.specs.Spelled.{IsSpelledQueue}
+use Rattle.fr_lines.specs.declared.versions.Version.{Version}
 use Rattle.fr_lines.specs.Spelling.{queue_words, begin_line}
 use Rattle.fr_slots.specs.declared.plan.Queue.{Queue}
 use Rattle.fr_slots.specs.Plans.{queue_fits}
@@ -22,6 +23,14 @@ use Rattle.fr_text.proofs.NumberLemmas.{number_takes, number_again}
 use Rattle.fr_text.specs.Plain.{ArePlain, has_no_feed}
 use Rattle.fr_text.specs.Reading.{number_in}
 use Rattle.fr_text.specs.Spaces.{words_of, line_of}
+use Rattle.fr_text.specs.Words.{ended}
+
+-- a line with a word too many
+pub reception_more : (capacity first last channels base repetition : List ℕ) (left : List (List ℕ)) → ended left ≡ None
+    → reception_in (capacity ∷ first ∷ last ∷ channels ∷ base ∷ repetition ∷ left) ≡ None
+unfolding reception_in
+reception_more capacity first last channels base repetition [] more = absurd (cc more)
+reception_more capacity first last channels base repetition (word ∷ words) more = refl
 
 -- ---- what is read is spelled so
 
@@ -132,12 +141,12 @@ queue_line_again q is = ap queue_in (queue_cut q is) ∙ queue_again q is
 
 -- ---- a queue's line is no other line of a plan, and doesn't begin the entries
 
-not_own : (q : Queue) → own_in (queue_words q) ≡ None
+not_own : (v : Version) (q : Queue) → own_in v (queue_words q) ≡ None
 unfolding own_in
-not_own q = refl
+not_own v q = refl
 
-pub queue_not_own : (q : Queue) → IsSpelledQueue q → own_in (words_of (line_of (queue_words q))) ≡ None
-queue_not_own q is = ap own_in (queue_cut q is) ∙ not_own q
+pub queue_not_own : (v : Version) (q : Queue) → IsSpelledQueue q → own_in v (words_of (line_of (queue_words q))) ≡ None
+queue_not_own v q is = ap (own_in v) (queue_cut q is) ∙ not_own v q
 
 not_buffer : (q : Queue) → buffer_in (queue_words q) ≡ None
 unfolding buffer_in

@@ -4,6 +4,7 @@ use Rattle.std.proofs.Common.{length-append}
 use Rattle.std.proofs.lemmas.Bool.{leb-true}
 use Rattle.std.proofs.lemmas.Fmt.{length-decimal-le}
 use Rattle.std.specs.Fmt.{decimal}
+use Rattle.std.specs.Prelude.{IfSome}
 use Rattle.fr_journal.specs.declared.entry.Offered.{Offered}
 use Rattle.fr_journal.specs.declared.entry.Offered.TheVariants as offered
 use Rattle.fr_journal.specs.declared.entry.Origin.{Origin}
@@ -59,6 +60,10 @@ pub payload_word : (p : List ℕ) → length p ≤ 254 → IsWord 509 (hex_text 
 payload_word p few =
     let digits = length-hex_text p in
     record { plain = IsPlain-hex_text p; short = omega arith }
+
+pub taken_back_plain : (o : Option ℕ) → IfSome o (λ n. n < 2 ^ 32) → IsWord 10 (optional_number o)
+taken_back_plain None fits = record { plain = refl; short = omega arith }
+taken_back_plain (Some n) fits = long_word n fits
 
 mark_word : (c : Channel) → IsWord 2 (channel_mark c)
 mark_word channel.A = record { plain = refl; short = omega arith }

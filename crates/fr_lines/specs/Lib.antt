@@ -1,3 +1,4 @@
+pub mod Versions
 pub mod Parts
 pub mod Spelling
 pub mod PartReading

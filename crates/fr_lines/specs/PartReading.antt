@@ -86,6 +86,14 @@ payload_in word = do
   bytes ← bytes_in most_payload_bytes word
   payload_from bytes
 
+-- ---- what is taken back
+
+-- the number of a commit or none
+unfoldable pub taken_back_in : List ℕ → Option (Option ℕ)
+taken_back_in word = if bytes_eq word absent then Some None else do
+  commit ← number_in (2 ^ 32) word
+  Some (Some commit)
+
 -- ---- where a frame comes from
 
 unfoldable pub channel_in : List ℕ → Option Channel

@@ -4,17 +4,30 @@ use Rattle.std.specs.Prelude.{if◌then◌else◌}
 use Rattle.std.specs.Result.{result_ok}
 use Rattle.std.specs.Str.{bytes_eq}
 use Rattle.fr_journal.specs.declared.entry.Entry.{Entry}
-use Rattle.fr_journal.specs.declared.entry.Entry.TheVariants.{Commit, Read, Pop, Fetch, Observe}
+use Rattle.fr_journal.specs.declared.entry.Entry.TheVariants.{Commit, Withdraw, Read, Pop, Fetch, Observe}
 use Rattle.fr_lines.specs.declared.plan_lines.PlanLine.{PlanLine}
 use Rattle.fr_lines.specs.declared.plan_lines.PlanLine.TheVariants as plan_line
+use Rattle.fr_lines.specs.declared.versions.Version.{Version}
+use Rattle.fr_lines.specs.declared.versions.Version.TheVariants.{One, Two, Three}
 use Rattle.fr_lines.specs.PartReading.{slot_in, channels_in, cycles_in, filter_in, flag_in, mode_in, size_in}
-use Rattle.fr_lines.specs.PartReading.{payload_in, from_in, offered_in, seen_in, window_in}
+use Rattle.fr_lines.specs.PartReading.{payload_in, taken_back_in, from_in, offered_in, seen_in, window_in}
+use Rattle.fr_lines.specs.Spelling.{first_line}
+use Rattle.fr_lines.specs.Versions.{has_withdraws, has_own_cycles}
+use Rattle.fr_slots.specs.Admission.{CycleClass}
 use Rattle.fr_slots.specs.declared.plan.Buffer.{Buffer}
 use Rattle.fr_slots.specs.declared.plan.Mode.TheVariants.{Receive}
 use Rattle.fr_slots.specs.declared.plan.Own.{Own}
 use Rattle.fr_slots.specs.declared.plan.Queue.{Queue}
 use Rattle.fr_slots.specs.Plans.{Plan, plan_of, own_fits, queue_fits}
 use Rattle.fr_text.specs.Reading.{◌>>=◌, number_in}
+
+-- ---- the version, which the first line names
+
+unfoldable pub version_in : List ℕ → Option Version
+version_in line = if bytes_eq line (first_line One) then Some One
+    else if bytes_eq line (first_line Two) then Some Two
+    else if bytes_eq line (first_line Three) then Some Three
+    else None
 
 -- ---- parameters: ten numbers below 2^32, whatever their keys' ranges
 
@@ -77,18 +90,31 @@ node_in (kind ∷ words) = if bytes_eq kind (codes "node") then limits_in words 
 abbrev pub fitting_own : Own → Option Own
 fitting_own o = if own_fits o then Some o else None
 
-unfoldable pub ownership_in : List (List ℕ) → Option Own
-ownership_in (slot ∷ channels ∷ sync ∷ startup ∷ []) = do
+abbrev pub every_cycle : CycleClass
+every_cycle = record { base = 0; repetition = 1 }
+
+-- a base and a repetition, and no word after them
+unfoldable pub last_cycles_in : List (List ℕ) → Option CycleClass
+last_cycles_in (base ∷ repetition ∷ []) = cycles_in base repetition
+last_cycles_in words = None
+
+-- the words after an ownership's flags: none in a version whose line is for every cycle
+unfoldable pub own_cycles_in : Version → List (List ℕ) → Option CycleClass
+own_cycles_in version words = if has_own_cycles version then last_cycles_in words else at_end every_cycle words
+
+unfoldable pub ownership_in : Version → List (List ℕ) → Option Own
+ownership_in version (slot ∷ channels ∷ sync ∷ startup ∷ rest) = do
   s ← slot_in slot
   c ← channels_in channels
   y ← flag_in sync
   t ← flag_in startup
-  fitting_own (record { slot = s; channels = c; sync = y; startup = t })
-ownership_in words = None
+  cycles ← own_cycles_in version rest
+  fitting_own (record { slot = s; channels = c; cycles = cycles; sync = y; startup = t })
+ownership_in version words = None
 
-unfoldable pub own_in : List (List ℕ) → Option Own
-own_in [] = None
-own_in (kind ∷ words) = if bytes_eq kind (codes "own") then ownership_in words else None
+unfoldable pub own_in : Version → List (List ℕ) → Option Own
+own_in version [] = None
+own_in version (kind ∷ words) = if bytes_eq kind (codes "own") then ownership_in version words else None
 
 -- ---- buffers
 
@@ -137,10 +163,10 @@ queue_in (kind ∷ words) = if bytes_eq kind (codes "queue") then reception_in w
 
 -- ---- a line of the plan after its first: an ownership line, a buffer or the queue, by its first word
 
-unfoldable pub plan_line_in : List (List ℕ) → Option PlanLine
-plan_line_in [] = None
-plan_line_in (kind ∷ words) =
-    if bytes_eq kind (codes "own") then option_map plan_line.Own (ownership_in words)
+unfoldable pub plan_line_in : Version → List (List ℕ) → Option PlanLine
+plan_line_in version [] = None
+plan_line_in version (kind ∷ words) =
+    if bytes_eq kind (codes "own") then option_map plan_line.Own (ownership_in version words)
     else if bytes_eq kind (codes "tx") then option_map plan_line.Buffer (transmit_in words)
     else if bytes_eq kind (codes "rx") then option_map plan_line.Buffer (receive_in words)
     else if bytes_eq kind (codes "queue") then option_map plan_line.Queue (reception_in words)
@@ -155,6 +181,18 @@ commit_in (task ∷ buffer ∷ payload ∷ []) = do
   p ← payload_in payload
   Some (Commit t b p)
 commit_in words = None
+
+unfoldable pub told_withdraw_in : List (List ℕ) → Option Entry
+told_withdraw_in (task ∷ buffer ∷ of ∷ []) = do
+  t ← number_in 8 task
+  b ← number_in 64 buffer
+  commit ← taken_back_in of
+  Some (Withdraw t b commit)
+told_withdraw_in words = None
+
+-- a withdraw, in a version that has such a line
+unfoldable pub withdraw_in : Version → List (List ℕ) → Option Entry
+withdraw_in version words = if has_withdraws version then told_withdraw_in words else None
 
 unfoldable pub read_in : List (List ℕ) → Option Entry
 read_in (task ∷ buffer ∷ from ∷ []) = do
@@ -188,10 +226,11 @@ observe_in (window ∷ seen_a ∷ seen_b ∷ []) = do
 observe_in words = None
 
 -- an entry, by its first word
-unfoldable pub entry_in : List (List ℕ) → Option Entry
-entry_in [] = None
-entry_in (kind ∷ words) =
+unfoldable pub entry_in : Version → List (List ℕ) → Option Entry
+entry_in version [] = None
+entry_in version (kind ∷ words) =
     if bytes_eq kind (codes "commit") then commit_in words
+    else if bytes_eq kind (codes "withdraw") then withdraw_in version words
     else if bytes_eq kind (codes "read") then read_in words
     else if bytes_eq kind (codes "pop") then pop_in words
     else if bytes_eq kind (codes "fetch") then fetch_in words

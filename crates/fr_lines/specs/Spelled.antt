@@ -1,7 +1,7 @@
 -- What the lines that are read can spell.
 use Rattle.std.specs.Prelude.{◌≡◌, ◌<◌, ℤ, pos, true, List, [], ◌∷◌}
 use Rattle.fr_journal.specs.declared.entry.Entry.{Entry}
-use Rattle.fr_journal.specs.declared.entry.Entry.TheVariants.{Commit, Read, Pop, Fetch, Observe}
+use Rattle.fr_journal.specs.declared.entry.Entry.TheVariants.{Commit, Withdraw, Read, Pop, Fetch, Observe}
 use Rattle.fr_journal.specs.Entries.{IsEntry}
 use Rattle.fr_slots.specs.declared.plan.Buffer.{Buffer}
 use Rattle.fr_slots.specs.declared.plan.Own.{Own}
@@ -12,6 +12,7 @@ use Rattle.fr_slots.specs.Plans.{Plan, IsBuffer, IsOwn, IsQueue, buffer_fits, em
 -- an entry whose numbers are in range, and whose buffer is one that a plan can have
 abbrev pub IsSpelledEntry : Entry → Type 0
 IsSpelledEntry (Commit task buffer payload) = IsEntry (Commit task buffer payload) × (buffer < 64)
+IsSpelledEntry (Withdraw task buffer of) = IsEntry (Withdraw task buffer of) × (buffer < 64)
 IsSpelledEntry (Read task buffer from) = IsEntry (Read task buffer from) × (buffer < 64)
 IsSpelledEntry (Pop task from) = IsEntry (Pop task from)
 IsSpelledEntry (Fetch window a b) = IsEntry (Fetch window a b)

@@ -1,9 +1,13 @@
--- The lines of a trace, version 1, each as its words.
-use Rattle.std.specs.Prelude.{ℕ, List, [], ◌∷◌, ◌++◌, codes}
+-- The lines of a trace, each as its words. Only the first and those of ownership differ between versions.
+use Rattle.std.specs.Prelude.{ℕ, List, [], ◌∷◌, ◌++◌, codes, if◌then◌else◌}
 use Rattle.std.specs.Fmt.{decimal}
 use Rattle.fr_journal.specs.declared.entry.Entry.{Entry}
-use Rattle.fr_journal.specs.declared.entry.Entry.TheVariants.{Commit, Read, Pop, Fetch, Observe}
+use Rattle.fr_journal.specs.declared.entry.Entry.TheVariants.{Commit, Withdraw, Read, Pop, Fetch, Observe}
+use Rattle.fr_lines.specs.declared.versions.Version.{Version}
+use Rattle.fr_lines.specs.declared.versions.Version.TheVariants.{One, Two, Three}
 use Rattle.fr_lines.specs.Parts.{flag_word, optional_number, channels_word, from_word, offered_word, seen_word}
+use Rattle.fr_lines.specs.Versions.{has_own_cycles}
+use Rattle.fr_slots.specs.Admission.{CycleClass}
 use Rattle.fr_slots.specs.declared.filter.Filter.{Filter}
 use Rattle.fr_slots.specs.declared.plan.Buffer.{Buffer}
 use Rattle.fr_slots.specs.declared.plan.Mode.{Mode}
@@ -25,8 +29,10 @@ line_text words = line_of words ++ line_feed
 
 -- ---- the lines without numbers
 
-abbrev pub first_line : List ℕ
-first_line = codes "frtrace 1"
+abbrev pub first_line : Version → List ℕ
+first_line One = codes "frtrace 1"
+first_line Two = codes "frtrace 2"
+first_line Three = codes "frtrace 3"
 
 -- between the plan and the entries
 abbrev pub begin_line : List ℕ
@@ -48,8 +54,14 @@ abbrev pub node_words : Plan → List (List ℕ)
 node_words p = codes "node" ∷ decimal p.tasks ∷ decimal p.latest_a ∷ decimal p.latest_b ∷ decimal p.host_entries
     ∷ decimal p.slot_entries ∷ []
 
-abbrev pub own_words : Own → List (List ℕ)
-own_words o = codes "own" ∷ decimal o.slot ∷ channels_word o.channels ∷ flag_word o.sync ∷ flag_word o.startup ∷ []
+-- the cycles of an ownership, in a version whose line has them
+abbrev pub own_cycles_words : Version → CycleClass → List (List ℕ)
+own_cycles_words version cycles =
+    if has_own_cycles version then decimal cycles.base ∷ decimal cycles.repetition ∷ [] else []
+
+abbrev pub own_words : Version → Own → List (List ℕ)
+own_words version o = codes "own" ∷ decimal o.slot ∷ channels_word o.channels ∷ flag_word o.sync ∷ flag_word o.startup
+    ∷ own_cycles_words version o.cycles
 
 abbrev pub transmit_words : List ℕ → Buffer → List (List ℕ)
 transmit_words mode b =
@@ -78,6 +90,7 @@ queue_words q =
 
 abbrev pub entry_words : Entry → List (List ℕ)
 entry_words (Commit task buffer payload) = codes "commit" ∷ decimal task ∷ decimal buffer ∷ hex_text payload ∷ []
+entry_words (Withdraw task buffer of) = codes "withdraw" ∷ decimal task ∷ decimal buffer ∷ optional_number of ∷ []
 entry_words (Read task buffer from) = codes "read" ∷ decimal task ∷ decimal buffer ∷ from_word from ∷ []
 entry_words (Pop task from) = codes "pop" ∷ decimal task ∷ from_word from ∷ []
 entry_words (Fetch window a b) =

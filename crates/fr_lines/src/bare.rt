@@ -14,6 +14,12 @@ pub enum BareEntry {
         task: TaskId,
         buffer: u8,
     },
+    /// A task took a transmit buffer's last commit back: the one of this number, or none where none was pending.
+    Withdraw {
+        task: TaskId,
+        buffer: u8,
+        of: Option<u32>,
+    },
     /// A task read a receive buffer, and got the frame of this origin, or none.
     Read {
         task: TaskId,

@@ -22,9 +22,7 @@ pub(crate) fn transmit_of(words: &mut Words<'_>) -> Option<Buffer>
     let repetition = words.next_word()?;
     let size = words.next_word()?;
     let preamble = words.next_word()?;
-    if words.next_word().is_some() {
-        return None;
-    }
+    words.end()?;
     let mode = mode_of(mode)?;
     let filter = filter_of(slot, channels, base, repetition)?;
     let words = size_of(size)?;
@@ -46,9 +44,7 @@ pub(crate) fn receive_of(words: &mut Words<'_>) -> Option<Buffer>
     let channels = words.next_word()?;
     let base = words.next_word()?;
     let repetition = words.next_word()?;
-    if words.next_word().is_some() {
-        return None;
-    }
+    words.end()?;
     let filter = filter_of(slot, channels, base, repetition)?;
     Some(Buffer {
         mode: Mode::Receive,

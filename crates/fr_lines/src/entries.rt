@@ -1,16 +1,21 @@
 //! The lines of entries.
 
-ghost use Rattle.std.specs.Prelude.{◌≡◌, Some, IfSome, option_map};
+ghost use Rattle.std.specs.Prelude.{◌≡◌, true, Some, IfSome, option_map};
 ghost use Rattle.fr_journal.specs.declared.entry.Entry.{Entry};
 ghost use Rattle.fr_text.specs.Spaces.{words_of, line_of};
 ghost use Rattle.fr_lines.specs.Bare.{with_bytes};
 ghost use Rattle.fr_lines.specs.declared.bare.EntryBytes.{EntryBytes};
-ghost use Rattle.fr_lines.specs.Reading.{commit_in, read_in, pop_in, fetch_in, observe_in, entry_in};
+ghost use Rattle.fr_lines.specs.Reading.{commit_in, told_withdraw_in, withdraw_in, read_in, pop_in, fetch_in};
+ghost use Rattle.fr_lines.specs.Reading.{observe_in, entry_in};
 ghost use Rattle.fr_lines.specs.Spelled.{IsSpelledEntry};
 ghost use Rattle.fr_lines.specs.Spelling.{entry_words};
+ghost use Rattle.fr_lines.specs.Versions.{tells};
 
 use crate::bare::{BareEntry, EntryBytes};
-use crate::parts::{from_of, offered_of, payload_into, seen_into, task_of, window_of};
+use crate::parts::{
+    from_of, offered_of, payload_into, seen_into, taken_back_of, task_of, window_of,
+};
+use crate::versions::Version;
 use fr_text::numbers::number_of;
 use fr_text::words::Words;
 
@@ -22,9 +27,7 @@ fn commit_of(words: &mut Words<'_>, bytes: &mut EntryBytes) -> Option<BareEntry>
     let task = words.next_word()?;
     let buffer = words.next_word()?;
     let payload = words.next_word()?;
-    if words.next_word().is_some() {
-        return None;
-    }
+    words.end()?;
     let task = task_of(task)?;
     let buffer = number_of(buffer, 64)?;
     if !payload_into(payload, &mut bytes.payload) {
@@ -36,6 +39,36 @@ fn commit_of(words: &mut Words<'_>, bytes: &mut EntryBytes) -> Option<BareEntry>
     })
 }
 
+/// The withdraw that the words spell.
+#[tactic(auto, unfolding(crate::specs::Reading::told_withdraw_in))]
+fn told_withdraw_of(words: &mut Words<'_>) -> Option<BareEntry>
+    ensures { (bytes : EntryBytes) → option_map (with_bytes bytes) result ≡ told_withdraw_in words.old }
+{
+    let task = words.next_word()?;
+    let buffer = words.next_word()?;
+    let of = words.next_word()?;
+    words.end()?;
+    let task = task_of(task)?;
+    let buffer = number_of(buffer, 64)?;
+    let of = taken_back_of(of)?;
+    Some(BareEntry::Withdraw {
+        task,
+        buffer: buffer as u8,
+        of,
+    })
+}
+
+/// The withdraw that the words spell, in a version that has such a line.
+#[tactic(auto, unfolding(crate::specs::Reading::withdraw_in))]
+fn withdraw_of(version: Version, words: &mut Words<'_>) -> Option<BareEntry>
+    ensures { (bytes : EntryBytes) → option_map (with_bytes bytes) result ≡ withdraw_in version words.old }
+{
+    if !version.has_withdraws() {
+        return None;
+    }
+    told_withdraw_of(words)
+}
+
 /// The read that the words spell.
 #[tactic(auto, unfolding(crate::specs::Reading::read_in))]
 fn read_of(words: &mut Words<'_>) -> Option<BareEntry>
@@ -44,9 +77,7 @@ fn read_of(words: &mut Words<'_>) -> Option<BareEntry>
     let task = words.next_word()?;
     let buffer = words.next_word()?;
     let from = words.next_word()?;
-    if words.next_word().is_some() {
-        return None;
-    }
+    words.end()?;
     let task = task_of(task)?;
     let buffer = number_of(buffer, 64)?;
     let from = from_of(from)?;
@@ -64,9 +95,7 @@ fn pop_of(words: &mut Words<'_>) -> Option<BareEntry>
 {
     let task = words.next_word()?;
     let from = words.next_word()?;
-    if words.next_word().is_some() {
-        return None;
-    }
+    words.end()?;
     let task = task_of(task)?;
     let from = from_of(from)?;
     Some(BareEntry::Pop { task, from })
@@ -84,9 +113,7 @@ fn fetch_of(words: &mut Words<'_>) -> Option<BareEntry>
     let slot_b = words.next_word()?;
     let offer_a = words.next_word()?;
     let offer_b = words.next_word()?;
-    if words.next_word().is_some() {
-        return None;
-    }
+    words.end()?;
     let window = window_of(number, cycle, minislot, slot_a, slot_b)?;
     let a = offered_of(offer_a)?;
     let b = offered_of(offer_b)?;
@@ -101,9 +128,7 @@ fn observe_of(words: &mut Words<'_>, bytes: &mut EntryBytes) -> Option<BareEntry
     let window = words.next_word()?;
     let seen_a = words.next_word()?;
     let seen_b = words.next_word()?;
-    if words.next_word().is_some() {
-        return None;
-    }
+    words.end()?;
     let window = number_of(window, 1 << 32)?;
     if !seen_into(seen_a, &mut bytes.a) || !seen_into(seen_b, &mut bytes.b) {
         return None;
@@ -115,13 +140,16 @@ fn observe_of(words: &mut Words<'_>, bytes: &mut EntryBytes) -> Option<BareEntry
 
 /// The entry that the line spells, by its first word.
 #[tactic(auto, unfolding(crate::specs::Reading::entry_in))]
-fn parsed(line: &[u8], bytes: &mut EntryBytes) -> Option<BareEntry>
-    ensures { option_map (with_bytes bytes.new) result ≡ entry_in (words_of line.now) }
+fn parsed(version: Version, line: &[u8], bytes: &mut EntryBytes) -> Option<BareEntry>
+    ensures { option_map (with_bytes bytes.new) result ≡ entry_in version (words_of line.now) }
 {
     let mut words = Words::new(line);
     let kind = words.next_word()?;
     if kind == b"commit".as_slice() {
         return commit_of(&mut words, bytes);
+    }
+    if kind == b"withdraw".as_slice() {
+        return withdraw_of(version, &mut words);
     }
     if kind == b"read".as_slice() {
         return read_of(&mut words);
@@ -138,20 +166,21 @@ fn parsed(line: &[u8], bytes: &mut EntryBytes) -> Option<BareEntry>
     None
 }
 
-/// The entry of a line `commit`, `read`, `pop`, `fetch` or `see`, without its bytes, which are read in place of those
-/// before. Where it is `None`, what they are isn't told.
+/// The entry of a line `commit`, `withdraw`, `read`, `pop`, `fetch` or `see` in a text of this version, without its
+/// bytes, which are read in place of those before. Where it is `None`, what they are isn't told.
 ///
-/// `None` for a line of another form and where a number is out of its range: a task is 0 to 7, a buffer 0 to 63, the
-/// bytes of a commit are an even number, at most 254, the number of a window or of an entry fits 32 bits, a cycle is
-/// 0 to 63, a minislot 0 to 8000, a slot 1 to 2047, and at most 262 bytes were seen. `None` too where the numbers of
-/// a fetch are no window: at minislot 0 both channels open the same slot, and at a minislot above 0 one channel or
-/// both open a slot.
-pub fn entry_into(line: &[u8], bytes: &mut EntryBytes) -> Option<BareEntry>
+/// `None` for a line of another form, for `withdraw` in version 1, and where a number is out of its range: a task is
+/// 0 to 7, a buffer 0 to 63, the bytes of a commit are an even number, at most 254, the number of a window or of an
+/// entry fits 32 bits, a cycle is 0 to 63, a minislot 0 to 8000, a slot 1 to 2047, and at most 262 bytes were seen.
+/// `None` too where the numbers of a fetch are no window: at minislot 0 both channels open the same slot, and at a
+/// minislot above 0 one channel or both open a slot.
+pub fn entry_into(version: Version, line: &[u8], bytes: &mut EntryBytes) -> Option<BareEntry>
     ensures found { IfSome result (λ e. line.now ≡ line_of (entry_words (with_bytes bytes.new e))) }
     ensures fits { IfSome result (λ e. IsSpelledEntry (with_bytes bytes.new e)) }
-    ensures only { (e : Entry) → IsSpelledEntry e → line.now ≡ line_of (entry_words e)
+    ensures told { IfSome result (λ e. tells version (with_bytes bytes.new e) ≡ true) }
+    ensures only { (e : Entry) → IsSpelledEntry e → tells version e ≡ true → line.now ≡ line_of (entry_words e)
         → option_map (with_bytes bytes.new) result ≡ Some e }
-    ensures exact { option_map (with_bytes bytes.new) result ≡ entry_in (words_of line.now) }
+    ensures exact { option_map (with_bytes bytes.new) result ≡ entry_in version (words_of line.now) }
 {
-    parsed(line, bytes)
+    parsed(version, line, bytes)
 }

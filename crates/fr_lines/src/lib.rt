@@ -1,12 +1,14 @@
-//! The lines of a trace, version 1: how each is spelled, and what each spells (own profile).
+//! The lines of a trace: how each is spelled, and what each spells in a version of the format (own profile).
 //!
 //! A line is given without its line feed, and is cut at each space into words. Each thing has one spelling: a number
 //! is decimal without sign and leading zeros, and `-` stands where there is nothing.
 //!
 //! ```text
+//! let version = version_of(b"frtrace 3")?;
 //! let mut bytes = EntryBytes::new(); // those of the entry that is read last
-//! let entry = entry_into(b"read 0 1 12:A", &mut bytes)?; // none where the line is no entry
+//! let entry = entry_into(version, b"read 0 1 12:A", &mut bytes)?; // none where the line is no entry
 //! let plan = node_of(b"node 1 0 0 256 4096")?;
+//! let own = own_of(version, b"own 3 A 0 0 1 2")?;
 //! let buffer = buffer_of(b"rx 2 AB 0 1")?;
 //! write_buffer(&mut out, &buffer)?; // the same line, with its line feed
 //! ```
@@ -24,4 +26,5 @@ pub mod parameters;
 mod parts;
 pub mod plan_lines;
 pub mod queues;
+pub mod versions;
 pub mod writing;

@@ -20,9 +20,7 @@ fn limits_of(words: &mut Words<'_>) -> Option<NodePlan>
     let latest_b = words.next_word()?;
     let host_entries = words.next_word()?;
     let slot_entries = words.next_word()?;
-    if words.next_word().is_some() {
-        return None;
-    }
+    words.end()?;
     let tasks = number_of(tasks, 9)?;
     let latest_a = number_of(latest_a, 8001)?;
     let latest_b = number_of(latest_b, 8001)?;

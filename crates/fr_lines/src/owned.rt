@@ -1,12 +1,15 @@
 //! The lines of ownership.
-ghost use Rattle.std.specs.Prelude.{◌≡◌, Some, IfSome};
+ghost use Rattle.std.specs.Prelude.{◌≡◌, true, Some, IfSome};
 ghost use Rattle.fr_slots.specs.declared.plan.Own.{Own};
 ghost use Rattle.fr_text.specs.Spaces.{words_of, line_of};
-ghost use Rattle.fr_lines.specs.Reading.{fitting_own, ownership_in, own_in};
+ghost use Rattle.fr_lines.specs.Reading.{fitting_own, last_cycles_in, own_cycles_in, ownership_in, own_in};
 ghost use Rattle.fr_lines.specs.Spelled.{IsSpelledOwn};
 ghost use Rattle.fr_lines.specs.Spelling.{own_words};
+ghost use Rattle.fr_lines.specs.Versions.{tells_own};
 
-use crate::parts::{channels_of, flag_of, slot_of};
+use crate::parts::{channels_of, cycles_of, flag_of, slot_of};
+use crate::versions::Version;
+use fr_slots::filter::CycleFilter;
 use fr_slots::plan::{Own, own_fits};
 use fr_text::words::Words;
 
@@ -17,25 +20,47 @@ fn fitting(own: Own) -> Option<Own>
     if own_fits(&own) { Some(own) } else { None }
 }
 
+/// The cycles that the words spell, which are the line's last.
+#[tactic(auto, unfolding(crate::specs::Reading::last_cycles_in))]
+fn last_cycles_of(words: &mut Words<'_>) -> Option<CycleFilter>
+    ensures { result ≡ last_cycles_in words.old }
+{
+    let base = words.next_word()?;
+    let repetition = words.next_word()?;
+    words.end()?;
+    cycles_of(base, repetition)
+}
+
+/// The cycles of an ownership: those that the words spell, or every cycle in a version whose line has none.
+#[tactic(auto, unfolding(crate::specs::Reading::own_cycles_in))]
+fn own_cycles_of(version: Version, words: &mut Words<'_>) -> Option<CycleFilter>
+    ensures { result ≡ own_cycles_in version words.old }
+{
+    if version.has_own_cycles() {
+        return last_cycles_of(words);
+    }
+    words.end()?;
+    Some(CycleFilter::default())
+}
+
 /// The ownership line that the words spell.
 #[tactic(auto, unfolding(crate::specs::Reading::ownership_in))]
-pub(crate) fn ownership_of(words: &mut Words<'_>) -> Option<Own>
-    ensures { result ≡ ownership_in words.old }
+pub(crate) fn ownership_of(version: Version, words: &mut Words<'_>) -> Option<Own>
+    ensures { result ≡ ownership_in version words.old }
 {
     let slot = words.next_word()?;
     let channels = words.next_word()?;
     let sync = words.next_word()?;
     let startup = words.next_word()?;
-    if words.next_word().is_some() {
-        return None;
-    }
     let slot = slot_of(slot)?;
     let channels = channels_of(channels)?;
     let sync = flag_of(sync)?;
     let startup = flag_of(startup)?;
+    let cycles = own_cycles_of(version, words)?;
     fitting(Own {
         slot,
         channels,
+        cycles,
         sync,
         startup,
     })
@@ -43,25 +68,29 @@ pub(crate) fn ownership_of(words: &mut Words<'_>) -> Option<Own>
 
 /// The ownership line that the line spells.
 #[tactic(auto, unfolding(crate::specs::Reading::own_in))]
-fn parsed(line: &[u8]) -> Option<Own>
-    ensures { result ≡ own_in (words_of line.now) }
+fn parsed(version: Version, line: &[u8]) -> Option<Own>
+    ensures { result ≡ own_in version (words_of line.now) }
 {
     let mut words = Words::new(line);
     match words.next_word()? {
-        b"own" => ownership_of(&mut words),
+        b"own" => ownership_of(version, &mut words),
         _ => None,
     }
 }
 
-/// The ownership of a line `own`, which a plan takes as long as it has room.
+/// The ownership of a line `own` in a text of this version, which a plan takes as long as it has room. In versions 1
+/// and 2 it is for every cycle.
 ///
-/// `None` for a line of another form, for a slot that isn't 1 to 1023, and for startup frames that aren't sync
-/// frames.
-pub fn own_of(line: &[u8]) -> Option<Own>
-    ensures found { IfSome result (λ o. line.now ≡ line_of (own_words o)) }
+/// `None` for a line of another form, as one with cycles in versions 1 and 2 and one without in version 3; for a slot
+/// that isn't 1 to 1023; for startup frames that aren't sync frames; and where base and repetition are no cycle filter
+/// (chapter 9).
+pub fn own_of(version: Version, line: &[u8]) -> Option<Own>
+    ensures found { IfSome result (λ o. line.now ≡ line_of (own_words version o)) }
     ensures fits { IfSome result IsSpelledOwn }
-    ensures only { (o : Own) → IsSpelledOwn o → line.now ≡ line_of (own_words o) → result ≡ Some o }
-    ensures exact { result ≡ own_in (words_of line.now) }
+    ensures told { IfSome result (λ o. tells_own version o ≡ true) }
+    ensures only { (o : Own) → IsSpelledOwn o → tells_own version o ≡ true → line.now ≡ line_of (own_words version o)
+        → result ≡ Some o }
+    ensures exact { result ≡ own_in version (words_of line.now) }
 {
-    parsed(line)
+    parsed(version, line)
 }

@@ -43,9 +43,7 @@ fn ten_of(words: &mut Words<'_>) -> Option<[i64; 10]>
 {
     let (a, b, c, d, e) = five_of(words)?;
     let (f, g, h, i, j) = five_of(words)?;
-    if words.next_word().is_some() {
-        return None;
-    }
+    words.end()?;
     Some([a, b, c, d, e, f, g, h, i, j])
 }
 

@@ -2,7 +2,8 @@
 ghost use Rattle.std.specs.Prelude.{◌≡◌, ◌<◌, ◌^◌};
 ghost use Rattle.fr_text.specs.Reading.{number_in, read_as};
 ghost use Rattle.fr_lines.specs.PartReading.{slot_in, optional_slot_in, channels_in, cycles_in, filter_in, flag_in};
-ghost use Rattle.fr_lines.specs.PartReading.{mode_in, size_in, payload_in, channel_in, origin_in, from_in};
+ghost use Rattle.fr_lines.specs.PartReading.{mode_in, size_in, payload_in, taken_back_in, channel_in};
+ghost use Rattle.fr_lines.specs.PartReading.{origin_in, from_in};
 ghost use Rattle.fr_lines.specs.PartReading.{offered_in, seen_bytes_in, seen_in, same_slot, window_of, window_in};
 
 use arrayvec::ArrayVec;
@@ -143,6 +144,20 @@ pub(crate) fn payload_into(word: &[u8], payload: &mut Payload) -> bool
         return false;
     }
     payload.set_from_slice(bytes.as_slice()).is_ok()
+}
+
+/// The number of the commit that the word says was taken back, or none for `-`.
+#[tactic(auto, unfolding(crate::specs::PartReading::taken_back_in))]
+pub(crate) fn taken_back_of(word: &[u8]) -> Option<Option<u32>>
+    ensures { result ≡ taken_back_in word.now }
+{
+    match word {
+        b"-" => Some(None),
+        _ => {
+            let commit = number_of(word, 1 << 32)?;
+            Some(Some(commit as u32))
+        }
+    }
 }
 
 /// The channel that stands after the number of an entry.

@@ -6,6 +6,7 @@ ghost use Rattle.fr_lines.specs.Reading.{plan_line_in};
 use crate::buffers::{receive_of, transmit_of};
 use crate::owned::ownership_of;
 use crate::queues::reception_of;
+use crate::versions::Version;
 use fr_slots::plan::{Buffer, Own, Queue};
 use fr_text::words::Words;
 
@@ -20,16 +21,17 @@ pub enum PlanLine {
     Queue(Queue),
 }
 
-/// What the line tells of a plan: an ownership line, a buffer or the queue, each as its own function reads it.
+/// What the line tells of a plan in a text of this version: an ownership line, a buffer or the queue, each as its own
+/// function reads it.
 ///
 /// `None` for a line of another form, or with a number out of its range.
 #[tactic(auto, unfolding(crate::specs::Reading::plan_line_in))]
-pub fn plan_line_of(line: &[u8]) -> Option<PlanLine>
-    ensures { result ≡ plan_line_in (words_of line.now) }
+pub fn plan_line_of(version: Version, line: &[u8]) -> Option<PlanLine>
+    ensures { result ≡ plan_line_in version (words_of line.now) }
 {
     let mut words = Words::new(line);
     match words.next_word()? {
-        b"own" => ownership_of(&mut words).map(PlanLine::Own),
+        b"own" => ownership_of(version, &mut words).map(PlanLine::Own),
         b"tx" => transmit_of(&mut words).map(PlanLine::Buffer),
         b"rx" => receive_of(&mut words).map(PlanLine::Buffer),
         b"queue" => reception_of(&mut words).map(PlanLine::Queue),

@@ -33,9 +33,7 @@ pub(crate) fn reception_of(words: &mut Words<'_>) -> Option<Queue>
     let channels = words.next_word()?;
     let base = words.next_word()?;
     let repetition = words.next_word()?;
-    if words.next_word().is_some() {
-        return None;
-    }
+    words.end()?;
     let capacity = number_of(capacity, 257)? as u16;
     let first = slot_of(first)?;
     let last = slot_of(last)?;

@@ -4,6 +4,7 @@
 ghost use Rattle.std.specs.Prelude.{◌≡◌, ◌∷◌};
 ghost use Rattle.fr_text.specs.Writing.{Writes};
 ghost use Rattle.fr_journal.specs.declared.entry.Entry.TheVariants as entries;
+ghost use Rattle.fr_lines.specs.declared.versions.Version.TheVariants.{Three};
 ghost use Rattle.fr_lines.specs.Parts.{channels_word, flag_word, from_word, offered_word, optional_number, seen_word};
 ghost use Rattle.fr_lines.specs.Spelling.{line_text, params_words, node_words, own_words, transmit_words};
 ghost use Rattle.fr_lines.specs.Spelling.{receive_words, buffer_words, queue_words, entry_words};
@@ -55,6 +56,16 @@ fn write_size<W: Write>(writer: &mut W, words: Option<u8>) -> io::Result<()>
 {
     match words {
         Some(words) => write!(writer, " {words}"),
+        None => write!(writer, " -"),
+    }
+}
+
+/// Writes a space, and the word of the commit that was taken back, or of none.
+fn write_taken_back<W: Write>(writer: &mut W, of: Option<u32>) -> io::Result<()>
+    ensures { Writes W.contents writer.old writer.new result (32 ∷ optional_number of) }
+{
+    match of {
+        Some(commit) => write!(writer, " {commit}"),
         None => write!(writer, " -"),
     }
 }
@@ -124,17 +135,19 @@ pub fn write_node<W: Write>(writer: &mut W, plan: &NodePlan) -> io::Result<()>
     writeln!(writer, " {} {}", plan.host_entries(), plan.slot_entries())
 }
 
-/// Writes an ownership line.
+/// Writes an ownership line of version 3, which has its cycles.
 pub fn write_own<W: Write>(writer: &mut W, own: &Own) -> io::Result<()>
-    ensures { Writes W.contents writer.old writer.new result (line_text (own_words own.now)) }
+    ensures { Writes W.contents writer.old writer.new result (line_text (own_words Three own.now)) }
 {
     let channels = channels_word(own.channels);
     let (sync, startup) = (flag_word(own.sync), flag_word(own.startup));
-    writeln!(
+    write!(
         writer,
         "own {} {channels} {sync} {startup}",
         own.slot.number()
-    )
+    )?;
+    let (base, repetition) = (own.cycles.base(), own.cycles.repetition());
+    writeln!(writer, " {base} {repetition}")
 }
 
 /// Writes the line of a transmit buffer of this mode.
@@ -219,6 +232,21 @@ fn write_commit<W: Write>(
     writeln!(writer)
 }
 
+/// Writes the line of a withdraw.
+fn write_withdraw<W: Write>(
+    writer: &mut W,
+    task: TaskId,
+    buffer: u8,
+    of: Option<u32>,
+) -> io::Result<()>
+    ensures { Writes W.contents writer.old writer.new result
+        (line_text (entry_words (entries.Withdraw task buffer of))) }
+{
+    write!(writer, "withdraw {} {buffer}", task.number())?;
+    write_taken_back(writer, of)?;
+    writeln!(writer)
+}
+
 /// Writes the line of a read.
 fn write_read<W: Write>(
     writer: &mut W,
@@ -243,7 +271,7 @@ fn write_pop<W: Write>(writer: &mut W, task: TaskId, from: &Option<Origin>) -> i
     writeln!(writer)
 }
 
-/// Writes the line of an entry.
+/// Writes the line of an entry. Version 1 has none for a withdraw.
 pub fn write_entry<W: Write>(writer: &mut W, entry: &Entry) -> io::Result<()>
     ensures { Writes W.contents writer.old writer.new result (line_text (entry_words entry.now)) }
 {
@@ -253,6 +281,7 @@ pub fn write_entry<W: Write>(writer: &mut W, entry: &Entry) -> io::Result<()>
             buffer,
             payload,
         } => write_commit(writer, *task, *buffer, payload),
+        Entry::Withdraw { task, buffer, of } => write_withdraw(writer, *task, *buffer, *of),
         Entry::Read { task, buffer, from } => write_read(writer, *task, *buffer, from),
         Entry::Pop { task, from } => write_pop(writer, *task, from),
         Entry::Fetch { window, a, b } => write_fetch(writer, window, *a, *b),

@@ -1,6 +1,6 @@
--- The static slots of a picture: an element for each of them and each channel, which names its owner in the sender
--- table.
-use Rattle.std.specs.Prelude.{◌≡◌, ◌⊎◌, ℕ, zero, suc, ◌+◌, ◌-◌, ◌*◌, ◌/◌, nat_lt, List, [], ◌++◌, codes, Option}
+-- The static slots of a picture: an element for each of them and each channel, which names its owner in the cycle, as
+-- the sender table has it.
+use Rattle.std.specs.Prelude.{◌≡◌, ◌⊎◌, ℕ, zero, suc, ◌-◌, ◌*◌, ◌/◌, nat_lt, List, [], ◌++◌, codes, Option}
 use Rattle.std.specs.Prelude.{if◌then◌else◌}
 use Rattle.std.specs.Fmt.{decimal}
 use Rattle.std.specs.Io.KnownBytes.{Appends}
@@ -54,12 +54,12 @@ abbrev pub numbered : Parameters → ℕ → Channel → ℕ → List ℕ
 numbered p slot channel node = number_text (across p (start_of p slot))
     (extent p (start_of p slot) (end_of p slot)) channel node
 
--- a slot on a channel that the node owns
+-- a slot on a channel that the node owns in the cycle
 abbrev pub owned_element : Parameters → ℕ → Channel → ℕ → List ℕ
 owned_element p slot channel node =
     owned_title slot channel node ++ boxed p slot channel ++ numbered p slot channel node ++ end_text
 
--- a slot on a channel that nobody owns
+-- a slot on a channel that nobody owns in the cycle
 abbrev pub free_element : Parameters → ℕ → Channel → List ℕ
 free_element p slot channel = free_title slot channel ++ boxed p slot channel ++ end_text
 
@@ -69,7 +69,7 @@ free_element p slot channel = free_title slot channel ++ boxed p slot channel ++
 abbrev pub Adds : (List ℕ → Type 0) → Option (List ℕ) → Option (List ℕ) → Type 0
 Adds IsText old new = (text : List ℕ) × IsText text × Appends old new text
 
--- the element of a slot on a channel names its sender, and where it has none, nobody
+-- the element of a slot on a channel names its sender in the cycle, and where it has none, nobody
 abbrev pub IsOwnerText : Description → ℕ → ℕ → Channel → List ℕ → Type 0
 IsOwnerText d cycle slot channel text =
     ((node : ℕ) × IsSender d cycle slot channel node × (text ≡ owned_element d.params slot channel node))

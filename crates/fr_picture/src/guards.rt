@@ -1,23 +1,24 @@
-//! When each channel is open to each node.
+//! When each channel is open to each node in the cycle.
 
 use crate::frame::{GUARD_PITCH, GUARDS_TOP, write_name};
 use crate::scale::{across, extent};
 use fr_guardian::guardian::Guardian;
 use fr_slots::channel::Channel;
-use fr_slots::numbers::NodeId;
+use fr_slots::numbers::{Cycle, NodeId};
 use std::alloc::Global;
 use std::io;
 use std::io::Write;
 
-/// Writes the row of a node and a channel: an element for each interval in which its guardian is open.
+/// Writes the row of a node and a channel: an element for each interval of the cycle in which its guardian is open.
 fn write_row<W: Write>(
     writer: &mut W,
     guardian: &Guardian,
     node: NodeId,
     channel: Channel,
+    cycle: Cycle,
     top: u64,
 ) -> io::Result<()> {
-    for (start, end) in guardian.windows(node, channel) {
+    for (start, end) in guardian.windows(node, cycle, channel) {
         let left = across(guardian.params(), *start);
         let length = extent(guardian.params(), *start, *end);
         write!(
@@ -36,6 +37,7 @@ pub(crate) fn write_guards(
     alloc: Global,
     text: &mut Vec<u8>,
     guardian: &Guardian,
+    cycle: Cycle,
 ) -> io::Result<()> {
     let mut top = GUARDS_TOP;
     for number in 0..guardian.nodes() {
@@ -43,7 +45,7 @@ pub(crate) fn write_guards(
             for channel in [Channel::A, Channel::B] {
                 let name = format!(in alloc; "node {node} {channel}")?;
                 write_name(text, top.saturating_add(75), name.as_str())?;
-                write_row(text, guardian, node, channel, top)?;
+                write_row(text, guardian, node, channel, cycle, top)?;
                 top = top.saturating_add(GUARD_PITCH);
             }
         }

@@ -1,4 +1,4 @@
-//! The static slots of a channel, each with its owner.
+//! The static slots of a channel, each with its owner in the cycle.
 
 ghost use Rattle.std.specs.Prelude.{◌≡◌, OnOk};
 ghost use Rattle.fr_text.specs.Writing.{Writes};
@@ -79,7 +79,7 @@ fn write_owned_title<W: Write>(
     )
 }
 
-/// Writes how the element of a slot begins that nobody owns.
+/// Writes how the element of a slot begins that nobody owns in the cycle.
 #[tactic(auto, unfolding(crate::specs::Owners::free_title))]
 fn write_free_title<W: Write>(writer: &mut W, slot: u16, channel: Channel) -> io::Result<()>
     ensures { Writes W.contents writer.old writer.new result (free_title slot channel) }
@@ -108,7 +108,7 @@ fn write_owned<W: Write>(
     writeln!(writer, "</g>")
 }
 
-/// Writes the element of a static slot on the channel that nobody owns.
+/// Writes the element of a static slot on the channel that nobody owns in the cycle.
 fn write_free<W: Write>(
     writer: &mut W,
     params: &Params,
@@ -124,7 +124,7 @@ fn write_free<W: Write>(
     writeln!(writer, "</g>")
 }
 
-/// Writes the element of a static slot on the channel, which names its owner.
+/// Writes the element of a static slot on the channel, which names its owner in the cycle.
 fn write_owner<W: Write>(
     writer: &mut W,
     cluster: &Cluster,

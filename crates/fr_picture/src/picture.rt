@@ -39,7 +39,7 @@ fn write_after(
     write_dynamic(text, cluster, cycle, Channel::A)?;
     write_dynamic(text, cluster, cycle, Channel::B)?;
     match Guardian::new(alloc, cluster) {
-        Ok(guardian) => write_guards(alloc, text, &guardian)?,
+        Ok(guardian) => write_guards(alloc, text, &guardian, cycle)?,
         Err(error) => return Err(io::Error::from(error)),
     }
     write_end(text)
@@ -62,8 +62,8 @@ fn owners_of(alloc: Global, cluster: &Cluster, cycle: Cycle) -> Result<Vec<u8>, 
 /// The picture of a cycle: an SVG text (own profile).
 ///
 /// It has the four segments of the cycle, for each channel the static slots with their owners and the dynamic slots
-/// that have a sender in the cycle, and for each node and channel the intervals in which its guardian is open. Refused
-/// with `Memory` alone.
+/// that have a sender, and for each node and channel the intervals in which its guardian is open, all of them in this
+/// cycle. Refused with `Memory` alone.
 pub fn picture_of(alloc: Global, cluster: &Cluster, cycle: Cycle) -> Result<Vec<u8>, BenchError>
     ensures picture { IfOk result (λ text. IsPicture cluster.now cycle text.items) }
     ensures refused { IfErr result (λ e. e ≡ refusal.Memory) }

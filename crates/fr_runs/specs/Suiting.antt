@@ -5,7 +5,7 @@ use Rattle.std.specs.List.{list_all, list_any, sum_by, AllAdjacentBelow}
 use Rattle.fr_bus.specs.declared.fault.Fault.{Fault}
 use Rattle.fr_bus.specs.declared.fault.Fault.TheVariants.{Babble, Mute, Corrupt}
 use Rattle.fr_core.specs.declared.script.Action.{Action}
-use Rattle.fr_core.specs.declared.script.Action.TheVariants.{Commit, Read, Pop}
+use Rattle.fr_core.specs.declared.script.Action.TheVariants.{Commit, Withdraw, Read, Pop}
 use Rattle.fr_core.specs.declared.script.Line.{Line}
 use Rattle.fr_core.specs.Scripts.{Scripted, is_for}
 use Rattle.fr_runs.specs.declared.fault_line.FaultCycles.{FaultCycles}
@@ -27,6 +27,11 @@ abbrev pub sends : Parameters → List ℕ → Option Buffer → Bool
 sends p payload None = false
 sends p payload (Some b) = transmits b && length payload == 2 * words_of p b
 
+-- there is a transmit buffer
+abbrev pub is_transmit : Option Buffer → Bool
+is_transmit None = false
+is_transmit (Some b) = transmits b
+
 -- there is a receive buffer
 abbrev pub receives : Option Buffer → Bool
 receives None = false
@@ -35,6 +40,7 @@ receives (Some b) = is_receive b.mode
 -- the node has what the action is done on
 abbrev pub action_suits : Parameters → Plan → Action → Bool
 action_suits p plan (Commit buffer payload) = sends p payload (buffer_at plan buffer)
+action_suits p plan (Withdraw buffer) = is_transmit (buffer_at plan buffer)
 action_suits p plan (Read buffer) = receives (buffer_at plan buffer)
 action_suits p plan Pop = is_some plan.queue
 

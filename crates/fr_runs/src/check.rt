@@ -102,8 +102,9 @@ fn full_node(cluster: &Cluster, scripts: &[Script], cycles: u16) -> Option<NodeI
 /// - `BadCycles` for 0 cycles or more than 1024;
 /// - `BadScript` for a script whose node the cluster doesn't have, or whose task that node doesn't have; with a line
 ///   whose cycle is below that of the line before it or isn't a cycle of the run, counted from 0; which commits on what
-///   is no transmit buffer of the node, or a payload of another length than that buffer's; which reads what is no
-///   receive buffer of the node, or pops where the node has no queue; and for one whose task an earlier script has;
+///   is no transmit buffer of the node, or a payload of another length than that buffer's; which withdraws from what is
+///   no transmit buffer of the node, reads what is no receive buffer of it, or pops where the node has no queue; and
+///   for one whose task an earlier script has;
 /// - `BadFault` for a fault of a node that the cluster doesn't have; in a cycle, static slot or minislot that the run
 ///   doesn't have; and for one that names a window that an earlier line names for the same kind, node and channel, or
 ///   for a corruption the same channel. `Every` names every cycle and `EverySlot` every static slot, and a line names

@@ -5,8 +5,8 @@ ghost use Rattle.std.specs.List.{list_all, list_any};
 ghost use Rattle.std.specs.Option.{option_copied};
 ghost use Rattle.fr_core.specs.Scripts.{is_for};
 ghost use Rattle.fr_core.specs.Walks.{Finds};
-ghost use Rattle.fr_runs.specs.Suiting.{sends, receives, action_suits, line_suits, AreInOrder, SuitsPlan, SuitsNode};
-ghost use Rattle.fr_runs.specs.Suiting.{IsScriptAfter, ScriptSuits};
+ghost use Rattle.fr_runs.specs.Suiting.{sends, is_transmit, receives, action_suits, line_suits, AreInOrder, SuitsPlan};
+ghost use Rattle.fr_runs.specs.Suiting.{SuitsNode, IsScriptAfter, ScriptSuits};
 
 use fr_core::script::{Action, Line, Script};
 use fr_frame::payload::Payload;
@@ -27,6 +27,16 @@ fn sends(params: &Params, payload: &Payload, buffer: Option<Buffer>) -> bool
     }
 }
 
+/// Whether there is a transmit buffer.
+fn is_transmit(buffer: Option<Buffer>) -> bool
+    ensures { result ≡ is_transmit buffer }
+{
+    match buffer {
+        Some(buffer) => buffer.transmits(),
+        None => false,
+    }
+}
+
 /// Whether there is a receive buffer.
 fn receives(buffer: Option<Buffer>) -> bool
     ensures { result ≡ receives buffer }
@@ -43,6 +53,7 @@ fn action_suits(params: &Params, plan: &NodePlan, action: &Action) -> bool
 {
     match action {
         Action::Commit { buffer, payload } => sends(params, payload, plan.buffer(*buffer)),
+        Action::Withdraw { buffer } => is_transmit(plan.buffer(*buffer)),
         Action::Read { buffer } => receives(plan.buffer(*buffer)),
         Action::Pop => plan.queue().is_some(),
     }

@@ -8,6 +8,7 @@ use Rattle.memchr.specs.Find.{IsFirstByte, is_byte}
 use Rattle.std.proofs.lemmas.Bool.Decides.{nat_tests}
 use Rattle.std.specs.Prelude.{Option}
 use Rattle.fr_scenario.specs.declared.error.ScenarioError.TheVariants.{BadLine, TooManyLines, Truncated}
+use Rattle.fr_scenario.specs.declared.version.Version.{Version}
 use Rattle.fr_scenario.specs.Reading.{lines_in, read_from, whole_line, is_at_end}
 use Rattle.fr_text.specs.Plain.{is_feed}
 
@@ -118,55 +119,56 @@ at_within text at found =
       | inr fail ↦ cc (rw fail at found)
     ]
 
-line_long : (n : ℕ) (line next : List ℕ) (more : List (List ℕ)) → n ≤ 4096 → 1200 < length line → read_from n (line ∷ next ∷ more) ≡ Err (BadLine n)
-line_long n line next more few long = rw (le-ltb 4096 n few, lt-ltb 1200 (length line) long) refl
+module _ (version : Version) where
+  line_long : (n : ℕ) (line next : List ℕ) (more : List (List ℕ)) → n ≤ 4096 → 1200 < length line → read_from version n (line ∷ next ∷ more) ≡ Err (BadLine n)
+  line_long n line next more few long = rw (le-ltb 4096 n few, lt-ltb 1200 (length line) long) refl
 
-line_whole : (n : ℕ) (line next : List ℕ) (more : List (List ℕ)) → n ≤ 4096 → length line ≤ 1200
-    → read_from n (line ∷ next ∷ more) ≡ whole_line n line (next ∷ more) (read_from (n + 1) (next ∷ more))
-line_whole n line next more few short = rw (le-ltb 4096 n few, le-ltb 1200 (length line) short) refl
+  line_whole : (n : ℕ) (line next : List ℕ) (more : List (List ℕ)) → n ≤ 4096 → length line ≤ 1200
+      → read_from version n (line ∷ next ∷ more) ≡ whole_line version n line (next ∷ more) (read_from version (n + 1) (next ∷ more))
+  line_whole n line next more few short = rw (le-ltb 4096 n few, le-ltb 1200 (length line) short) refl
 
-pub read_long : (n : ℕ) (text : List ℕ) (at : ℕ) → n ≤ 4096 → position is_feed text ≡ Some at → 1200 < at → read_from n (lines_in text) ≡ Err (BadLine n)
-read_long n text at few found long =
-    let (next, more, is) = some_line (drop (at + 1) text) in
-    let within = at_within text at found in
-    let len = length-take at text in
-    ap (read_from n) (cut_at text at found ∙ ap (λ lines. take at text ∷ lines) is) ∙ line_long n (take at text) next more few (omega arith)
+  pub read_long : (n : ℕ) (text : List ℕ) (at : ℕ) → n ≤ 4096 → position is_feed text ≡ Some at → 1200 < at → read_from version n (lines_in text) ≡ Err (BadLine n)
+  read_long n text at few found long =
+      let (next, more, is) = some_line (drop (at + 1) text) in
+      let within = at_within text at found in
+      let len = length-take at text in
+      ap (read_from version n) (cut_at text at found ∙ ap (λ lines. take at text ∷ lines) is) ∙ line_long n (take at text) next more few (omega arith)
 
-pub read_whole : (n : ℕ) (text : List ℕ) (at : ℕ) → n ≤ 4096 → position is_feed text ≡ Some at → at ≤ 1200
-    → read_from n (lines_in text) ≡ whole_line n (take at text) (lines_in (drop (at + 1) text)) (read_from (n + 1) (lines_in (drop (at + 1) text)))
-read_whole n text at few found short =
-    let (next, more, is) = some_line (drop (at + 1) text) in
-    let len = length-take at text in
-    ap (read_from n) (cut_at text at found ∙ ap (λ lines. take at text ∷ lines) is)
-    ∙ line_whole n (take at text) next more few (omega arith)
-    ∙ ap (λ lines. whole_line n (take at text) lines (read_from (n + 1) lines)) (sym is)
+  pub read_whole : (n : ℕ) (text : List ℕ) (at : ℕ) → n ≤ 4096 → position is_feed text ≡ Some at → at ≤ 1200
+      → read_from version n (lines_in text) ≡ whole_line version n (take at text) (lines_in (drop (at + 1) text)) (read_from version (n + 1) (lines_in (drop (at + 1) text)))
+  read_whole n text at few found short =
+      let (next, more, is) = some_line (drop (at + 1) text) in
+      let len = length-take at text in
+      ap (read_from version n) (cut_at text at found ∙ ap (λ lines. take at text ∷ lines) is)
+      ∙ line_whole n (take at text) next more few (omega arith)
+      ∙ ap (λ lines. whole_line version n (take at text) lines (read_from version (n + 1) lines)) (sym is)
 
-last_long : (n : ℕ) (text : List ℕ) → n ≤ 4096 → 1200 < length text → read_from n (text ∷ []) ≡ Err (BadLine n)
-last_long n [] few long = absurd (omega arith)
-last_long n (b ∷ text) few long = rw (le-ltb 4096 n few, lt-ltb 1200 (length (b ∷ text)) long) refl
+  last_long : (n : ℕ) (text : List ℕ) → n ≤ 4096 → 1200 < length text → read_from version n (text ∷ []) ≡ Err (BadLine n)
+  last_long n [] few long = absurd (omega arith)
+  last_long n (b ∷ text) few long = rw (le-ltb 4096 n few, lt-ltb 1200 (length (b ∷ text)) long) refl
 
-last_short : (n : ℕ) (text : List ℕ) → n ≤ 4096 → length text ≤ 1200 → read_from n (text ∷ []) ≡ Err Truncated
-last_short n [] few short = refl
-last_short n (b ∷ text) few short = rw (le-ltb 4096 n few, le-ltb 1200 (length (b ∷ text)) short) refl
+  last_short : (n : ℕ) (text : List ℕ) → n ≤ 4096 → length text ≤ 1200 → read_from version n (text ∷ []) ≡ Err Truncated
+  last_short n [] few short = refl
+  last_short n (b ∷ text) few short = rw (le-ltb 4096 n few, le-ltb 1200 (length (b ∷ text)) short) refl
 
-pub read_last_long : (n : ℕ) (text : List ℕ) → n ≤ 4096 → position is_feed text ≡ None → 1200 < length text → read_from n (lines_in text) ≡ Err (BadLine n)
-read_last_long n text few none long = ap (read_from n) (cut_none text none) ∙ last_long n text few long
+  pub read_last_long : (n : ℕ) (text : List ℕ) → n ≤ 4096 → position is_feed text ≡ None → 1200 < length text → read_from version n (lines_in text) ≡ Err (BadLine n)
+  read_last_long n text few none long = ap (read_from version n) (cut_none text none) ∙ last_long n text few long
 
-pub read_last : (n : ℕ) (text : List ℕ) → n ≤ 4096 → position is_feed text ≡ None → length text ≤ 1200 → read_from n (lines_in text) ≡ Err Truncated
-read_last n text few none short = ap (read_from n) (cut_none text none) ∙ last_short n text few short
+  pub read_last : (n : ℕ) (text : List ℕ) → n ≤ 4096 → position is_feed text ≡ None → length text ≤ 1200 → read_from version n (lines_in text) ≡ Err Truncated
+  read_last n text few none short = ap (read_from version n) (cut_none text none) ∙ last_short n text few short
 
--- ---- after the last line that there may be
+  -- ---- after the last line that there may be
 
-pub read_past_end : (lines : List (List ℕ)) → is_at_end lines ≡ true → read_from 4097 lines ≡ Err Truncated
-read_past_end [] h = refl
-read_past_end ([] ∷ []) h = refl
-read_past_end ((b ∷ line) ∷ []) h = cc h
-read_past_end ([] ∷ next ∷ more) h = cc h
-read_past_end ((b ∷ line) ∷ next ∷ more) h = cc h
+  pub read_past_end : (lines : List (List ℕ)) → is_at_end lines ≡ true → read_from version 4097 lines ≡ Err Truncated
+  read_past_end [] h = refl
+  read_past_end ([] ∷ []) h = refl
+  read_past_end ((b ∷ line) ∷ []) h = cc h
+  read_past_end ([] ∷ next ∷ more) h = cc h
+  read_past_end ((b ∷ line) ∷ next ∷ more) h = cc h
 
-pub read_past_more : (lines : List (List ℕ)) → is_at_end lines ≡ false → read_from 4097 lines ≡ Err TooManyLines
-read_past_more [] h = cc h
-read_past_more ([] ∷ []) h = cc h
-read_past_more ((b ∷ line) ∷ []) h = refl
-read_past_more ([] ∷ next ∷ more) h = refl
-read_past_more ((b ∷ line) ∷ next ∷ more) h = refl
+  pub read_past_more : (lines : List (List ℕ)) → is_at_end lines ≡ false → read_from version 4097 lines ≡ Err TooManyLines
+  read_past_more [] h = cc h
+  read_past_more ([] ∷ []) h = cc h
+  read_past_more ((b ∷ line) ∷ []) h = refl
+  read_past_more ([] ∷ next ∷ more) h = refl
+  read_past_more ((b ∷ line) ∷ next ∷ more) h = refl

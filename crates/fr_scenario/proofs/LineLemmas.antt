@@ -7,7 +7,7 @@ use Rattle.std.specs.Str.{bytes_eq}
 use Rattle.fr_bus.specs.declared.fault.Fault.{Fault}
 use Rattle.fr_bus.specs.declared.fault.Fault.TheVariants.{Babble, Mute, Corrupt}
 use Rattle.fr_core.specs.declared.script.Action.{Action}
-use Rattle.fr_core.specs.declared.script.Action.TheVariants.{Commit, Read, Pop}
+use Rattle.fr_core.specs.declared.script.Action.TheVariants.{Commit, Withdraw, Read, Pop}
 use Rattle.fr_core.specs.declared.script.Line.{Line}
 use Rattle.fr_lines.proofs.PartLemmas.{word_or}
 use Rattle.fr_lines.proofs.PlanPartLemmas.{payload_takes, payload_again}
@@ -21,7 +21,10 @@ use Rattle.fr_scenario.proofs.PartLemmas.{run_cycle_plain, cycles_takes, cycles_
 use Rattle.fr_scenario.proofs.PartLemmas.{place_again, place_plain}
 use Rattle.fr_scenario.specs.declared.spelled.SpelledLine.{SpelledLine}
 use Rattle.fr_scenario.specs.declared.spelled.SpelledLine.TheVariants.{Host, Fault as FaultOf}
-use Rattle.fr_scenario.specs.LineReading.{host_line, fault_line, commit_in, read_in, pop_in, babble_in, mute_in}
+use Rattle.fr_scenario.specs.declared.version.Version.{Version}
+use Rattle.fr_scenario.specs.declared.version.Version.TheVariants.{One, Two}
+use Rattle.fr_scenario.specs.LineReading.{host_line, fault_line, commit_in, withdraw_in, read_in, pop_in}
+use Rattle.fr_scenario.specs.LineReading.{babble_in, mute_in}
 use Rattle.fr_scenario.specs.LineReading.{corrupt_in}
 use Rattle.fr_scenario.specs.LineReading.{line_in}
 use Rattle.fr_scenario.specs.PartReading.{channel_in, run_cycle_in, cycles_in, place_in}
@@ -43,14 +46,14 @@ use Rattle.fr_text.specs.Spelling.{hex_text}
 
 -- ---- what is read is spelled so
 
-commit_takes : (words : List (List ℕ)) (l : SpelledLine) → commit_in words ≡ Some l → (codes "commit" ∷ words ≡ line_words l) × IsSpelledLine l
+commit_takes : (version : Version) (words : List (List ℕ)) (l : SpelledLine) → commit_in words ≡ Some l → (codes "commit" ∷ words ≡ line_words l) × IsSpelledLine version l
 unfolding commit_in
-commit_takes [] l h = cc h
-commit_takes (a ∷ []) l h = cc h
-commit_takes (a ∷ b ∷ []) l h = cc h
-commit_takes (a ∷ b ∷ c ∷ []) l h = cc h
-commit_takes (a ∷ b ∷ c ∷ d ∷ []) l h = cc h
-commit_takes (a ∷ b ∷ c ∷ d ∷ e ∷ []) l h =
+commit_takes version [] l h = cc h
+commit_takes version (a ∷ []) l h = cc h
+commit_takes version (a ∷ b ∷ []) l h = cc h
+commit_takes version (a ∷ b ∷ c ∷ []) l h = cc h
+commit_takes version (a ∷ b ∷ c ∷ d ∷ []) l h = cc h
+commit_takes version (a ∷ b ∷ c ∷ d ∷ e ∷ []) l h =
     let (n, hn, h1) = bind_some (number_in 16 a) _ l h in
     let (t, ht, h2) = bind_some (number_in 8 b) _ l h1 in
     let (y, hy, h3) = bind_some (run_cycle_in c) _ l h2 in
@@ -66,15 +69,38 @@ commit_takes (a ∷ b ∷ c ∷ d ∷ e ∷ []) l h =
       cons_same refl (cons_same (sym node.0) (cons_same (sym task.0) (cons_same cycle.0 (cons_same (sym buffer.0) (cons_same payload.0 refl))))),
       record { node_fits = node.1; task_fits = task.1; cycle_fits = cycle.1; action_fits = (buffer.1, payload.1, payload.2); unanswered = refl },
     )
-commit_takes (a ∷ b ∷ c ∷ d ∷ e ∷ f ∷ words) l h = cc h
+commit_takes version (a ∷ b ∷ c ∷ d ∷ e ∷ f ∷ words) l h = cc h
 
-read_takes : (words : List (List ℕ)) (l : SpelledLine) → read_in words ≡ Some l → (codes "read" ∷ words ≡ line_words l) × IsSpelledLine l
+withdraw_takes : (version : Version) (words : List (List ℕ)) (l : SpelledLine) → withdraw_in version words ≡ Some l → (codes "withdraw" ∷ words ≡ line_words l) × IsSpelledLine version l
+unfolding withdraw_in
+withdraw_takes One words l h = cc h
+withdraw_takes Two [] l h = cc h
+withdraw_takes Two (a ∷ []) l h = cc h
+withdraw_takes Two (a ∷ b ∷ []) l h = cc h
+withdraw_takes Two (a ∷ b ∷ c ∷ []) l h = cc h
+withdraw_takes Two (a ∷ b ∷ c ∷ d ∷ []) l h =
+    let (n, hn, h1) = bind_some (number_in 16 a) _ l h in
+    let (t, ht, h2) = bind_some (number_in 8 b) _ l h1 in
+    let (y, hy, h3) = bind_some (run_cycle_in c) _ l h2 in
+    let (m, hm, h4) = bind_some (number_in 64 d) _ l h3 in
+    let is : host_line n t y (Withdraw m) ≡ l = cc h4 in
+    let node = number_takes 16 a n hn in
+    let task = number_takes 8 b t ht in
+    let cycle = run_cycle_takes c y hy in
+    let buffer = number_takes 64 d m hm in
+    rw (← is) (
+      cons_same refl (cons_same (sym node.0) (cons_same (sym task.0) (cons_same cycle.0 (cons_same (sym buffer.0) refl)))),
+      record { node_fits = node.1; task_fits = task.1; cycle_fits = cycle.1; action_fits = buffer.1; unanswered = refl },
+    )
+withdraw_takes Two (a ∷ b ∷ c ∷ d ∷ e ∷ words) l h = cc h
+
+read_takes : (version : Version) (words : List (List ℕ)) (l : SpelledLine) → read_in words ≡ Some l → (codes "read" ∷ words ≡ line_words l) × IsSpelledLine version l
 unfolding read_in
-read_takes [] l h = cc h
-read_takes (a ∷ []) l h = cc h
-read_takes (a ∷ b ∷ []) l h = cc h
-read_takes (a ∷ b ∷ c ∷ []) l h = cc h
-read_takes (a ∷ b ∷ c ∷ d ∷ []) l h =
+read_takes version [] l h = cc h
+read_takes version (a ∷ []) l h = cc h
+read_takes version (a ∷ b ∷ []) l h = cc h
+read_takes version (a ∷ b ∷ c ∷ []) l h = cc h
+read_takes version (a ∷ b ∷ c ∷ d ∷ []) l h =
     let (n, hn, h1) = bind_some (number_in 16 a) _ l h in
     let (t, ht, h2) = bind_some (number_in 8 b) _ l h1 in
     let (y, hy, h3) = bind_some (run_cycle_in c) _ l h2 in
@@ -88,14 +114,14 @@ read_takes (a ∷ b ∷ c ∷ d ∷ []) l h =
       cons_same refl (cons_same (sym node.0) (cons_same (sym task.0) (cons_same cycle.0 (cons_same (sym buffer.0) refl)))),
       record { node_fits = node.1; task_fits = task.1; cycle_fits = cycle.1; action_fits = buffer.1; unanswered = refl },
     )
-read_takes (a ∷ b ∷ c ∷ d ∷ e ∷ words) l h = cc h
+read_takes version (a ∷ b ∷ c ∷ d ∷ e ∷ words) l h = cc h
 
-pop_takes : (words : List (List ℕ)) (l : SpelledLine) → pop_in words ≡ Some l → (codes "pop" ∷ words ≡ line_words l) × IsSpelledLine l
+pop_takes : (version : Version) (words : List (List ℕ)) (l : SpelledLine) → pop_in words ≡ Some l → (codes "pop" ∷ words ≡ line_words l) × IsSpelledLine version l
 unfolding pop_in
-pop_takes [] l h = cc h
-pop_takes (a ∷ []) l h = cc h
-pop_takes (a ∷ b ∷ []) l h = cc h
-pop_takes (a ∷ b ∷ c ∷ []) l h =
+pop_takes version [] l h = cc h
+pop_takes version (a ∷ []) l h = cc h
+pop_takes version (a ∷ b ∷ []) l h = cc h
+pop_takes version (a ∷ b ∷ c ∷ []) l h =
     let (n, hn, h1) = bind_some (number_in 16 a) _ l h in
     let (t, ht, h2) = bind_some (number_in 8 b) _ l h1 in
     let (y, hy, h3) = bind_some (run_cycle_in c) _ l h2 in
@@ -107,16 +133,16 @@ pop_takes (a ∷ b ∷ c ∷ []) l h =
       cons_same refl (cons_same (sym node.0) (cons_same (sym task.0) (cons_same cycle.0 refl))),
       record { node_fits = node.1; task_fits = task.1; cycle_fits = cycle.1; action_fits = tt; unanswered = refl },
     )
-pop_takes (a ∷ b ∷ c ∷ d ∷ words) l h = cc h
+pop_takes version (a ∷ b ∷ c ∷ d ∷ words) l h = cc h
 
-babble_takes : (words : List (List ℕ)) (l : SpelledLine) → babble_in words ≡ Some l → (codes "babble" ∷ words ≡ line_words l) × IsSpelledLine l
+babble_takes : (version : Version) (words : List (List ℕ)) (l : SpelledLine) → babble_in words ≡ Some l → (codes "babble" ∷ words ≡ line_words l) × IsSpelledLine version l
 unfolding babble_in
-babble_takes [] l h = cc h
-babble_takes (a ∷ []) l h = cc h
-babble_takes (a ∷ b ∷ []) l h = cc h
-babble_takes (a ∷ b ∷ c ∷ []) l h = cc h
-babble_takes (a ∷ b ∷ c ∷ d ∷ []) l h = cc h
-babble_takes (a ∷ b ∷ c ∷ d ∷ e ∷ []) l h =
+babble_takes version [] l h = cc h
+babble_takes version (a ∷ []) l h = cc h
+babble_takes version (a ∷ b ∷ []) l h = cc h
+babble_takes version (a ∷ b ∷ c ∷ []) l h = cc h
+babble_takes version (a ∷ b ∷ c ∷ d ∷ []) l h = cc h
+babble_takes version (a ∷ b ∷ c ∷ d ∷ e ∷ []) l h =
     let (n, hn, h1) = bind_some (number_in 16 a) _ l h in
     let (c1, hc, h2) = bind_some (channel_in b) _ l h1 in
     let (y, hy, h3) = bind_some (cycles_in c) _ l h2 in
@@ -131,15 +157,15 @@ babble_takes (a ∷ b ∷ c ∷ d ∷ e ∷ []) l h =
       cons_same refl (cons_same (sym node.0) (cons_same (channel_takes b c1 hc) (cons_same cycles.0 (cons_same place.0 (cons_same bytes.0 refl))))),
       record { fault_fits = (node.1, bytes.1, bytes.2); cycles_fit = cycles.1; place_fits = place.1 },
     )
-babble_takes (a ∷ b ∷ c ∷ d ∷ e ∷ f ∷ words) l h = cc h
+babble_takes version (a ∷ b ∷ c ∷ d ∷ e ∷ f ∷ words) l h = cc h
 
-mute_takes : (words : List (List ℕ)) (l : SpelledLine) → mute_in words ≡ Some l → (codes "mute" ∷ words ≡ line_words l) × IsSpelledLine l
+mute_takes : (version : Version) (words : List (List ℕ)) (l : SpelledLine) → mute_in words ≡ Some l → (codes "mute" ∷ words ≡ line_words l) × IsSpelledLine version l
 unfolding mute_in
-mute_takes [] l h = cc h
-mute_takes (a ∷ []) l h = cc h
-mute_takes (a ∷ b ∷ []) l h = cc h
-mute_takes (a ∷ b ∷ c ∷ []) l h = cc h
-mute_takes (a ∷ b ∷ c ∷ d ∷ []) l h =
+mute_takes version [] l h = cc h
+mute_takes version (a ∷ []) l h = cc h
+mute_takes version (a ∷ b ∷ []) l h = cc h
+mute_takes version (a ∷ b ∷ c ∷ []) l h = cc h
+mute_takes version (a ∷ b ∷ c ∷ d ∷ []) l h =
     let (n, hn, h1) = bind_some (number_in 16 a) _ l h in
     let (c1, hc, h2) = bind_some (channel_in b) _ l h1 in
     let (y, hy, h3) = bind_some (cycles_in c) _ l h2 in
@@ -152,15 +178,15 @@ mute_takes (a ∷ b ∷ c ∷ d ∷ []) l h =
       cons_same refl (cons_same (sym node.0) (cons_same (channel_takes b c1 hc) (cons_same cycles.0 (cons_same place.0 refl)))),
       record { fault_fits = node.1; cycles_fit = cycles.1; place_fits = place.1 },
     )
-mute_takes (a ∷ b ∷ c ∷ d ∷ e ∷ words) l h = cc h
+mute_takes version (a ∷ b ∷ c ∷ d ∷ e ∷ words) l h = cc h
 
-corrupt_takes : (words : List (List ℕ)) (l : SpelledLine) → corrupt_in words ≡ Some l → (codes "corrupt" ∷ words ≡ line_words l) × IsSpelledLine l
+corrupt_takes : (version : Version) (words : List (List ℕ)) (l : SpelledLine) → corrupt_in words ≡ Some l → (codes "corrupt" ∷ words ≡ line_words l) × IsSpelledLine version l
 unfolding corrupt_in
-corrupt_takes [] l h = cc h
-corrupt_takes (a ∷ []) l h = cc h
-corrupt_takes (a ∷ b ∷ []) l h = cc h
-corrupt_takes (a ∷ b ∷ c ∷ []) l h = cc h
-corrupt_takes (a ∷ b ∷ c ∷ d ∷ []) l h =
+corrupt_takes version [] l h = cc h
+corrupt_takes version (a ∷ []) l h = cc h
+corrupt_takes version (a ∷ b ∷ []) l h = cc h
+corrupt_takes version (a ∷ b ∷ c ∷ []) l h = cc h
+corrupt_takes version (a ∷ b ∷ c ∷ d ∷ []) l h =
     let (c1, hc, h1) = bind_some (channel_in a) _ l h in
     let (y, hy, h2) = bind_some (cycles_in b) _ l h1 in
     let (p, hp, h3) = bind_some (place_in c) _ l h2 in
@@ -173,78 +199,85 @@ corrupt_takes (a ∷ b ∷ c ∷ d ∷ []) l h =
       cons_same refl (cons_same (channel_takes a c1 hc) (cons_same cycles.0 (cons_same place.0 (cons_same (sym bit.0) refl)))),
       record { fault_fits = bit.1; cycles_fit = cycles.1; place_fits = place.1 },
     )
-corrupt_takes (a ∷ b ∷ c ∷ d ∷ e ∷ words) l h = cc h
+corrupt_takes version (a ∷ b ∷ c ∷ d ∷ e ∷ words) l h = cc h
 
-fault_taken : (kind : List ℕ) (words : List (List ℕ)) (l : SpelledLine) → (if bytes_eq kind (codes "babble") then babble_in words
+fault_taken : (version : Version) (kind : List ℕ) (words : List (List ℕ)) (l : SpelledLine) → (if bytes_eq kind (codes "babble") then babble_in words
     else if bytes_eq kind (codes "mute") then mute_in words else if bytes_eq kind (codes "corrupt") then corrupt_in words else None) ≡ Some l
-    → (kind ∷ words ≡ line_words l) × IsSpelledLine l
-fault_taken kind words l h =
+    → (kind ∷ words ≡ line_words l) × IsSpelledLine version l
+fault_taken version kind words l h =
     elim (word_or kind (codes "babble") (babble_in words) _ l h) [
-      | inl babble ↦ let t = babble_takes words l babble.1 in (cons_same babble.0 refl ∙ t.0, t.1)
+      | inl babble ↦ let t = babble_takes version words l babble.1 in (cons_same babble.0 refl ∙ t.0, t.1)
       | inr h1 ↦
           elim (word_or kind (codes "mute") (mute_in words) _ l h1) [
-            | inl mute ↦ let t = mute_takes words l mute.1 in (cons_same mute.0 refl ∙ t.0, t.1)
+            | inl mute ↦ let t = mute_takes version words l mute.1 in (cons_same mute.0 refl ∙ t.0, t.1)
             | inr h2 ↦
                 elim (word_or kind (codes "corrupt") (corrupt_in words) _ l h2) [
-                  | inl corrupt ↦ let t = corrupt_takes words l corrupt.1 in (cons_same corrupt.0 refl ∙ t.0, t.1)
+                  | inl corrupt ↦ let t = corrupt_takes version words l corrupt.1 in (cons_same corrupt.0 refl ∙ t.0, t.1)
                   | inr h3 ↦ cc h3
                 ]
           ]
     ]
 
-taken : (words : List (List ℕ)) (l : SpelledLine) → line_in words ≡ Some l → (words ≡ line_words l) × IsSpelledLine l
+taken : (version : Version) (words : List (List ℕ)) (l : SpelledLine) → line_in version words ≡ Some l → (words ≡ line_words l) × IsSpelledLine version l
 unfolding line_in
-taken [] l h = cc h
-taken (kind ∷ words) l h =
+taken version [] l h = cc h
+taken version (kind ∷ words) l h =
     elim (word_or kind (codes "commit") (commit_in words) _ l h) [
-      | inl commit ↦ let t = commit_takes words l commit.1 in (cons_same commit.0 refl ∙ t.0, t.1)
+      | inl commit ↦ let t = commit_takes version words l commit.1 in (cons_same commit.0 refl ∙ t.0, t.1)
       | inr h1 ↦
-          elim (word_or kind (codes "read") (read_in words) _ l h1) [
-            | inl read ↦ let t = read_takes words l read.1 in (cons_same read.0 refl ∙ t.0, t.1)
+          elim (word_or kind (codes "withdraw") (withdraw_in version words) _ l h1) [
+            | inl withdraw ↦ let t = withdraw_takes version words l withdraw.1 in (cons_same withdraw.0 refl ∙ t.0, t.1)
             | inr h2 ↦
-                elim (word_or kind (codes "pop") (pop_in words) _ l h2) [
-                  | inl pop ↦ let t = pop_takes words l pop.1 in (cons_same pop.0 refl ∙ t.0, t.1)
-                  | inr h3 ↦ fault_taken kind words l h3
+                elim (word_or kind (codes "read") (read_in words) _ l h2) [
+                  | inl read ↦ let t = read_takes version words l read.1 in (cons_same read.0 refl ∙ t.0, t.1)
+                  | inr h3 ↦
+                      elim (word_or kind (codes "pop") (pop_in words) _ l h3) [
+                        | inl pop ↦ let t = pop_takes version words l pop.1 in (cons_same pop.0 refl ∙ t.0, t.1)
+                        | inr h4 ↦ fault_taken version kind words l h4
+                      ]
                 ]
           ]
     ]
 
 -- what is read of a line is spelled so, and in range
-pub line_takes : (line : List ℕ) (l : SpelledLine) → line_in (words_of line) ≡ Some l → (line ≡ line_of (line_words l)) × IsSpelledLine l
-line_takes line l h =
-    let t = taken (words_of line) l h in
+pub line_takes : (version : Version) (line : List ℕ) (l : SpelledLine) → line_in version (words_of line) ≡ Some l → (line ≡ line_of (line_words l)) × IsSpelledLine version l
+line_takes version line l h =
+    let t = taken version (words_of line) l h in
     (sym (line_of-words_of line) ∙ ap line_of t.0, t.1)
 
 -- ---- what is spelled so is read
 
-action_again : (node task cycle : ℕ) (action : Action) → node < 16 → task < 8 → IsRunCycle cycle → IsSpelledAction action
-    → line_in (action_words (decimal node) (decimal task) (decimal cycle) action) ≡ Some (host_line node task cycle action)
-unfolding line_in commit_in read_in pop_in
-action_again node task cycle (Commit buffer payload) n t c bytes =
+action_again : (version : Version) (node task cycle : ℕ) (action : Action) → node < 16 → task < 8 → IsRunCycle cycle → IsSpelledAction version action
+    → line_in version (action_words (decimal node) (decimal task) (decimal cycle) action) ≡ Some (host_line node task cycle action)
+unfolding line_in commit_in withdraw_in read_in pop_in
+action_again version node task cycle (Commit buffer payload) n t c bytes =
     rw (number_again 16 node n (omega arith), number_again 8 task t (omega arith), run_cycle_again cycle c, number_again 64 buffer bytes.0 (omega arith), payload_again payload bytes.1 bytes.2) refl
-action_again node task cycle (Read buffer) n t c few =
+action_again One node task cycle (Withdraw buffer) n t c few = absurd few
+action_again Two node task cycle (Withdraw buffer) n t c few =
     rw (number_again 16 node n (omega arith), number_again 8 task t (omega arith), run_cycle_again cycle c, number_again 64 buffer few (omega arith)) refl
-action_again node task cycle Pop n t c fits =
+action_again version node task cycle (Read buffer) n t c few =
+    rw (number_again 16 node n (omega arith), number_again 8 task t (omega arith), run_cycle_again cycle c, number_again 64 buffer few (omega arith)) refl
+action_again version node task cycle Pop n t c fits =
     rw (number_again 16 node n (omega arith), number_again 8 task t (omega arith), run_cycle_again cycle c) refl
 
-again_fault : (fault : Fault) (cycles : FaultCycles) (place : FaultPlace) → IsSpelledFault fault → AreSpelledCycles cycles → IsSpelledPlace place
-    → line_in (fault_words (cycles_word cycles) (place_word place) fault) ≡ Some (fault_line fault cycles place)
+again_fault : (version : Version) (fault : Fault) (cycles : FaultCycles) (place : FaultPlace) → IsSpelledFault fault → AreSpelledCycles cycles → IsSpelledPlace place
+    → line_in version (fault_words (cycles_word cycles) (place_word place) fault) ≡ Some (fault_line fault cycles place)
 unfolding line_in babble_in mute_in corrupt_in
-again_fault (Babble node channel bytes) cycles place fault c p =
+again_fault version (Babble node channel bytes) cycles place fault c p =
     rw (number_again 16 node fault.0 (omega arith), channel_again channel, cycles_again cycles c, place_again place p, bytes_again 262 bytes.items fault.2 fault.1) refl
-again_fault (Mute node channel) cycles place fault c p =
+again_fault version (Mute node channel) cycles place fault c p =
     rw (number_again 16 node fault (omega arith), channel_again channel, cycles_again cycles c, place_again place p) refl
-again_fault (Corrupt channel bit) cycles place fault c p =
+again_fault version (Corrupt channel bit) cycles place fault c p =
     rw (channel_again channel, cycles_again cycles c, place_again place p, number_again 65536 bit fault (omega arith)) refl
 
-host_again : (node task : ℕ) (line : Line) → IsSpelledHost node task line → line_in (line_words (Host node task line)) ≡ Some (Host node task line)
-host_again node task line fits =
+host_again : (version : Version) (node task : ℕ) (line : Line) → IsSpelledHost version node task line → line_in version (line_words (Host node task line)) ≡ Some (Host node task line)
+host_again version node task line fits =
     let same : host_line node task line.cycle line.action ≡ Host node task line = ap (λ a. Host node task (record { cycle = line.cycle; action = line.action; answer = a })) (sym fits.unanswered) in
-    action_again node task line.cycle line.action fits.node_fits fits.task_fits fits.cycle_fits fits.action_fits ∙ ap Some same
+    action_again version node task line.cycle line.action fits.node_fits fits.task_fits fits.cycle_fits fits.action_fits ∙ ap Some same
 
-again : (l : SpelledLine) → IsSpelledLine l → line_in (line_words l) ≡ Some l
-again (Host node task line) fits = host_again node task line fits
-again (FaultOf f) fits = again_fault f.fault f.cycles f.place fits.fault_fits fits.cycles_fit fits.place_fits
+again : (version : Version) (l : SpelledLine) → IsSpelledLine version l → line_in version (line_words l) ≡ Some l
+again version (Host node task line) fits = host_again version node task line fits
+again version (FaultOf f) fits = again_fault version f.fault f.cycles f.place fits.fault_fits fits.cycles_fit fits.place_fits
 
 -- ---- the words are plain and few
 
@@ -260,9 +293,9 @@ bytes_word bs few = let digits = length-hex_text bs in record { plain = IsPlain-
 spelled_so : (word : List ℕ) (words : List (List ℕ)) → ArePlain (word ∷ words) → length (line_of (word ∷ words)) ≤ 1200 → IsSpelledSo (word ∷ words)
 spelled_so word words plain short = record { plain = plain; short = short; cut = words_of-line_of word words plain }
 
-action_spelled : (node task cycle : ℕ) (action : Action) → node < 16 → task < 8 → IsRunCycle cycle → IsSpelledAction action
+action_spelled : (version : Version) (node task cycle : ℕ) (action : Action) → node < 16 → task < 8 → IsRunCycle cycle → IsSpelledAction version action
     → IsSpelledSo (action_words (decimal node) (decimal task) (decimal cycle) action)
-action_spelled node task cycle (Commit buffer payload) node_fits task_fits cycle_fits bytes =
+action_spelled version node task cycle (Commit buffer payload) node_fits task_fits cycle_fits bytes =
     let n = number_word 2 node (omega arith) (omega arith) (omega arith) in
     let t = number_word 1 task (omega arith) (omega arith) (omega arith) in
     let y = run_cycle_plain cycle cycle_fits in
@@ -272,7 +305,16 @@ action_spelled node task cycle (Commit buffer payload) node_fits task_fits cycle
     let all = length-line_of-le (codes "commit" ∷ decimal node ∷ decimal task ∷ decimal cycle ∷ decimal buffer ∷ hex_text payload ∷ []) in
     spelled_so (codes "commit") (decimal node ∷ decimal task ∷ decimal cycle ∷ decimal buffer ∷ hex_text payload ∷ [])
     (refl, (n.plain, (t.plain, (y.plain, (b.plain, (p.plain, tt)))))) (omega (arith, n.short, t.short, y.short, b.short, p.short))
-action_spelled node task cycle (Read buffer) node_fits task_fits cycle_fits few =
+action_spelled One node task cycle (Withdraw buffer) node_fits task_fits cycle_fits few = absurd few
+action_spelled Two node task cycle (Withdraw buffer) node_fits task_fits cycle_fits few =
+    let n = number_word 2 node (omega arith) (omega arith) (omega arith) in
+    let t = number_word 1 task (omega arith) (omega arith) (omega arith) in
+    let y = run_cycle_plain cycle cycle_fits in
+    let b = number_word 2 buffer (omega arith) (omega arith) (omega arith) in
+    let all = length-line_of-le (codes "withdraw" ∷ decimal node ∷ decimal task ∷ decimal cycle ∷ decimal buffer ∷ []) in
+    spelled_so (codes "withdraw") (decimal node ∷ decimal task ∷ decimal cycle ∷ decimal buffer ∷ [])
+    (refl, (n.plain, (t.plain, (y.plain, (b.plain, tt))))) (omega (arith, n.short, t.short, y.short, b.short))
+action_spelled version node task cycle (Read buffer) node_fits task_fits cycle_fits few =
     let n = number_word 2 node (omega arith) (omega arith) (omega arith) in
     let t = number_word 1 task (omega arith) (omega arith) (omega arith) in
     let y = run_cycle_plain cycle cycle_fits in
@@ -280,7 +322,7 @@ action_spelled node task cycle (Read buffer) node_fits task_fits cycle_fits few 
     let all = length-line_of-le (codes "read" ∷ decimal node ∷ decimal task ∷ decimal cycle ∷ decimal buffer ∷ []) in
     spelled_so (codes "read") (decimal node ∷ decimal task ∷ decimal cycle ∷ decimal buffer ∷ [])
     (refl, (n.plain, (t.plain, (y.plain, (b.plain, tt))))) (omega (arith, n.short, t.short, y.short, b.short))
-action_spelled node task cycle Pop node_fits task_fits cycle_fits fits =
+action_spelled version node task cycle Pop node_fits task_fits cycle_fits fits =
     let n = number_word 2 node (omega arith) (omega arith) (omega arith) in
     let t = number_word 1 task (omega arith) (omega arith) (omega arith) in
     let y = run_cycle_plain cycle cycle_fits in
@@ -317,25 +359,26 @@ fault_spelled (Corrupt channel bit) cycles place small cycles_fit place_fits =
     spelled_so (codes "corrupt") (channel_word channel ∷ cycles_word cycles ∷ place_word place ∷ decimal bit ∷ [])
     (refl, (c.plain, (y.plain, (p.plain, (b.plain, tt))))) (omega (arith, c.short, y.short, p.short, b.short))
 
-spelled : (l : SpelledLine) → IsSpelledLine l → IsSpelledSo (line_words l)
-spelled (Host node task line) fits = action_spelled node task line.cycle line.action fits.node_fits fits.task_fits fits.cycle_fits fits.action_fits
-spelled (FaultOf f) fits = fault_spelled f.fault f.cycles f.place fits.fault_fits fits.cycles_fit fits.place_fits
+spelled : (version : Version) (l : SpelledLine) → IsSpelledLine version l → IsSpelledSo (line_words l)
+spelled version (Host node task line) fits = action_spelled version node task line.cycle line.action fits.node_fits fits.task_fits fits.cycle_fits fits.action_fits
+spelled version (FaultOf f) fits = fault_spelled f.fault f.cycles f.place fits.fault_fits fits.cycles_fit fits.place_fits
 
 -- ---- what is spelled so is read
 
-pub line_again : (l : SpelledLine) → IsSpelledLine l → line_in (words_of (line_of (line_words l))) ≡ Some l
-line_again l fits = ap line_in (spelled l fits).cut ∙ again l fits
+pub line_again : (version : Version) (l : SpelledLine) → IsSpelledLine version l → line_in version (words_of (line_of (line_words l))) ≡ Some l
+line_again version l fits = ap (line_in version) (spelled version l fits).cut ∙ again version l fits
 
-pub line_short : (l : SpelledLine) → IsSpelledLine l → length (line_of (line_words l)) ≤ 1200
-line_short l fits = (spelled l fits).short
+pub line_short : (version : Version) (l : SpelledLine) → IsSpelledLine version l → length (line_of (line_words l)) ≤ 1200
+line_short version l fits = (spelled version l fits).short
 
-pub line_no_feed : (l : SpelledLine) → IsSpelledLine l → has_no_feed (line_of (line_words l)) ≡ true
-line_no_feed l fits = has_no_feed-line_of (line_words l) (spelled l fits).plain
+pub line_no_feed : (version : Version) (l : SpelledLine) → IsSpelledLine version l → has_no_feed (line_of (line_words l)) ≡ true
+line_no_feed version l fits = has_no_feed-line_of (line_words l) (spelled version l fits).plain
 
 -- ---- no line is `end`
 
 action_not_end : (node task cycle : List ℕ) (action : Action) → bytes_eq (line_of (action_words node task cycle action)) end_line ≡ false
 action_not_end node task cycle (Commit buffer payload) = refl
+action_not_end node task cycle (Withdraw buffer) = refl
 action_not_end node task cycle (Read buffer) = refl
 action_not_end node task cycle Pop = refl
 

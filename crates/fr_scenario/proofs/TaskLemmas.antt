@@ -15,6 +15,7 @@ use Rattle.fr_scenario.specs.Contents.{script_of, node_at, task_at, task_lines, 
 use Rattle.fr_scenario.specs.declared.spelled.SpelledLine.{SpelledLine}
 use Rattle.fr_scenario.specs.declared.spelled.SpelledLine.TheVariants.{Host, Fault as FaultOf}
 use Rattle.fr_scenario.specs.Gathering.{Kept, none_yet, place_of, with_line, scripts_from}
+use Rattle.fr_scenario.specs.declared.version.Version.{Version}
 use Rattle.fr_scenario.specs.Spelled.{IsSpelledLine}
 use Rattle.fr_slots.specs.Plans.{Each}
 
@@ -57,9 +58,9 @@ elsewhere node task k other =
     ]
 
 -- one line more at its task
-step : (g : Kept) (l : SpelledLine) (lines : List SpelledLine) (k : ℕ) → IsSpelledLine l → length g.tasks ≡ 128 → k < 128
+step : (version : Version) (g : Kept) (l : SpelledLine) (lines : List SpelledLine) (k : ℕ) → IsSpelledLine version l → length g.tasks ≡ 128 → k < 128
     → get_or (with_line g l).tasks k [] ++ task_lines (node_at k) (task_at k) lines ≡ get_or g.tasks k [] ++ task_lines (node_at k) (task_at k) (l ∷ lines)
-step g (Host node task line) lines k fits len within =
+step version g (Host node task line) lines k fits len within =
     let low = fits.task_fits in
     let high = fits.node_fits in
     let place = place_of node task in
@@ -73,13 +74,13 @@ step g (Host node task line) lines k fits len within =
       | inr other ↦
           rw (elsewhere node task k other) (ap (λ xs. xs ++ task_lines (node_at k) (task_at k) lines) (get_or-set_other g.tasks place k (old ++ line ∷ []) [] (λ e. other (sym e))))
     ]
-step g (FaultOf f) lines k fits len within = refl
+step version g (FaultOf f) lines k fits len within = refl
 
-kept_lines : (lines : List SpelledLine) (g : Kept) (k : ℕ) → Each IsSpelledLine lines → length g.tasks ≡ 128 → k < 128
+kept_lines : (version : Version) (lines : List SpelledLine) (g : Kept) (k : ℕ) → Each (IsSpelledLine version) lines → length g.tasks ≡ 128 → k < 128
     → get_or (fold with_line g lines).tasks k [] ≡ get_or g.tasks k [] ++ task_lines (node_at k) (task_at k) lines
-kept_lines [] g k fit len within = sym (append-nil (get_or g.tasks k []))
-kept_lines (l ∷ lines) g k fit len within =
-    kept_lines lines (with_line g l) k fit.1 (length-with_line g l ∙ len) within ∙ step g l lines k fit.0 len within
+kept_lines version [] g k fit len within = sym (append-nil (get_or g.tasks k []))
+kept_lines version (l ∷ lines) g k fit len within =
+    kept_lines version lines (with_line g l) k fit.1 (length-with_line g l ∙ len) within ∙ step version g l lines k fit.0 len within
 
 nothing_yet : (n k : ℕ) → get_or (replicate {A = List Line} n []) k [] ≡ []
 nothing_yet zero k = refl
@@ -92,13 +93,13 @@ scripts_by : (f : ℕ → List Line) (n place : ℕ) → scripts_from place (map
 scripts_by f zero place = refl
 scripts_by f (suc n) place = ap (λ ss. script_of (node_at place) (task_at place) (f place) ++ ss) (scripts_by f n (place + 1))
 
-pub scripts_kept : (lines : List SpelledLine) → Each IsSpelledLine lines → scripts_from 0 (fold with_line none_yet lines).tasks ≡ scripts_of lines
-scripts_kept lines fit =
+pub scripts_kept : (version : Version) (lines : List SpelledLine) → Each (IsSpelledLine version) lines → scripts_from 0 (fold with_line none_yet lines).tasks ≡ scripts_of lines
+scripts_kept version lines fit =
     let tasks = (fold with_line none_yet lines).tasks in
     let f = λ (k : ℕ). task_lines (node_at k) (task_at k) lines in
     let len : length none_yet.tasks ≡ 128 = length-replicate {A = List Line} 128 [] in
     let all : length tasks ≡ 128 = length-kept lines none_yet ∙ len in
-    let each = λ (k : ℕ) (within : k < 128). kept_lines lines none_yet k fit len within ∙ ap (λ xs. xs ++ f k) (nothing_yet 128 k) in
+    let each = λ (k : ℕ) (within : k < 128). kept_lines version lines none_yet k fit len within ∙ ap (λ xs. xs ++ f k) (nothing_yet 128 k) in
     ap (scripts_from 0) (fill_by_all f tasks 128 [] all each) ∙ scripts_by f 128 0
 
 faults_more : (lines : List SpelledLine) (g : Kept) → (fold with_line g lines).faults ≡ g.faults ++ fault_lines lines

@@ -28,9 +28,11 @@ use Rattle.fr_scenario.specs.declared.error.ScenarioError.TheVariants.{BadMagic,
 use Rattle.fr_scenario.specs.declared.error.ScenarioError.TheVariants.{Memory}
 use Rattle.fr_scenario.specs.declared.spelled.SpelledLine.{SpelledLine}
 use Rattle.fr_scenario.specs.declared.spelled.SpelledLine.TheVariants.{Host, Fault as FaultOf}
+use Rattle.fr_scenario.specs.declared.version.Version.{Version}
+use Rattle.fr_scenario.specs.declared.version.Version.TheVariants.{One, Two}
 use Rattle.fr_scenario.specs.LineReading.{line_in}
 use Rattle.fr_scenario.specs.Reading.{lines_in, Read, unfinished, is_at_end, after_end, put_before, said, whole_line}
-use Rattle.fr_scenario.specs.Reading.{read_from, read_lines, read_text, with_contents, scenario_in, first_fault}
+use Rattle.fr_scenario.specs.Reading.{read_from, version_in, read_after, read_lines, read_text, with_contents, scenario_in, first_fault}
 use Rattle.fr_scenario.specs.ScenarioText.{first_line, spelled_line, body_text, scenario_text, IsScenarioText}
 use Rattle.fr_scenario.specs.Spelled.{IsSpelledLine}
 use Rattle.fr_scenario.specs.Spelling.{line_words}
@@ -40,94 +42,95 @@ use Rattle.fr_text.specs.Spaces.{words_of, line_of}
 
 -- ---- what is read is spelled so
 
--- the lines from number n on are these, up to `end`
-pub record AreLines (n : ℕ) (lines : List (List ℕ)) (ls : List SpelledLine) : Type 0 where
-  pub spelled : join_with_byte 10 lines ≡ body_text ls
-  pub fit : Each IsSpelledLine ls
-  pub few : n + length ls ≤ 4096
+module _ (version : Version) where
+  -- the lines from number n on are these, up to `end`
+  pub record AreLines (n : ℕ) (lines : List (List ℕ)) (ls : List SpelledLine) : Type 0 where
+    pub spelled : join_with_byte 10 lines ≡ body_text ls
+    pub fit : Each (IsSpelledLine version) ls
+    pub few : n + length ls ≤ 4096
 
-unfinished_none : (n : ℕ) (line : List ℕ) (ls : List SpelledLine) → unfinished n line ≡ Ok ls → ⊥
-unfinished_none n [] ls h = cc h
-unfinished_none n (b ∷ line) ls h =
-    elim (cases_Bool (ltb 4096 n)) [
-      | inl late ↦ cc (rw late at h)
-      | inr early ↦
-          let h1 = rw early at h in
-          elim (cases_Bool (ltb 1200 (length (b ∷ line)))) [ inl long ↦ cc (rw long at h1) | inr short ↦ cc (rw short at h1) ]
-    ]
+  unfinished_none : (n : ℕ) (line : List ℕ) (ls : List SpelledLine) → unfinished n line ≡ Ok ls → ⊥
+  unfinished_none n [] ls h = cc h
+  unfinished_none n (b ∷ line) ls h =
+      elim (cases_Bool (ltb 4096 n)) [
+        | inl late ↦ cc (rw late at h)
+        | inr early ↦
+            let h1 = rw early at h in
+            elim (cases_Bool (ltb 1200 (length (b ∷ line)))) [ inl long ↦ cc (rw long at h1) | inr short ↦ cc (rw short at h1) ]
+      ]
 
-end_text : (line next : List ℕ) (more : List (List ℕ)) → line ≡ end_line → is_at_end (next ∷ more) ≡ true → join_with_byte 10 (line ∷ next ∷ more) ≡ end_line ++ line_feed
-end_text line [] [] is empty = ap (λ l. l ++ 10 ∷ []) is
-end_text line [] (other ∷ more) is empty = cc empty
-end_text line (b ∷ next) [] is empty = cc empty
-end_text line (b ∷ next) (other ∷ more) is empty = cc empty
+  end_text : (line next : List ℕ) (more : List (List ℕ)) → line ≡ end_line → is_at_end (next ∷ more) ≡ true → join_with_byte 10 (line ∷ next ∷ more) ≡ end_line ++ line_feed
+  end_text line [] [] is empty = ap (λ l. l ++ 10 ∷ []) is
+  end_text line [] (other ∷ more) is empty = cc empty
+  end_text line (b ∷ next) [] is empty = cc empty
+  end_text line (b ∷ next) (other ∷ more) is empty = cc empty
 
-ended : (n : ℕ) (line next : List ℕ) (more : List (List ℕ)) (ls : List SpelledLine) → n ≤ 4096 → line ≡ end_line → after_end (n + 1) (next ∷ more) ≡ Ok ls
-    → AreLines n (line ∷ next ∷ more) ls
-ended n line next more ls few is h =
-    elim (cases_Bool (is_at_end (next ∷ more))) [
-      | inl empty ↦
-          let none : [] ≡ ls = cc (rw empty at h) in
-          subst (AreLines n (line ∷ next ∷ more)) none (record { spelled = end_text line next more is empty; fit = tt; few = omega arith })
-      | inr some ↦ cc (rw some at h)
-    ]
+  ended : (n : ℕ) (line next : List ℕ) (more : List (List ℕ)) (ls : List SpelledLine) → n ≤ 4096 → line ≡ end_line → after_end (n + 1) (next ∷ more) ≡ Ok ls
+      → AreLines n (line ∷ next ∷ more) ls
+  ended n line next more ls few is h =
+      elim (cases_Bool (is_at_end (next ∷ more))) [
+        | inl empty ↦
+            let none : [] ≡ ls = cc (rw empty at h) in
+            subst (AreLines n (line ∷ next ∷ more)) none (record { spelled = end_text line next more is empty; fit = tt; few = omega arith })
+        | inr some ↦ cc (rw some at h)
+      ]
 
-before_some : (l : SpelledLine) (r : Read) (ls : List SpelledLine) → put_before l r ≡ Ok ls → (rest : List SpelledLine) × (r ≡ Ok rest) × (l ∷ rest ≡ ls)
-before_some l (Err e) ls h = cc h
-before_some l (Ok rest) ls h = (rest, refl, cc h)
+  before_some : (l : SpelledLine) (r : Read) (ls : List SpelledLine) → put_before l r ≡ Ok ls → (rest : List SpelledLine) × (r ≡ Ok rest) × (l ∷ rest ≡ ls)
+  before_some l (Err e) ls h = cc h
+  before_some l (Ok rest) ls h = (rest, refl, cc h)
 
-said_some : (n : ℕ) (o : Option SpelledLine) (r : Read) (ls : List SpelledLine) → said n o r ≡ Ok ls
-    → (l : SpelledLine) × (rest : List SpelledLine) × (o ≡ Some l) × (r ≡ Ok rest) × (l ∷ rest ≡ ls)
-said_some n None r ls h = cc h
-said_some n (Some l) r ls h =
-    let (rest, is, same) = before_some l r ls h in
-    (l, rest, refl, is, same)
+  said_some : (n : ℕ) (o : Option SpelledLine) (r : Read) (ls : List SpelledLine) → said n o r ≡ Ok ls
+      → (l : SpelledLine) × (rest : List SpelledLine) × (o ≡ Some l) × (r ≡ Ok rest) × (l ∷ rest ≡ ls)
+  said_some n None r ls h = cc h
+  said_some n (Some l) r ls h =
+      let (rest, is, same) = before_some l r ls h in
+      (l, rest, refl, is, same)
 
-line_more : (n : ℕ) (line next : List ℕ) (more : List (List ℕ)) (l : SpelledLine) (rest : List SpelledLine) → n ≤ 4096 → line_in (words_of line) ≡ Some l
-    → AreLines (n + 1) (next ∷ more) rest → AreLines n (line ∷ next ∷ more) (l ∷ rest)
-line_more n line next more l rest few is after =
-    let taken = line_takes line l is in
-    let limit = after.few in
-    record {
-      spelled = ap (λ xs. xs ++ 10 ∷ join_with_byte 10 (next ∷ more)) taken.0
-          ∙ ap (λ xs. line_of (line_words l) ++ 10 ∷ xs) after.spelled
-          ∙ sym (append_assoc (line_of (line_words l)) (10 ∷ []) (body_text rest))
-          ∙ sym (append_assoc (spelled_line l) (flat_map spelled_line rest) (end_line ++ line_feed));
-      fit = (taken.1, after.fit);
-      few = omega arith;
-    }
+  line_more : (n : ℕ) (line next : List ℕ) (more : List (List ℕ)) (l : SpelledLine) (rest : List SpelledLine) → n ≤ 4096 → line_in version (words_of line) ≡ Some l
+      → AreLines (n + 1) (next ∷ more) rest → AreLines n (line ∷ next ∷ more) (l ∷ rest)
+  line_more n line next more l rest few is after =
+      let taken = line_takes version line l is in
+      let limit = after.few in
+      record {
+        spelled = ap (λ xs. xs ++ 10 ∷ join_with_byte 10 (next ∷ more)) taken.0
+            ∙ ap (λ xs. line_of (line_words l) ++ 10 ∷ xs) after.spelled
+            ∙ sym (append_assoc (line_of (line_words l)) (10 ∷ []) (body_text rest))
+            ∙ sym (append_assoc (spelled_line l) (flat_map spelled_line rest) (end_line ++ line_feed));
+        fit = (taken.1, after.fit);
+        few = omega arith;
+      }
 
-whole : (n : ℕ) (line next : List ℕ) (more : List (List ℕ)) (r : Read) (ls : List SpelledLine) → n ≤ 4096
-    → ((rest : List SpelledLine) → r ≡ Ok rest → AreLines (n + 1) (next ∷ more) rest) → whole_line n line (next ∷ more) r ≡ Ok ls → AreLines n (line ∷ next ∷ more) ls
-whole n line next more r ls few after h =
-    elim (cases_Bool (bytes_eq line end_line)) [
-      | inl pass ↦ ended n line next more ls few ((bytes_eq-Decides line end_line).0 pass) (rw pass at h)
-      | inr fail ↦
-          let (l, rest, is, read, same) = said_some n (line_in (words_of line)) r ls (rw fail at h) in
-          subst (AreLines n (line ∷ next ∷ more)) same (line_more n line next more l rest few is (after rest read))
-    ]
+  whole : (n : ℕ) (line next : List ℕ) (more : List (List ℕ)) (r : Read) (ls : List SpelledLine) → n ≤ 4096
+      → ((rest : List SpelledLine) → r ≡ Ok rest → AreLines (n + 1) (next ∷ more) rest) → whole_line version n line (next ∷ more) r ≡ Ok ls → AreLines n (line ∷ next ∷ more) ls
+  whole n line next more r ls few after h =
+      elim (cases_Bool (bytes_eq line end_line)) [
+        | inl pass ↦ ended n line next more ls few ((bytes_eq-Decides line end_line).0 pass) (rw pass at h)
+        | inr fail ↦
+            let (l, rest, is, read, same) = said_some n (line_in version (words_of line)) r ls (rw fail at h) in
+            subst (AreLines n (line ∷ next ∷ more)) same (line_more n line next more l rest few is (after rest read))
+      ]
 
-lines_found : (n : ℕ) (lines : List (List ℕ)) (ls : List SpelledLine) → read_from n lines ≡ Ok ls → AreLines n lines ls
-lines_found n [] ls h = cc h
-lines_found n (line ∷ []) ls h = absurd (unfinished_none n line ls h)
-lines_found n (line ∷ next ∷ more) ls h =
-    elim (cases_Bool (ltb 4096 n)) [
-      | inl late ↦ cc (rw late at h)
-      | inr early ↦
-          let h1 = rw early at h in
-          elim (cases_Bool (ltb 1200 (length line))) [
-            | inl long ↦ cc (rw long at h1)
-            | inr short ↦
-                whole n line next more (read_from (n + 1) (next ∷ more)) ls (ltb-false 4096 n early)
-                (λ rest read. lines_found (n + 1) (next ∷ more) rest read) (rw short at h1)
-          ]
-    ]
+  lines_found : (n : ℕ) (lines : List (List ℕ)) (ls : List SpelledLine) → read_from version n lines ≡ Ok ls → AreLines n lines ls
+  lines_found n [] ls h = cc h
+  lines_found n (line ∷ []) ls h = absurd (unfinished_none n line ls h)
+  lines_found n (line ∷ next ∷ more) ls h =
+      elim (cases_Bool (ltb 4096 n)) [
+        | inl late ↦ cc (rw late at h)
+        | inr early ↦
+            let h1 = rw early at h in
+            elim (cases_Bool (ltb 1200 (length line))) [
+              | inl long ↦ cc (rw long at h1)
+              | inr short ↦
+                  whole n line next more (read_from version (n + 1) (next ∷ more)) ls (ltb-false 4096 n early)
+                  (λ rest read. lines_found (n + 1) (next ∷ more) rest read) (rw short at h1)
+            ]
+      ]
 
--- the lines after the first one, as they are read of a text
-pub body_found : (text : List ℕ) (ls : List SpelledLine) → read_from 2 (lines_in text) ≡ Ok ls → (text ≡ body_text ls) × Each IsSpelledLine ls × (2 + length ls ≤ 4096)
-body_found text ls h =
-    let are = lines_found 2 (lines_in text) ls h in
-    (sym (join_with_byte-slice_split 10 text) ∙ are.spelled, are.fit, are.few)
+  -- the lines after the first one, as they are read of a text
+  pub body_found : (text : List ℕ) (ls : List SpelledLine) → read_from version 2 (lines_in text) ≡ Ok ls → (text ≡ body_text ls) × Each (IsSpelledLine version) ls × (2 + length ls ≤ 4096)
+  body_found text ls h =
+      let are = lines_found 2 (lines_in text) ls h in
+      (sym (join_with_byte-slice_split 10 text) ∙ are.spelled, are.fit, are.few)
 
 -- ---- what is spelled so is read
 
@@ -140,55 +143,85 @@ not_feed (b ∷ bytes) h =
 cut_line : (line rest : List ℕ) → has_no_feed line ≡ true → lines_in ((line ++ line_feed) ++ rest) ≡ line ∷ lines_in rest
 cut_line line rest plain = ap lines_in (append_assoc line line_feed rest) ∙ slice_split_at is_feed line 10 rest (not_feed line plain) refl
 
-lines_again : (ls : List SpelledLine) (n : ℕ) → Each IsSpelledLine ls → n + length ls ≤ 4096 → read_from n (lines_in (body_text ls)) ≡ Ok ls
-lines_again [] n fit few = rw (le-ltb 4096 n (omega arith)) refl
-lines_again (l ∷ ls) n fit few =
-    let line = line_of (line_words l) in
-    let (next, more, is) = some_line (body_text ls) in
-    let cut : lines_in (body_text (l ∷ ls)) ≡ line ∷ next ∷ more =
-    ap lines_in (append_assoc (spelled_line l) (flat_map spelled_line ls) (end_line ++ line_feed)) ∙ cut_line line (body_text ls) (line_no_feed l fit.0) ∙ ap (λ lines. line ∷ lines) is in
-    let after : read_from (n + 1) (next ∷ more) ≡ Ok ls = ap (read_from (n + 1)) (sym is) ∙ lines_again ls (n + 1) fit.1 (omega arith) in
-    ap (read_from n) cut ∙ rw (le-ltb 4096 n (omega arith), le-ltb 1200 (length line) (line_short l fit.0), line_not_end l, line_again l fit.0, after) refl
+module _ (version : Version) where
+  lines_again : (ls : List SpelledLine) (n : ℕ) → Each (IsSpelledLine version) ls → n + length ls ≤ 4096 → read_from version n (lines_in (body_text ls)) ≡ Ok ls
+  lines_again [] n fit few = rw (le-ltb 4096 n (omega arith)) refl
+  lines_again (l ∷ ls) n fit few =
+      let line = line_of (line_words l) in
+      let (next, more, is) = some_line (body_text ls) in
+      let cut : lines_in (body_text (l ∷ ls)) ≡ line ∷ next ∷ more =
+      ap lines_in (append_assoc (spelled_line l) (flat_map spelled_line ls) (end_line ++ line_feed)) ∙ cut_line line (body_text ls) (line_no_feed version l fit.0) ∙ ap (λ lines. line ∷ lines) is in
+      let after : read_from version (n + 1) (next ∷ more) ≡ Ok ls = ap (read_from version (n + 1)) (sym is) ∙ lines_again ls (n + 1) fit.1 (omega arith) in
+      ap (read_from version n) cut ∙ rw (le-ltb 4096 n (omega arith), le-ltb 1200 (length line) (line_short version l fit.0), line_not_end l, line_again version l fit.0, after) refl
 
 -- ---- the whole text
 
-pub read_scenario : (ls : List SpelledLine) → Each IsSpelledLine ls → length ls + 2 ≤ 4096 → read_text (scenario_text ls) ≡ Ok ls
-read_scenario ls fit few =
+-- the first line is without a line feed, and names its version
+plain_first : (version : Version) → has_no_feed (first_line version) ≡ true
+plain_first One = refl
+plain_first Two = refl
+
+first_again : (version : Version) → version_in (first_line version) ≡ Some version
+first_again One = refl
+first_again Two = refl
+
+pub read_scenario : (version : Version) (ls : List SpelledLine) → Each (IsSpelledLine version) ls → length ls + 2 ≤ 4096 → read_text (scenario_text version ls) ≡ Ok ls
+read_scenario version ls fit few =
     let (next, more, is) = some_line (body_text ls) in
-    let cut : lines_in (scenario_text ls) ≡ first_line ∷ next ∷ more = cut_line first_line (body_text ls) refl ∙ ap (λ lines. first_line ∷ lines) is in
-    ap read_lines cut ∙ ap (read_from 2) (sym is) ∙ lines_again ls 2 fit (omega arith)
+    let cut : lines_in (scenario_text version ls) ≡ first_line version ∷ next ∷ more = cut_line (first_line version) (body_text ls) (plain_first version) ∙ ap (λ lines. first_line version ∷ lines) is in
+    ap read_lines cut ∙ ap (λ v. read_after v (next ∷ more)) (first_again version) ∙ ap (read_from version 2) (sym is) ∙ lines_again version ls 2 fit (omega arith)
 
 pub scenario_again : (text : List ℕ) (s : Contents) → IsScenarioText text s → scenario_in text ≡ Ok s
 scenario_again text s is =
-    ap scenario_in is.spelled ∙ ap with_contents (read_scenario is.lines is.fit is.few) ∙ ap Ok (sym is.contents_are)
+    ap scenario_in is.spelled ∙ ap with_contents (read_scenario is.version is.lines is.fit is.few) ∙ ap Ok (sym is.contents_are)
 
--- a text that begins with the first line says what stands after that
-pub after_first : (rest : List ℕ) → read_text ((first_line ++ line_feed) ++ rest) ≡ read_from 2 (lines_in rest)
-after_first rest =
+-- a text that begins with a first line says what stands after that
+pub after_first : (version : Version) (rest : List ℕ) → read_text ((first_line version ++ line_feed) ++ rest) ≡ read_from version 2 (lines_in rest)
+after_first version rest =
     let (next, more, is) = some_line rest in
-    ap read_lines (cut_line first_line rest refl ∙ ap (λ lines. first_line ∷ lines) is) ∙ ap (read_from 2) (sym is)
+    ap read_lines (cut_line (first_line version) rest (plain_first version) ∙ ap (λ lines. first_line version ∷ lines) is)
+    ∙ ap (λ v. read_after v (next ∷ more)) (first_again version) ∙ ap (read_from version 2) (sym is)
 
--- a text that is read, as its lines
+-- a text that is read, as its version and its lines
 record IsTextOf (text : List ℕ) (ls : List SpelledLine) : Type 0 where
-  spelled : text ≡ scenario_text ls
-  fit : Each IsSpelledLine ls
+  version : Version
+  spelled : text ≡ scenario_text version ls
+  fit : Each (IsSpelledLine version) ls
   few : length ls + 2 ≤ 4096
+
+-- the first line is that of the version that it names
+named : (first : List ℕ) → (version_in first ≡ None) ⊎ ((version : Version) × (version_in first ≡ Some version) × (first ≡ first_line version))
+named first =
+    elim (cases_Bool (bytes_eq first (first_line One))) [
+      | inl one ↦ inr (One, rw one refl, (bytes_eq-Decides first (first_line One)).0 one)
+      | inr not_one ↦
+          elim (cases_Bool (bytes_eq first (first_line Two))) [
+            | inl two ↦ inr (Two, rw (not_one, two) refl, (bytes_eq-Decides first (first_line Two)).0 two)
+            | inr not_two ↦ inl (rw (not_one, not_two) refl)
+          ]
+    ]
+
+version_found : (version : Version) (first next : List ℕ) (rest : List (List ℕ)) (ls : List SpelledLine) → first ≡ first_line version → read_from version 2 (next ∷ rest) ≡ Ok ls
+    → IsTextOf (join_with_byte 10 (first ∷ next ∷ rest)) ls
+version_found version first next rest ls is h =
+    let are = lines_found version 2 (next ∷ rest) ls h in
+    let limit = are.few in
+    record {
+      version = version;
+      spelled = ap (λ xs. xs ++ 10 ∷ join_with_byte 10 (next ∷ rest)) is
+          ∙ ap (λ xs. first_line version ++ 10 ∷ xs) are.spelled
+          ∙ sym (append_assoc (first_line version) line_feed (body_text ls));
+      fit = are.fit;
+      few = omega arith;
+    }
 
 whole_found : (lines : List (List ℕ)) (ls : List SpelledLine) → read_lines lines ≡ Ok ls → IsTextOf (join_with_byte 10 lines) ls
 whole_found [] ls h = cc h
 whole_found (first ∷ []) ls h = cc h
 whole_found (first ∷ next ∷ rest) ls h =
-    elim (cases_Bool (bytes_eq first first_line)) [
-      | inl pass ↦
-          let are = lines_found 2 (next ∷ rest) ls (rw pass at h) in
-          let is : first ≡ first_line = (bytes_eq-Decides first first_line).0 pass in
-          let limit = are.few in
-          record {
-            spelled = ap (λ xs. xs ++ 10 ∷ join_with_byte 10 (next ∷ rest)) is ∙ ap (λ xs. first_line ++ 10 ∷ xs) are.spelled ∙ sym (append_assoc first_line line_feed (body_text ls));
-            fit = are.fit;
-            few = omega arith;
-          }
-      | inr fail ↦ cc (rw fail at h)
+    elim (named first) [
+      | inl none ↦ let bad : Err BadMagic ≡ Ok ls = ap (λ v. read_after v (next ∷ rest)) (sym none) ∙ h in cc bad
+      | inr (version, some, is) ↦ version_found version first next rest ls is (ap (λ v. read_after v (next ∷ rest)) (sym some) ∙ h)
     ]
 
 text_found : (text : List ℕ) (ls : List SpelledLine) → read_text text ≡ Ok ls → IsTextOf text ls
@@ -198,45 +231,52 @@ contents_found : (text : List ℕ) (s : Contents) (r : Read) → read_text text 
 contents_found text s (Err e) is h = cc h
 contents_found text s (Ok ls) is h =
     let of = text_found text ls is in
-    record { lines = ls; spelled = of.spelled; fit = of.fit; few = of.few; contents_are = cc h }
+    record { version = of.version; lines = ls; spelled = of.spelled; fit = of.fit; few = of.few; contents_are = cc h }
 
 pub scenario_found : (text : List ℕ) (s : Contents) → scenario_in text ≡ Ok s → IsScenarioText text s
 scenario_found text s h = contents_found text s (read_text text) refl h
 
 -- ---- another first line
 
-has_first : (lines : List (List ℕ)) → (read_lines lines ≡ Err BadMagic) ⊎ ((next : List ℕ) × (rest : List (List ℕ)) × (lines ≡ first_line ∷ next ∷ rest))
+has_first : (lines : List (List ℕ)) → (read_lines lines ≡ Err BadMagic) ⊎ ((version : Version) × (next : List ℕ) × (rest : List (List ℕ)) × (lines ≡ first_line version ∷ next ∷ rest))
 has_first [] = inl refl
 has_first (first ∷ []) = inl refl
 has_first (first ∷ next ∷ rest) =
-    elim (cases_Bool (bytes_eq first first_line)) [
-      | inl pass ↦ inr (next, rest, ap (λ line. line ∷ next ∷ rest) ((bytes_eq-Decides first first_line).0 pass))
-      | inr fail ↦ inl (rw fail refl)
+    elim (named first) [
+      | inl none ↦ inl (ap (λ v. read_after v (next ∷ rest)) none)
+      | inr (version, some, is) ↦ inr (version, next, rest, ap (λ line. line ∷ next ∷ rest) is)
     ]
 
-begins : (text next : List ℕ) (rest : List (List ℕ)) → lines_in text ≡ first_line ∷ next ∷ rest → bytes_eq (take 13 text) (first_line ++ line_feed) ≡ true
-begins text next rest is =
-    let whole : text ≡ first_line ++ 10 ∷ join_with_byte 10 (next ∷ rest) = sym (join_with_byte-slice_split 10 text) ∙ ap (join_with_byte 10) is in
-    ap (λ t. bytes_eq (take 13 t) (first_line ++ line_feed)) whole
+begins : (version : Version) (text next : List ℕ) (rest : List (List ℕ)) → lines_in text ≡ first_line version ∷ next ∷ rest
+    → bytes_eq (take 13 text) (first_line version ++ line_feed) ≡ true
+begins One text next rest is =
+    let whole : text ≡ first_line One ++ 10 ∷ join_with_byte 10 (next ∷ rest) = sym (join_with_byte-slice_split 10 text) ∙ ap (join_with_byte 10) is in
+    ap (λ t. bytes_eq (take 13 t) (first_line One ++ line_feed)) whole
+begins Two text next rest is =
+    let whole : text ≡ first_line Two ++ 10 ∷ join_with_byte 10 (next ∷ rest) = sym (join_with_byte-slice_split 10 text) ∙ ap (join_with_byte 10) is in
+    ap (λ t. bytes_eq (take 13 t) (first_line Two ++ line_feed)) whole
 
-not_first : (text : List ℕ) → bytes_eq (take 13 text) (first_line ++ line_feed) ≡ false → Err BadMagic ≡ scenario_in text
-not_first text other =
+pub not_first : (text : List ℕ) → bytes_eq (take 13 text) (first_line One ++ line_feed) ≡ false → bytes_eq (take 13 text) (first_line Two ++ line_feed) ≡ false
+    → read_text text ≡ Err BadMagic
+not_first text one two =
     elim (has_first (lines_in text)) [
-      | inl bad ↦ sym (ap with_contents bad)
-      | inr (next, rest, is) ↦ let same = begins text next rest is in cc (sym other ∙ same)
+      | inl bad ↦ bad
+      | inr (version, next, rest, is) ↦ absurd (neither version (begins version text next rest is))
     ]
+  where
+    neither : (version : Version) → bytes_eq (take 13 text) (first_line version ++ line_feed) ≡ true → ⊥
+    neither One same = cc (sym one ∙ same)
+    neither Two same = cc (sym two ∙ same)
 
-pub no_first : (text bytes prefix : List ℕ) → bytes ≡ text → prefix ≡ first_line ++ line_feed → bytes_eq (take (length prefix) bytes) prefix ≡ false
-    → Err BadMagic ≡ scenario_in text
-no_first text bytes prefix is first other =
-    not_first text (ap (λ bs. bytes_eq (take 13 bs) (first_line ++ line_feed)) (sym is) ∙ ap (λ p. bytes_eq (take (length p) bytes) p) (sym first) ∙ other)
+-- a prefix that isn't there
+pub not_there : (text prefix first : List ℕ) → prefix ≡ first → bytes_eq (take (length prefix) text) prefix ≡ false → bytes_eq (take (length first) text) first ≡ false
+not_there text prefix first is other = ap (λ p. bytes_eq (take (length p) text) p) (sym is) ∙ other
 
-pub with_first : (text bytes prefix rest : List ℕ) → bytes ≡ text → prefix ≡ first_line ++ line_feed → bytes_eq (take (length prefix) bytes) prefix ≡ true
-    → rest ≡ drop (length prefix) bytes → text ≡ (first_line ++ line_feed) ++ rest
-with_first text bytes prefix rest is first same after =
-    sym is ∙ sym (take-append-drop (length prefix) bytes)
-    ∙ ap (λ xs. xs ++ drop (length prefix) bytes) ((bytes_eq-Decides (take (length prefix) bytes) prefix).0 same ∙ first)
-    ∙ ap (λ xs. (first_line ++ line_feed) ++ xs) (sym after)
+pub begun_first : (version : Version) (text bytes rest : List ℕ) → bytes ≡ text → bytes ≡ (first_line version ++ line_feed) ++ rest → text ≡ (first_line version ++ line_feed) ++ rest
+begun_first version text bytes rest is first = sym is ∙ first
+
+pub no_first : (text bytes : List ℕ) → bytes ≡ text → read_text bytes ≡ Err BadMagic → Err BadMagic ≡ scenario_in text
+no_first text bytes is bad = sym (ap with_contents (ap read_text (sym is) ∙ bad))
 
 -- ---- what is kept of a text
 
@@ -248,19 +288,19 @@ pub kept_refused : (g : Kept) (r : Read) (e : ScenarioError) → kept_from g r �
 kept_refused g (Ok ls) e h = cc h
 kept_refused g (Err f) e h = cc h
 
-pub made : (text rest : List ℕ) (k : Kept) (scripts : List Scripted) (faults : List FaultLine) → text ≡ (first_line ++ line_feed) ++ rest
-    → kept_from none_yet (read_from 2 (lines_in rest)) ≡ Ok k → scripts ≡ scripts_from 0 k.tasks → faults ≡ k.faults
+pub made : (version : Version) (text rest : List ℕ) (k : Kept) (scripts : List Scripted) (faults : List FaultLine) → text ≡ (first_line version ++ line_feed) ++ rest
+    → kept_from none_yet (read_from version 2 (lines_in rest)) ≡ Ok k → scripts ≡ scripts_from 0 k.tasks → faults ≡ k.faults
     → Ok (record { scripts = scripts; faults = faults }) ≡ scenario_in text
-made text rest k scripts faults is kept ss fs =
-    let (ls, read, same) = kept_ok none_yet k (read_from 2 (lines_in rest)) kept in
-    let are = lines_found 2 (lines_in rest) ls read in
-    let scripts_are : scripts ≡ scripts_of ls = ss ∙ ap (λ (g : Kept). scripts_from 0 g.tasks) (sym same) ∙ scripts_kept ls are.fit in
+made version text rest k scripts faults is kept ss fs =
+    let (ls, read, same) = kept_ok none_yet k (read_from version 2 (lines_in rest)) kept in
+    let are = lines_found version 2 (lines_in rest) ls read in
+    let scripts_are : scripts ≡ scripts_of ls = ss ∙ ap (λ (g : Kept). scripts_from 0 g.tasks) (sym same) ∙ scripts_kept version ls are.fit in
     let faults_are : faults ≡ fault_lines ls = fs ∙ ap (λ (g : Kept). g.faults) (sym same) ∙ faults_kept ls in
     let value : contents_of ls ≡ record { scripts = scripts; faults = faults } = rw (scripts_are, faults_are) refl in
-    sym (ap scenario_in is ∙ ap with_contents (after_first rest ∙ read) ∙ ap Ok value)
+    sym (ap scenario_in is ∙ ap with_contents (after_first version rest ∙ read) ∙ ap Ok value)
 
-pub refused : (text rest : List ℕ) (e : ScenarioError) → text ≡ (first_line ++ line_feed) ++ rest → read_from 2 (lines_in rest) ≡ Err e → Err e ≡ scenario_in text
-refused text rest e is read = sym (ap scenario_in is ∙ ap with_contents (after_first rest ∙ read))
+pub refused : (version : Version) (text rest : List ℕ) (e : ScenarioError) → text ≡ (first_line version ++ line_feed) ++ rest → read_from version 2 (lines_in rest) ≡ Err e → Err e ≡ scenario_in text
+refused version text rest e is read = sym (ap scenario_in is ∙ ap with_contents (after_first version rest ∙ read))
 
 -- ---- no line has an answer
 
@@ -268,34 +308,34 @@ Each-append : {X : Type 0} (P : X → Type 0) (xs ys : List X) → Each P xs →
 Each-append P [] ys hx hy = hy
 Each-append P (x ∷ xs) ys hx hy = (hx.0, Each-append P xs ys hx.1 hy)
 
-lines_unanswered : (n t : ℕ) (ls : List SpelledLine) → Each IsSpelledLine ls → Each IsUnanswered (task_lines n t ls)
-lines_unanswered n t [] fit = tt
-lines_unanswered n t (Host node task line ∷ ls) fit =
-    let rest = lines_unanswered n t ls fit.1 in
+lines_unanswered : (version : Version) (n t : ℕ) (ls : List SpelledLine) → Each (IsSpelledLine version) ls → Each IsUnanswered (task_lines n t ls)
+lines_unanswered version n t [] fit = tt
+lines_unanswered version n t (Host node task line ∷ ls) fit =
+    let rest = lines_unanswered version n t ls fit.1 in
     elim (cases_Bool (node == n && task == t)) [
       | inl here ↦ rw here (fit.0.unanswered, rest)
       | inr there ↦ rw there rest
     ]
-lines_unanswered n t (FaultOf f ∷ ls) fit = lines_unanswered n t ls fit.1
+lines_unanswered version n t (FaultOf f ∷ ls) fit = lines_unanswered version n t ls fit.1
 
 script_unanswered : (n t : ℕ) (lines : List Line) → Each IsUnanswered lines → AreUnanswered (script_of n t lines)
 script_unanswered n t [] all = tt
 script_unanswered n t (line ∷ lines) all = (all, tt)
 
-scripts_unanswered : (ls : List SpelledLine) (places : List ℕ) → Each IsSpelledLine ls
+scripts_unanswered : (version : Version) (ls : List SpelledLine) (places : List ℕ) → Each (IsSpelledLine version) ls
     → AreUnanswered (flat_map (λ k. script_of (node_at k) (task_at k) (task_lines (node_at k) (task_at k) ls)) places)
-scripts_unanswered ls [] fit = tt
-scripts_unanswered ls (k ∷ places) fit =
+scripts_unanswered version ls [] fit = tt
+scripts_unanswered version ls (k ∷ places) fit =
     Each-append (λ script. Each IsUnanswered script.lines) (script_of (node_at k) (task_at k) (task_lines (node_at k) (task_at k) ls)) _
-    (script_unanswered (node_at k) (task_at k) _ (lines_unanswered (node_at k) (task_at k) ls fit)) (scripts_unanswered ls places fit)
+    (script_unanswered (node_at k) (task_at k) _ (lines_unanswered version (node_at k) (task_at k) ls fit)) (scripts_unanswered version ls places fit)
 
-pub made_unanswered : (rest : List ℕ) (k : Kept) (scripts : List Scripted) → kept_from none_yet (read_from 2 (lines_in rest)) ≡ Ok k → scripts ≡ scripts_from 0 k.tasks
+pub made_unanswered : (version : Version) (rest : List ℕ) (k : Kept) (scripts : List Scripted) → kept_from none_yet (read_from version 2 (lines_in rest)) ≡ Ok k → scripts ≡ scripts_from 0 k.tasks
     → AreUnanswered scripts
-made_unanswered rest k scripts kept ss =
-    let (ls, read, same) = kept_ok none_yet k (read_from 2 (lines_in rest)) kept in
-    let are = lines_found 2 (lines_in rest) ls read in
-    let scripts_are : scripts ≡ scripts_of ls = ss ∙ ap (λ (g : Kept). scripts_from 0 g.tasks) (sym same) ∙ scripts_kept ls are.fit in
-    subst AreUnanswered (sym scripts_are) (scripts_unanswered ls (range_with_len 0 128) are.fit)
+made_unanswered version rest k scripts kept ss =
+    let (ls, read, same) = kept_ok none_yet k (read_from version 2 (lines_in rest)) kept in
+    let are = lines_found version 2 (lines_in rest) ls read in
+    let scripts_are : scripts ≡ scripts_of ls = ss ∙ ap (λ (g : Kept). scripts_from 0 g.tasks) (sym same) ∙ scripts_kept version ls are.fit in
+    subst AreUnanswered (sym scripts_are) (scripts_unanswered version ls (range_with_len 0 128) are.fit)
 
 -- ---- what an answer tells
 

@@ -4,13 +4,15 @@ use Rattle.std.specs.Str.{bytes_eq}
 use Rattle.fr_bus.specs.declared.fault.Fault.{Fault}
 use Rattle.fr_bus.specs.declared.fault.Fault.TheVariants.{Babble, Mute, Corrupt}
 use Rattle.fr_core.specs.declared.script.Action.{Action}
-use Rattle.fr_core.specs.declared.script.Action.TheVariants.{Commit, Read, Pop}
+use Rattle.fr_core.specs.declared.script.Action.TheVariants.{Commit, Withdraw, Read, Pop}
 use Rattle.fr_frame.specs.Payload.{most_frame_bytes}
 use Rattle.fr_lines.specs.PartReading.{payload_in}
 use Rattle.fr_runs.specs.declared.fault_line.FaultCycles.{FaultCycles}
 use Rattle.fr_runs.specs.declared.fault_line.FaultPlace.{FaultPlace}
 use Rattle.fr_scenario.specs.declared.spelled.SpelledLine.{SpelledLine}
 use Rattle.fr_scenario.specs.declared.spelled.SpelledLine.TheVariants.{Host, Fault as FaultOf}
+use Rattle.fr_scenario.specs.declared.version.Version.{Version}
+use Rattle.fr_scenario.specs.declared.version.Version.TheVariants.{One, Two}
 use Rattle.fr_scenario.specs.PartReading.{channel_in, run_cycle_in, cycles_in, place_in}
 use Rattle.fr_text.specs.Reading.{◌>>=◌, number_in, bytes_in}
 
@@ -29,6 +31,17 @@ commit_in (node ∷ task ∷ cycle ∷ buffer ∷ payload ∷ []) = do
   p ← payload_in payload
   Some (host_line n t c (Commit b p))
 commit_in words = None
+
+-- version 1 has no such line
+unfoldable pub withdraw_in : Version → List (List ℕ) → Option SpelledLine
+withdraw_in One words = None
+withdraw_in Two (node ∷ task ∷ cycle ∷ buffer ∷ []) = do
+  n ← number_in 16 node
+  t ← number_in 8 task
+  c ← run_cycle_in cycle
+  b ← number_in 64 buffer
+  Some (host_line n t c (Withdraw b))
+withdraw_in Two words = None
 
 unfoldable pub read_in : List (List ℕ) → Option SpelledLine
 read_in (node ∷ task ∷ cycle ∷ buffer ∷ []) = do
@@ -82,10 +95,11 @@ corrupt_in words = None
 
 -- ---- a line, by its first word
 
-unfoldable pub line_in : List (List ℕ) → Option SpelledLine
-line_in [] = None
-line_in (kind ∷ words) =
+unfoldable pub line_in : Version → List (List ℕ) → Option SpelledLine
+line_in version [] = None
+line_in version (kind ∷ words) =
     if bytes_eq kind (codes "commit") then commit_in words
+    else if bytes_eq kind (codes "withdraw") then withdraw_in version words
     else if bytes_eq kind (codes "read") then read_in words
     else if bytes_eq kind (codes "pop") then pop_in words
     else if bytes_eq kind (codes "babble") then babble_in words

@@ -9,6 +9,8 @@ use Rattle.fr_scenario.specs.Contents.{Contents, contents_of}
 use Rattle.fr_scenario.specs.declared.error.ScenarioError.{ScenarioError}
 use Rattle.fr_scenario.specs.declared.error.ScenarioError.TheVariants.{BadMagic, BadLine, TooManyLines, Truncated}
 use Rattle.fr_scenario.specs.declared.spelled.SpelledLine.{SpelledLine}
+use Rattle.fr_scenario.specs.declared.version.Version.{Version}
+use Rattle.fr_scenario.specs.declared.version.Version.TheVariants.{One, Two}
 use Rattle.fr_scenario.specs.LineReading.{line_in}
 use Rattle.fr_scenario.specs.ScenarioText.{first_line, most_lines}
 use Rattle.fr_text.specs.Plain.{is_feed}
@@ -56,28 +58,36 @@ said n None after = Err (BadLine n)
 said n (Some line) after = put_before line after
 
 -- a whole line of at most 1200 bytes, with the lines after it and what these say
-abbrev pub whole_line : ℕ → List ℕ → List (List ℕ) → Read → Read
-whole_line n line more after =
-    if bytes_eq line end_line then after_end (n + 1) more else said n (line_in (words_of line)) after
+abbrev pub whole_line : Version → ℕ → List ℕ → List (List ℕ) → Read → Read
+whole_line version n line more after =
+    if bytes_eq line end_line then after_end (n + 1) more else said n (line_in version (words_of line)) after
 
-abbrev pub line_from : ℕ → List ℕ → List (List ℕ) → Read → Read
-line_from n line [] after = unfinished n line
-line_from n line (next ∷ rest) after =
+abbrev pub line_from : Version → ℕ → List ℕ → List (List ℕ) → Read → Read
+line_from version n line [] after = unfinished n line
+line_from version n line (next ∷ rest) after =
     if nat_lt most_lines n then Err TooManyLines
     else if nat_lt longest_line (length line) then Err (BadLine n)
-    else whole_line n line (next ∷ rest) after
+    else whole_line version n line (next ∷ rest) after
 
 -- ---- all lines, of which the first has number n
 
-abbrev pub read_from : ℕ → List (List ℕ) → Read
-read_from n [] = Err Truncated
-read_from n (line ∷ more) = line_from n line more (read_from (n + 1) more)
+abbrev pub read_from : Version → ℕ → List (List ℕ) → Read
+read_from version n [] = Err Truncated
+read_from version n (line ∷ more) = line_from version n line more (read_from version (n + 1) more)
 
--- the first line is the same in all scenarios
+-- the version that the first line names
+abbrev pub version_in : List ℕ → Option Version
+version_in line = if bytes_eq line (first_line One) then Some One else if bytes_eq line (first_line Two) then Some Two
+    else None
+
+abbrev pub read_after : Option Version → List (List ℕ) → Read
+read_after None lines = Err BadMagic
+read_after (Some version) lines = read_from version 2 lines
+
 abbrev pub read_lines : List (List ℕ) → Read
 read_lines [] = Err BadMagic
 read_lines (first ∷ []) = Err BadMagic
-read_lines (first ∷ next ∷ rest) = if bytes_eq first first_line then read_from 2 (next ∷ rest) else Err BadMagic
+read_lines (first ∷ next ∷ rest) = read_after (version_in first) (next ∷ rest)
 
 -- ---- the text
 

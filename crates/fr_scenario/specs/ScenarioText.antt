@@ -4,12 +4,16 @@ use Rattle.std.specs.List.{flat_map}
 use Rattle.fr_lines.specs.Spelling.{line_feed, line_text, end_line}
 use Rattle.fr_scenario.specs.Contents.{Contents, contents_of}
 use Rattle.fr_scenario.specs.declared.spelled.SpelledLine.{SpelledLine}
+use Rattle.fr_scenario.specs.declared.version.Version.{Version}
+use Rattle.fr_scenario.specs.declared.version.Version.TheVariants.{One, Two}
 use Rattle.fr_scenario.specs.Spelled.{IsSpelledLine}
 use Rattle.fr_scenario.specs.Spelling.{line_words}
 use Rattle.fr_slots.specs.Plans.{Each}
 
-abbrev pub first_line : List ℕ
-first_line = codes "frscenario 1"
+-- the first line names the version
+abbrev pub first_line : Version → List ℕ
+first_line One = codes "frscenario 1"
+first_line Two = codes "frscenario 2"
 
 abbrev pub spelled_line : SpelledLine → List ℕ
 spelled_line line = line_text (line_words line)
@@ -18,19 +22,20 @@ spelled_line line = line_text (line_words line)
 abbrev pub body_text : List SpelledLine → List ℕ
 body_text lines = flat_map spelled_line lines ++ (end_line ++ line_feed)
 
--- the one text of these lines
-abbrev pub scenario_text : List SpelledLine → List ℕ
-scenario_text lines = (first_line ++ line_feed) ++ body_text lines
+-- the one text of these lines in a version
+abbrev pub scenario_text : Version → List SpelledLine → List ℕ
+scenario_text version lines = (first_line version ++ line_feed) ++ body_text lines
 
 -- a text has at most so many lines, the first one and `end` included
 abbrev pub most_lines : ℕ
 most_lines = 4096
 
--- The text is that of some lines, which have these scripts and fault lines. They may stand in any order that keeps the
--- lines of each task and the fault lines in theirs, so several texts have the same contents.
+-- The text is that of some lines of its version, which have these scripts and fault lines. They may stand in any order
+-- that keeps the lines of each task and the fault lines in theirs, so several texts have the same contents.
 pub record IsScenarioText (text : List ℕ) (s : Contents) : Type 0 where
+  pub version : Version
   pub lines : List SpelledLine
-  pub spelled : text ≡ scenario_text lines
-  pub fit : Each IsSpelledLine lines
+  pub spelled : text ≡ scenario_text version lines
+  pub fit : Each (IsSpelledLine version) lines
   pub few : length lines + 2 ≤ most_lines
   pub contents_are : s ≡ contents_of lines

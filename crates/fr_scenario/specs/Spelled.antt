@@ -3,7 +3,7 @@ use Rattle.std.specs.Prelude.{◌≡◌, ℕ, ◌<◌, ◌≤◌, ◌^◌, lengt
 use Rattle.fr_bus.specs.declared.fault.Fault.{Fault}
 use Rattle.fr_bus.specs.declared.fault.Fault.TheVariants.{Babble, Mute, Corrupt}
 use Rattle.fr_core.specs.declared.script.Action.{Action}
-use Rattle.fr_core.specs.declared.script.Action.TheVariants.{Commit, Read, Pop}
+use Rattle.fr_core.specs.declared.script.Action.TheVariants.{Commit, Withdraw, Read, Pop}
 use Rattle.fr_core.specs.declared.script.Line.{Line}
 use Rattle.fr_frame.specs.Payload.{IsPayload, most_frame_bytes}
 use Rattle.fr_journal.specs.Entries.{AreBytes}
@@ -14,6 +14,8 @@ use Rattle.fr_runs.specs.declared.fault_line.FaultPlace.{FaultPlace}
 use Rattle.fr_runs.specs.declared.fault_line.FaultPlace.TheVariants.{EverySlot, Slot, Minislot}
 use Rattle.fr_scenario.specs.declared.spelled.SpelledLine.{SpelledLine}
 use Rattle.fr_scenario.specs.declared.spelled.SpelledLine.TheVariants.{Host, Fault as FaultOf}
+use Rattle.fr_scenario.specs.declared.version.Version.{Version}
+use Rattle.fr_scenario.specs.declared.version.Version.TheVariants.{One, Two}
 
 -- a run has at most 1,024 cycles, counted from 0
 abbrev pub IsRunCycle : ℕ → Type 0
@@ -21,17 +23,23 @@ IsRunCycle cycle = cycle < 1024
 
 -- ---- what a task is to do
 
-abbrev pub IsSpelledAction : Action → Type 0
-IsSpelledAction (Commit buffer payload) = (buffer < 64) × IsPayload payload × AreBytes payload
-IsSpelledAction (Read buffer) = buffer < 64
-IsSpelledAction Pop = Unit {0}
+-- version 1 has no line for a withdraw
+abbrev pub IsWithdrawSpelled : Version → ℕ → Type 0
+IsWithdrawSpelled One buffer = ⊥
+IsWithdrawSpelled Two buffer = buffer < 64
+
+abbrev pub IsSpelledAction : Version → Action → Type 0
+IsSpelledAction version (Commit buffer payload) = (buffer < 64) × IsPayload payload × AreBytes payload
+IsSpelledAction version (Withdraw buffer) = IsWithdrawSpelled version buffer
+IsSpelledAction version (Read buffer) = buffer < 64
+IsSpelledAction version Pop = Unit {0}
 
 -- nodes are 0 to 15 and tasks 0 to 7, and no answer is known
-pub record IsSpelledHost (node task : ℕ) (line : Line) : Type 0 where
+pub record IsSpelledHost (version : Version) (node task : ℕ) (line : Line) : Type 0 where
   pub node_fits : node < 16
   pub task_fits : task < 8
   pub cycle_fits : IsRunCycle line.cycle
-  pub action_fits : IsSpelledAction line.action
+  pub action_fits : IsSpelledAction version line.action
   pub unanswered : line.answer ≡ None
 
 -- ---- faults
@@ -63,6 +71,6 @@ pub record IsSpelledFaultLine (f : FaultLine) : Type 0 where
 
 -- ---- a line
 
-abbrev pub IsSpelledLine : SpelledLine → Type 0
-IsSpelledLine (Host node task line) = IsSpelledHost node task line
-IsSpelledLine (FaultOf f) = IsSpelledFaultLine f
+abbrev pub IsSpelledLine : Version → SpelledLine → Type 0
+IsSpelledLine version (Host node task line) = IsSpelledHost version node task line
+IsSpelledLine version (FaultOf f) = IsSpelledFaultLine f

@@ -4,7 +4,7 @@ use Rattle.std.specs.Fmt.{decimal}
 use Rattle.fr_bus.specs.declared.fault.Fault.{Fault}
 use Rattle.fr_bus.specs.declared.fault.Fault.TheVariants.{Babble, Mute, Corrupt}
 use Rattle.fr_core.specs.declared.script.Action.{Action}
-use Rattle.fr_core.specs.declared.script.Action.TheVariants.{Commit, Read, Pop}
+use Rattle.fr_core.specs.declared.script.Action.TheVariants.{Commit, Withdraw, Read, Pop}
 use Rattle.fr_core.specs.declared.script.Line.{Line}
 use Rattle.fr_runs.specs.declared.fault_line.FaultLine.{FaultLine}
 use Rattle.fr_scenario.specs.declared.spelled.SpelledLine.{SpelledLine}
@@ -17,6 +17,7 @@ use Rattle.fr_text.specs.Spelling.{hex_text}
 abbrev pub action_words : List ℕ → List ℕ → List ℕ → Action → List (List ℕ)
 action_words node task cycle (Commit buffer payload) =
     codes "commit" ∷ node ∷ task ∷ cycle ∷ decimal buffer ∷ hex_text payload ∷ []
+action_words node task cycle (Withdraw buffer) = codes "withdraw" ∷ node ∷ task ∷ cycle ∷ decimal buffer ∷ []
 action_words node task cycle (Read buffer) = codes "read" ∷ node ∷ task ∷ cycle ∷ decimal buffer ∷ []
 action_words node task cycle Pop = codes "pop" ∷ node ∷ task ∷ cycle ∷ []
 

@@ -9,11 +9,11 @@ use thiserror::Error;
 /// Why a text is no scenario. A number is that of the line at fault, counted from 1.
 #[derive(Clone, Copy, Debug, PartialEq, Eq, Error)]
 pub enum ScenarioError {
-    /// The first line isn't `frscenario 1` with its line feed.
+    /// The first line isn't `frscenario 1` or `frscenario 2` with its line feed.
     #[error("BadMagic")]
     BadMagic,
-    /// The line has no form of the format, has a number out of its range or more than 1200 bytes before its line feed,
-    /// or stands after the line `end`.
+    /// The line has no form of the format's version, has a number out of its range or more than 1200 bytes before its
+    /// line feed, or stands after the line `end`.
     #[error("BadLine {0}")]
     BadLine(u32),
     /// Line 4097 begins, and no line before it is `end`.

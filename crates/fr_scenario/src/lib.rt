@@ -1,7 +1,7 @@
 //! Scenarios: what the tasks of a cluster do in a run and which faults come in it, as a text (own profile).
 //!
 //! ```text
-//! let scenario = Scenario::from_text(alloc, "frscenario 1\npop 0 1 2\nmute 2 A * s*\nend\n")?;
+//! let scenario = Scenario::from_text(alloc, "frscenario 2\npop 0 1 2\nmute 2 A * s*\nend\n")?;
 //! scenario.scripts(); // what each task is to do, by node and then task
 //! scenario.faults(); // the fault lines, in their order
 //! ```
@@ -17,3 +17,4 @@ mod lines;
 mod parts;
 pub mod scenario;
 mod spelled;
+mod version;

@@ -1,19 +1,37 @@
 //! The lines between the first one and `end`.
 ghost use Rattle.std.specs.Prelude.{◌≡◌};
 ghost use Rattle.fr_text.specs.Spaces.{words_of};
-ghost use Rattle.fr_scenario.specs.LineReading.{commit_in, read_in, pop_in, babble_in, mute_in, corrupt_in, line_in};
+ghost use Rattle.fr_scenario.specs.LineReading.{commit_in, withdraw_in, read_in, pop_in, babble_in, mute_in};
+ghost use Rattle.fr_scenario.specs.LineReading.{corrupt_in, host_line, line_in};
 
 use crate::parts::{
     buffer_of, channel_of, cycles_of, node_of, payload_of, place_of, run_cycle_of, task_of,
 };
 use crate::spelled::SpelledLine;
+use crate::version::Version;
 use fr_bus::fault::Fault;
 use fr_core::script::{Action, Line};
 use fr_frame::frame::FRAME_BYTES;
 use fr_runs::fault_line::FaultLine;
+use fr_slots::numbers::{NodeId, TaskId};
 use fr_text::hexes::bytes_of;
 use fr_text::numbers::number_of;
 use fr_text::words::Words;
+
+/// The line of a task, whose answer isn't known.
+fn host_line(node: NodeId, task: TaskId, cycle: u16, action: Action) -> SpelledLine
+    ensures { result ≡ host_line node task cycle action }
+{
+    SpelledLine::Host {
+        node,
+        task,
+        line: Line {
+            cycle,
+            action,
+            answer: None,
+        },
+    }
+}
 
 /// The commit that the words spell.
 #[tactic(auto, unfolding(crate::specs::LineReading::commit_in))]
@@ -25,23 +43,33 @@ fn commit_of(words: &mut Words<'_>) -> Option<SpelledLine>
     let cycle = words.next_word()?;
     let buffer = words.next_word()?;
     let payload = words.next_word()?;
-    if words.next_word().is_some() {
-        return None;
-    }
+    words.end()?;
     let node = node_of(node)?;
     let task = task_of(task)?;
     let cycle = run_cycle_of(cycle)?;
     let buffer = buffer_of(buffer)?;
     let payload = payload_of(payload)?;
-    Some(SpelledLine::Host {
-        node,
-        task,
-        line: Line {
-            cycle,
-            action: Action::Commit { buffer, payload },
-            answer: None,
-        },
-    })
+    Some(host_line(node, task, cycle, Action::Commit { buffer, payload }))
+}
+
+/// The withdraw that the words spell, in a version that has such a line.
+#[tactic(auto, unfolding(crate::specs::LineReading::withdraw_in))]
+fn withdraw_of(version: Version, words: &mut Words<'_>) -> Option<SpelledLine>
+    ensures { result ≡ withdraw_in version words.old }
+{
+    if version == Version::One {
+        return None;
+    }
+    let node = words.next_word()?;
+    let task = words.next_word()?;
+    let cycle = words.next_word()?;
+    let buffer = words.next_word()?;
+    words.end()?;
+    let node = node_of(node)?;
+    let task = task_of(task)?;
+    let cycle = run_cycle_of(cycle)?;
+    let buffer = buffer_of(buffer)?;
+    Some(host_line(node, task, cycle, Action::Withdraw { buffer }))
 }
 
 /// The read that the words spell.
@@ -53,22 +81,12 @@ fn read_of(words: &mut Words<'_>) -> Option<SpelledLine>
     let task = words.next_word()?;
     let cycle = words.next_word()?;
     let buffer = words.next_word()?;
-    if words.next_word().is_some() {
-        return None;
-    }
+    words.end()?;
     let node = node_of(node)?;
     let task = task_of(task)?;
     let cycle = run_cycle_of(cycle)?;
     let buffer = buffer_of(buffer)?;
-    Some(SpelledLine::Host {
-        node,
-        task,
-        line: Line {
-            cycle,
-            action: Action::Read { buffer },
-            answer: None,
-        },
-    })
+    Some(host_line(node, task, cycle, Action::Read { buffer }))
 }
 
 /// The pop that the words spell.
@@ -79,21 +97,11 @@ fn pop_of(words: &mut Words<'_>) -> Option<SpelledLine>
     let node = words.next_word()?;
     let task = words.next_word()?;
     let cycle = words.next_word()?;
-    if words.next_word().is_some() {
-        return None;
-    }
+    words.end()?;
     let node = node_of(node)?;
     let task = task_of(task)?;
     let cycle = run_cycle_of(cycle)?;
-    Some(SpelledLine::Host {
-        node,
-        task,
-        line: Line {
-            cycle,
-            action: Action::Pop,
-            answer: None,
-        },
-    })
+    Some(host_line(node, task, cycle, Action::Pop))
 }
 
 /// The babble that the words spell.
@@ -106,9 +114,7 @@ fn babble_of(words: &mut Words<'_>) -> Option<SpelledLine>
     let cycles = words.next_word()?;
     let place = words.next_word()?;
     let bytes = words.next_word()?;
-    if words.next_word().is_some() {
-        return None;
-    }
+    words.end()?;
     let node = node_of(node)?;
     let channel = channel_of(channel)?;
     let cycles = cycles_of(cycles)?;
@@ -134,9 +140,7 @@ fn mute_of(words: &mut Words<'_>) -> Option<SpelledLine>
     let channel = words.next_word()?;
     let cycles = words.next_word()?;
     let place = words.next_word()?;
-    if words.next_word().is_some() {
-        return None;
-    }
+    words.end()?;
     let node = node_of(node)?;
     let channel = channel_of(channel)?;
     let cycles = cycles_of(cycles)?;
@@ -157,9 +161,7 @@ fn corrupt_of(words: &mut Words<'_>) -> Option<SpelledLine>
     let cycles = words.next_word()?;
     let place = words.next_word()?;
     let bit = words.next_word()?;
-    if words.next_word().is_some() {
-        return None;
-    }
+    words.end()?;
     let channel = channel_of(channel)?;
     let cycles = cycles_of(cycles)?;
     let place = place_of(place)?;
@@ -174,16 +176,19 @@ fn corrupt_of(words: &mut Words<'_>) -> Option<SpelledLine>
     }))
 }
 
-/// What the line, which is given without its line feed, says. `None` where it has no form of the format or a number out
-/// of its range.
+/// What the line, which is given without its line feed, says. `None` where it has no form of the format's version or a
+/// number out of its range.
 #[tactic(auto, unfolding(crate::specs::LineReading::line_in))]
-pub(crate) fn line_of(line: &[u8]) -> Option<SpelledLine>
-    ensures { result ≡ line_in (words_of line.now) }
+pub(crate) fn line_of(version: Version, line: &[u8]) -> Option<SpelledLine>
+    ensures { result ≡ line_in version (words_of line.now) }
 {
     let mut words = Words::new(line);
     let kind = words.next_word()?;
     if kind == b"commit".as_slice() {
         return commit_of(&mut words);
+    }
+    if kind == b"withdraw".as_slice() {
+        return withdraw_of(version, &mut words);
     }
     if kind == b"read".as_slice() {
         return read_of(&mut words);

@@ -1,13 +1,16 @@
 //! A scenario, and the text that spells it.
-ghost use Rattle.std.specs.Prelude.{◌≡◌, Ok, Err, IfOk, IfErr};
+ghost use Rattle.std.specs.Prelude.{◌≡◌, ◌++◌, None, Ok, Err, IfOk, IfErr, IfSome};
 ghost use Rattle.fr_scenario.specs.declared.error.ScenarioError.TheVariants as error;
 ghost use Rattle.fr_scenario.specs.Gathering.{none_yet, kept_from};
-ghost use Rattle.fr_scenario.specs.Reading.{lines_in, read_from};
+ghost use Rattle.fr_scenario.specs.Reading.{lines_in, read_from, read_text};
+ghost use Rattle.fr_scenario.specs.ScenarioText.{first_line};
+ghost use Rattle.fr_lines.specs.Spelling.{line_feed};
 
 use crate::error::ScenarioError;
 use crate::gathered::Gathered;
 use crate::left::{LAST_LINE, Left};
 use crate::lines::line_of;
+use crate::version::Version;
 use fr_core::script::Script;
 use fr_runs::fault_line::FaultLine;
 use std::alloc::Global;
@@ -32,10 +35,23 @@ impl Model for Scenario {
     ghost invariant = { HasNoAnswers };
 }
 
-/// What the lines after the first one say.
-fn gathered(alloc: Global, text: &[u8]) -> Result<Gathered, ScenarioError>
-    ensures found { IfOk result (λ gathered. kept_from none_yet (read_from 2 (lines_in text.now)) ≡ Ok gathered) }
-    ensures refused { IfErr result (λ e. ¬ (e ≡ error.Memory) → read_from 2 (lines_in text.now) ≡ Err e) }
+/// The version that the first line names, and what stands after that line.
+fn begun(text: &[u8]) -> Option<(Version, &[u8])>
+    ensures first { IfSome result (λ begun. text.now ≡ (first_line begun.0 ++ line_feed) ++ begun.1.now) }
+    ensures other { result ≡ None → read_text text.now ≡ Err error.BadMagic }
+{
+    if let Some(rest) = text.strip_prefix(b"frscenario 1\n".as_slice()) {
+        return Some((Version::One, rest));
+    }
+    let rest = text.strip_prefix(b"frscenario 2\n".as_slice())?;
+    Some((Version::Two, rest))
+}
+
+/// What the lines after the first one say, in this version.
+fn gathered(alloc: Global, version: Version, text: &[u8]) -> Result<Gathered, ScenarioError>
+    ensures found { IfOk result
+        (λ gathered. kept_from none_yet (read_from version 2 (lines_in text.now)) ≡ Ok gathered) }
+    ensures refused { IfErr result (λ e. ¬ (e ≡ error.Memory) → read_from version 2 (lines_in text.now) ≡ Err e) }
 {
     let mut gathered = Gathered::new(alloc)?;
     let mut left = Left::new(text);
@@ -48,7 +64,7 @@ fn gathered(alloc: Global, text: &[u8]) -> Result<Gathered, ScenarioError>
                 Err(ScenarioError::BadLine(number + 1))
             };
         }
-        let Some(line) = line_of(line) else {
+        let Some(line) = line_of(version, line) else {
             return Err(ScenarioError::BadLine(number));
         };
         gathered.add(line)?;
@@ -71,21 +87,22 @@ impl Scenario {
     fn read(alloc: Global, text: &str) -> Result<Scenario, ScenarioError>
         ensures { ¬ (result ≡ Err error.Memory) → result ≡ scenario_in text.now }
     {
-        let Some(rest) = text.as_bytes().strip_prefix(b"frscenario 1\n".as_slice()) else {
+        let Some((version, rest)) = begun(text.as_bytes()) else {
             return Err(ScenarioError::BadMagic);
         };
-        let gathered = gathered(alloc, rest)?;
+        let gathered = gathered(alloc, version, rest)?;
         let (scripts, faults) = gathered.finish(alloc)?;
         Ok(Scenario { scripts, faults })
     }
 
     /// The scenario that a text spells (own profile).
     ///
-    /// The first line is `frscenario 1`, and the last one `end`; each line ends with a line feed and has at most 1200
-    /// bytes before it, and there are at most 4096 of them. Between those two stand, in any order:
+    /// The first line is `frscenario 1` or `frscenario 2`, and the last one `end`; each line ends with a line feed and
+    /// has at most 1200 bytes before it, and there are at most 4096 of them. Between those two stand, in any order:
     ///
     /// ```text
     /// commit NODE TASK CYCLE BUFFER HEX
+    /// withdraw NODE TASK CYCLE BUFFER
     /// read NODE TASK CYCLE BUFFER
     /// pop NODE TASK CYCLE
     /// babble NODE CHANNEL CYCLES PLACE HEX
@@ -93,11 +110,11 @@ impl Scenario {
     /// corrupt CHANNEL CYCLES PLACE BIT
     /// ```
     ///
-    /// Words are separated by one space. A number is decimal without sign and leading zeros: a node is 0 to 15, a task
-    /// 0 to 7, a cycle 0 to 1023, a buffer 0 to 63, a bit 0 to 65535. CYCLES is a cycle, or `*` for every one; CHANNEL
-    /// is `A` or `B`; PLACE is `s*` for every static slot, `sN` for the static slot N or `mN` for the minislot N, each
-    /// 1 to 8000. HEX is `x` and two lower-case digits for each byte: of a commit an even number, at most 254, and of a
-    /// babble at most 262.
+    /// Version 1 has no line `withdraw`. Words are separated by one space. A number is decimal without sign and leading
+    /// zeros: a node is 0 to 15, a task 0 to 7, a cycle 0 to 1023, a buffer 0 to 63, a bit 0 to 65535. CYCLES is a
+    /// cycle, or `*` for every one; CHANNEL is `A` or `B`; PLACE is `s*` for every static slot, `sN` for the static
+    /// slot N or `mN` for the minislot N, each 1 to 8000. HEX is `x` and two lower-case digits for each byte: of a
+    /// commit an even number, at most 254, and of a babble at most 262.
     ///
     /// The first line at fault is answered: `BadMagic` where the first line is another or isn't whole; `BadLine` for a
     /// line of no form, for a number out of its range, for a line that is too long, and for any byte after `end`;

@@ -1,23 +1,23 @@
 -- Plans that are lawful and for these parameters, without a fault among them, are those of a cluster.
-use Rattle.std.proofs.Common.{◌≡◌, ℕ, zero, suc, ◌+◌, ◌<◌, ◌≤◌, ◌==◌, Bool, true, false, ◌&&◌, if◌then◌else◌, List, []}
+use Rattle.std.proofs.Common.{◌≡◌, ℕ, zero, suc, ◌+◌, ◌<◌, ◌≤◌, ◌==◌, Bool, true, false, ◌&&◌, ◌||◌, if◌then◌else◌, List, []}
 use Rattle.std.proofs.Common.{◌∷◌, ◌++◌, length, Option, Some, None, option_map, refl, sym, ap, subst, ◌∙◌, inl, inr}
 use Rattle.std.proofs.Common.{arith}
-use Rattle.std.proofs.lemmas.Bool.{cases_Bool, cases_eq, eqb-true, and_parts, or_cases, cond-true, cond-false}
-use Rattle.std.proofs.lemmas.Bool.{both_ways}
+use Rattle.std.proofs.lemmas.Bool.{cases_Bool, cases_eq, eqb-true, and_parts, or_cases, or_parts, or_left, or_right}
+use Rattle.std.proofs.lemmas.Bool.{cond-true, cond-false, both_ways}
 use Rattle.std.proofs.lemmas.Option.{same_Some}
 use Rattle.std.specs.List.{list_any, slice_get}
 use Rattle.std.specs.Option.{option_or}
 use Rattle.std.specs.Prelude.{position}
-use Rattle.fr_schedule.proofs.FilterLemmas.{no_taken_plans, no_overlap_plans}
+use Rattle.fr_schedule.proofs.FilterLemmas.{no_overlap_plans}
 use Rattle.fr_schedule.proofs.TwoLemmas.{two_left, two_right, two_at}
 use Rattle.fr_schedule.specs.Clusters.{IsNode, IsCluster}
 use Rattle.fr_schedule.specs.Descriptions.{Description}
 use Rattle.fr_schedule.specs.SenderTable.{HasOneSender, may_send}
 use Rattle.fr_schedule.specs.declared.error.ConfigError.{ConfigError}
 use Rattle.fr_schedule.specs.declared.error.ConfigError.TheVariants as error
-use Rattle.fr_schedule.specs.FileFaults.{all_owned, all_buffers, first_taken, first_overlap, buffer_fault}
+use Rattle.fr_schedule.specs.FileFaults.{all_owned, all_buffers, first_overlap, buffer_fault}
 use Rattle.fr_schedule.specs.FileFaults.{first_in_nodes, first_by, not_owned_in, dynamic_both_in, too_long_in}
-use Rattle.fr_schedule.specs.FileFaults.{owner_fault, sender_fault, file_fault}
+use Rattle.fr_schedule.specs.FileFaults.{file_fault}
 use Rattle.fr_slots.proofs.FaultLemmas.{first-none}
 use Rattle.fr_slots.proofs.FaultlessLemmas.{or_none, cond_none, map_none, on_channels, in_slots}
 use Rattle.fr_slots.specs.declared.channel.Channel.{Channel}
@@ -27,7 +27,7 @@ use Rattle.fr_slots.specs.declared.plan.Buffer.{Buffer}
 use Rattle.fr_slots.specs.Admission.{includes, cycle_admitted}
 use Rattle.fr_slots.specs.Faults as plan
 use Rattle.fr_slots.specs.Faults.{buffer_fault as sending_fault}
-use Rattle.fr_slots.specs.Faults.{first_of, two_pass, slots, channels, cycles, claims, sends_at, is_owned, transmits}
+use Rattle.fr_slots.specs.Faults.{first_of, two_pass, slots, channels, cycles, claims, sends_at, is_owned, is_overlap, transmits}
 use Rattle.fr_slots.specs.Faults.{not_owned, dynamic_both, too_long, is_out_of_params, out_of_params, ownership_fault}
 use Rattle.fr_slots.specs.Faults.{plan_fault}
 use Rattle.fr_slots.specs.Numbers.{IsSlot}
@@ -65,40 +65,39 @@ none_if b false x so none = refl
 none_if true true x so none = none
 none_if false true x so none = cc (so refl)
 
-taken_so : (xs ys : List Own) → ((t : Own → Bool) → two_pass t ys ≡ true → two_pass t xs ≡ true) → plan.first_taken xs ≡ None → plan.first_taken ys ≡ None
-taken_so xs ys so =
-    none_so (plan.taken_in xs) (plan.taken_in ys)
-    (λ slot.
-    none_so (plan.taken_at xs slot) (plan.taken_at ys slot)
-    (λ channel. none_if (two_pass (claims slot channel) xs) (two_pass (claims slot channel) ys) (fault.SlotTaken slot channel) (so (claims slot channel))) channels)
-    slots
+either_so : (a b c d : Bool) → (c ≡ true → a ≡ true) → (d ≡ true → b ≡ true) → (c || d) ≡ true → (a || b) ≡ true
+either_so a b c d left right any =
+    elim (or_cases c d any) [
+      | inl here ↦ or_left a b (left here)
+      | inr there ↦ or_right a b (right there)
+    ]
 
-overlap_so : (xs ys : List Buffer) → ((t : Buffer → Bool) → two_pass t ys ≡ true → two_pass t xs ≡ true) → plan.first_overlap xs ≡ None
-    → plan.first_overlap ys ≡ None
-overlap_so xs ys so =
-    none_so (plan.overlap_in xs) (plan.overlap_in ys)
+overlap_so : (xs ys : List Own) (bs cs : List Buffer) → ((t : Own → Bool) → two_pass t ys ≡ true → two_pass t xs ≡ true)
+    → ((t : Buffer → Bool) → two_pass t cs ≡ true → two_pass t bs ≡ true) → plan.first_overlap xs bs ≡ None → plan.first_overlap ys cs ≡ None
+overlap_so xs ys bs cs owns sends =
+    none_so (plan.overlap_in xs bs) (plan.overlap_in ys cs)
     (λ slot.
-    none_so (plan.overlap_on xs slot) (plan.overlap_on ys slot)
+    none_so (plan.overlap_on xs bs slot) (plan.overlap_on ys cs slot)
     (λ channel.
-    none_so (plan.overlap_at xs slot channel) (plan.overlap_at ys slot channel)
+    none_so (plan.overlap_at xs bs slot channel) (plan.overlap_at ys cs slot channel)
     (λ cycle.
-    none_if (two_pass (sends_at slot channel cycle) xs) (two_pass (sends_at slot channel cycle) ys) (fault.Overlap slot channel cycle) (so (sends_at slot channel cycle)))
+    none_if (is_overlap xs bs slot channel cycle) (is_overlap ys cs slot channel cycle) (fault.Overlap slot channel cycle)
+    (either_so (two_pass (claims slot channel cycle) xs) (two_pass (sends_at slot channel cycle) bs)
+    (two_pass (claims slot channel cycle) ys) (two_pass (sends_at slot channel cycle) cs)
+    (owns (claims slot channel cycle)) (sends (sends_at slot channel cycle))))
     cycles)
     channels)
     slots
 
-none_taken : (plans : List Plan) → plan.first_taken (all_owned plans) ≡ None → Each (λ q. plan.first_taken q.owned ≡ None) plans
-none_taken [] none = tt
-none_taken (q ∷ plans) none = (
-  taken_so (q.owned ++ all_owned plans) q.owned (λ t. two_left t q.owned (all_owned plans)) none,
-  none_taken plans (taken_so (q.owned ++ all_owned plans) (all_owned plans) (λ t. two_right t q.owned (all_owned plans)) none),
-)
-
-none_overlap : (plans : List Plan) → plan.first_overlap (all_buffers plans) ≡ None → Each (λ q. plan.first_overlap q.buffers ≡ None) plans
+none_overlap : (plans : List Plan) → plan.first_overlap (all_owned plans) (all_buffers plans) ≡ None
+    → Each (λ q. plan.first_overlap q.owned q.buffers ≡ None) plans
 none_overlap [] none = tt
 none_overlap (q ∷ plans) none = (
-  overlap_so (q.buffers ++ all_buffers plans) q.buffers (λ t. two_left t q.buffers (all_buffers plans)) none,
-  none_overlap plans (overlap_so (q.buffers ++ all_buffers plans) (all_buffers plans) (λ t. two_right t q.buffers (all_buffers plans)) none),
+  overlap_so (q.owned ++ all_owned plans) q.owned (q.buffers ++ all_buffers plans) q.buffers
+      (λ t. two_left t q.owned (all_owned plans)) (λ t. two_left t q.buffers (all_buffers plans)) none,
+  none_overlap plans
+      (overlap_so (q.owned ++ all_owned plans) (all_owned plans) (q.buffers ++ all_buffers plans) (all_buffers plans)
+      (λ t. two_right t q.owned (all_owned plans)) (λ t. two_right t q.buffers (all_buffers plans)) none),
 )
 
 -- ---- buffers at fault by themselves
@@ -119,10 +118,9 @@ none_in_nodes made test n (q ∷ plans) none =
 
 -- what the file's tests leave of a node
 record IsFree (p : Parameters) (q : Plan) : Type 0 where
-  pub untaken : plan.first_taken q.owned ≡ None
   pub owned : HasNone (λ r. not_owned p r.owned) q
   pub one_channel : HasNone (λ r. dynamic_both p) q
-  pub apart : plan.first_overlap q.buffers ≡ None
+  pub apart : plan.first_overlap q.owned q.buffers ≡ None
   pub in_time : HasNone (too_long p) q
 
 -- the plan is one for these parameters
@@ -137,36 +135,33 @@ unfolding plan_fault ownership_fault sending_fault
 no_fault p q is_for free =
     or_of_none (ownership_fault p q) (sending_fault p q)
     (or_of_none (out_of_params p q) _ (cond-false (is_out_of_params p q) (Some fault.OutOfParams) None is_for)
-    (or_of_none (plan.first_taken q.owned) _ free.untaken (ap (option_map fault.NotOwned) free.owned)))
+    (ap (option_map fault.NotOwned) free.owned))
     (or_of_none (plan.first_buffer fault.DynamicBoth (dynamic_both p) q.buffers) _ (ap (option_map fault.DynamicBoth) free.one_channel)
-    (or_of_none (plan.first_overlap q.buffers) _ free.apart (ap (option_map fault.TooLong) free.in_time)))
+    (or_of_none (plan.first_overlap q.owned q.buffers) _ free.apart (ap (option_map fault.TooLong) free.in_time)))
 
--- the five parts of a file without fault
+-- the four parts of a file without fault
 record HasNoFault (p : Parameters) (plans : List Plan) : Type 0 where
-  pub untaken : first_taken plans ≡ None
   pub owned : first_by (not_owned_in p) plans ≡ None
   pub one_channel : first_by (dynamic_both_in p) plans ≡ None
   pub apart : first_overlap plans ≡ None
   pub in_time : first_by (too_long_in p) plans ≡ None
 
 parts : (p : Parameters) (plans : List Plan) → file_fault p plans ≡ None → HasNoFault p plans
-unfolding file_fault owner_fault sender_fault
+unfolding file_fault
 parts p plans none =
-    let (owner, sender) = or_none (owner_fault p plans) (sender_fault p plans) none in
-    let (untaken, owned) = or_none (first_taken plans) (first_by (not_owned_in p) plans) owner in
-    let (one_channel, later) = or_none (first_by (dynamic_both_in p) plans) (option_or (first_overlap plans) (first_by (too_long_in p) plans)) sender in
+    let last = option_or (first_overlap plans) (first_by (too_long_in p) plans) in
+    let (owned, after) = or_none (first_by (not_owned_in p) plans) (option_or (first_by (dynamic_both_in p) plans) last) none in
+    let (one_channel, later) = or_none (first_by (dynamic_both_in p) plans) last after in
     let (apart, in_time) = or_none (first_overlap plans) (first_by (too_long_in p) plans) later in
-    record { untaken = untaken; owned = owned; one_channel = one_channel; apart = apart; in_time = in_time }
+    record { owned = owned; one_channel = one_channel; apart = apart; in_time = in_time }
 
 each_free : (p : Parameters) (plans : List Plan) → HasNoFault p plans → Each (IsFree p) plans
 each_free p plans none =
-    each_so _ (IsFree p)
-    (λ q h. record { untaken = h.0; owned = h.1.0; one_channel = h.1.1.0; apart = h.1.1.1.0; in_time = h.1.1.1.1 }) plans
-    (each_both _ _ plans (none_taken plans (no_taken_plans plans none.untaken))
+    each_so _ (IsFree p) (λ q h. record { owned = h.0; one_channel = h.1.0; apart = h.1.1.0; in_time = h.1.1.1 }) plans
     (each_both _ _ plans (none_in_nodes error.NotOwned (λ r. not_owned p r.owned) 0 plans none.owned)
     (each_both _ _ plans (none_in_nodes error.DynamicBoth (λ r. dynamic_both p) 0 plans none.one_channel)
     (each_both _ _ plans (none_overlap plans (no_overlap_plans plans none.apart))
-    (none_in_nodes error.TooLong (too_long p) 0 plans none.in_time)))))
+    (none_in_nodes error.TooLong (too_long p) 0 plans none.in_time))))
 
 nodes_are : (p : Parameters) (plans : List Plan) → Each IsPlan plans → Each (IsFor p) plans → HasNoFault p plans → Each (IsNode p) plans
 nodes_are p plans lawful fit none =
@@ -175,14 +170,16 @@ nodes_are p plans lawful fit none =
 
 -- ---- one sender
 
-claimed_slot : (owned : List Own) (slot : ℕ) (channel : Channel) → Each IsOwn owned → is_owned owned slot channel ≡ true → IsSlot slot
-claimed_slot [] slot channel each any = cc any
-claimed_slot (own ∷ owned) slot channel each any =
-    elim (or_cases (claims slot channel own) (is_owned owned slot channel) any) [
+claimed_slot : (owned : List Own) (slot : ℕ) (channel : Channel) (cycle : ℕ) → Each IsOwn owned
+    → is_owned owned slot channel cycle ≡ true → IsSlot slot
+claimed_slot [] slot channel cycle each any = cc any
+claimed_slot (own ∷ owned) slot channel cycle each any =
+    elim (or_cases (claims slot channel cycle own) (is_owned owned slot channel cycle) any) [
       | inl here ↦
-          (let (same, includes_it) = and_parts (own.slot == slot) (includes own.channels channel) here in
-          subst IsSlot (eqb-true own.slot slot same) each.0)
-      | inr later ↦ claimed_slot owned slot channel each.1 later
+          (let (front, in_cycle) = and_parts (own.slot == slot && includes own.channels channel) (cycle_admitted own.cycles cycle) here in
+          let (same, includes_it) = and_parts (own.slot == slot) (includes own.channels channel) front in
+          subst IsSlot (eqb-true own.slot slot same) each.0.slot_is)
+      | inr later ↦ claimed_slot owned slot channel cycle each.1 later
     ]
 
 sent_slot : (buffers : List Buffer) (slot : ℕ) (channel : Channel) (cycle : ℕ) → Each IsBuffer buffers
@@ -198,18 +195,27 @@ sent_slot (b ∷ buffers) slot channel cycle each any =
       | inr later ↦ sent_slot buffers slot channel cycle each.1 later
     ]
 
-two_owners : (plans : List Plan) (slot : ℕ) (channel : Channel) → IsSlot slot → first_taken plans ≡ None → two_pass (claims slot channel) (all_owned plans) ≡ false
-two_owners plans slot channel is none =
-    cond_none (two_pass (claims slot channel) (all_owned plans)) (fault.SlotTaken slot channel)
-    (on_channels (plan.taken_at (all_owned plans) slot) channel (in_slots (plan.taken_in (all_owned plans)) slot is (no_taken_plans plans none)))
+no_two : (plans : List Plan) (slot : ℕ) (channel : Channel) (cycle : ℕ) → IsSlot slot → cycle < 64 → first_overlap plans ≡ None
+    → is_overlap (all_owned plans) (all_buffers plans) slot channel cycle ≡ false
+no_two plans slot channel cycle is few none =
+    let owned = all_owned plans in
+    let buffers = all_buffers plans in
+    cond_none (is_overlap owned buffers slot channel cycle) (fault.Overlap slot channel cycle)
+    (first-none (plan.overlap_at owned buffers slot channel) 0 64
+    (on_channels (plan.overlap_on owned buffers slot) channel (in_slots (plan.overlap_in owned buffers) slot is (no_overlap_plans plans none))) cycle
+    (omega arith) (omega (arith, few)))
+
+two_owners : (plans : List Plan) (slot : ℕ) (channel : Channel) (cycle : ℕ) → IsSlot slot → cycle < 64 → first_overlap plans ≡ None
+    → two_pass (claims slot channel cycle) (all_owned plans) ≡ false
+two_owners plans slot channel cycle is few none =
+    (or_parts (two_pass (claims slot channel cycle) (all_owned plans)) (two_pass (sends_at slot channel cycle) (all_buffers plans))
+    (no_two plans slot channel cycle is few none)).0
 
 two_senders : (plans : List Plan) (slot : ℕ) (channel : Channel) (cycle : ℕ) → IsSlot slot → cycle < 64 → first_overlap plans ≡ None
     → two_pass (sends_at slot channel cycle) (all_buffers plans) ≡ false
 two_senders plans slot channel cycle is few none =
-    cond_none (two_pass (sends_at slot channel cycle) (all_buffers plans)) (fault.Overlap slot channel cycle)
-    (first-none (plan.overlap_at (all_buffers plans) slot channel) 0 64
-    (on_channels (plan.overlap_on (all_buffers plans) slot) channel (in_slots (plan.overlap_in (all_buffers plans)) slot is (no_overlap_plans plans none))) cycle
-    (omega arith) (omega (arith, few)))
+    (or_parts (two_pass (claims slot channel cycle) (all_owned plans)) (two_pass (sends_at slot channel cycle) (all_buffers plans))
+    (no_two plans slot channel cycle is few none)).1
 
 one_sender : (d : Description) → Each IsPlan d.plans → HasNoFault d.params d.plans → HasOneSender d
 one_sender d lawful none cycle slot channel m n few at_m at_n =
@@ -218,15 +224,15 @@ one_sender d lawful none cycle slot channel m n few at_m at_n =
       | inr differ ↦
           elim (cases_Bool (is_static_slot d.params slot)) [
             | inl static ↦
-                (let by_line : (q : Plan) → may_send d.params cycle slot channel q ≡ true → is_owned q.owned slot channel ≡ true =
-                λ q sends. sym (cond-true (is_static_slot d.params slot) (is_owned q.owned slot channel) (list_any (sends_at slot channel cycle) q.buffers) static) ∙ sends in
+                (let by_line : (q : Plan) → may_send d.params cycle slot channel q ≡ true → is_owned q.owned slot channel cycle ≡ true =
+                λ q sends. sym (cond-true (is_static_slot d.params slot) (is_owned q.owned slot channel cycle) (list_any (sends_at slot channel cycle) q.buffers) static) ∙ sends in
                 let owner = by_line at_m.plan at_m.sends in
-                let is = claimed_slot at_m.plan.owned slot channel (each_at IsPlan d.plans m at_m.plan lawful at_m.at).owned_are owner in
-                absurd (both_ways (two_pass (claims slot channel) (all_owned d.plans)) (two_owners d.plans slot channel is none.untaken)
-                (two_at (claims slot channel) (λ q. q.owned) d.plans m n at_m.plan at_n.plan differ at_m.at at_n.at owner (by_line at_n.plan at_n.sends))))
+                let is = claimed_slot at_m.plan.owned slot channel cycle (each_at IsPlan d.plans m at_m.plan lawful at_m.at).owned_are owner in
+                absurd (both_ways (two_pass (claims slot channel cycle) (all_owned d.plans)) (two_owners d.plans slot channel cycle is few none.apart)
+                (two_at (claims slot channel cycle) (λ q. q.owned) d.plans m n at_m.plan at_n.plan differ at_m.at at_n.at owner (by_line at_n.plan at_n.sends))))
             | inr dynamic ↦
                 (let by_buffer : (q : Plan) → may_send d.params cycle slot channel q ≡ true → list_any (sends_at slot channel cycle) q.buffers ≡ true =
-                λ q sends. sym (cond-false (is_static_slot d.params slot) (is_owned q.owned slot channel) (list_any (sends_at slot channel cycle) q.buffers) dynamic) ∙ sends in
+                λ q sends. sym (cond-false (is_static_slot d.params slot) (is_owned q.owned slot channel cycle) (list_any (sends_at slot channel cycle) q.buffers) dynamic) ∙ sends in
                 let sender = by_buffer at_m.plan at_m.sends in
                 let is = sent_slot at_m.plan.buffers slot channel cycle (each_at IsPlan d.plans m at_m.plan lawful at_m.at).buffers_are sender in
                 absurd (both_ways (two_pass (sends_at slot channel cycle) (all_buffers d.plans)) (two_senders d.plans slot channel cycle is few none.apart)

@@ -1,11 +1,10 @@
 -- The table of senders is that of the cluster.
-use Rattle.std.proofs.Common.{◌≡◌, ℕ, zero, suc, ◌+◌, ◌-◌, ◌<◌, ◌≤◌, ◌==◌, ◌%◌, Bool, true, false, not, cond, ◌&&◌}
+use Rattle.std.proofs.Common.{◌≡◌, ℕ, zero, suc, ◌+◌, ◌-◌, ◌<◌, ◌≤◌, ◌==◌, Bool, true, false, not, cond, ◌&&◌}
 use Rattle.std.proofs.Common.{◌||◌}
-use Rattle.std.proofs.Common.{List, [], ◌∷◌, ◌++◌, length, get_or, map, replicate, Option, Some, None, option_map, refl}
+use Rattle.std.proofs.Common.{List, [], ◌∷◌, ◌++◌, length, get_or, map, replicate, Option, Some, None, refl}
 use Rattle.std.proofs.Common.{sym, ap, subst}
 use Rattle.std.proofs.Common.{◌∙◌, inl, inr, arith}
-use Rattle.std.proofs.Math.Nat.{mod-one}
-use Rattle.std.proofs.lemmas.Bool.{cases_Bool, eqb-true, eq-eqb, cond-true, cond-false, and_from, and_parts, or_cases}
+use Rattle.std.proofs.lemmas.Bool.{cases_Bool, eqb-true, cond-true, cond-false, and_from, and_parts, or_cases}
 use Rattle.std.proofs.lemmas.Bool.{or_left}
 use Rattle.std.proofs.lemmas.Bool.{or_right, both_ways, le-leb}
 use Rattle.std.proofs.lemmas.List.{map-append, get_or-replicate, length-replicate, get_or_default}
@@ -18,16 +17,17 @@ use Rattle.fr_slots.specs.declared.plan.Own.{Own}
 use Rattle.fr_slots.specs.declared.plan.Buffer.{Buffer}
 use Rattle.fr_slots.specs.declared.sharing.Occasion.{Occasion}
 use Rattle.fr_slots.specs.Admission.{includes, cycle_admitted}
-use Rattle.fr_slots.specs.Faults.{claims, is_owned, transmits, sends_at, transmits_static, FitsStatic, IsFaultless}
+use Rattle.fr_slots.specs.Faults.{claims, is_owned, is_overlap, transmits, sends_at, transmits_static, FitsStatic, IsFaultless}
 use Rattle.fr_slots.specs.Numbers.{IsSlot, number_within}
 use Rattle.fr_slots.specs.Parameters.{Parameters, is_static_slot}
 use Rattle.fr_slots.specs.Plans.{Plan, filter_admits}
-use Rattle.fr_slots.specs.Sharing.{place_of, IsFirst, is_shared, admits_at, own_filter, own_filters, buffer_filter}
+use Rattle.fr_slots.specs.Sharing.{place_of, earlier, IsFirst, is_shared, admits_at, own_filter, own_filters, buffer_filter}
 use Rattle.fr_slots.specs.Sharing.{transmit_filters}
 use Rattle.fr_slots.proofs.FaultlessLemmas.{faultless}
+use Rattle.fr_slots.proofs.ScanLemmas.{overlap-shared}
+use Rattle.fr_slots.proofs.SharingLemmas.{IsFirst-earlier}
 use Rattle.fr_schedule.proofs.ClusterLemmas.{each_at}
 use Rattle.fr_schedule.proofs.DenseLemmas.{after_taken}
-use Rattle.fr_schedule.proofs.FilterLemmas.{no_slot_taken, slot_taken, no_overlap, an_overlap}
 use Rattle.fr_schedule.proofs.TwoLemmas.{any_at}
 use Rattle.fr_schedule.specs.declared.claims.Claim.{Claim}
 use Rattle.fr_schedule.specs.declared.claims.Lines.TheVariants.{Owned, Transmitting}
@@ -36,8 +36,7 @@ use Rattle.fr_schedule.specs.Clusters.{IsNode, IsCluster}
 use Rattle.fr_schedule.specs.DenseTable.{nobody, at_place, node_at, is_taken, IsFree, after_claims, free, HasClaims}
 use Rattle.fr_schedule.specs.DenseTable.{IsDenseTable}
 use Rattle.fr_schedule.specs.Descriptions.{Description}
-use Rattle.fr_schedule.specs.FileFaults.{all_owned, all_buffers, first_taken, first_overlap}
-use Rattle.fr_schedule.specs.RuleFaults.{taken_fault, overlap_fault}
+use Rattle.fr_schedule.specs.FileFaults.{all_owned, all_buffers}
 use Rattle.fr_schedule.specs.SenderTable.{IsSender}
 
 -- ---- the filters of all claims
@@ -74,27 +73,16 @@ transmit_filters_all (plan ∷ plans) =
     ap (λ (fs : List Filter). transmit_filters plan.buffers ++ fs) (transmit_filters_all plans)
     ∙ sym (transmit-append plan.buffers (all_buffers plans))
 
-pub first_owned : (plans : List Plan) (o : Option Occasion) → IsFirst (is_shared (filters_of (claims_from (filters_by Owned) 0 plans))) o
-    → IsFirst (is_shared (own_filters (all_owned plans))) o
-first_owned plans o is =
-    subst (λ (fs : List Filter). IsFirst (is_shared fs) o) (filters_from (filters_by Owned) 0 plans ∙ own_filters_all plans) is
-
-pub first_sent : (plans : List Plan) (o : Option Occasion) → IsFirst (is_shared (filters_of (claims_from (filters_by Transmitting) 0 plans))) o
-    → IsFirst (is_shared (transmit_filters (all_buffers plans))) o
-first_sent plans o is =
-    subst (λ (fs : List Filter). IsFirst (is_shared fs) o) (filters_from (filters_by Transmitting) 0 plans ∙ transmit_filters_all plans) is
-
--- ---- the faults that these occasions are
-
-pub taken_is : (plans : List Plan) (o : Option Occasion) → IsFirst (is_shared (own_filters (all_owned plans))) o
-    → option_map taken_fault o ≡ first_taken plans
-taken_is plans None is = sym (no_slot_taken plans is)
-taken_is plans (Some o) is = sym (slot_taken plans o is)
-
-pub overlap_is : (plans : List Plan) (o : Option Occasion) → IsFirst (is_shared (transmit_filters (all_buffers plans))) o
-    → option_map overlap_fault o ≡ first_overlap plans
-overlap_is plans None is = sym (no_overlap plans is)
-overlap_is plans (Some o) is = sym (an_overlap plans o is)
+-- the first occasion that lines or buffers share, of the first ones that claims share
+pub first_overlapping : (plans : List Plan) (p q : Option Occasion)
+    → IsFirst (is_shared (filters_of (claims_from (filters_by Owned) 0 plans))) p
+    → IsFirst (is_shared (filters_of (claims_from (filters_by Transmitting) 0 plans))) q
+    → IsFirst (is_overlap (all_owned plans) (all_buffers plans)) (earlier p q)
+first_overlapping plans p q is_p is_q =
+    IsFirst-earlier (is_shared (own_filters (all_owned plans))) (is_shared (transmit_filters (all_buffers plans)))
+    (is_overlap (all_owned plans) (all_buffers plans)) p q (overlap-shared (all_owned plans) (all_buffers plans))
+    (subst (λ (fs : List Filter). IsFirst (is_shared fs) p) (filters_from (filters_by Owned) 0 plans ∙ own_filters_all plans) is_p)
+    (subst (λ (fs : List Filter). IsFirst (is_shared fs) q) (filters_from (filters_by Transmitting) 0 plans ∙ transmit_filters_all plans) is_q)
 
 -- ---- the free table
 
@@ -120,16 +108,11 @@ free_is slot channel cycle in_cycles is = ap (λ (n : ℕ). not (n == nobody)) (
 
 -- ---- lines and filters
 
-any_owned : (owned : List Own) (slot : ℕ) (channel : Channel) (cycle : ℕ) → list_any (admits_at slot channel cycle) (own_filters owned) ≡ is_owned owned slot channel
+any_owned : (owned : List Own) (slot : ℕ) (channel : Channel) (cycle : ℕ)
+    → list_any (admits_at slot channel cycle) (own_filters owned) ≡ is_owned owned slot channel cycle
 any_owned [] slot channel cycle = refl
 any_owned (own ∷ owned) slot channel cycle =
-    ap (λ (b : Bool). (own.slot == slot && includes own.channels channel && b) || list_any (admits_at slot channel cycle) (own_filters owned)) (eq-eqb (cycle % 1) 0 (mod-one cycle))
-    ∙ ap (λ (b : Bool). b || list_any (admits_at slot channel cycle) (own_filters owned)) (and_one (own.slot == slot && includes own.channels channel))
-    ∙ ap (λ (b : Bool). claims slot channel own || b) (any_owned owned slot channel cycle)
-  where
-    and_one : (b : Bool) → (b && true) ≡ b
-    and_one true = refl
-    and_one false = refl
+    ap (λ (b : Bool). claims slot channel cycle own || b) (any_owned owned slot channel cycle)
 
 any_sent : (buffers : List Buffer) (slot : ℕ) (channel : Channel) (cycle : ℕ)
     → list_any (admits_at slot channel cycle) (transmit_filters buffers) ≡ list_any (sends_at slot channel cycle) buffers
@@ -192,29 +175,30 @@ stands filters n (plan ∷ plans) before slot channel cycle node is =
 -- ---- a node that stands there sends
 
 -- what a node owns is a static slot
-static_if_owned : (p : Parameters) (plan : Plan) (slot : ℕ) (channel : Channel) → IsFaultless p plan → is_owned plan.owned slot channel ≡ true
-    → is_static_slot p slot ≡ true
-static_if_owned p plan slot channel h owned = of_lines plan.owned (λ k own at. h.owned_are_static k own at) owned
+static_if_owned : (p : Parameters) (plan : Plan) (slot : ℕ) (channel : Channel) (cycle : ℕ) → IsFaultless p plan
+    → is_owned plan.owned slot channel cycle ≡ true → is_static_slot p slot ≡ true
+static_if_owned p plan slot channel cycle h owned = of_lines plan.owned (λ k own at. h.owned_are_static k own at) owned
   where
     of_lines : (lines : List Own) → ((k : ℕ) (own : Own) → slice_get lines k ≡ Some own → own.slot ≤ p.static_slots)
-        → is_owned lines slot channel ≡ true → is_static_slot p slot ≡ true
+        → is_owned lines slot channel cycle ≡ true → is_static_slot p slot ≡ true
     of_lines [] static any = cc any
     of_lines (own ∷ lines) static any =
-        elim (or_cases (claims slot channel own) (is_owned lines slot channel) any) [
+        elim (or_cases (claims slot channel cycle own) (is_owned lines slot channel cycle) any) [
           | inl here ↦
-              (let (same, includes_it) = and_parts (own.slot == slot) (includes own.channels channel) here in
+              (let (front, in_cycle) = and_parts (own.slot == slot && includes own.channels channel) (cycle_admitted own.cycles cycle) here in
+              let (same, includes_it) = and_parts (own.slot == slot) (includes own.channels channel) front in
               subst (λ (s : ℕ). is_static_slot p s ≡ true) (eqb-true own.slot slot same) (le-leb own.slot p.static_slots (static 0 own refl)))
           | inr later ↦ of_lines lines (λ k o at. static (suc k) o at) later
         ]
 
--- a static slot in which a buffer of the node sends is the node's
-owned_if_sent : (p : Parameters) (plan : Plan) (slot : ℕ) (channel : Channel) (cycle : ℕ) → IsFaultless p plan → is_static_slot p slot ≡ true
-    → list_any (sends_at slot channel cycle) plan.buffers ≡ true → is_owned plan.owned slot channel ≡ true
-owned_if_sent p plan slot channel cycle h static any = of_buffers plan.buffers (λ k b at is. h.static_fit k b at is) any
+-- a static slot in which a buffer of the node sends in a cycle is the node's then
+owned_if_sent : (p : Parameters) (plan : Plan) (slot : ℕ) (channel : Channel) (cycle : ℕ) → cycle < 64 → IsFaultless p plan
+    → is_static_slot p slot ≡ true → list_any (sends_at slot channel cycle) plan.buffers ≡ true → is_owned plan.owned slot channel cycle ≡ true
+owned_if_sent p plan slot channel cycle few h static any = of_buffers plan.buffers (λ k b at is. h.static_fit k b at is) any
   where
     of_buffers : (buffers : List Buffer)
         → ((k : ℕ) (b : Buffer) → slice_get buffers k ≡ Some b → transmits_static p b ≡ true → FitsStatic p plan b)
-        → list_any (sends_at slot channel cycle) buffers ≡ true → is_owned plan.owned slot channel ≡ true
+        → list_any (sends_at slot channel cycle) buffers ≡ true → is_owned plan.owned slot channel cycle ≡ true
     of_buffers [] fits any = cc any
     of_buffers (b ∷ buffers) fits any =
         elim (or_cases (sends_at slot channel cycle b) (list_any (sends_at slot channel cycle) buffers) any) [
@@ -225,24 +209,25 @@ owned_if_sent p plan slot channel cycle h static any = of_buffers plan.buffers (
               let slot_is = eqb-true b.filter.slot slot same in
               let is_static : transmits_static p b ≡ true =
               ap (λ (t : Bool). t && is_static_slot p b.filter.slot) sends ∙ ap (is_static_slot p) slot_is ∙ static in
-              subst (λ (s : ℕ). is_owned plan.owned s channel ≡ true) slot_is ((fits 0 b refl is_static).owned channel includes_it))
+              subst (λ (s : ℕ). is_owned plan.owned s channel cycle ≡ true) slot_is
+              ((fits 0 b refl is_static).owned channel cycle few includes_it in_cycle))
           | inr later ↦ of_buffers buffers (λ k o at is. fits (suc k) o at is) later
         ]
 
 owner_sends : (d : Description) → IsCluster d → (slot : ℕ) (channel : Channel) (cycle m : ℕ) (plan : Plan) → slice_get d.plans m ≡ Some plan
-    → is_owned plan.owned slot channel ≡ true → IsSender d cycle slot channel m
+    → is_owned plan.owned slot channel cycle ≡ true → IsSender d cycle slot channel m
 owner_sends d lawful slot channel cycle m plan at owned =
     let of_node = each_at (IsNode d.params) d.plans m plan lawful.nodes_are at in
-    let static = static_if_owned d.params plan slot channel (faultless d.params plan of_node.1) owned in
-    record { plan = plan; at = at; sends = cond-true (is_static_slot d.params slot) (is_owned plan.owned slot channel) _ static ∙ owned }
+    let static = static_if_owned d.params plan slot channel cycle (faultless d.params plan of_node.1) owned in
+    record { plan = plan; at = at; sends = cond-true (is_static_slot d.params slot) (is_owned plan.owned slot channel cycle) _ static ∙ owned }
 
-buffer_sends : (d : Description) → IsCluster d → (slot : ℕ) (channel : Channel) (cycle m : ℕ) (plan : Plan) → slice_get d.plans m ≡ Some plan
-    → list_any (sends_at slot channel cycle) plan.buffers ≡ true → IsSender d cycle slot channel m
-buffer_sends d lawful slot channel cycle m plan at any =
+buffer_sends : (d : Description) → IsCluster d → (slot : ℕ) (channel : Channel) (cycle m : ℕ) (plan : Plan) → cycle < 64
+    → slice_get d.plans m ≡ Some plan → list_any (sends_at slot channel cycle) plan.buffers ≡ true → IsSender d cycle slot channel m
+buffer_sends d lawful slot channel cycle m plan few at any =
     elim (cases_Bool (is_static_slot d.params slot)) [
       | inl static ↦
           (let of_node = each_at (IsNode d.params) d.plans m plan lawful.nodes_are at in
-          owner_sends d lawful slot channel cycle m plan at (owned_if_sent d.params plan slot channel cycle (faultless d.params plan of_node.1) static any))
+          owner_sends d lawful slot channel cycle m plan at (owned_if_sent d.params plan slot channel cycle few (faultless d.params plan of_node.1) static any))
       | inr dynamic ↦
           record { plan = plan; at = at; sends = cond-false (is_static_slot d.params slot) _ (list_any (sends_at slot channel cycle) plan.buffers) dynamic ∙ any }
     ]
@@ -260,7 +245,7 @@ sender_stands d lawful nodes h slot channel cycle in_cycles is taken =
         → IsSender d cycle slot channel node
     by_buffer node some (of_node m plan at any node_is) =
         subst (IsSender d cycle slot channel) (sym (node_is ∙ from_zero m))
-        (buffer_sends d lawful slot channel cycle m plan at (sym (any_sent plan.buffers slot channel cycle) ∙ any))
+        (buffer_sends d lawful slot channel cycle m plan in_cycles at (sym (any_sent plan.buffers slot channel cycle) ∙ any))
     by_buffer node some (of_before node_is) =
         absurd (both_ways (not (node == nobody)) (ap (λ (n : ℕ). not (n == nobody)) (node_is ∙ nobody_at slot channel cycle in_cycles is)) some)
 
@@ -291,7 +276,7 @@ taken_if_sender d nodes h slot channel cycle m in_cycles is sender =
           or_left _ _
           (some_claim (filters_by Owned) d.plans m sender.plan slot channel cycle sender.at
           (any_owned sender.plan.owned slot channel cycle
-          ∙ sym (cond-true (is_static_slot d.params slot) (is_owned sender.plan.owned slot channel) (list_any (sends_at slot channel cycle) sender.plan.buffers) static) ∙ sender.sends))
+          ∙ sym (cond-true (is_static_slot d.params slot) (is_owned sender.plan.owned slot channel cycle) (list_any (sends_at slot channel cycle) sender.plan.buffers) static) ∙ sender.sends))
       | inr dynamic ↦
           or_right _ _
           (ap (λ (n : ℕ). not (n == nobody)) (h.buffers_are.each slot channel cycle in_cycles is)
@@ -299,7 +284,7 @@ taken_if_sender d nodes h slot channel cycle m in_cycles is sender =
           ∙ or_left _ _
           (some_claim (filters_by Transmitting) d.plans m sender.plan slot channel cycle sender.at
           (any_sent sender.plan.buffers slot channel cycle
-          ∙ sym (cond-false (is_static_slot d.params slot) (is_owned sender.plan.owned slot channel) (list_any (sends_at slot channel cycle) sender.plan.buffers) dynamic) ∙ sender.sends)))
+          ∙ sym (cond-false (is_static_slot d.params slot) (is_owned sender.plan.owned slot channel cycle) (list_any (sends_at slot channel cycle) sender.plan.buffers) dynamic) ∙ sender.sends)))
     ]
 
 pub dense_table : (d : Description) (nodes : List ℕ) → IsCluster d → HasClaims d.plans nodes → IsDenseTable d nodes

@@ -16,7 +16,7 @@ use Rattle.fr_schedule.specs.Files.{each_of, buffer_read, with_buffers, with_buf
 use Rattle.fr_schedule.specs.NodeTables.{own_in, own_of, words_in, transmit_buffer_in, buffer_by, buffer_in, buffer_of}
 use Rattle.fr_schedule.specs.NodeTables.{limits_in, with_owned_in, head_in, filter_in}
 use Rattle.fr_schedule.specs.TableReading.{within, number_in, number_at, number_or, or_default, flag_at, mode_in}
-use Rattle.fr_schedule.specs.TableReading.{channels_in, tables_at, all_of}
+use Rattle.fr_schedule.specs.TableReading.{channels_in, cycles_in, tables_at, all_of}
 use Rattle.fr_slots.specs.declared.plan.Own.{Own}
 use Rattle.fr_slots.specs.declared.plan.Buffer.{Buffer}
 use Rattle.fr_slots.specs.declared.plan.Mode.{Mode}
@@ -86,9 +86,10 @@ unfolding own_in
 own_in-static p table own is =
     let (slot, at, rest) = then_some (number_at (codes "slot") 1 p.static_slots table) _ own is in
     let (channels, at_c, rest_c) = then_some (channels_in table) _ own rest in
-    let (sync, at_s, rest_s) = then_some (flag_at (codes "sync") table) _ own rest_c in
+    let (cycles, at_y, rest_y) = then_some (cycles_in table) _ own rest_c in
+    let (sync, at_s, rest_s) = then_some (flag_at (codes "sync") table) _ own rest_y in
     let (startup, at_u, rest_u) = then_some (flag_at (codes "startup") table) _ own rest_s in
-    let (fits, same) = cond_some (own_fits (record { slot = slot; channels = channels; sync = sync; startup = startup })) _ own rest_u in
+    let (fits, same) = cond_some (own_fits (record { slot = slot; channels = channels; cycles = cycles; sync = sync; startup = startup })) _ own rest_u in
     subst (λ (o : Own). is_owned_beyond p o ≡ false) same (ap not (le-leb slot p.static_slots (number_at-fits (codes "slot") 1 p.static_slots table slot at)))
 
 own_of-static : (p : Parameters) (value : Data) (own : Own) → own_of p value ≡ Some own → is_owned_beyond p own ≡ false

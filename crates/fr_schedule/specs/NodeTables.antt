@@ -19,14 +19,15 @@ checked test value = if test value then Some value else None
 
 -- ---- ownership lines
 
--- the slot is a static one, and only a sync frame is a startup frame
+-- the slot is a static one, in every cycle where no other ones are told, and only a sync frame is a startup frame
 unfoldable pub own_in : Parameters → Members → Option Own
 own_in p table = do
   slot ← number_at (codes "slot") 1 p.static_slots table
   channels ← channels_in table
+  cycles ← cycles_in table
   sync ← flag_at (codes "sync") table
   startup ← flag_at (codes "startup") table
-  checked own_fits (record { slot = slot; channels = channels; sync = sync; startup = startup })
+  checked own_fits (record { slot = slot; channels = channels; cycles = cycles; sync = sync; startup = startup })
 
 unfoldable pub own_of : Parameters → Data → Option Own
 own_of p value = do

@@ -1,5 +1,5 @@
--- Who sends in a slot on a channel in a cycle (chapters 5 and 9; that a static slot on a channel has one owner in all
--- cycles is own profile).
+-- Who sends in a slot on a channel in a cycle (chapters 5 and 9; that nodes divide a static slot on a channel by cycles
+-- is own profile).
 use Rattle.std.specs.Prelude.{◌≡◌, ℕ, ◌<◌, Bool, true, Some, slice_get, if◌then◌else◌}
 use Rattle.std.specs.List.{list_any}
 use Rattle.fr_schedule.specs.Descriptions.{Description}
@@ -8,11 +8,11 @@ use Rattle.fr_slots.specs.Faults.{is_owned, sends_at}
 use Rattle.fr_slots.specs.Parameters.{Parameters, is_static_slot}
 use Rattle.fr_slots.specs.Plans.{Plan}
 
--- in a static slot the owner of the slot on the channel sends, and in a dynamic slot the node with a transmit buffer
--- that admits the slot on the channel in the cycle
+-- in a static slot the owner of the slot on the channel in the cycle sends, and in a dynamic slot the node with a
+-- transmit buffer that admits the slot on the channel in the cycle
 abbrev pub may_send : Parameters → ℕ → ℕ → Channel → Plan → Bool
 may_send p cycle slot channel plan =
-    if is_static_slot p slot then is_owned plan.owned slot channel
+    if is_static_slot p slot then is_owned plan.owned slot channel cycle
     else list_any (sends_at slot channel cycle) plan.buffers
 
 -- the node is a sender of the slot on the channel in the cycle

@@ -20,7 +20,7 @@ pub(crate) struct Claim {
 /// Lines of a plan that claim occasions.
 #[derive(Clone, Copy, Debug, PartialEq, Eq)]
 pub(crate) enum Lines {
-    /// The ownership lines, each for every cycle.
+    /// The ownership lines, each for its cycles.
     Owned,
     /// The transmit buffers.
     Transmitting,

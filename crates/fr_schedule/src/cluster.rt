@@ -83,8 +83,8 @@ impl Cluster {
     /// - `Params` where the table `params` gives no parameters; without such a table its first key is missing,
     /// - `BadGuard`, and then `TooManyNodes`,
     /// - node by node, in the order of the file, `BadNode` and then `BadBuffer` for the first of its buffers at fault,
-    /// - `SlotTaken`, `NotOwned`, `DynamicBoth`, `Overlap` and `TooLong`, each kind looked for in the whole file before
-    ///   the next, and of a kind the first in order of its numbers, channel A before B.
+    /// - `NotOwned`, `DynamicBoth`, `Overlap` and `TooLong`, each kind looked for in the whole file before the next,
+    ///   and of a kind the first in order of its numbers, channel A before B.
     ///
     /// Keys that have no meaning where they stand aren't read. `Memory` comes where memory was refused; that it comes
     /// for no other cause isn't stated of the parse, since `toml` says nothing of a text for which memory ran out.
@@ -97,7 +97,8 @@ impl Cluster {
     }
 
     /// The node that sends in the slot on the channel in the cycle, or None where there is none: the owner of a static
-    /// slot, and in a dynamic slot the node with a transmit buffer that admits it (chapter 5).
+    /// slot in that cycle, and in a dynamic slot the node with a transmit buffer that admits it (chapter 5; the
+    /// division of a static slot by cycles is own profile).
     pub fn sender(&self, cycle: Cycle, slot: SlotId, channel: Channel) -> Option<NodeId>
         ensures sender { IfSome result (λ node. IsSender self.now cycle slot channel node) }
         ensures nobody { IfNone result ((node : ℕ) → ¬ IsSender self.now cycle slot channel node) }

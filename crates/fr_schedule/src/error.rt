@@ -31,17 +31,15 @@ pub enum ConfigError {
     /// A key of the buffer is missing or has a value that it can't have.
     #[error("BadBuffer {} {}", .0.number(), .1)]
     BadBuffer(NodeId, u8),
-    /// Two ownership lines, of one node or of two, are for the slot on the channel: a static slot on a channel has one
-    /// owner at the most (own profile).
-    #[error("SlotTaken {} {}", .0.number(), .1)]
-    SlotTaken(SlotId, Channel),
-    /// The transmit buffer is for a static slot that its node doesn't own on all the buffer's channels (chapter 5).
+    /// The transmit buffer is for a static slot that its node doesn't own on all the buffer's channels and in all the
+    /// cycles that the buffer admits (chapter 5; the division by cycles is own profile).
     #[error("NotOwned {} {}", .0.number(), .1)]
     NotOwned(NodeId, u8),
     /// The transmit buffer is for a dynamic slot on both channels (own profile).
     #[error("DynamicBoth {} {}", .0.number(), .1)]
     DynamicBoth(NodeId, u8),
-    /// Two transmit buffers, of one node or of two, admit the slot on the channel in the cycle (chapter 5).
+    /// Two ownership lines are for the slot on the channel in the cycle, or two transmit buffers admit it, of one node
+    /// or of two (chapter 5; the division of a static slot by cycles is own profile).
     #[error("Overlap {} {} {}", .0.number(), .1, .2.number())]
     Overlap(SlotId, Channel, Cycle),
     /// A frame of the dynamic transmit buffer that begins at the latest minislot of its node on its channel would end

@@ -1,11 +1,11 @@
 //! What is at fault among the nodes of a cluster file.
 
 ghost use Rattle.std.specs.Prelude.{◌≡◌, ◌≤◌, length, option_map};
-ghost use Rattle.fr_schedule.specs.FileFaults.{all_owned, all_buffers, first_by};
-ghost use Rattle.fr_schedule.specs.FileFaults.{owner_fault, sender_fault, file_fault};
+ghost use Rattle.fr_schedule.specs.FileFaults.{all_owned, all_buffers, first_by, file_fault};
 ghost use Rattle.fr_schedule.specs.FileFaults.{not_owned_in, dynamic_both_in, too_long_in};
-ghost use Rattle.fr_schedule.specs.RuleFaults.{fault_by, taken_fault, overlap_fault};
-ghost use Rattle.fr_slots.specs.Sharing.{IsFirst, is_shared, own_filters, transmit_filters};
+ghost use Rattle.fr_schedule.specs.RuleFaults.{fault_by, overlap_fault};
+ghost use Rattle.fr_slots.specs.Faults.{is_overlap};
+ghost use Rattle.fr_slots.specs.Sharing.{IsFirst};
 
 use crate::error::ConfigError;
 use fr_slots::numbers::NodeId;
@@ -16,7 +16,7 @@ use fr_slots::sharing::Occasion;
 /// A rule that a transmit buffer keeps by itself.
 #[derive(Clone, Copy, Debug, PartialEq, Eq)]
 pub(crate) enum Rule {
-    /// A static one is for channels on which its node owns the slot (chapter 5).
+    /// A static one is for channels on which its node owns the slot in the buffer's cycles (chapter 5).
     Owned,
     /// A dynamic one is for one channel (own profile).
     OneChannel,
@@ -24,15 +24,8 @@ pub(crate) enum Rule {
     EndsInTime,
 }
 
-/// The fault of the first slot and channel that two ownership lines are for, which is this one.
-fn taken_fault(taken: Option<Occasion>) -> Option<ConfigError>
-    ensures { result ≡ option_map taken_fault taken }
-{
-    let shared = taken?;
-    Some(ConfigError::SlotTaken(shared.slot, shared.channel))
-}
-
-/// The fault of the first slot, channel and cycle that two transmit buffers admit, which is this one.
+/// The fault of the first slot, channel and cycle that two ownership lines are for, or that two transmit buffers admit,
+/// which is this one.
 fn overlap_fault(overlap: Option<Occasion>) -> Option<ConfigError>
     ensures { result ≡ option_map overlap_fault overlap }
 {
@@ -40,7 +33,8 @@ fn overlap_fault(overlap: Option<Occasion>) -> Option<ConfigError>
     Some(ConfigError::Overlap(shared.slot, shared.channel, shared.cycle))
 }
 
-/// The fault of the first buffer of the node for a static slot that the node lacks on one of the buffer's channels.
+/// The fault of the first buffer of the node for a static slot that the node lacks on one of the buffer's channels in
+/// one of its cycles.
 fn not_owned_in(params: &Params, node: NodeId, plan: &NodePlan) -> Option<ConfigError>
     ensures { result ≡ not_owned_in params.now node plan.now }
 {
@@ -88,46 +82,21 @@ fn first_by(rule: Rule, params: &Params, plans: &[NodePlan]) -> Option<ConfigErr
     None
 }
 
-/// The first fault of the ownership lines, of which two are for this slot and channel.
-#[tactic(auto, using(crate::proofs::DenseSenderLemmas::taken_is), unfolding(crate::specs::FileFaults::owner_fault))]
-fn owner_fault(params: &Params, plans: &[NodePlan], taken: Option<Occasion>) -> Option<ConfigError>
-    requires few { length plans.now ≤ 16 }
-    requires first { IsFirst (is_shared (own_filters (all_owned plans.now))) taken }
-    ensures { result ≡ owner_fault params.now plans.now }
-{
-    taken_fault(taken).or_else(|| first_by(Rule::Owned, params, plans))
-}
-
-/// The first fault of the transmit buffers, of which two admit this slot, channel and cycle.
-#[tactic(auto, using(crate::proofs::DenseSenderLemmas::overlap_is), unfolding(crate::specs::FileFaults::sender_fault))]
-fn sender_fault(
-    params: &Params,
-    plans: &[NodePlan],
-    overlap: Option<Occasion>,
-) -> Option<ConfigError>
-    requires few { length plans.now ≤ 16 }
-    requires first { IsFirst (is_shared (transmit_filters (all_buffers plans.now))) overlap }
-    ensures { result ≡ sender_fault params.now plans.now }
-{
-    first_by(Rule::OneChannel, params, plans)
-        .or_else(|| overlap_fault(overlap))
-        .or_else(|| first_by(Rule::EndsInTime, params, plans))
-}
-
 /// The first fault of the file: each kind is looked for in all nodes before the next, and of a kind the first in
-/// order of its numbers is named, channel A before B. Two ownership lines are first for the one occasion, and two
-/// transmit buffers for the other.
-#[tactic(auto, unfolding(crate::specs::FileFaults::file_fault))]
+/// order of its numbers is named, channel A before B. Two ownership lines or two transmit buffers are first for this
+/// occasion.
+#[tactic(auto, using(crate::proofs::FilterLemmas::overlap_is), unfolding(crate::specs::FileFaults::file_fault))]
 pub(crate) fn file_fault(
     params: &Params,
     plans: &[NodePlan],
-    taken: Option<Occasion>,
     overlap: Option<Occasion>,
 ) -> Option<ConfigError>
     requires few { length plans.now ≤ 16 }
-    requires taken { IsFirst (is_shared (own_filters (all_owned plans.now))) taken }
-    requires overlap { IsFirst (is_shared (transmit_filters (all_buffers plans.now))) overlap }
+    requires first { IsFirst (is_overlap (all_owned plans.now) (all_buffers plans.now)) overlap }
     ensures { result ≡ file_fault params.now plans.now }
 {
-    owner_fault(params, plans, taken).or_else(|| sender_fault(params, plans, overlap))
+    first_by(Rule::Owned, params, plans)
+        .or_else(|| first_by(Rule::OneChannel, params, plans))
+        .or_else(|| overlap_fault(overlap))
+        .or_else(|| first_by(Rule::EndsInTime, params, plans))
 }

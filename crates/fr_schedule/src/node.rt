@@ -39,11 +39,13 @@ fn own_in(params: &Params, table: &Table) -> Option<Own>
 {
     let slot = slot_at(table, "slot", params.static_slots)?;
     let channels = channels_in(table)?;
+    let cycles = cycles_in(table)?;
     let sync = flag_at(table, "sync")?;
     let startup = flag_at(table, "startup")?;
     let own = Own {
         slot,
         channels,
+        cycles,
         sync,
         startup,
     };

@@ -4,7 +4,7 @@ ghost use Rattle.std.specs.Prelude.{◌≡◌, ◌+◌, ◌*◌, ◌<◌, ◌≤
 ghost use Rattle.fr_slots.specs.Faults.{cycles};
 ghost use Rattle.fr_slots.specs.Numbers.{IsSlot, cycle_count};
 ghost use Rattle.fr_slots.specs.Plans.{Each};
-ghost use Rattle.fr_slots.specs.Sharing.{place_of, is_before, earlier, IsFirst, is_shared, admits_at};
+ghost use Rattle.fr_slots.specs.Sharing.{place_of, IsFirst, is_shared, admits_at};
 ghost use Rattle.fr_schedule.specs.Claims.{IsClaim, filters_of};
 ghost use Rattle.fr_schedule.specs.DenseTable.{occasions, is_taken_in, first_taken_in, IsRowEntered, is_retaken_on};
 ghost use Rattle.fr_schedule.specs.DenseTable.{is_retaken};
@@ -20,7 +20,7 @@ use fr_slots::filter::CycleFilter;
 use fr_slots::numbers::{CYCLES, Cycle, LAST_SLOT, SlotId};
 use fr_slots::params::Params;
 use fr_slots::plan::NodePlan;
-use fr_slots::sharing::Occasion;
+use fr_slots::sharing::{Occasion, earlier};
 use std::alloc::{AllocError, Global};
 
 /// How many cycles a row of the table has, which is for a slot on a channel.
@@ -173,29 +173,11 @@ pub(crate) fn senders_of(
 {
     let owned = claims_of(alloc, Lines::Owned, plans)?;
     let transmitting = claims_of(alloc, Lines::Transmitting, plans)?;
-    let (_, taken) = entered(alloc, owned.as_slice())?;
-    let (mut senders, overlap) = entered(alloc, transmitting.as_slice())?;
-    if let Some(fault) = file_fault(params, plans, taken, overlap) {
+    let (_, of_owners) = entered(alloc, owned.as_slice())?;
+    let (mut senders, of_buffers) = entered(alloc, transmitting.as_slice())?;
+    if let Some(fault) = file_fault(params, plans, earlier(of_owners, of_buffers)) {
         return Err(fault);
     }
     let _ = enter_all(senders.as_mut_slice(), owned.as_slice());
     Ok(senders)
-}
-
-/// The one of the two that comes first.
-fn earlier(one: Option<Occasion>, other: Option<Occasion>) -> Option<Occasion>
-    ensures { result ≡ earlier one other }
-{
-    match (one, other) {
-        (None, _) => other,
-        (Some(_), None) => one,
-        (Some(first), Some(second)) => { if is_before(second, first) { other } else { one } }
-    }
-}
-
-/// Whether one comes before the other: in the order of slots, then of channels, then of cycles.
-fn is_before(one: Occasion, other: Occasion) -> bool
-    ensures { result ≡ is_before one other }
-{
-    place_of(one.slot, one.channel, one.cycle) < place_of(other.slot, other.channel, other.cycle)
 }

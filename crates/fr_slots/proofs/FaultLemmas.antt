@@ -1,9 +1,16 @@
--- The first of a list, and what a plan without fault gives.
-use Rattle.std.proofs.Common.{◌≡◌, ℕ, zero, suc, ◌+◌, ◌-◌, ◌<◌, ◌≤◌, ◌∷◌, Option, Some, None, refl, sym, ap, ◌∙◌, inl}
-use Rattle.std.proofs.Common.{inr, ◌⊎◌, arith}
+-- The first of numbers in a row, whether one of them passes a test, and slots that are divided with nobody.
+use Rattle.std.proofs.Common.{◌≡◌, ℕ, zero, suc, ◌+◌, ◌-◌, ◌%◌, ◌<◌, ◌≤◌, ◌==◌, not, Bool, true, false, ◌&&◌, ◌||◌, List, []}
+use Rattle.std.proofs.Common.{◌∷◌, Option, Some, None, refl, sym, ap, ◌∙◌, inl, inr, ◌⊎◌, arith}
+use Rattle.std.specs.List.{list_any}
 use Rattle.std.specs.Option.{option_or}
-use Rattle.std.proofs.lemmas.Bool.{cases_eq}
-use Rattle.fr_slots.specs.Faults.{numbers_from, first_of}
+use Rattle.std.proofs.lemmas.Bool.{cases_eq, and_parts, and_from, or_parts, or_cases, or_left, or_right, eqb-true, eq-eqb}
+use Rattle.std.proofs.Math.Nat.{mod-one}
+use Rattle.fr_slots.specs.declared.channel.Channel.{Channel}
+use Rattle.fr_slots.specs.declared.plan.Own.{Own}
+use Rattle.fr_slots.specs.declared.filter.Filter.{Filter}
+use Rattle.fr_slots.specs.Admission.{includes, cycle_admitted, is_every_cycle}
+use Rattle.fr_slots.specs.Faults.{numbers_from, first_of, claims, is_owned, is_undivided, is_owned_always}
+use Rattle.fr_slots.specs.Faults.{is_unowned_in, any_unowned}
 
 -- ---- the first of numbers that a loop goes through
 
@@ -111,3 +118,72 @@ module _ {A : Type 0} (f : ℕ → Option A) where
           },
         )
       ]
+
+-- ---- whether one of numbers passes a test
+
+module _ (test : ℕ → Bool) where
+  -- a number that fails is passed over
+  pub any-goes_on : (n end : ℕ) (b : Bool) → n < end → test n ≡ false → list_any test (numbers_from n (end - n)) ≡ b
+      → list_any test (numbers_from (n + 1) (end - (n + 1))) ≡ b
+  any-goes_on n end b below fails any =
+      sym (ap (λ r. r || list_any test (numbers_from (n + 1) (end - (n + 1)))) fails)
+      ∙ sym (ap (list_any test) (numbers-from_first n end below)) ∙ any
+
+  -- one that passes is enough
+  pub any-found : (n end : ℕ) (b : Bool) → n < end → test n ≡ true → list_any test (numbers_from n (end - n)) ≡ b → true ≡ b
+  any-found n end b below passes any =
+      sym (ap (λ r. r || list_any test (numbers_from (n + 1) (end - (n + 1)))) passes)
+      ∙ sym (ap (list_any test) (numbers-from_first n end below)) ∙ any
+
+  -- where none is left, none passes
+  pub any-ended : (n end : ℕ) (b : Bool) → end ≤ n → list_any test (numbers_from n (end - n)) ≡ b → false ≡ b
+  unfolding numbers_from
+  any-ended n end b all any = let none : end - n ≡ 0 = omega arith in sym (ap (λ m. list_any test (numbers_from n m)) none) ∙ any
+
+  -- where none is found, each fails
+  pub any-none : (least more : ℕ) → list_any test (numbers_from least more) ≡ false → (k : ℕ) → least ≤ k → k < least + more → test k ≡ false
+  unfolding numbers_from
+  any-none least zero none k low high = absurd (omega arith)
+  any-none least (suc more) none k low high =
+      let (here, later) = or_parts (test least) (list_any test (numbers_from (least + 1) more)) none in
+      elim (cases_eq k least) [
+        | inl same ↦ ap test same ∙ here
+        | inr other ↦ any-none (least + 1) more later k (omega arith) (omega arith)
+      ]
+
+  -- where each fails, none is found
+  pub any-is_none : (least more : ℕ) → ((k : ℕ) → test k ≡ false) → list_any test (numbers_from least more) ≡ false
+  unfolding numbers_from
+  any-is_none least zero none = refl
+  any-is_none least (suc more) none =
+      ap (λ b. b || list_any test (numbers_from (least + 1) more)) (none least) ∙ any-is_none (least + 1) more none
+
+-- ---- a slot that is divided with nobody
+
+module _ (slot : ℕ) (channel : Channel) where
+  one_pass : (cycle : ℕ) (own : Own) → is_undivided slot channel own ≡ true → claims slot channel cycle own ≡ true
+  one_pass cycle own undivided =
+      let (front, every) = and_parts (own.slot == slot && includes own.channels channel) (is_every_cycle own.cycles) undivided in
+      let (zero_is, one_is) = and_parts (own.cycles.base == 0) (own.cycles.repetition == 1) every in
+      and_from (own.slot == slot && includes own.channels channel) (cycle_admitted own.cycles cycle) front
+      (eq-eqb (cycle % own.cycles.repetition) own.cycles.base
+      (ap (λ r. cycle % r) (eqb-true own.cycles.repetition 1 one_is) ∙ mod-one cycle ∙ sym (eqb-true own.cycles.base 0 zero_is)))
+
+  owned_always : (owned : List Own) (cycle : ℕ) → is_owned_always owned slot channel ≡ true → is_owned owned slot channel cycle ≡ true
+  owned_always [] cycle always = cc always
+  owned_always (own ∷ owned) cycle always =
+      elim (or_cases (is_undivided slot channel own) (is_owned_always owned slot channel) always) [
+        | inl here ↦ or_left _ _ (one_pass cycle own here)
+        | inr later ↦ or_right _ _ (owned_always owned cycle later)
+      ]
+
+-- what is owned in every cycle is unowned in none
+pub none_unowned : (owned : List Own) (f : Filter) (channel : Channel) → is_owned_always owned f.slot channel ≡ true
+    → any_unowned owned f channel ≡ false
+none_unowned owned f channel always =
+    any-is_none (is_unowned_in owned f channel) 0 64
+    (λ cycle. ap (λ b. cycle_admitted f.cycles cycle && not b) (owned_always f.slot channel owned cycle always) ∙ never (cycle_admitted f.cycles cycle))
+  where
+    never : (b : Bool) → (b && false) ≡ false
+    never true = refl
+    never false = refl

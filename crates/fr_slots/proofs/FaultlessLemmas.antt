@@ -1,5 +1,5 @@
 -- What a plan without fault gives.
-use Rattle.std.proofs.Common.{◌≡◌, ℕ, zero, suc, ◌+◌, ◌-◌, ◌≤◌, nat_lt, leb, not, Bool, true, false, cond, ◌&&◌, ◌||◌}
+use Rattle.std.proofs.Common.{◌≡◌, ℕ, zero, suc, ◌+◌, ◌-◌, ◌<◌, ◌≤◌, nat_lt, leb, not, Bool, true, false, cond, ◌&&◌, ◌||◌}
 use Rattle.std.proofs.Common.{List, [], ◌∷◌, Option, Some, None, refl, sym, ap, ◌∙◌, inl, inr, arith}
 use Rattle.std.proofs.lemmas.Bool.{cases_Bool, and_from, or_parts, both_ways, not-false, true_from_ne_false}
 use Rattle.std.proofs.lemmas.Bool.{false_from_ne_true, ltb-false, le-leb, leb-true, cond-true, cond-false}
@@ -11,21 +11,21 @@ use Rattle.std.specs.Option.{option_or, option_map}
 use Rattle.fr_slots.specs.declared.channel.Channel.{Channel}
 use Rattle.fr_slots.specs.declared.channel.Channel.TheVariants.{A, B}
 use Rattle.fr_slots.specs.declared.fault.PlanFault.{PlanFault}
-use Rattle.fr_slots.specs.declared.fault.PlanFault.TheVariants.{OutOfParams, SlotTaken, NotOwned, DynamicBoth, Overlap}
-use Rattle.fr_slots.specs.declared.fault.PlanFault.TheVariants.{TooLong}
+use Rattle.fr_slots.specs.declared.fault.PlanFault.TheVariants.{OutOfParams, NotOwned, DynamicBoth, Overlap, TooLong}
+use Rattle.fr_slots.specs.declared.plan.Own.{Own}
 use Rattle.fr_slots.specs.declared.plan.Buffer.{Buffer}
-use Rattle.fr_slots.specs.Admission.{includes}
+use Rattle.fr_slots.specs.Admission.{includes, cycle_admitted}
 use Rattle.fr_slots.specs.Faults.{two_pass, first_of, channels, slots, claims, is_owned, sends_at, transmits_static}
 use Rattle.fr_slots.specs.Faults.{transmits_dynamic, words_of, latest_on, minislots_filled, has_wrong_words}
-use Rattle.fr_slots.specs.Faults.{is_owned_beyond, has_late_latest, is_out_of_params, out_of_params, taken_at, taken_in}
-use Rattle.fr_slots.specs.Faults.{first_taken, first_buffer, is_unowned_on, not_owned, dynamic_both, overlap_at}
-use Rattle.fr_slots.specs.Faults.{overlap_on, overlap_in, first_overlap, ends_late, ends_late_on, too_long}
+use Rattle.fr_slots.specs.Faults.{is_owned_beyond, has_late_latest, is_out_of_params, out_of_params, any_unowned}
+use Rattle.fr_slots.specs.Faults.{first_buffer, is_unowned_on, is_unowned_in, not_owned, dynamic_both, is_overlap}
+use Rattle.fr_slots.specs.Faults.{overlap_at, overlap_on, overlap_in, first_overlap, cycles, ends_late, ends_late_on, too_long}
 use Rattle.fr_slots.specs.Faults.{ownership_fault, buffer_fault, plan_fault, HasOneSender, HasOneOwner, FitsStatic}
 use Rattle.fr_slots.specs.Faults.{FitsDynamic, IsFaultless}
 use Rattle.fr_slots.specs.Numbers.{IsSlot}
 use Rattle.fr_slots.specs.Parameters.{Parameters, is_static_slot}
 use Rattle.fr_slots.specs.Plans.{Plan}
-use Rattle.fr_slots.proofs.FaultLemmas.{first-none}
+use Rattle.fr_slots.proofs.FaultLemmas.{first-none, any-none}
 
 -- ---- nothing found
 
@@ -96,21 +96,31 @@ any_channel : (test : Channel → Bool) (channel : Channel) → list_any test ch
 any_channel test A none = (or_parts (test A) (test B || false) none).0
 any_channel test B none = (or_parts (test B) false (or_parts (test A) (test B || false) none).1).0
 
-one_owner : (plan : Plan) → first_taken plan.owned ≡ None → HasOneOwner plan
-one_owner plan none slot channel m n o p is_slot at_m at_n claims_o claims_p =
-    let free : taken_at plan.owned slot channel ≡ None = on_channels (taken_at plan.owned slot) channel
-    (in_slots (taken_in plan.owned) slot is_slot none) in
-    two_pass-once (claims slot channel) plan.owned m n o p
-    (cond_none (two_pass (claims slot channel) plan.owned) (SlotTaken slot channel) free) at_m at_n claims_o claims_p
+-- what is true of a cycle is found among all
+any_cycle : (test : ℕ → Bool) (cycle : ℕ) → cycle < 64 → list_any test cycles ≡ false → test cycle ≡ false
+any_cycle test cycle below none = any-none test 0 64 none cycle (omega arith) (omega arith)
 
-one_sender : (plan : Plan) → first_overlap plan.buffers ≡ None → HasOneSender plan
-one_sender plan none slot channel cycle m n b c in_cycles is_slot sender_b sender_c =
-    let free : overlap_on plan.buffers slot channel ≡ None = on_channels (overlap_on plan.buffers slot) channel
-    (in_slots (overlap_in plan.buffers) slot is_slot none) in
-    let no : overlap_at plan.buffers slot channel cycle ≡ None = first-none (overlap_at plan.buffers slot channel) 0 64 free cycle
+no_overlap : (owned : List Own) (buffers : List Buffer) (slot : ℕ) (channel : Channel) (cycle : ℕ) → first_overlap owned buffers ≡ None
+    → cycle < 64 → IsSlot slot → is_overlap owned buffers slot channel cycle ≡ false
+no_overlap owned buffers slot channel cycle none in_cycles is_slot =
+    let free : overlap_on owned buffers slot channel ≡ None = on_channels (overlap_on owned buffers slot) channel
+    (in_slots (overlap_in owned buffers) slot is_slot none) in
+    let no : overlap_at owned buffers slot channel cycle ≡ None = first-none (overlap_at owned buffers slot channel) 0 64 free cycle
     (omega arith) (omega arith) in
+    cond_none (is_overlap owned buffers slot channel cycle) (Overlap slot channel cycle) no
+
+one_owner : (plan : Plan) → first_overlap plan.owned plan.buffers ≡ None → HasOneOwner plan
+one_owner plan none slot channel cycle m n o p in_cycles is_slot at_m at_n claims_o claims_p =
+    two_pass-once (claims slot channel cycle) plan.owned m n o p
+    (or_parts (two_pass (claims slot channel cycle) plan.owned) (two_pass (sends_at slot channel cycle) plan.buffers)
+    (no_overlap plan.owned plan.buffers slot channel cycle none in_cycles is_slot)).0
+    at_m at_n claims_o claims_p
+
+one_sender : (plan : Plan) → first_overlap plan.owned plan.buffers ≡ None → HasOneSender plan
+one_sender plan none slot channel cycle m n b c in_cycles is_slot sender_b sender_c =
     two_pass-once (sends_at slot channel cycle) plan.buffers m n b c
-    (cond_none (two_pass (sends_at slot channel cycle) plan.buffers) (Overlap slot channel cycle) no)
+    (or_parts (two_pass (claims slot channel cycle) plan.owned) (two_pass (sends_at slot channel cycle) plan.buffers)
+    (no_overlap plan.owned plan.buffers slot channel cycle none in_cycles is_slot)).1
     sender_b.at sender_c.at sender_b.sends sender_c.sends
 
 -- ---- each buffer
@@ -130,11 +140,14 @@ fits_static p plan b is right owned = record {
   words_are = absent b.words
       (and_second (transmits_static p b) (is_some b.words)
       (or_parts (transmits_static p b && is_some b.words) (transmits_dynamic p b && not (is_some b.words)) right).0 is);
-  owned = λ channel includes_it.
-      not-false (is_owned plan.owned b.filter.slot channel)
-      (and_second (includes b.filter.channels channel) (not (is_owned plan.owned b.filter.slot channel))
+  owned = λ channel cycle in_cycles includes_it admits_it.
+      not-false (is_owned plan.owned b.filter.slot channel cycle)
+      (and_second (cycle_admitted b.filter.cycles cycle) (not (is_owned plan.owned b.filter.slot channel cycle))
+      (any_cycle (is_unowned_in plan.owned b.filter channel) cycle in_cycles
+      (and_second (includes b.filter.channels channel) (any_unowned plan.owned b.filter channel)
       (any_channel (is_unowned_on plan.owned b.filter) channel
-      (and_second (transmits_static p b) (list_any (is_unowned_on plan.owned b.filter) channels) owned is)) includes_it);
+      (and_second (transmits_static p b) (list_any (is_unowned_on plan.owned b.filter) channels) owned is)) includes_it))
+      admits_it);
 }
 
 fits_dynamic : (p : Parameters) (plan : Plan) (b : Buffer) → transmits_dynamic p b ≡ true → has_wrong_words p b ≡ false
@@ -171,10 +184,9 @@ faultless p plan none =
     let not_owned_is = first_buffer NotOwned (not_owned p plan.owned) plan.buffers in
     let both_is = first_buffer DynamicBoth (dynamic_both p) plan.buffers in
     let long_is = first_buffer TooLong (too_long p plan) plan.buffers in
-    let (in_params, untaken_owned) = or_none (out_of_params p plan) (option_or (first_taken plan.owned) not_owned_is) lines in
-    let (untaken, all_owned) = or_none (first_taken plan.owned) not_owned_is untaken_owned in
-    let (not_both, apart_short) = or_none both_is (option_or (first_overlap plan.buffers) long_is) buffers in
-    let (apart, short) = or_none (first_overlap plan.buffers) long_is apart_short in
+    let (in_params, all_owned) = or_none (out_of_params p plan) not_owned_is lines in
+    let (not_both, apart_short) = or_none both_is (option_or (first_overlap plan.owned plan.buffers) long_is) buffers in
+    let (apart, short) = or_none (first_overlap plan.owned plan.buffers) long_is apart_short in
     let fits = cond_none (is_out_of_params p plan) OutOfParams in_params in
     let (front, right_words) = or_parts (list_any (is_owned_beyond p) plan.owned || has_late_latest p plan)
     (list_any (has_wrong_words p) plan.buffers) fits in
@@ -184,7 +196,7 @@ faultless p plan none =
       owned_are_static = λ number own at.
           leb-true own.slot p.static_slots
           (not-false (is_static_slot p own.slot) (any_none (is_owned_beyond p) plan.owned number own all_static at));
-      one_owner = one_owner plan untaken;
+      one_owner = one_owner plan apart;
       one_sender = one_sender plan apart;
       static_fit = λ number b at is.
           fits_static p plan b is (any_none (has_wrong_words p) plan.buffers number b right_words at)

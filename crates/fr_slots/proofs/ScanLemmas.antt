@@ -1,23 +1,22 @@
 -- The first slot, channel and cycle of a plan's faults, from the first one that filters share.
-use Rattle.std.proofs.Common.{◌≡◌, ℕ, ◌<◌, ◌==◌, ◌%◌, Bool, true, false, cond, ◌&&◌, ◌||◌, List, [], ◌∷◌, map, Option}
+use Rattle.std.proofs.Common.{◌≡◌, ℕ, ◌<◌, Bool, true, false, cond, ◌&&◌, ◌||◌, List, [], ◌∷◌, map, Option}
 use Rattle.std.proofs.Common.{Some, None, refl, sym, ap, ◌∙◌, arith}
-use Rattle.std.proofs.lemmas.Bool.{eq-eqb, cond-true, cond-false, false_from_ne_true}
-use Rattle.std.proofs.Math.Nat.{mod-one}
+use Rattle.std.proofs.lemmas.Bool.{cond-true, cond-false, false_from_ne_true}
 use Rattle.std.specs.List.{list_any, filter}
 use Rattle.std.specs.Option.{option_or}
 use Rattle.fr_slots.specs.declared.channel.Channel.{Channel}
 use Rattle.fr_slots.specs.declared.channel.Channel.TheVariants.{A, B}
-use Rattle.fr_slots.specs.declared.fault.PlanFault.TheVariants.{SlotTaken, Overlap}
+use Rattle.fr_slots.specs.declared.fault.PlanFault.TheVariants.{Overlap}
 use Rattle.fr_slots.specs.declared.plan.Own.{Own}
 use Rattle.fr_slots.specs.declared.plan.Buffer.{Buffer}
 use Rattle.fr_slots.specs.declared.sharing.Occasion.{Occasion}
-use Rattle.fr_slots.specs.Admission.{includes}
-use Rattle.fr_slots.specs.Faults.{two_pass, first_of, channels, slots, claims, transmits, sends_at, taken_at}
-use Rattle.fr_slots.specs.Faults.{first_taken, overlap_at, overlap_on, first_overlap}
+use Rattle.fr_slots.specs.Faults.{two_pass, first_of, channels, slots, claims, transmits, sends_at}
+use Rattle.fr_slots.specs.Faults.{is_overlap, overlap_at, overlap_on, first_overlap}
 use Rattle.fr_slots.specs.Numbers.{IsSlot}
 use Rattle.fr_slots.specs.Sharing.{place_of, IsFirstAt, IsFirst, admits_at, is_shared, own_filter, own_filters}
 use Rattle.fr_slots.specs.Sharing.{buffer_filter, transmit_filters}
 use Rattle.fr_slots.proofs.FaultLemmas.{first-is, first-is_none}
+use Rattle.fr_slots.proofs.SharingLemmas.{IsEither}
 
 -- ---- all slots on all channels
 
@@ -126,23 +125,10 @@ module _ {X : Type 0} (t u : X → Bool) (same : (x : X) → t x ≡ u x) where
       ∙ ap (λ b. u x && b || two_pass t xs) (list_any-same xs)
       ∙ ap (λ b. u x && list_any u xs || b) (two_pass-same xs)
 
-and-true : (b : Bool) → (b && true) ≡ b
-and-true true = refl
-and-true false = refl
-
 -- two filters of ownership lines admit what two lines claim
-owns-every_cycle : (own : Own) (slot : ℕ) (channel : Channel) (cycle : ℕ)
-    → admits_at slot channel cycle (own_filter own) ≡ claims slot channel own
-owns-every_cycle own slot channel cycle =
-    ap (λ b. own.slot == slot && includes own.channels channel && b) (eq-eqb (cycle % 1) 0 (mod-one cycle))
-    ∙ and-true (own.slot == slot && includes own.channels channel)
-
 claimed-shared : (owned : List Own) (slot : ℕ) (channel : Channel) (cycle : ℕ)
-    → is_shared (own_filters owned) slot channel cycle ≡ two_pass (claims slot channel) owned
-claimed-shared owned slot channel cycle =
-    two_pass-map (admits_at slot channel cycle) own_filter owned
-    ∙ two_pass-same (λ own. admits_at slot channel cycle (own_filter own)) (claims slot channel)
-    (λ own. owns-every_cycle own slot channel cycle) owned
+    → is_shared (own_filters owned) slot channel cycle ≡ two_pass (claims slot channel cycle) owned
+claimed-shared owned slot channel cycle = two_pass-map (admits_at slot channel cycle) own_filter owned
 
 -- two filters of transmit buffers admit what two of these buffers do
 sent-shared : (buffers : List Buffer) (slot : ℕ) (channel : Channel) (cycle : ℕ)
@@ -151,47 +137,34 @@ sent-shared buffers slot channel cycle =
     two_pass-map (admits_at slot channel cycle) buffer_filter (filter transmits buffers)
     ∙ two_pass-filter transmits (λ b. admits_at slot channel cycle (buffer_filter b)) buffers
 
--- ---- slots that are taken
-
-pub taken-none : (owned : List Own) → IsFirst (is_shared (own_filters owned)) None → first_taken owned ≡ None
-taken-none owned none =
-    slots-none (taken_at owned) (λ slot channel.
-    cond-false _ (Some (SlotTaken slot channel)) None (sym (claimed-shared owned slot channel 0) ∙ none slot channel 0 (omega arith)))
-
-pub taken-some : (owned : List Own) (o : Occasion) → IsFirstAt (is_shared (own_filters owned)) o
-    → first_taken owned ≡ Some (SlotTaken o.slot o.channel)
-taken-some owned o is =
-    slots-some (taken_at owned) o.slot o.channel (SlotTaken o.slot o.channel) is.in_slots
-    (cond-true _ (Some (SlotTaken o.slot o.channel)) None (sym (claimed-shared owned o.slot o.channel o.cycle) ∙ is.passes))
-    (λ slot channel before.
-    cond-false _ (Some (SlotTaken slot channel)) None
-    (sym (claimed-shared owned slot channel 0)
-    ∙ fails-before (is_shared (own_filters owned)) o is slot channel 0 (omega arith)
-    (before-all slot channel 0 o.slot o.channel o.cycle (omega arith) before)))
-
 -- ---- overlaps
 
-pub overlap-none : (buffers : List Buffer) → IsFirst (is_shared (transmit_filters buffers)) None → first_overlap buffers ≡ None
-overlap-none buffers none =
-    slots-none (overlap_on buffers) (λ slot channel.
-    first-is_none (overlap_at buffers slot channel) 0 64 (λ cycle low high.
-    cond-false _ (Some (Overlap slot channel cycle)) None
-    (sym (sent-shared buffers slot channel cycle) ∙ none slot channel cycle (omega arith))))
+-- two lines or two buffers, by their filters
+pub overlap-shared : (owned : List Own) (buffers : List Buffer)
+    → IsEither (is_shared (own_filters owned)) (is_shared (transmit_filters buffers)) (is_overlap owned buffers)
+overlap-shared owned buffers slot channel cycle =
+    sym (ap (λ b. b || is_shared (transmit_filters buffers) slot channel cycle) (claimed-shared owned slot channel cycle)
+    ∙ ap (λ b. two_pass (claims slot channel cycle) owned || b) (sent-shared buffers slot channel cycle))
 
-pub overlap-some : (buffers : List Buffer) (o : Occasion) → IsFirstAt (is_shared (transmit_filters buffers)) o
-    → first_overlap buffers ≡ Some (Overlap o.slot o.channel o.cycle)
-overlap-some buffers o is =
-    slots-some (overlap_on buffers) o.slot o.channel (Overlap o.slot o.channel o.cycle) is.in_slots
-    (first-is (overlap_at buffers o.slot o.channel) 0 64 o.cycle (Overlap o.slot o.channel o.cycle) (omega arith)
+pub overlap-none : (owned : List Own) (buffers : List Buffer) → IsFirst (is_overlap owned buffers) None → first_overlap owned buffers ≡ None
+overlap-none owned buffers none =
+    slots-none (overlap_on owned buffers) (λ slot channel.
+    first-is_none (overlap_at owned buffers slot channel) 0 64 (λ cycle low high.
+    cond-false _ (Some (Overlap slot channel cycle)) None (none slot channel cycle (omega arith))))
+
+pub overlap-some : (owned : List Own) (buffers : List Buffer) (o : Occasion) → IsFirstAt (is_overlap owned buffers) o
+    → first_overlap owned buffers ≡ Some (Overlap o.slot o.channel o.cycle)
+overlap-some owned buffers o is =
+    slots-some (overlap_on owned buffers) o.slot o.channel (Overlap o.slot o.channel o.cycle) is.in_slots
+    (first-is (overlap_at owned buffers o.slot o.channel) 0 64 o.cycle (Overlap o.slot o.channel o.cycle) (omega arith)
     (omega (arith, is.in_cycles))
-    (cond-true _ (Some (Overlap o.slot o.channel o.cycle)) None (sym (sent-shared buffers o.slot o.channel o.cycle) ∙ is.passes))
+    (cond-true _ (Some (Overlap o.slot o.channel o.cycle)) None is.passes)
     (λ cycle low less. not-at o.slot o.channel cycle (omega (arith, is.in_cycles)) (same-channel o.slot o.channel cycle o.cycle less)))
     (λ slot channel before.
-    first-is_none (overlap_at buffers slot channel) 0 64
+    first-is_none (overlap_at owned buffers slot channel) 0 64
     (λ cycle low high. not-at slot channel cycle (omega arith) (before-all slot channel cycle o.slot o.channel o.cycle (omega arith) before)))
   where
     not-at : (slot : ℕ) (channel : Channel) (cycle : ℕ) → cycle < 64 → place_of slot channel cycle < place_of o.slot o.channel o.cycle
-        → overlap_at buffers slot channel cycle ≡ None
+        → overlap_at owned buffers slot channel cycle ≡ None
     not-at slot channel cycle few less =
-        cond-false _ (Some (Overlap slot channel cycle)) None
-        (sym (sent-shared buffers slot channel cycle) ∙ fails-before (is_shared (transmit_filters buffers)) o is slot channel cycle few less)
+        cond-false _ (Some (Overlap slot channel cycle)) None (fails-before (is_overlap owned buffers) o is slot channel cycle few less)

@@ -1,6 +1,6 @@
 -- What a filter admits (chapter 9; the division of slots by cycle is that of a cycle filter).
-use Rattle.std.specs.Prelude.{◌≡◌, ℕ, ◌%◌, ◌<◌, ◌==◌, nat_le, not, Bool, true, false, List, [], ◌∷◌, codes, Result, Ok}
-use Rattle.std.specs.Prelude.{Err, if◌then◌else◌}
+use Rattle.std.specs.Prelude.{◌≡◌, ℕ, ◌%◌, ◌<◌, ◌==◌, nat_le, not, Bool, true, false, ◌&&◌, List, [], ◌∷◌}
+use Rattle.std.specs.Prelude.{codes, Result, Ok, Err, if◌then◌else◌}
 use Rattle.std.specs.List.{list_any}
 use Rattle.fr_slots.specs.declared.channel.Channel.{Channel}
 use Rattle.fr_slots.specs.declared.channel.Channel.TheVariants as channel
@@ -55,3 +55,7 @@ cycle_class base repetition =
 
 abbrev pub cycle_admitted : CycleClass → ℕ → Bool
 cycle_admitted c cycle = cycle % c.repetition == c.base
+
+-- the class has every cycle
+abbrev pub is_every_cycle : CycleClass → Bool
+is_every_cycle c = c.base == 0 && c.repetition == 1

@@ -1,5 +1,5 @@
--- The faults of a plan, and what a plan without fault gives (chapters 5 and 9; the limits and the order are own
--- profile).
+-- The faults of a plan, and what a plan without fault gives (chapters 5 and 9; the limits, the order, and that nodes
+-- divide a static slot by cycles are own profile).
 use Rattle.std.specs.Prelude.{◌≡◌, ℕ, suc, zero, ◌+◌, ◌-◌, ◌<◌, ◌≤◌, ◌==◌, nat_lt, nat_le, not, Bool, true, false, ◌&&◌}
 use Rattle.std.specs.Prelude.{◌||◌, List, [], ◌∷◌, Option, Some, None, is_some, unwrap_or, option_map, slice_get}
 use Rattle.std.specs.Prelude.{position, if◌then◌else◌}
@@ -12,9 +12,8 @@ use Rattle.fr_slots.specs.declared.filter.Filter.{Filter}
 use Rattle.fr_slots.specs.declared.plan.Own.{Own}
 use Rattle.fr_slots.specs.declared.plan.Buffer.{Buffer}
 use Rattle.fr_slots.specs.declared.fault.PlanFault.{PlanFault}
-use Rattle.fr_slots.specs.declared.fault.PlanFault.TheVariants.{OutOfParams, SlotTaken, NotOwned, DynamicBoth, Overlap}
-use Rattle.fr_slots.specs.declared.fault.PlanFault.TheVariants.{TooLong}
-use Rattle.fr_slots.specs.Admission.{CycleClass, cycle_admitted, includes}
+use Rattle.fr_slots.specs.declared.fault.PlanFault.TheVariants.{OutOfParams, NotOwned, DynamicBoth, Overlap, TooLong}
+use Rattle.fr_slots.specs.Admission.{CycleClass, cycle_admitted, is_every_cycle, includes}
 use Rattle.fr_slots.specs.Numbers.{IsSlot, last_slot, cycle_count}
 use Rattle.fr_slots.specs.Parameters.{Parameters, is_static_slot}
 use Rattle.fr_slots.specs.Plans.{Plan, filter_admits, is_receive}
@@ -59,13 +58,20 @@ first_common c d = first_of (common_in c d) cycles
 
 -- ---- what lines and buffers do
 
--- the ownership line is for the slot on the channel
-abbrev pub claims : ℕ → Channel → Own → Bool
-claims slot channel own = own.slot == slot && includes own.channels channel
+-- the ownership line is for the slot on the channel in the cycle
+abbrev pub claims : ℕ → Channel → ℕ → Own → Bool
+claims slot channel cycle own = own.slot == slot && includes own.channels channel && cycle_admitted own.cycles cycle
 
--- the node owns the slot on the channel
-abbrev pub is_owned : List Own → ℕ → Channel → Bool
-is_owned owned slot channel = list_any (claims slot channel) owned
+-- the node owns the slot on the channel in the cycle
+abbrev pub is_owned : List Own → ℕ → Channel → ℕ → Bool
+is_owned owned slot channel cycle = list_any (claims slot channel cycle) owned
+
+-- The ownership line is for the slot on the channel, and divides it with nobody. The code asks this first.
+abbrev pub is_undivided : ℕ → Channel → Own → Bool
+is_undivided slot channel own = own.slot == slot && includes own.channels channel && is_every_cycle own.cycles
+
+abbrev pub is_owned_always : List Own → ℕ → Channel → Bool
+is_owned_always owned slot channel = list_any (is_undivided slot channel) owned
 
 abbrev pub transmits : Buffer → Bool
 transmits b = not (is_receive b.mode)
@@ -115,23 +121,20 @@ is_out_of_params p plan = list_any (is_owned_beyond p) plan.owned || has_late_la
 abbrev pub out_of_params : Parameters → Plan → Option PlanFault
 out_of_params p plan = if is_out_of_params p plan then Some OutOfParams else None
 
--- two ownership lines claim the slot on the channel
-abbrev pub taken_at : List Own → ℕ → Channel → Option PlanFault
-taken_at owned slot channel = if two_pass (claims slot channel) owned then Some (SlotTaken slot channel) else None
-
-abbrev pub taken_in : List Own → ℕ → Option PlanFault
-taken_in owned slot = first_of (taken_at owned slot) channels
-
-abbrev pub first_taken : List Own → Option PlanFault
-first_taken owned = first_of (taken_in owned) slots
-
 -- the fault of the first buffer that passes the test
 abbrev pub first_buffer : (ℕ → PlanFault) → (Buffer → Bool) → List Buffer → Option PlanFault
 first_buffer fault test buffers = option_map fault (position test buffers)
 
--- the buffer's slot isn't owned on a channel of the buffer
+-- the filter admits the cycle, in which its slot isn't owned on the channel
+abbrev pub is_unowned_in : List Own → Filter → Channel → ℕ → Bool
+is_unowned_in owned f channel cycle = cycle_admitted f.cycles cycle && not (is_owned owned f.slot channel cycle)
+
+abbrev pub any_unowned : List Own → Filter → Channel → Bool
+any_unowned owned f channel = list_any (is_unowned_in owned f channel) cycles
+
+-- the buffer's slot isn't owned on a channel of the buffer, in a cycle that the buffer admits
 abbrev pub is_unowned_on : List Own → Filter → Channel → Bool
-is_unowned_on owned f channel = includes f.channels channel && not (is_owned owned f.slot channel)
+is_unowned_on owned f channel = includes f.channels channel && any_unowned owned f channel
 
 abbrev pub not_owned : Parameters → List Own → Buffer → Bool
 not_owned p owned b = transmits_static p b && list_any (is_unowned_on owned b.filter) channels
@@ -140,19 +143,23 @@ not_owned p owned b = transmits_static p b && list_any (is_unowned_on owned b.fi
 abbrev pub dynamic_both : Parameters → Buffer → Bool
 dynamic_both p b = transmits_dynamic p b && list_all (includes b.filter.channels) channels
 
--- two transmit buffers admit the slot on the channel in the cycle
-abbrev pub overlap_at : List Buffer → ℕ → Channel → ℕ → Option PlanFault
-overlap_at buffers slot channel cycle = if two_pass (sends_at slot channel cycle) buffers
-    then Some (Overlap slot channel cycle) else None
+-- two ownership lines are for the slot on the channel in the cycle, or two transmit buffers admit it
+abbrev pub is_overlap : List Own → List Buffer → ℕ → Channel → ℕ → Bool
+is_overlap owned buffers slot channel cycle =
+    two_pass (claims slot channel cycle) owned || two_pass (sends_at slot channel cycle) buffers
 
-abbrev pub overlap_on : List Buffer → ℕ → Channel → Option PlanFault
-overlap_on buffers slot channel = first_of (overlap_at buffers slot channel) cycles
+abbrev pub overlap_at : List Own → List Buffer → ℕ → Channel → ℕ → Option PlanFault
+overlap_at owned buffers slot channel cycle =
+    if is_overlap owned buffers slot channel cycle then Some (Overlap slot channel cycle) else None
 
-abbrev pub overlap_in : List Buffer → ℕ → Option PlanFault
-overlap_in buffers slot = first_of (overlap_on buffers slot) channels
+abbrev pub overlap_on : List Own → List Buffer → ℕ → Channel → Option PlanFault
+overlap_on owned buffers slot channel = first_of (overlap_at owned buffers slot channel) cycles
 
-abbrev pub first_overlap : List Buffer → Option PlanFault
-first_overlap buffers = first_of (overlap_in buffers) slots
+abbrev pub overlap_in : List Own → List Buffer → ℕ → Option PlanFault
+overlap_in owned buffers slot = first_of (overlap_on owned buffers slot) channels
+
+abbrev pub first_overlap : List Own → List Buffer → Option PlanFault
+first_overlap owned buffers = first_of (overlap_in owned buffers) slots
 
 -- a frame of so many words that begins at the channel's latest minislot fills more minislots than there are
 abbrev pub ends_late : Parameters → Plan → ℕ → Channel → Bool
@@ -165,16 +172,15 @@ ends_late_on p plan b channel = includes b.filter.channels channel && ends_late 
 abbrev pub too_long : Parameters → Plan → Buffer → Bool
 too_long p plan b = transmits_dynamic p b && list_any (ends_late_on p plan b) channels
 
--- the first fault of the parameters and the ownership lines, and of the buffers among themselves
+-- the first fault of the parameters and of what the buffers need of the ownership lines, and the first fault of these
+-- lines among themselves and of the buffers
 unfoldable pub ownership_fault : Parameters → Plan → Option PlanFault
-ownership_fault p plan =
-    option_or (out_of_params p plan)
-    (option_or (first_taken plan.owned) (first_buffer NotOwned (not_owned p plan.owned) plan.buffers))
+ownership_fault p plan = option_or (out_of_params p plan) (first_buffer NotOwned (not_owned p plan.owned) plan.buffers)
 
 unfoldable pub buffer_fault : Parameters → Plan → Option PlanFault
 buffer_fault p plan =
     option_or (first_buffer DynamicBoth (dynamic_both p) plan.buffers)
-    (option_or (first_overlap plan.buffers) (first_buffer TooLong (too_long p plan) plan.buffers))
+    (option_or (first_overlap plan.owned plan.buffers) (first_buffer TooLong (too_long p plan) plan.buffers))
 
 -- The first fault of a plan: each kind over the whole plan before the next, and of a kind the first in order of its
 -- numbers.
@@ -193,17 +199,17 @@ abbrev pub HasOneSender : Plan → Type 0
 HasOneSender plan = (slot : ℕ) (channel : Channel) (cycle m n : ℕ) (b c : Buffer) → cycle < cycle_count → IsSlot slot
     → IsSender plan slot channel cycle m b → IsSender plan slot channel cycle n c → m ≡ n
 
--- at most one ownership line is for a slot on a channel
+-- at most one ownership line is for a slot on a channel in a cycle
 abbrev pub HasOneOwner : Plan → Type 0
-HasOneOwner plan = (slot : ℕ) (channel : Channel) (m n : ℕ) (o p : Own) → IsSlot slot
-    → slice_get plan.owned m ≡ Some o → slice_get plan.owned n ≡ Some p → claims slot channel o ≡ true
-    → claims slot channel p ≡ true → m ≡ n
+HasOneOwner plan = (slot : ℕ) (channel : Channel) (cycle m n : ℕ) (o p : Own) → cycle < cycle_count → IsSlot slot
+    → slice_get plan.owned m ≡ Some o → slice_get plan.owned n ≡ Some p → claims slot channel cycle o ≡ true
+    → claims slot channel cycle p ≡ true → m ≡ n
 
--- a static transmit buffer has the cluster's words, and its slot is owned on each of its channels
+-- a static transmit buffer has the cluster's words, and its slot is owned on each of its channels in each of its cycles
 pub record FitsStatic (p : Parameters) (plan : Plan) (b : Buffer) : Type 0 where
   pub words_are : b.words ≡ None
-  pub owned : (channel : Channel) → includes b.filter.channels channel ≡ true
-      → is_owned plan.owned b.filter.slot channel ≡ true
+  pub owned : (channel : Channel) (cycle : ℕ) → cycle < cycle_count → includes b.filter.channels channel ≡ true
+      → cycle_admitted b.filter.cycles cycle ≡ true → is_owned plan.owned b.filter.slot channel cycle ≡ true
 
 -- a dynamic transmit buffer has words of its own, is for one channel, and its frame ends within the dynamic segment
 pub record FitsDynamic (p : Parameters) (plan : Plan) (b : Buffer) : Type 0 where

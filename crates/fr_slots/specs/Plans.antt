@@ -79,8 +79,9 @@ pub record IsFilter (f : Filter) : Type 0 where
 abbrev pub IsBuffer : Buffer → Type 0
 IsBuffer b = IsFilter b.filter
 
-abbrev pub IsOwn : Own → Type 0
-IsOwn o = IsSlot o.slot
+pub record IsOwn (o : Own) : Type 0 where
+  pub slot_is : IsSlot o.slot
+  pub cycles_are : IsCycleClass o.cycles
 
 pub record IsQueue (q : Queue) : Type 0 where
   pub first_is : IsSlot q.first

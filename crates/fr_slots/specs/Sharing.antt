@@ -69,9 +69,8 @@ common_channel c d = find (both_include c d) channels
 
 -- ---- the filters of a plan
 
--- an ownership line is for every cycle
 abbrev pub own_filter : Own → Filter
-own_filter own = record { slot = own.slot; channels = own.channels; cycles = record { base = 0; repetition = 1 } }
+own_filter own = record { slot = own.slot; channels = own.channels; cycles = own.cycles }
 
 abbrev pub own_filters : List Own → List Filter
 own_filters owned = map own_filter owned

@@ -2,37 +2,35 @@
 
 ghost use Rattle.std.specs.Prelude.{◌≡◌, ◌<◌, ◌≤◌, length, position, IfSome};
 ghost use Rattle.std.specs.List.{list_any};
-ghost use Rattle.fr_slots.specs.Faults.{ownership_fault, buffer_fault, first_taken, first_overlap, first_buffer};
+ghost use Rattle.fr_slots.specs.Faults.{ownership_fault, buffer_fault, first_overlap, first_buffer};
 ghost use Rattle.fr_slots.specs.Faults.{out_of_params, is_owned_beyond, has_late_latest, has_wrong_words};
-ghost use Rattle.fr_slots.specs.Faults.{is_unowned_on, is_owned, claims, not_owned, dynamic_both};
+ghost use Rattle.fr_slots.specs.Faults.{is_unowned_on, any_unowned, is_unowned_in, is_owned_always, is_undivided};
+ghost use Rattle.fr_slots.specs.Faults.{is_owned, claims, not_owned, dynamic_both};
 ghost use Rattle.fr_slots.specs.Faults.{too_long, ends_late_on, ends_late, minislots_filled};
 ghost use Rattle.fr_slots.specs.Numbers.{most_lines};
 ghost use Rattle.fr_slots.specs.Sharing.{own_filter, own_filters, transmit_filters};
 
 use crate::channel::Channel;
-use crate::filter::{CycleFilter, Filter};
-use crate::numbers::{Cycle, SlotId};
+use crate::filter::Filter;
+use crate::numbers::{CYCLES, Cycle, SlotId};
 use crate::params::Params;
 use crate::plan::{Buffer, LINES, NodePlan, Own};
-use crate::sharing::first_shared;
+use crate::sharing::{earlier, first_shared};
 use arrayvec::ArrayVec;
 use thiserror::Error;
 
 /// Why a plan can't be kept. Buffers go by their numbers.
 #[derive(Clone, Copy, Debug, PartialEq, Eq, Error)]
 pub enum PlanFault {
-    /// Two ownership lines are for the slot on the channel: a static slot on a channel has one owner at the
-    /// most (own profile).
-    #[error("SlotTaken {0} {1}")]
-    SlotTaken(SlotId, Channel),
-    /// The transmit buffer is for a static slot that the node doesn't own on all the buffer's channels
-    /// (chapter 5).
+    /// The transmit buffer is for a static slot that the node doesn't own on all the buffer's channels and in all the
+    /// cycles that the buffer admits (chapter 5; the division by cycles is own profile).
     #[error("NotOwned {0}")]
     NotOwned(u8),
     /// The transmit buffer is for a dynamic slot on both channels (own profile).
     #[error("DynamicBoth {0}")]
     DynamicBoth(u8),
-    /// Two transmit buffers admit the slot on the channel in the cycle (chapter 5).
+    /// Two ownership lines are for the slot on the channel in the cycle, or two transmit buffers admit it: in a cycle
+    /// one node sends there, and from one buffer (chapter 5).
     #[error("Overlap {0} {1} {2}")]
     Overlap(SlotId, Channel, Cycle),
     /// A frame of the dynamic transmit buffer that begins at its channel's latest minislot would end after
@@ -45,23 +43,21 @@ pub enum PlanFault {
     OutOfParams,
 }
 
-/// The first fault of the parameters and of the ownership lines.
+/// The first fault of the parameters, and of what the buffers need of the ownership lines.
 #[tactic(auto, unfolding(crate::specs::Faults::ownership_fault))]
 pub(crate) fn ownership_fault(params: &Params, plan: &NodePlan) -> Option<PlanFault>
     ensures { result ≡ ownership_fault params.now plan.now }
 {
-    out_of_params(params, plan)
-        .or_else(|| first_taken(plan.owned()))
-        .or_else(|| plan.first_not_owned(params).map(PlanFault::NotOwned))
+    out_of_params(params, plan).or_else(|| plan.first_not_owned(params).map(PlanFault::NotOwned))
 }
 
-/// The first fault of the buffers among themselves.
+/// The first fault of the ownership lines among themselves and of the buffers.
 #[tactic(auto, unfolding(crate::specs::Faults::buffer_fault))]
 pub(crate) fn buffer_fault(params: &Params, plan: &NodePlan) -> Option<PlanFault>
     ensures { result ≡ buffer_fault params.now plan.now }
 {
     let both = plan.first_dynamic_both(params).map(PlanFault::DynamicBoth);
-    both.or_else(|| first_overlap(plan.buffers()))
+    both.or_else(|| first_overlap(plan.owned(), plan.buffers()))
         .or_else(|| plan.first_too_long(params).map(PlanFault::TooLong))
 }
 
@@ -115,15 +111,6 @@ fn has_wrong_words(params: &Params, buffer: &Buffer) -> bool
         || buffer.transmits_dynamic(params) && buffer.words.is_none()
 }
 
-/// The fault of the first slot and channel that two ownership lines claim.
-fn first_taken(owned: &[Own]) -> Option<PlanFault>
-    requires { length owned.now ≤ most_lines }
-    ensures { result ≡ first_taken owned.now }
-{
-    let shared = first_shared(own_filters(owned).as_slice())?;
-    Some(PlanFault::SlotTaken(shared.slot, shared.channel))
-}
-
 /// The ownership lines, which are at most 64, as filters.
 pub fn own_filters(owned: &[Own]) -> ArrayVec<Filter, LINES>
     requires { length owned.now ≤ most_lines }
@@ -136,18 +123,19 @@ pub fn own_filters(owned: &[Own]) -> ArrayVec<Filter, LINES>
     filters
 }
 
-/// An ownership line as a filter: it is for every cycle.
+/// An ownership line as a filter.
 fn own_filter(own: &Own) -> Filter
     ensures { result ≡ own_filter own.now }
 {
     Filter {
         slot: own.slot,
         channels: own.channels,
-        cycles: CycleFilter::default(),
+        cycles: own.cycles,
     }
 }
 
-/// The place of the first transmit buffer for a static slot that isn't owned on one of the buffer's channels.
+/// The place of the first transmit buffer for a static slot that, on one of the buffer's channels and in a cycle that
+/// the buffer admits, isn't owned.
 pub(crate) fn not_owned_place(params: &Params, owned: &[Own], buffers: &[Buffer]) -> Option<usize>
     ensures value { result ≡ position (not_owned params.now owned.now) buffers.now }
     ensures within { IfSome result (λ place. place < length buffers.now) }
@@ -157,7 +145,7 @@ pub(crate) fn not_owned_place(params: &Params, owned: &[Own], buffers: &[Buffer]
         .position(|buffer| not_owned(params, owned, buffer))
 }
 
-/// Whether a static transmit buffer has a channel on which its slot isn't owned.
+/// Whether a static transmit buffer has a channel and a cycle in which its slot isn't owned.
 fn not_owned(params: &Params, owned: &[Own], buffer: &Buffer) -> bool
     ensures { result ≡ not_owned params.now owned.now buffer.now }
 {
@@ -166,18 +154,48 @@ fn not_owned(params: &Params, owned: &[Own], buffer: &Buffer) -> bool
             || is_unowned_on(owned, &buffer.filter, Channel::B))
 }
 
-/// Whether the channel is among the filter's, and its slot isn't owned there.
+/// Whether the channel is among the filter's, and its slot isn't owned there in a cycle that the filter admits.
 fn is_unowned_on(owned: &[Own], filter: &Filter, channel: Channel) -> bool
     ensures { result ≡ is_unowned_on owned.now filter.now channel }
 {
-    filter.channels.includes(channel) && !is_owned(owned, filter.slot, channel)
+    filter.channels.includes(channel) && any_unowned(owned, filter, channel)
 }
 
-/// Whether an ownership line is for the slot on the channel.
-pub fn is_owned(owned: &[Own], slot: SlotId, channel: Channel) -> bool
-    ensures { result ≡ is_owned owned.now slot channel }
+/// Whether the filter's slot isn't owned on the channel in a cycle that the filter admits.
+fn any_unowned(owned: &[Own], filter: &Filter, channel: Channel) -> bool
+    ensures { result ≡ any_unowned owned.now filter.now channel }
 {
-    owned.iter().any(|own| own.claims(slot, channel))
+    // Most slots are divided with nobody, which one look at each line tells.
+    if is_owned_always(owned, filter.slot, channel) {
+        return false;
+    }
+    for number in 0..CYCLES {
+        if is_unowned_in(owned, filter, channel, Cycle::from_bits(number)) {
+            return true;
+        }
+    }
+    false
+}
+
+/// Whether the filter admits the cycle, in which its slot isn't owned on the channel.
+fn is_unowned_in(owned: &[Own], filter: &Filter, channel: Channel, cycle: Cycle) -> bool
+    ensures { result ≡ is_unowned_in owned.now filter.now channel cycle }
+{
+    filter.cycles.admits(cycle) && !is_owned(owned, cycle, filter.slot, channel)
+}
+
+/// Whether an ownership line that divides the slot with nobody is for it on the channel.
+fn is_owned_always(owned: &[Own], slot: SlotId, channel: Channel) -> bool
+    ensures { result ≡ is_owned_always owned.now slot channel }
+{
+    owned.iter().any(|own| own.is_undivided(slot, channel))
+}
+
+/// Whether an ownership line is for the slot on the channel in the cycle.
+pub fn is_owned(owned: &[Own], cycle: Cycle, slot: SlotId, channel: Channel) -> bool
+    ensures { result ≡ is_owned owned.now slot channel cycle }
+{
+    owned.iter().any(|own| own.claims(cycle, slot, channel))
 }
 
 /// The place of the first dynamic transmit buffer for both channels.
@@ -200,12 +218,15 @@ fn dynamic_both(params: &Params, buffer: &Buffer) -> bool
         && channels.includes(Channel::B)
 }
 
-/// The fault of the first slot, channel and cycle that two transmit buffers admit.
-fn first_overlap(buffers: &[Buffer]) -> Option<PlanFault>
-    requires { length buffers.now ≤ most_lines }
-    ensures { result ≡ first_overlap buffers.now }
+/// The fault of the first slot, channel and cycle that two ownership lines are for, or that two transmit buffers admit.
+fn first_overlap(owned: &[Own], buffers: &[Buffer]) -> Option<PlanFault>
+    requires few_owned { length owned.now ≤ most_lines }
+    requires few_buffers { length buffers.now ≤ most_lines }
+    ensures { result ≡ first_overlap owned.now buffers.now }
 {
-    let shared = first_shared(transmit_filters(buffers).as_slice())?;
+    let of_owners = first_shared(own_filters(owned).as_slice());
+    let of_buffers = first_shared(transmit_filters(buffers).as_slice());
+    let shared = earlier(of_owners, of_buffers)?;
     Some(PlanFault::Overlap(shared.slot, shared.channel, shared.cycle))
 }
 

@@ -1,7 +1,7 @@
 //! Filters by slot, channel and cycle.
 
 ghost use Rattle.std.specs.Prelude.{◌≡◌, ◌&&◌};
-ghost use Rattle.fr_slots.specs.Admission.{cycle_class, cycle_admitted, includes};
+ghost use Rattle.fr_slots.specs.Admission.{cycle_class, cycle_admitted, is_every_cycle, includes};
 
 use crate::channel::{Channel, Channels};
 use crate::numbers::{CYCLES, Cycle, SlotId};
@@ -92,6 +92,13 @@ impl CycleFilter {
         ensures { result ≡ cycle_admitted self cycle }
     {
         cycle.number() % self.repetition == self.base
+    }
+
+    /// Whether every cycle is one of these.
+    pub fn is_every_cycle(self) -> bool
+        ensures { result ≡ is_every_cycle self }
+    {
+        self.base == 0 && self.repetition == 1
     }
 
     /// The least cycle that both filters admit, if there is one.

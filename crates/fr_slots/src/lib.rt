@@ -4,7 +4,7 @@
 //! ```text
 //! let params = Params::new([3, 10, 1, 20, 5, 4, 6, 120, 1, 4])?;
 //! let mut plan = NodePlan::new(1, [0, 0], 256, 4096)?;
-//! plan.add_own(Own { slot, channels: Channels::Both, sync: true, startup: false })?;
+//! plan.add_own(Own { slot, channels: Channels::Both, cycles: CycleFilter::default(), sync: true, startup: false })?;
 //! plan.add_buffer(Buffer { mode: Mode::Event, filter, words: None, preamble: false })?;
 //! let fault = plan.fault(&params); // the first of the plan, or none
 //! ```

@@ -28,12 +28,15 @@ pub const HOST_ENTRIES: u16 = 16384;
 /// The most slot entries in the journal of a node (own profile).
 pub const SLOT_ENTRIES: u32 = 65536;
 
-/// A static slot that a node owns, in every cycle (chapter 5).
+/// A static slot that a node owns in the cycles that a filter admits (chapter 5; that nodes divide a static slot by
+/// cycles is own profile).
 #[derive(Clone, Copy, Debug, Default, PartialEq, Eq)]
 pub struct Own {
     /// The slot, 1 to 1023.
     pub slot: SlotId,
     pub channels: Channels,
+    /// The cycles in which the slot is the node's: every cycle by default.
+    pub cycles: CycleFilter,
     /// The node's frames there carry the sync frame indicator.
     pub sync: bool,
     /// They carry the startup frame indicator too, which only sync frames do.
@@ -42,13 +45,21 @@ pub struct Own {
 
 impl Own {
     ghost use Rattle.std.specs.Prelude.{◌≡◌};
-    ghost use Rattle.fr_slots.specs.Faults.{claims};
+    ghost use Rattle.fr_slots.specs.Faults.{claims, is_undivided};
 
-    /// Whether the line is for the slot on the channel (chapter 5).
-    pub fn claims(&self, slot: SlotId, channel: Channel) -> bool
-        ensures { result ≡ claims slot channel self.now }
+    /// Whether the line is for the slot on the channel in the cycle (chapter 5; the division by cycles is own
+    /// profile).
+    pub fn claims(&self, cycle: Cycle, slot: SlotId, channel: Channel) -> bool
+        ensures { result ≡ claims slot channel cycle self.now }
     {
-        self.slot == slot && self.channels.includes(channel)
+        self.slot == slot && self.channels.includes(channel) && self.cycles.admits(cycle)
+    }
+
+    /// Whether the line is for the slot on the channel, and divides it with nobody.
+    pub(crate) fn is_undivided(&self, slot: SlotId, channel: Channel) -> bool
+        ensures { result ≡ is_undivided slot channel self.now }
+    {
+        self.slot == slot && self.channels.includes(channel) && self.cycles.is_every_cycle()
     }
 }
 
@@ -411,7 +422,8 @@ impl NodePlan {
         ownership_fault(params, self).or_else(|| buffer_fault(params, self))
     }
 
-    /// The number of the first transmit buffer for a static slot that the node lacks on one of the buffer's channels.
+    /// The number of the first transmit buffer for a static slot that, on one of the buffer's channels and in a cycle
+    /// that the buffer admits, isn't the node's.
     pub fn first_not_owned(&self, params: &Params) -> Option<u8>
         ensures value { result ≡ position (not_owned params.now self.now.owned) self.now.buffers }
         ensures within { IfSome result (λ number. number < length self.now.buffers) }
@@ -466,6 +478,7 @@ pub fn own_fits(own: &Own) -> bool
     ensures value { result ≡ own_fits own.now }
     ensures ranges { IsOwn own.now }
 {
+    let _base = own.cycles.base();
     own.slot.number() <= LAST_STATIC_SLOT && (!own.startup || own.sync)
 }
 

@@ -75,8 +75,8 @@ fn both_include(one: Channels, other: Channels, channel: Channel) -> bool
     one.includes(channel) && other.includes(channel)
 }
 
-/// The one of the two that comes first.
-fn earlier(one: Option<Occasion>, other: Option<Occasion>) -> Option<Occasion>
+/// The one of the two that comes first, where they are there.
+pub fn earlier(one: Option<Occasion>, other: Option<Occasion>) -> Option<Occasion>
     ensures { result ≡ earlier one other }
 {
     match (one, other) {

@@ -7,6 +7,7 @@ use Rattle.std.specs.List.{position, position_or_len, slice_split, onto_first}
 use Rattle.memchr.specs.Find.{IsFirstByte, is_byte}
 use Rattle.std.specs.Prelude.{Option}
 use Rattle.fr_text.specs.Spaces.{is_space, words_of}
+use Rattle.fr_text.specs.Words.{ended}
 
 split_none : (xs : List ℕ) → length xs ≤ position_or_len is_space xs → slice_split is_space xs ≡ xs ∷ []
 split_none [] h = refl
@@ -39,6 +40,14 @@ cut_none line none =
       | inl pass ↦ cc (rw pass at none)
       | inr fail ↦ split_none line (grind arith)
     ]
+
+words_by : (line : List ℕ) (at : Option ℕ) → position is_space line ≡ at → ended (words_of line) ≡ None
+words_by line (Some at) found = rw (cut_at line at found) refl
+words_by line None none = rw (cut_none line none) refl
+
+-- a line has a word, be it the empty one
+pub words_some : (line : List ℕ) → ended (words_of line) ≡ None
+words_some line = words_by line _ refl
 
 -- ---- the first space, by what a search of it says
 

@@ -25,8 +25,9 @@ impl<'a> Model for Words<'a> {
 }
 
 impl<'a> Words<'a> {
-    ghost use Rattle.std.specs.Prelude.{◌≡◌, ◌∷◌, [], ◌++◌, option_to_list, option_copied, IfNone};
+    ghost use Rattle.std.specs.Prelude.{◌≡◌, ◌∷◌, [], ◌++◌, option_to_list, option_copied, IfNone, IfSome};
     ghost use Rattle.fr_text.specs.Spaces.{words_of};
+    ghost use Rattle.fr_text.specs.Words.{ended};
 
     /// The words of a line, which is given without its line feed.
     pub fn new(line: &'a [u8]) -> Words<'a>
@@ -57,6 +58,14 @@ impl<'a> Words<'a> {
                 Some(rest)
             }
         }
+    }
+
+    /// Whether all words are taken: `None` comes where the line has one more.
+    pub fn end(&self) -> Option<()>
+        ensures none { IfSome result (λ _. self.now ≡ []) }
+        ensures more { result ≡ ended self.now }
+    {
+        if self.done { Some(()) } else { None }
     }
 }
 

@@ -18,6 +18,7 @@ fn duplicate_action(action: &Action) -> Action
             buffer: *buffer,
             payload: payload.duplicate(),
         },
+        Action::Withdraw { buffer } => Action::Withdraw { buffer: *buffer },
         Action::Read { buffer } => Action::Read { buffer: *buffer },
         Action::Pop => Action::Pop,
     }
@@ -29,6 +30,7 @@ fn duplicate_reply(reply: &Reply) -> Reply
 {
     match reply {
         Reply::Committed(receipt) => Reply::Committed(*receipt),
+        Reply::Withdrawn(of) => Reply::Withdrawn(*of),
         Reply::Frame(Some(frame)) => Reply::Frame(Some(frame.duplicate())),
         Reply::Frame(None) => Reply::Frame(None),
         Reply::Window(window) => Reply::Window(*window),

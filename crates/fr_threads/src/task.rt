@@ -43,6 +43,10 @@ fn do_line<L: Ledger, R: Wait, G: Gate>(
             let receipt = desk.commit(rt, gate, me, *buffer, payload)?;
             Ok(Reply::Committed(receipt))
         }
+        Action::Withdraw { buffer } => {
+            let of = desk.withdraw(rt, gate, me, *buffer)?;
+            Ok(Reply::Withdrawn(of))
+        }
         Action::Read { buffer } => {
             let frame = desk.read(rt, gate, me, *buffer)?;
             Ok(Reply::Frame(frame))

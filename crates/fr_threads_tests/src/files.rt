@@ -33,19 +33,19 @@ buffer = [\n\
 ]\n";
 
 /// What `plan` writes for the three-node cluster.
-const PLAN: &[u8] = b"slot 1 A 0\n\
-slot 1 B 0\n\
-slot 2 A 1\n\
-slot 2 B 1\n\
+const PLAN: &[u8] = b"slot 1 A 0 0 1\n\
+slot 1 B 0 0 1\n\
+slot 2 A 1 0 1\n\
+slot 2 B 1 0 1\n\
 dynamic 4 A 2 0 1\n\
-guard 0 A 0 20\n\
-guard 0 A 60 80\n\
-guard 0 B 0 80\n\
-guard 1 A 20 40\n\
-guard 1 A 60 80\n\
-guard 1 B 0 80\n\
-guard 2 A 60 80\n\
-guard 2 B 0 80\n";
+guard 0 A 0 0 20\n\
+guard 0 A 0 60 80\n\
+guard 0 B 0 0 80\n\
+guard 1 A 0 20 40\n\
+guard 1 A 0 60 80\n\
+guard 1 B 0 0 80\n\
+guard 2 A 0 60 80\n\
+guard 2 B 0 0 80\n";
 
 /// What `check` writes for a file.
 fn checked(alloc: Global, mut file: &[u8]) -> Result<Vec<u8>, BenchError> {

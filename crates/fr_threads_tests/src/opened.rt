@@ -54,6 +54,7 @@ pub(crate) fn sender(alloc: Global) -> Result<Interface, Fail>
     plan.add_own(Own {
         slot: slot(1)?,
         channels: Channels::Both,
+        cycles: CycleFilter::default(),
         sync: false,
         startup: false,
     })?;

@@ -26,14 +26,15 @@ buffer = [{kind = \"event\", slot = 1, channels = \"AB\"}]
 const ONE_COMMIT: &str = "frscenario 1\ncommit 0 0 0 0 x0a0b\nend\n";
 
 /// The commit is sent, and its node counts nothing of what it sends itself.
-const OUTCOME: &str = "node 0\ntx 0 1 1 0 0\nA 0 0 0 0 0\nB 0 0 0 0 0\nwindows 2\nsettled\n";
+const OUTCOME: &str = "node 0\ntx 0 1 1 0 0 0\nA 0 0 0 0 0\nB 0 0 0 0 0\nwindows 2\nsettled\n";
 
 #[test]
 fn an_outcome_from_two_texts(rt: HostRuntime) -> Result<(), Fail> {
     let mut cluster = ONE_NODE.as_bytes();
     let mut scenario = ONE_COMMIT.as_bytes();
-    let mut written = Vec::new(rt.alloc());
-    let answer = run_text(
+    // With room of its own, so that memory refused later is the run's and not the writer's.
+    let mut written = Vec::with_capacity(rt.alloc(), 512)?;
+    run_text(
         &rt,
         rt.alloc(),
         &mut cluster,
@@ -41,8 +42,7 @@ fn an_outcome_from_two_texts(rt: HostRuntime) -> Result<(), Fail> {
         1,
         false,
         &mut written,
-    );
-    assert!(rt; answer.is_ok());
+    )?;
     assert_eq!(rt; written.as_slice(), OUTCOME.as_bytes());
     Ok(())
 }

@@ -71,6 +71,7 @@ fn all_sent(commits: u32) -> Option<Tally> {
         sent: commits,
         overwritten: 0,
         pending: 0,
+        withdrawn: 0,
     })
 }
 

@@ -1,15 +1,20 @@
 -- The text of a legal interface is read.
-use Rattle.std.proofs.Common.{◌≡◌, ℕ, zero, suc, ◌+◌, ◌≤◌, ◌<◌, List, [], ◌∷◌, ◌++◌, length, Option, Some, Ok, refl}
+use Rattle.std.proofs.Common.{◌≡◌, ℕ, true, zero, suc, ◌+◌, ◌≤◌, ◌<◌, List, [], ◌∷◌, ◌++◌, length, Option, Some, Ok, refl}
 use Rattle.std.proofs.Common.{sym, ap, subst, ◌∙◌, append_assoc, None, arith, length-append}
 use Rattle.std.specs.Prelude.{slice_get, IsSomeAnd}
 use Rattle.std.proofs.lemmas.List.{append-nil}
 use Rattle.std.proofs.lemmas.List.Sums.{fold-append}
 use Rattle.std.specs.List.{flat_map}
 use Rattle.fr_journal.specs.declared.entry.Entry.{Entry}
-use Rattle.fr_journal.specs.declared.entry.Entry.TheVariants.{Commit, Read, Pop, Fetch, Observe}
+use Rattle.fr_journal.specs.declared.entry.Entry.TheVariants.{Commit, Withdraw, Read, Pop, Fetch, Observe}
 use Rattle.fr_journal.specs.Entries.{IsEntry}
 use Rattle.fr_journal.specs.Legal.{IsLegal}
 use Rattle.fr_interface.specs.State.{State, IsLegalInterface, with_entry}
+use Rattle.fr_lines.specs.declared.versions.Version.{Version}
+use Rattle.fr_lines.specs.declared.versions.Version.TheVariants.{One, Two, Three}
+use Rattle.fr_lines.specs.Versions.{tells, tells_own}
+use Rattle.fr_lines.proofs.VersionLemmas.{version_again}
+use Rattle.fr_text.specs.Plain.{has_no_feed}
 use Rattle.fr_lines.specs.Spelled.{IsSpelledEntry, IsSpelledOwn, IsSpelledBuffer, IsSpelledQueue, bare_plan}
 use Rattle.fr_lines.specs.Spelling.{first_line, begin_line, end_line, params_words, node_words, own_words, buffer_words}
 use Rattle.fr_lines.specs.Spelling.{queue_words, entry_words}
@@ -30,10 +35,11 @@ use Rattle.fr_slots.specs.Plans.{Plan, IsPlan, IsBuffer, IsOwn, IsQueueOrNone, Q
 use Rattle.fr_slots.specs.Plans.{own_fits, with_buffer, with_own, with_queue}
 use Rattle.fr_text.specs.Spaces.{words_of, line_of}
 use Rattle.fr_trace.specs.Answers.{made_by}
-use Rattle.fr_trace.specs.Stream.{magic, params, node, lines, body, finished, reading, after_parameters, after_numbers}
+use Rattle.fr_trace.specs.Stream.{magic, params, node, lines, body, finished, reading, after_magic, after_parameters, after_numbers}
 use Rattle.fr_trace.specs.Stream.{after_node, line_number, take_line, take_byte, take_bytes, fresh}
 use Rattle.fr_lines.specs.Spelling.{line_feed, line_text}
 use Rattle.fr_trace.specs.TraceText.{entry_line, head_text, params_text, plan_text, begin_text, body_text, trace_text}
+use Rattle.fr_trace.specs.TraceText.{AreOwnedTold, AreTold}
 use Rattle.fr_trace.proofs.AnswerLemmas.{no_fault, legal_accepted, made-answered}
 use Rattle.fr_trace.specs.Feeds.{IsAtBegin, Begins}
 use Rattle.fr_trace.proofs.FeedLemmas.{begins_before}
@@ -43,77 +49,89 @@ use Rattle.fr_trace.proofs.TextLemmas.{bare_text, own_text, buffer_text, queue_t
 
 -- ---- parameters
 
-params_read : (p : Parameters) → IsParameters p → take_bytes fresh (params_text p) ≡ reading (node p) []
-params_read p is =
-    let head : take_bytes fresh head_text ≡ reading params [] = next_line fresh [] first_line magic params refl refl refl (omega arith) refl in
-    next_line fresh head_text (line_of (params_words p)) params (node p) head refl (params_no_feed p is) (params_short p is)
-    (ap after_numbers (params_line_again p is) ∙ ap after_parameters (parameters_again p is))
+first_no_feed : (v : Version) → has_no_feed (first_line v) ≡ true
+first_no_feed One = refl
+first_no_feed Two = refl
+first_no_feed Three = refl
+
+first_short : (v : Version) → length (first_line v) ≤ 1200
+first_short One = omega arith
+first_short Two = omega arith
+first_short Three = omega arith
+
+params_read : (v : Version) (p : Parameters) → IsParameters p → take_bytes fresh (params_text v p) ≡ reading (node v p) []
+params_read v p is =
+    let head : take_bytes fresh (head_text v) ≡ reading (params v) [] =
+    next_line fresh [] (first_line v) magic (params v) refl refl (first_no_feed v) (first_short v) (ap after_magic (version_again v)) in
+    next_line fresh (head_text v) (line_of (params_words p)) (params v) (node v p) head refl (params_no_feed p is) (params_short p is)
+    (ap (after_numbers v) (params_line_again p is) ∙ ap (after_parameters v) (parameters_again p is))
 
 -- ---- the plan
 
-node_read : (p : Parameters) (plan : Plan) → IsParameters p → IsPlan plan → take_bytes fresh (params_text p ++ line_text (node_words plan)) ≡ reading (lines p (bare_plan plan)) []
-node_read p plan is plan_is =
-    next_line fresh (params_text p) (line_of (node_words plan)) (node p) (lines p (bare_plan plan)) (params_read p is) refl (node_no_feed plan plan_is) (node_short plan plan_is)
-    (ap (after_node p) (node_line_again plan plan_is))
+node_read : (v : Version) (p : Parameters) (plan : Plan) → IsParameters p → IsPlan plan → take_bytes fresh (params_text v p ++ line_text (node_words plan)) ≡ reading (lines v p (bare_plan plan)) []
+node_read v p plan is plan_is =
+    next_line fresh (params_text v p) (line_of (node_words plan)) (node v p) (lines v p (bare_plan plan)) (params_read v p is) refl (node_no_feed plan plan_is) (node_short plan plan_is)
+    (ap (after_node v p) (node_line_again plan plan_is))
 
-bare_read : (p : Parameters) (plan : Plan) → IsParameters p → IsPlan plan → take_bytes fresh (plan_text p (bare_plan plan)) ≡ reading (lines p (bare_plan plan)) []
-bare_read p plan is plan_is = ap (take_bytes fresh) (bare_text p (bare_plan plan) refl refl refl) ∙ node_read p plan is plan_is
+bare_read : (v : Version) (p : Parameters) (plan : Plan) → IsParameters p → IsPlan plan → take_bytes fresh (plan_text v p (bare_plan plan)) ≡ reading (lines v p (bare_plan plan)) []
+bare_read v p plan is plan_is = ap (take_bytes fresh) (bare_text v p (bare_plan plan) refl refl refl) ∙ node_read v p plan is plan_is
 
 -- the plan with these lines and no queue
 abbrev with_lines : Plan → List Own → List Buffer → Plan
 with_lines plan owned buffers = record (bare_plan plan) { owned = owned; buffers = buffers }
 
-own_line_read : (p : Parameters) (plan : Plan) (o : Own) → plan.buffers ≡ [] → plan.queue ≡ None → length plan.owned < 64 → IsSpelledOwn o → take_line (lines p plan) (line_of (own_words o)) ≡ Ok (lines p (with_own plan o))
-own_line_read p plan o no_buffer no_queue room spelled = rw (own_not_begin o, own_told (words_of (line_of (own_words o))) o (own_line_again o spelled), no_buffer, no_queue, own_taken plan o spelled.fits room) refl
+own_line_read : (v : Version) (p : Parameters) (plan : Plan) (o : Own) → plan.buffers ≡ [] → plan.queue ≡ None → length plan.owned < 64 → IsSpelledOwn o → tells_own v o ≡ true → take_line (lines v p plan) (line_of (own_words v o)) ≡ Ok (lines v p (with_own plan o))
+own_line_read v p plan o no_buffer no_queue room spelled told =
+    rw (own_not_begin v o, own_told v (words_of (line_of (own_words v o))) o (own_line_again v o spelled told), no_buffer, no_queue, own_taken plan o spelled.fits room) refl
 
 -- further ownership lines
-owned_read : (p : Parameters) (plan : Plan) (more before : List Own) → length before + length more ≤ 64 → AllFit own_fits more → Each IsOwn more
-    → take_bytes fresh (plan_text p (with_lines plan before [])) ≡ reading (lines p (with_lines plan before [])) []
-    → take_bytes fresh (plan_text p (with_lines plan (before ++ more) [])) ≡ reading (lines p (with_lines plan (before ++ more) [])) []
-owned_read p plan [] before few fit ranges came =
-    subst (λ (owned : List Own). take_bytes fresh (plan_text p (with_lines plan owned [])) ≡ reading (lines p (with_lines plan owned [])) []) (sym (append-nil before)) came
-owned_read p plan (o ∷ more) before few fit ranges came =
+owned_read : (v : Version) (p : Parameters) (plan : Plan) (more before : List Own) → length before + length more ≤ 64 → AllFit own_fits more → Each IsOwn more → AreOwnedTold v more
+    → take_bytes fresh (plan_text v p (with_lines plan before [])) ≡ reading (lines v p (with_lines plan before [])) []
+    → take_bytes fresh (plan_text v p (with_lines plan (before ++ more) [])) ≡ reading (lines v p (with_lines plan (before ++ more) [])) []
+owned_read v p plan [] before few fit ranges told came =
+    subst (λ (owned : List Own). take_bytes fresh (plan_text v p (with_lines plan owned [])) ≡ reading (lines v p (with_lines plan owned [])) []) (sym (append-nil before)) came
+owned_read v p plan (o ∷ more) before few fit ranges told came =
     let spelled : IsSpelledOwn o = record { is = ranges.0; fits = fit.0 } in
     let here = with_lines plan before [] in
-    let next : take_bytes fresh (plan_text p (with_own here o)) ≡ reading (lines p (with_own here o)) [] =
-    ap (take_bytes fresh) (own_text p here o refl refl)
-    ∙ next_line fresh (plan_text p here) (line_of (own_words o)) (lines p here) (lines p (with_own here o)) came refl (own_no_feed o spelled) (own_short o spelled)
-    (own_line_read p here o refl refl (omega arith) spelled) in
-    subst (λ (owned : List Own). take_bytes fresh (plan_text p (with_lines plan owned [])) ≡ reading (lines p (with_lines plan owned [])) []) (append_assoc before (o ∷ []) more)
-    (owned_read p plan more (before ++ o ∷ []) (omega (arith, length-append before (o ∷ []))) fit.1 ranges.1 next)
+    let next : take_bytes fresh (plan_text v p (with_own here o)) ≡ reading (lines v p (with_own here o)) [] =
+    ap (take_bytes fresh) (own_text v p here o refl refl)
+    ∙ next_line fresh (plan_text v p here) (line_of (own_words v o)) (lines v p here) (lines v p (with_own here o)) came refl (own_no_feed v o spelled) (own_short v o spelled)
+    (own_line_read v p here o refl refl (omega arith) spelled told.0) in
+    subst (λ (owned : List Own). take_bytes fresh (plan_text v p (with_lines plan owned [])) ≡ reading (lines v p (with_lines plan owned [])) []) (append_assoc before (o ∷ []) more)
+    (owned_read v p plan more (before ++ o ∷ []) (omega (arith, length-append before (o ∷ []))) fit.1 ranges.1 told.1 next)
 
-buffer_line_read : (p : Parameters) (plan : Plan) (b : Buffer) → plan.queue ≡ None → length plan.buffers < 64 → IsSpelledBuffer b → take_line (lines p plan) (line_of (buffer_words b)) ≡ Ok (lines p (with_buffer plan b))
-buffer_line_read p plan b none room spelled =
-    rw (buffer_not_begin b, buffer_told (words_of (line_of (buffer_words b))) b (buffer_line_again b spelled), none, buffer_taken plan b spelled.fits room) refl
+buffer_line_read : (v : Version) (p : Parameters) (plan : Plan) (b : Buffer) → plan.queue ≡ None → length plan.buffers < 64 → IsSpelledBuffer b → take_line (lines v p plan) (line_of (buffer_words b)) ≡ Ok (lines v p (with_buffer plan b))
+buffer_line_read v p plan b none room spelled =
+    rw (buffer_not_begin b, buffer_told v (words_of (line_of (buffer_words b))) b (buffer_line_again b spelled), none, buffer_taken plan b spelled.fits room) refl
 
 -- further buffers
-buffers_read : (p : Parameters) (plan : Plan) (owned : List Own) (more before : List Buffer) → length before + length more ≤ 64 → AllFit buffer_fits more → Each IsBuffer more
-    → take_bytes fresh (plan_text p (with_lines plan owned before)) ≡ reading (lines p (with_lines plan owned before)) []
-    → take_bytes fresh (plan_text p (with_lines plan owned (before ++ more))) ≡ reading (lines p (with_lines plan owned (before ++ more))) []
-buffers_read p plan owned [] before few fit ranges came =
-    subst (λ (buffers : List Buffer). take_bytes fresh (plan_text p (with_lines plan owned buffers)) ≡ reading (lines p (with_lines plan owned buffers)) []) (sym (append-nil before)) came
-buffers_read p plan owned (b ∷ more) before few fit ranges came =
+buffers_read : (v : Version) (p : Parameters) (plan : Plan) (owned : List Own) (more before : List Buffer) → length before + length more ≤ 64 → AllFit buffer_fits more → Each IsBuffer more
+    → take_bytes fresh (plan_text v p (with_lines plan owned before)) ≡ reading (lines v p (with_lines plan owned before)) []
+    → take_bytes fresh (plan_text v p (with_lines plan owned (before ++ more))) ≡ reading (lines v p (with_lines plan owned (before ++ more))) []
+buffers_read v p plan owned [] before few fit ranges came =
+    subst (λ (buffers : List Buffer). take_bytes fresh (plan_text v p (with_lines plan owned buffers)) ≡ reading (lines v p (with_lines plan owned buffers)) []) (sym (append-nil before)) came
+buffers_read v p plan owned (b ∷ more) before few fit ranges came =
     let spelled : IsSpelledBuffer b = record { is = ranges.0; fits = fit.0 } in
     let here = with_lines plan owned before in
-    let next : take_bytes fresh (plan_text p (with_buffer here b)) ≡ reading (lines p (with_buffer here b)) [] =
-    ap (take_bytes fresh) (buffer_text p here b refl)
-    ∙ next_line fresh (plan_text p here) (line_of (buffer_words b)) (lines p here) (lines p (with_buffer here b)) came refl (buffer_no_feed b spelled) (buffer_short b spelled)
-    (buffer_line_read p here b refl (omega arith) spelled) in
-    subst (λ (buffers : List Buffer). take_bytes fresh (plan_text p (with_lines plan owned buffers)) ≡ reading (lines p (with_lines plan owned buffers)) []) (append_assoc before (b ∷ []) more)
-    (buffers_read p plan owned more (before ++ b ∷ []) (omega (arith, length-append before (b ∷ []))) fit.1 ranges.1 next)
+    let next : take_bytes fresh (plan_text v p (with_buffer here b)) ≡ reading (lines v p (with_buffer here b)) [] =
+    ap (take_bytes fresh) (buffer_text v p here b refl)
+    ∙ next_line fresh (plan_text v p here) (line_of (buffer_words b)) (lines v p here) (lines v p (with_buffer here b)) came refl (buffer_no_feed b spelled) (buffer_short b spelled)
+    (buffer_line_read v p here b refl (omega arith) spelled) in
+    subst (λ (buffers : List Buffer). take_bytes fresh (plan_text v p (with_lines plan owned buffers)) ≡ reading (lines v p (with_lines plan owned buffers)) []) (append_assoc before (b ∷ []) more)
+    (buffers_read v p plan owned more (before ++ b ∷ []) (omega (arith, length-append before (b ∷ []))) fit.1 ranges.1 next)
 
 -- the queue
-queue_line_read : (p : Parameters) (plan : Plan) (q : Queue) → plan.queue ≡ None → IsSpelledQueue q → take_line (lines p plan) (line_of (queue_words q)) ≡ Ok (lines p (with_queue plan q))
-queue_line_read p plan q none spelled =
-    rw (queue_not_begin q, queue_told (words_of (line_of (queue_words q))) q (queue_line_again q spelled), queue_taken plan q spelled.fits none) refl
+queue_line_read : (v : Version) (p : Parameters) (plan : Plan) (q : Queue) → plan.queue ≡ None → IsSpelledQueue q → take_line (lines v p plan) (line_of (queue_words q)) ≡ Ok (lines v p (with_queue plan q))
+queue_line_read v p plan q none spelled =
+    rw (queue_not_begin q, queue_told v (words_of (line_of (queue_words q))) q (queue_line_again q spelled), queue_taken plan q spelled.fits none) refl
 
 abbrev with_queue_or_none : Plan → Option Queue → Plan
 with_queue_or_none plan o = record plan { queue = o }
 
-queue_read : (p : Parameters) (plan : Plan) (o : Option Queue) → plan.queue ≡ None → QueueFits o → IsQueueOrNone o
-    → take_bytes fresh (plan_text p plan) ≡ reading (lines p plan) []
-    → take_bytes fresh (plan_text p (with_queue_or_none plan o)) ≡ reading (lines p (with_queue_or_none plan o)) []
-queue_read p plan None none fits ranges came =
+queue_read : (v : Version) (p : Parameters) (plan : Plan) (o : Option Queue) → plan.queue ≡ None → QueueFits o → IsQueueOrNone o
+    → take_bytes fresh (plan_text v p plan) ≡ reading (lines v p plan) []
+    → take_bytes fresh (plan_text v p (with_queue_or_none plan o)) ≡ reading (lines v p (with_queue_or_none plan o)) []
+queue_read v p plan None none fits ranges came =
     let same : plan ≡ with_queue_or_none plan None = λ i. record {
       tasks = plan.tasks;
       latest_a = plan.latest_a;
@@ -124,24 +142,24 @@ queue_read p plan None none fits ranges came =
       buffers = plan.buffers;
       queue = none i;
     } in
-    subst (λ (x : Plan). take_bytes fresh (plan_text p x) ≡ reading (lines p x) []) same came
-queue_read p plan (Some q) none fits ranges came =
+    subst (λ (x : Plan). take_bytes fresh (plan_text v p x) ≡ reading (lines v p x) []) same came
+queue_read v p plan (Some q) none fits ranges came =
     let spelled : IsSpelledQueue q = record { is = ranges; fits = fits } in
-    ap (take_bytes fresh) (queue_text p plan q none)
-    ∙ next_line fresh (plan_text p plan) (line_of (queue_words q)) (lines p plan) (lines p (with_queue plan q)) came refl (queue_no_feed q spelled) (queue_short q spelled)
-    (queue_line_read p plan q none spelled)
+    ap (take_bytes fresh) (queue_text v p plan q none)
+    ∙ next_line fresh (plan_text v p plan) (line_of (queue_words q)) (lines v p plan) (lines v p (with_queue plan q)) came refl (queue_no_feed q spelled) (queue_short q spelled)
+    (queue_line_read v p plan q none spelled)
 
-plan_read : (p : Parameters) (plan : Plan) → IsParameters p → IsPlan plan → take_bytes fresh (plan_text p plan) ≡ reading (lines p plan) []
-plan_read p plan is plan_is =
+plan_read : (v : Version) (p : Parameters) (plan : Plan) → IsParameters p → IsPlan plan → AreOwnedTold v plan.owned → take_bytes fresh (plan_text v p plan) ≡ reading (lines v p plan) []
+plan_read v p plan is plan_is told =
     let few_owned = plan_is.few_owned in
     let few_buffers = plan_is.few_buffers in
-    let owned = owned_read p plan plan.owned [] (omega arith) plan_is.owned_fit plan_is.owned_are (bare_read p plan is plan_is) in
-    let buffers = buffers_read p plan plan.owned plan.buffers [] (omega arith) plan_is.buffers_fit plan_is.buffers_are owned in
-    queue_read p (with_lines plan plan.owned plan.buffers) plan.queue refl plan_is.queue_fits plan_is.queue_is buffers
+    let owned = owned_read v p plan plan.owned [] (omega arith) plan_is.owned_fit plan_is.owned_are told (bare_read v p plan is plan_is) in
+    let buffers = buffers_read v p plan plan.owned plan.buffers [] (omega arith) plan_is.buffers_fit plan_is.buffers_are owned in
+    queue_read v p (with_lines plan plan.owned plan.buffers) plan.queue refl plan_is.queue_fits plan_is.queue_is buffers
 
-begin_read : (p : Parameters) (plan : Plan) → IsParameters p → IsPlan plan → plan_fault p plan ≡ None → take_bytes fresh (begin_text p plan) ≡ reading (body (record { params = p; plan = plan; entries = [] })) []
-begin_read p plan is plan_is faultless =
-    next_line fresh (plan_text p plan) begin_line (lines p plan) (body (record { params = p; plan = plan; entries = [] })) (plan_read p plan is plan_is) refl refl (omega arith)
+begin_read : (v : Version) (p : Parameters) (plan : Plan) → IsParameters p → IsPlan plan → AreOwnedTold v plan.owned → plan_fault p plan ≡ None → take_bytes fresh (begin_text v p plan) ≡ reading (body v (record { params = p; plan = plan; entries = [] })) []
+begin_read v p plan is plan_is told faultless =
+    next_line fresh (plan_text v p plan) begin_line (lines v p plan) (body v (record { params = p; plan = plan; entries = [] })) (plan_read v p plan is plan_is told) refl refl (omega arith)
     (rw faultless refl)
 
 -- ---- entries
@@ -157,6 +175,10 @@ spelled_entry s (Commit task buffer payload) plan_is ranges legal =
     let lt = get_below s.plan.buffers buffer _ legal.transmits in
     let few = plan_is.few_buffers in
     (ranges, omega arith)
+spelled_entry s (Withdraw task buffer of) plan_is ranges legal =
+    let lt = get_below s.plan.buffers buffer _ legal.transmits in
+    let few = plan_is.few_buffers in
+    (ranges, omega arith)
 spelled_entry s (Read task buffer from) plan_is ranges legal =
     let lt = get_below s.plan.buffers buffer _ legal.receives in
     let few = plan_is.few_buffers in
@@ -165,42 +187,42 @@ spelled_entry s (Pop task from) plan_is ranges legal = ranges
 spelled_entry s (Fetch window a b) plan_is ranges legal = ranges
 spelled_entry s (Observe window a b) plan_is ranges legal = ranges
 
-entry_line_read : (s : State) (e : Entry) → IsPlan s.plan → IsEntry e → IsLegal s.params s.plan s.entries e → take_line (body s) (line_of (entry_words e)) ≡ Ok (body (with_entry s e))
-entry_line_read s e plan_is ranges legal =
+entry_line_read : (v : Version) (s : State) (e : Entry) → IsPlan s.plan → IsEntry e → IsLegal s.params s.plan s.entries e → tells v e ≡ true → take_line (body v s) (line_of (entry_words e)) ≡ Ok (body v (with_entry s e))
+entry_line_read v s e plan_is ranges legal told =
     let spelled = spelled_entry s e plan_is ranges legal in
     let made : made_by s e ≡ e = made-answered s e (legal_accepted s e legal).1 in
-    rw (entry_not_end e, entry_line_again e spelled, no_fault (line_number (body s)) s e legal, made) refl
+    rw (entry_not_end e, entry_line_again v e spelled told, no_fault (line_number (body v s)) s e legal, made) refl
 
-entries_read : (p : Parameters) (plan : Plan) (items before : List Entry) (front : List ℕ) → IsPlan plan
-    → AllAfter (IsLegal p plan) before items → AllAfter (λ _ e. IsEntry e) before items
-    → take_bytes fresh front ≡ reading (body (record { params = p; plan = plan; entries = before })) []
-    → take_bytes fresh (front ++ flat_map entry_line items) ≡ reading (body (record { params = p; plan = plan; entries = before ++ items })) []
+entries_read : (v : Version) (p : Parameters) (plan : Plan) (items before : List Entry) (front : List ℕ) → IsPlan plan
+    → AllAfter (IsLegal p plan) before items → AllAfter (λ _ e. IsEntry e) before items → AreTold v items
+    → take_bytes fresh front ≡ reading (body v (record { params = p; plan = plan; entries = before })) []
+    → take_bytes fresh (front ++ flat_map entry_line items) ≡ reading (body v (record { params = p; plan = plan; entries = before ++ items })) []
 unfolding AllAfter
-entries_read p plan [] before front plan_is legal ranges came =
-    ap (take_bytes fresh) (append-nil front) ∙ came ∙ ap (λ xs. reading (body (record { params = p; plan = plan; entries = xs })) []) (sym (append-nil before))
-entries_read p plan (e ∷ items) before front plan_is legal ranges came =
+entries_read v p plan [] before front plan_is legal ranges told came =
+    ap (take_bytes fresh) (append-nil front) ∙ came ∙ ap (λ xs. reading (body v (record { params = p; plan = plan; entries = xs })) []) (sym (append-nil before))
+entries_read v p plan (e ∷ items) before front plan_is legal ranges told came =
     let s : State = record { params = p; plan = plan; entries = before } in
     let spelled = spelled_entry s e plan_is ranges.0 legal.0 in
-    let next : take_bytes fresh (front ++ entry_line e) ≡ reading (body (with_entry s e)) [] =
-    next_line fresh front (line_of (entry_words e)) (body s) (body (with_entry s e)) came refl (entry_no_feed e spelled) (entry_short e spelled) (entry_line_read s e plan_is ranges.0 legal.0) in
+    let next : take_bytes fresh (front ++ entry_line e) ≡ reading (body v (with_entry s e)) [] =
+    next_line fresh front (line_of (entry_words e)) (body v s) (body v (with_entry s e)) came refl (entry_no_feed e spelled) (entry_short e spelled) (entry_line_read v s e plan_is ranges.0 legal.0 told.0) in
     ap (take_bytes fresh) (sym (append_assoc front (entry_line e) (flat_map entry_line items)))
-    ∙ entries_read p plan items (before ++ e ∷ []) (front ++ entry_line e) plan_is legal.1 ranges.1 next
-    ∙ ap (λ xs. reading (body (record { params = p; plan = plan; entries = xs })) []) (append_assoc before (e ∷ []) items)
+    ∙ entries_read v p plan items (before ++ e ∷ []) (front ++ entry_line e) plan_is legal.1 ranges.1 told.1 next
+    ∙ ap (λ xs. reading (body v (record { params = p; plan = plan; entries = xs })) []) (append_assoc before (e ∷ []) items)
 
 -- ---- the whole text
 
-pub text_again : (s : State) → IsLegalInterface s → take_bytes fresh (trace_text s) ≡ reading (finished s) []
-text_again s is =
-    let begun = begin_read s.params s.plan is.params_are is.plan_is is.faultless in
-    let entries = entries_read s.params s.plan s.entries [] (begin_text s.params s.plan) is.plan_is is.legal is.entries_are begun in
-    next_line fresh (body_text s) end_line (body s) (finished s) entries refl refl (omega arith) refl
+pub text_again : (v : Version) (s : State) → IsLegalInterface s → AreOwnedTold v s.plan.owned → AreTold v s.entries → take_bytes fresh (trace_text v s) ≡ reading (finished v s) []
+text_again v s is owned told =
+    let begun = begin_read v s.params s.plan is.params_are is.plan_is owned is.faultless in
+    let entries = entries_read v s.params s.plan s.entries [] (begin_text v s.params s.plan) is.plan_is is.legal is.entries_are told begun in
+    next_line fresh (body_text v s) end_line (body v s) (finished v s) entries refl refl (omega arith) refl
 
 -- its line feed of `begin` comes after the plan
-pub text_begins : (s : State) → IsLegalInterface s → Begins fresh (trace_text s)
-text_begins s is =
-    let front = plan_text s.params s.plan ++ begin_line in
-    let before : take_bytes fresh (plan_text s.params s.plan) ≡ reading (lines s.params s.plan) [] = plan_read s.params s.plan is.params_are is.plan_is in
-    let at : take_bytes fresh front ≡ reading (lines s.params s.plan) begin_line = fold-append take_byte fresh (plan_text s.params s.plan) begin_line ∙ ap (λ p. take_bytes p begin_line) before in
-    let begins : Begins fresh (begin_text s.params s.plan) =
-    (front, [], sym (append_assoc (plan_text s.params s.plan) begin_line line_feed), subst IsAtBegin (sym at) (refl, is.faultless)) in
-    begins_before fresh (body_text s) (end_line ++ line_feed) (begins_before fresh (begin_text s.params s.plan) (flat_map entry_line s.entries) begins)
+pub text_begins : (v : Version) (s : State) → IsLegalInterface s → AreOwnedTold v s.plan.owned → Begins fresh (trace_text v s)
+text_begins v s is owned =
+    let front = plan_text v s.params s.plan ++ begin_line in
+    let before : take_bytes fresh (plan_text v s.params s.plan) ≡ reading (lines v s.params s.plan) [] = plan_read v s.params s.plan is.params_are is.plan_is owned in
+    let at : take_bytes fresh front ≡ reading (lines v s.params s.plan) begin_line = fold-append take_byte fresh (plan_text v s.params s.plan) begin_line ∙ ap (λ p. take_bytes p begin_line) before in
+    let begins : Begins fresh (begin_text v s.params s.plan) =
+    (front, [], sym (append_assoc (plan_text v s.params s.plan) begin_line line_feed), subst IsAtBegin (sym at) (refl, is.faultless)) in
+    begins_before fresh (body_text v s) (end_line ++ line_feed) (begins_before fresh (begin_text v s.params s.plan) (flat_map entry_line s.entries) begins)

@@ -5,17 +5,19 @@ use Rattle.std.specs.Prelude.{IfSome, IsSomeAnd, is_some, count_by}
 use Rattle.std.specs.Option.{option_and_then}
 use Rattle.std.proofs.lemmas.Bool.{and_parts, eqb-true, eq-eqb, lt-leb, le-ltb}
 use Rattle.fr_journal.specs.declared.entry.Entry.{Entry}
-use Rattle.fr_journal.specs.declared.entry.Entry.TheVariants.{Commit, Read, Pop, Fetch, Observe}
+use Rattle.fr_journal.specs.declared.entry.Entry.TheVariants.{Commit, Withdraw, Read, Pop, Fetch, Observe}
 use Rattle.fr_journal.specs.declared.entry.Offered.{Offered}
 use Rattle.fr_journal.specs.declared.entry.Offered.TheVariants.{Nothing, Null, Data}
 use Rattle.fr_journal.specs.declared.entry.Origin.{Origin}
 use Rattle.fr_journal.specs.Arrivals.{oldest, moves}
+use Rattle.fr_journal.specs.Fate.{pending_commit}
 use Rattle.fr_journal.specs.Held.{held, origin_of}
 use Rattle.fr_journal.specs.Entries.{is_host, is_slot}
-use Rattle.fr_journal.specs.Legal.{IsLegal, IsLegalCommit, IsLegalRead, IsLegalPop, IsLegalFetch}
+use Rattle.fr_journal.specs.Legal.{IsLegal, IsLegalCommit, IsLegalWithdraw, IsLegalRead, IsLegalPop, IsLegalFetch}
 use Rattle.fr_journal.specs.Offers.{offered}
 use Rattle.fr_journal.specs.OpenWindow.{open_window, last_number}
-use Rattle.fr_interface.specs.State.{State, received_by, commit_refusal, unless_transmit, received_in, read_refusal}
+use Rattle.fr_interface.specs.State.{State, received_by, commit_refusal, unless_transmit, withdraw_refusal}
+use Rattle.fr_interface.specs.State.{unless_sending, received_in, read_refusal}
 use Rattle.fr_interface.specs.State.{unless_receive, pop_refusal, unless_queued, oldest_of, fetch_refusal}
 use Rattle.fr_interface.specs.State.{observe_refusal, unless_open, is_not_above, is_host_full}
 use Rattle.fr_slots.specs.declared.channel.Channel.{Channel}
@@ -25,7 +27,7 @@ use Rattle.fr_slots.specs.declared.plan.Queue.{Queue}
 use Rattle.fr_slots.specs.Faults.{words_of}
 use Rattle.fr_slots.specs.Plans.{is_receive, buffer_at}
 use Rattle.fr_slots.specs.Windows.{Opportunity}
-use Rattle.fr_trace.specs.Answers.{same_channel, same_origin, same_offered, is_refused, made_by, is_answered, fault_of}
+use Rattle.fr_trace.specs.Answers.{same_channel, same_number, same_origin, same_offered, is_refused, made_by, is_answered, fault_of}
 
 -- ---- equal answers
 
@@ -38,6 +40,16 @@ same_channel_is B B h = refl
 channel_again : (c : Channel) → same_channel c c ≡ true
 channel_again A = refl
 channel_again B = refl
+
+same_number_is : (made told : Option ℕ) → same_number made told ≡ true → made ≡ told
+same_number_is None None h = refl
+same_number_is None (Some told) h = cc h
+same_number_is (Some made) None h = cc h
+same_number_is (Some made) (Some told) h = ap (λ (n : ℕ). Some n) (eqb-true made told h)
+
+number_again : (o : Option ℕ) → same_number o o ≡ true
+number_again None = refl
+number_again (Some n) = eq-eqb n n refl
 
 same_origin_is : (made told : Option Origin) → same_origin made told ≡ true → made ≡ told
 same_origin_is None None h = refl
@@ -72,6 +84,7 @@ offered_again (Data n) = eq-eqb n n refl
 -- an entry whose answers are those of its call is the one that the call makes
 pub made-answered : (s : State) (e : Entry) → is_answered s e ≡ true → made_by s e ≡ e
 made-answered s (Commit task buffer payload) h = refl
+made-answered s (Withdraw task buffer of) h = ap (Withdraw task buffer) (same_number_is (pending_commit buffer s.entries) of h)
 made-answered s (Read task buffer from) h = ap (Read task buffer) (same_origin_is (option_map origin_of (received_by s buffer)) from h)
 made-answered s (Pop task from) h = ap (Pop task) (same_origin_is (option_map origin_of (oldest_of s)) from h)
 made-answered s (Fetch window a b) h =
@@ -98,6 +111,21 @@ legal_commit s task buffer payload legal =
     let few : leb s.plan.tasks task ≡ false = lt-leb s.plan.tasks task legal.task_is in
     let room : is_host_full s ≡ false = lt-leb s.plan.host_entries (count_by is_host s.entries) legal.room in
     rw few (commit_taken s payload (buffer_at s.plan buffer) legal.transmits room)
+
+-- a legal withdraw
+
+withdraw_taken : (s : State) (o : Option Buffer) → IsSomeAnd o (λ b. is_receive b.mode ≡ false) → is_host_full s ≡ false → unless_sending s o ≡ None
+withdraw_taken s None h room = absurd h
+withdraw_taken s (Some b) h room = rw (h, room) refl
+
+legal_withdraw : (s : State) (task buffer : ℕ) (of : Option ℕ) → IsLegalWithdraw s.plan s.entries task buffer of
+    → (is_refused s (Withdraw task buffer of) ≡ false) × (is_answered s (Withdraw task buffer of) ≡ true)
+legal_withdraw s task buffer of legal =
+    let few : leb s.plan.tasks task ≡ false = lt-leb s.plan.tasks task legal.task_is in
+    let room : is_host_full s ≡ false = lt-leb s.plan.host_entries (count_by is_host s.entries) legal.room in (
+      no_refusal (withdraw_refusal s task buffer) (rw few (withdraw_taken s (buffer_at s.plan buffer) legal.transmits room)),
+      rw (← legal.found) (number_again of),
+    )
 
 -- a legal read
 
@@ -152,6 +180,7 @@ closes number (Some w) h = rw (eq-eqb w.number number h) refl
 
 pub legal_accepted : (s : State) (e : Entry) → IsLegal s.params s.plan s.entries e → (is_refused s e ≡ false) × (is_answered s e ≡ true)
 legal_accepted s (Commit task buffer payload) legal = (no_refusal (commit_refusal s task buffer payload) (legal_commit s task buffer payload legal), refl)
+legal_accepted s (Withdraw task buffer of) legal = legal_withdraw s task buffer of legal
 legal_accepted s (Read task buffer from) legal = legal_read s task buffer from legal
 legal_accepted s (Pop task from) legal = legal_pop s task from legal
 legal_accepted s (Fetch window a b) legal = legal_fetch s window a b legal

@@ -13,6 +13,7 @@ use Rattle.fr_trace.specs.Stream.{longest_line, line_number}
 use Rattle.fr_trace.specs.declared.error.TraceError.{TraceError}
 use Rattle.fr_trace.specs.declared.error.TraceError.TheVariants.{BadLine}
 use Rattle.fr_interface.specs.State.{State}
+use Rattle.fr_lines.specs.declared.versions.Version.{Version}
 use Rattle.fr_trace.specs.Auditor.{phase_of, progress_in}
 use Rattle.fr_trace.specs.declared.auditor.Phase.{Phase as Given}
 use Rattle.fr_trace.specs.declared.auditor.Phase.TheVariants.{Finished}
@@ -45,13 +46,13 @@ overflow p line (b ∷ more) opened plain fits long =
 -- a line feed ends whatever is held
 pub ends_read : (mid new : Progress) → EndsLine mid new → Reads mid (10 ∷ []) new
 ends_read (failed e) new ends = inl ends
-ends_read (reading (finished s) line) new (inl is) = inl is
-ends_read (reading (finished s) line) new (inr out) = absurd out.1
+ends_read (reading (finished v s) line) new (inl is) = inl is
+ends_read (reading (finished v s) line) new (inr out) = absurd out.1
 ends_read (reading magic line) new ends = feed_read magic line new refl ends
-ends_read (reading params line) new ends = feed_read params line new refl ends
-ends_read (reading (node p) line) new ends = feed_read (node p) line new refl ends
-ends_read (reading (lines p plan) line) new ends = feed_read (lines p plan) line new refl ends
-ends_read (reading (body s) line) new ends = feed_read (body s) line new refl ends
+ends_read (reading (params v) line) new ends = feed_read (params v) line new refl ends
+ends_read (reading (node v p) line) new ends = feed_read (node v p) line new refl ends
+ends_read (reading (lines v p plan) line) new ends = feed_read (lines v p plan) line new refl ends
+ends_read (reading (body v s) line) new ends = feed_read (body v s) line new refl ends
 
 direct_open : (p : Phase) (line rest : List ℕ) (new : Progress) → is_open p ≡ true → line ≡ [] → has_no_feed rest ≡ true → length rest ≤ 1200 → EndsLine (reading p rest) new
     → Reads (reading p line) (rest ++ 10 ∷ []) new
@@ -62,14 +63,14 @@ direct_open p line rest new opened empty plain fits ends =
 -- a whole line at once
 pub direct_read : (old : Progress) (rest : List ℕ) (new : Progress) → held old ≡ [] → has_no_feed rest ≡ true → length rest ≤ 1200 → EndsLine (with_line old rest) new → Reads old (rest ++ 10 ∷ []) new
 direct_read (failed e) rest new empty plain fits ends = inl (ends ∙ sym (stays_failed e (rest ++ 10 ∷ [])))
-direct_read (reading (finished s) line) [] new empty plain fits (inl is) = inl is
-direct_read (reading (finished s) line) (b ∷ rest) new empty plain fits (inl is) = inl (is ∙ sym (stays_failed _ (rest ++ 10 ∷ [])))
-direct_read (reading (finished s) line) rest new empty plain fits (inr out) = absurd out.1
+direct_read (reading (finished v s) line) [] new empty plain fits (inl is) = inl is
+direct_read (reading (finished v s) line) (b ∷ rest) new empty plain fits (inl is) = inl (is ∙ sym (stays_failed _ (rest ++ 10 ∷ [])))
+direct_read (reading (finished v s) line) rest new empty plain fits (inr out) = absurd out.1
 direct_read (reading magic line) rest new empty plain fits ends = direct_open magic line rest new refl empty plain fits ends
-direct_read (reading params line) rest new empty plain fits ends = direct_open params line rest new refl empty plain fits ends
-direct_read (reading (node p) line) rest new empty plain fits ends = direct_open (node p) line rest new refl empty plain fits ends
-direct_read (reading (lines p plan) line) rest new empty plain fits ends = direct_open (lines p plan) line rest new refl empty plain fits ends
-direct_read (reading (body s) line) rest new empty plain fits ends = direct_open (body s) line rest new refl empty plain fits ends
+direct_read (reading (params v) line) rest new empty plain fits ends = direct_open (params v) line rest new refl empty plain fits ends
+direct_read (reading (node v p) line) rest new empty plain fits ends = direct_open (node v p) line rest new refl empty plain fits ends
+direct_read (reading (lines v p plan) line) rest new empty plain fits ends = direct_open (lines v p plan) line rest new refl empty plain fits ends
+direct_read (reading (body v s) line) rest new empty plain fits ends = direct_open (body v s) line rest new refl empty plain fits ends
 
 -- what was held and the rest of the line
 pub carried_read : (old mid : Progress) (rest : List ℕ) (new : Progress) → mid ≡ take_bytes old rest → EndsLine mid new → Reads old (rest ++ 10 ∷ []) new
@@ -102,27 +103,27 @@ pub failed_more : (fault : Option TraceError) (p : Given) (line : List ℕ) (old
 failed_more None p line old bytes is bad = cc bad
 failed_more (Some e) p line old bytes is bad = subst (λ o. o ≡ take_bytes o bytes) is (sym (stays_failed e bytes))
 
-after_end : (s : State) (line bytes : List ℕ) → (bytes ≡ [] → ⊥) → failed (BadLine (line_number (finished s))) ≡ take_bytes (reading (finished s) line) bytes
-after_end s line [] some = absurd (some refl)
-after_end s line (b ∷ bytes) some = sym (stays_failed _ bytes)
+after_end : (v : Version) (s : State) (line bytes : List ℕ) → (bytes ≡ [] → ⊥) → failed (BadLine (line_number (finished v s))) ≡ take_bytes (reading (finished v s) line) bytes
+after_end v s line [] some = absurd (some refl)
+after_end v s line (b ∷ bytes) some = sym (stays_failed _ bytes)
 
-pub finished_more : (fault : Option TraceError) (p : Given) (line : List ℕ) (old : Progress) (bytes : List ℕ) (n : ℕ) (s : State) → progress_in fault (phase_of p) line ≡ old → is_some fault ≡ false
-    → p ≡ Finished s → n ≡ line_number (phase_of p) → (bytes ≡ [] → ⊥) → failed (BadLine n) ≡ take_bytes old bytes
-finished_more (Some e) p line old bytes n s is fine ended n_is some = cc fine
-finished_more None p line old bytes n s is fine ended n_is some =
+pub finished_more : (fault : Option TraceError) (p : Given) (line : List ℕ) (old : Progress) (bytes : List ℕ) (n : ℕ) (v : Version) (s : State) → progress_in fault (phase_of p) line ≡ old → is_some fault ≡ false
+    → p ≡ Finished v s → n ≡ line_number (phase_of p) → (bytes ≡ [] → ⊥) → failed (BadLine n) ≡ take_bytes old bytes
+finished_more (Some e) p line old bytes n v s is fine ended n_is some = cc fine
+finished_more None p line old bytes n v s is fine ended n_is some =
     ap (λ (k : ℕ). failed (BadLine k)) (n_is ∙ ap (λ (q : Given). line_number (phase_of q)) ended)
-    ∙ after_end s line bytes some
+    ∙ after_end v s line bytes some
     ∙ ap (λ (q : Given). take_bytes (reading (phase_of q) line) bytes) (sym ended)
     ∙ ap (λ (o : Progress). take_bytes o bytes) is
 
 pub longer_more : (fault : Option TraceError) (p : Given) (line : List ℕ) (old : Progress) (bytes : List ℕ) (e : TraceError) → progress_in fault (phase_of p) line ≡ old → is_some fault ≡ false
-    → ((s : State) → p ≡ Finished s → ⊥) → has_no_feed bytes ≡ true → length line ≤ 1200 → 1200 < length line + length bytes → e ≡ too_long (phase_of p) → failed e ≡ take_bytes old bytes
+    → ((v : Version) (s : State) → p ≡ Finished v s → ⊥) → has_no_feed bytes ≡ true → length line ≤ 1200 → 1200 < length line + length bytes → e ≡ too_long (phase_of p) → failed e ≡ take_bytes old bytes
 longer_more (Some f) p line old bytes e is fine going plain fits long e_is = cc fine
 longer_more None p line old bytes e is fine going plain fits long e_is =
     ap failed e_is ∙ sym (overflow (phase_of p) line bytes (phase_open p going) plain fits long) ∙ ap (λ (o : Progress). take_bytes o bytes) is
 
 pub held_more : (fault : Option TraceError) (p : Given) (line : List ℕ) (old : Progress) (bytes new : List ℕ) → progress_in fault (phase_of p) line ≡ old → is_some fault ≡ false
-    → ((s : State) → p ≡ Finished s → ⊥) → has_no_feed bytes ≡ true → length line + length bytes ≤ 1200 → new ≡ line ++ bytes → progress_in fault (phase_of p) new ≡ take_bytes old bytes
+    → ((v : Version) (s : State) → p ≡ Finished v s → ⊥) → has_no_feed bytes ≡ true → length line + length bytes ≤ 1200 → new ≡ line ++ bytes → progress_in fault (phase_of p) new ≡ take_bytes old bytes
 held_more (Some f) p line old bytes new is fine going plain fits new_is = cc fine
 held_more None p line old bytes new is fine going plain fits new_is =
     ap (reading (phase_of p)) new_is ∙ sym (fill (phase_of p) bytes line (phase_open p going) plain fits) ∙ ap (λ (o : Progress). take_bytes o bytes) is

@@ -5,10 +5,11 @@ use Rattle.std.specs.Str.{bytes_eq}
 use Rattle.std.proofs.lemmas.Bool.{cases_Bool}
 use Rattle.fr_journal.specs.declared.entry.Entry.{Entry}
 use Rattle.fr_interface.specs.State.{State}
-use Rattle.fr_lines.specs.Reading.{params_in, node_in, plan_line_in, entry_in}
+use Rattle.fr_lines.specs.Reading.{version_in, params_in, node_in, plan_line_in, entry_in}
+use Rattle.fr_lines.specs.declared.versions.Version.{Version}
 use Rattle.fr_lines.specs.declared.plan_lines.PlanLine.{PlanLine}
 use Rattle.fr_lines.specs.declared.plan_lines.PlanLine.TheVariants as plan_line
-use Rattle.fr_lines.specs.Spelling.{first_line, begin_line, end_line}
+use Rattle.fr_lines.specs.Spelling.{begin_line, end_line}
 use Rattle.fr_slots.specs.declared.params.RangeError.{RangeError}
 use Rattle.fr_slots.specs.declared.plan.Buffer.{Buffer}
 use Rattle.fr_slots.specs.Parameters.{Parameters, parameters_of}
@@ -21,7 +22,7 @@ use Rattle.fr_trace.specs.Answers.{is_refused, is_answered}
 use Rattle.fr_trace.specs.Audit.{IsOfText}
 use Rattle.fr_trace.specs.declared.error.TraceError.{TraceError}
 use Rattle.fr_trace.specs.Stream.{Phase, magic, params, node, lines, body, finished, Progress, reading, failed}
-use Rattle.fr_trace.specs.Stream.{after_parameters, after_numbers, after_node, after_queue, after_buffer}
+use Rattle.fr_trace.specs.Stream.{after_magic, after_parameters, after_numbers, after_node, after_queue, after_buffer}
 use Rattle.fr_trace.specs.Stream.{has_owned_alone, after_own, after_plan_line, after_begin, after_call, after_entry}
 use Rattle.fr_trace.specs.Stream.{take_line, too_long, after_line, take_open, take_byte, take_bytes, longest_line}
 use Rattle.fr_trace.specs.Stream.{outcome_of}
@@ -36,50 +37,54 @@ FailsByText (failed e) = IsOfText e
 
 -- ---- whole lines
 
-parameters_fault : (r : Result Parameters RangeError) → FaultOfText (after_parameters r)
-parameters_fault (Err e) = tt
-parameters_fault (Ok p) = tt
+magic_fault : (o : Option Version) → FaultOfText (after_magic o)
+magic_fault None = tt
+magic_fault (Some v) = tt
 
-numbers_fault : (o : Option (List ℤ)) → FaultOfText (after_numbers o)
-numbers_fault None = tt
-numbers_fault (Some numbers) = parameters_fault (parameters_of numbers)
+parameters_fault : (v : Version) (r : Result Parameters RangeError) → FaultOfText (after_parameters v r)
+parameters_fault v (Err e) = tt
+parameters_fault v (Ok p) = tt
 
-node_fault : (p : Parameters) (o : Option Plan) → FaultOfText (after_node p o)
-node_fault p None = tt
-node_fault p (Some plan) = tt
+numbers_fault : (v : Version) (o : Option (List ℤ)) → FaultOfText (after_numbers v o)
+numbers_fault v None = tt
+numbers_fault v (Some numbers) = parameters_fault v (parameters_of numbers)
 
-queue_fault : (p : Parameters) (plan : Plan) (q : Queue) → FaultOfText (after_queue p plan q)
-queue_fault p plan q = elim (cases_Bool (is_none (queue_refusal plan q))) [
+node_fault : (v : Version) (p : Parameters) (o : Option Plan) → FaultOfText (after_node v p o)
+node_fault v p None = tt
+node_fault v p (Some plan) = tt
+
+queue_fault : (v : Version) (p : Parameters) (plan : Plan) (q : Queue) → FaultOfText (after_queue v p plan q)
+queue_fault v p plan q = elim (cases_Bool (is_none (queue_refusal plan q))) [
   | inl taken ↦ rw taken tt
   | inr refused ↦ rw refused tt
 ]
 
-buffer_fault : (p : Parameters) (plan : Plan) (b : Buffer) → FaultOfText (after_buffer p plan b)
-buffer_fault p plan b = elim (cases_Bool (is_none plan.queue && is_none (buffer_refusal plan b))) [
+buffer_fault : (v : Version) (p : Parameters) (plan : Plan) (b : Buffer) → FaultOfText (after_buffer v p plan b)
+buffer_fault v p plan b = elim (cases_Bool (is_none plan.queue && is_none (buffer_refusal plan b))) [
   | inl taken ↦ rw taken tt
   | inr refused ↦ rw refused tt
 ]
 
-own_fault : (p : Parameters) (plan : Plan) (o : Own) → FaultOfText (after_own p plan o)
-own_fault p plan o = elim (cases_Bool (has_owned_alone plan && is_none (own_refusal plan o))) [
+own_fault : (v : Version) (p : Parameters) (plan : Plan) (o : Own) → FaultOfText (after_own v p plan o)
+own_fault v p plan o = elim (cases_Bool (has_owned_alone plan && is_none (own_refusal plan o))) [
   | inl taken ↦ rw taken tt
   | inr refused ↦ rw refused tt
 ]
 
-plan_line_fault : (p : Parameters) (plan : Plan) (o : Option PlanLine) → FaultOfText (after_plan_line p plan o)
-plan_line_fault p plan None = tt
-plan_line_fault p plan (Some (plan_line.Own o)) = own_fault p plan o
-plan_line_fault p plan (Some (plan_line.Buffer b)) = buffer_fault p plan b
-plan_line_fault p plan (Some (plan_line.Queue q)) = queue_fault p plan q
+plan_line_fault : (v : Version) (p : Parameters) (plan : Plan) (o : Option PlanLine) → FaultOfText (after_plan_line v p plan o)
+plan_line_fault v p plan None = tt
+plan_line_fault v p plan (Some (plan_line.Own o)) = own_fault v p plan o
+plan_line_fault v p plan (Some (plan_line.Buffer b)) = buffer_fault v p plan b
+plan_line_fault v p plan (Some (plan_line.Queue q)) = queue_fault v p plan q
 
-begin_fault : (p : Parameters) (plan : Plan) → FaultOfText (after_begin p plan)
-begin_fault p plan = elim (cases_Bool (is_none (plan_fault p plan))) [
+begin_fault : (v : Version) (p : Parameters) (plan : Plan) → FaultOfText (after_begin v p plan)
+begin_fault v p plan = elim (cases_Bool (is_none (plan_fault p plan))) [
   | inl pass ↦ rw pass tt
   | inr fail ↦ rw fail tt
 ]
 
-call_fault : (s : State) (e : Entry) → FaultOfText (after_call s e)
-call_fault s e = elim (cases_Bool (is_refused s e)) [
+call_fault : (v : Version) (s : State) (e : Entry) → FaultOfText (after_call v s e)
+call_fault v s e = elim (cases_Bool (is_refused s e)) [
   | inl refused ↦ rw refused tt
   | inr accepted ↦
       rw accepted
@@ -89,26 +94,23 @@ call_fault s e = elim (cases_Bool (is_refused s e)) [
       ])
 ]
 
-entry_fault : (s : State) (o : Option Entry) → FaultOfText (after_entry s o)
-entry_fault s None = tt
-entry_fault s (Some e) = call_fault s e
+entry_fault : (v : Version) (s : State) (o : Option Entry) → FaultOfText (after_entry v s o)
+entry_fault v s None = tt
+entry_fault v s (Some e) = call_fault v s e
 
 line_fault : (p : Phase) (line : List ℕ) → FaultOfText (take_line p line)
-line_fault magic line = elim (cases_Bool (bytes_eq line first_line)) [
+line_fault magic line = magic_fault (version_in line)
+line_fault (params v) line = numbers_fault v (params_in (words_of line))
+line_fault (node v p) line = node_fault v p (node_in (words_of line))
+line_fault (lines v p plan) line = elim (cases_Bool (bytes_eq line begin_line)) [
+  | inl pass ↦ rw pass (begin_fault v p plan)
+  | inr fail ↦ rw fail (plan_line_fault v p plan (plan_line_in v (words_of line)))
+]
+line_fault (body v s) line = elim (cases_Bool (bytes_eq line end_line)) [
   | inl pass ↦ rw pass tt
-  | inr fail ↦ rw fail tt
+  | inr fail ↦ rw fail (entry_fault v s (entry_in v (words_of line)))
 ]
-line_fault params line = numbers_fault (params_in (words_of line))
-line_fault (node p) line = node_fault p (node_in (words_of line))
-line_fault (lines p plan) line = elim (cases_Bool (bytes_eq line begin_line)) [
-  | inl pass ↦ rw pass (begin_fault p plan)
-  | inr fail ↦ rw fail (plan_line_fault p plan (plan_line_in (words_of line)))
-]
-line_fault (body s) line = elim (cases_Bool (bytes_eq line end_line)) [
-  | inl pass ↦ rw pass tt
-  | inr fail ↦ rw fail (entry_fault s (entry_in (words_of line)))
-]
-line_fault (finished s) line = tt
+line_fault (finished v s) line = tt
 
 -- ---- bytes
 
@@ -118,11 +120,11 @@ after_line_fault (Err e) h = h
 
 long_fault : (p : Phase) → IsOfText (too_long p)
 long_fault magic = tt
-long_fault params = tt
-long_fault (node p) = tt
-long_fault (lines p plan) = tt
-long_fault (body s) = tt
-long_fault (finished s) = tt
+long_fault (params v) = tt
+long_fault (node v p) = tt
+long_fault (lines v p plan) = tt
+long_fault (body v s) = tt
+long_fault (finished v s) = tt
 
 open_fault : (p : Phase) (line : List ℕ) (b : ℕ) → FailsByText (take_open p line b)
 open_fault p line b = elim (cases_Bool (b == 10)) [
@@ -136,11 +138,11 @@ open_fault p line b = elim (cases_Bool (b == 10)) [
 byte_fault : (s : Progress) (b : ℕ) → FailsByText s → FailsByText (take_byte s b)
 byte_fault (failed e) b h = h
 byte_fault (reading magic line) b h = open_fault magic line b
-byte_fault (reading params line) b h = open_fault params line b
-byte_fault (reading (node p) line) b h = open_fault (node p) line b
-byte_fault (reading (lines p plan) line) b h = open_fault (lines p plan) line b
-byte_fault (reading (body s) line) b h = open_fault (body s) line b
-byte_fault (reading (finished s) line) b h = tt
+byte_fault (reading (params v) line) b h = open_fault (params v) line b
+byte_fault (reading (node v p) line) b h = open_fault (node v p) line b
+byte_fault (reading (lines v p plan) line) b h = open_fault (lines v p plan) line b
+byte_fault (reading (body v s) line) b h = open_fault (body v s) line b
+byte_fault (reading (finished v s) line) b h = tt
 
 pub bytes_fault : (bytes : List ℕ) (s : Progress) → FailsByText s → FailsByText (take_bytes s bytes)
 bytes_fault [] s h = h
@@ -149,8 +151,8 @@ bytes_fault (b ∷ bytes) s h = bytes_fault bytes (take_byte s b) (byte_fault s 
 pub outcome_fault : (s : Progress) → FailsByText s → FaultOfText (outcome_of s)
 outcome_fault (failed e) h = h
 outcome_fault (reading magic line) h = tt
-outcome_fault (reading params line) h = tt
-outcome_fault (reading (node p) line) h = tt
-outcome_fault (reading (lines p plan) line) h = tt
-outcome_fault (reading (body s) line) h = tt
-outcome_fault (reading (finished s) line) h = tt
+outcome_fault (reading (params v) line) h = tt
+outcome_fault (reading (node v p) line) h = tt
+outcome_fault (reading (lines v p plan) line) h = tt
+outcome_fault (reading (body v s) line) h = tt
+outcome_fault (reading (finished v s) line) h = tt

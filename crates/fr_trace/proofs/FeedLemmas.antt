@@ -3,6 +3,7 @@ use Rattle.std.proofs.Common.{◌≡◌, ℕ, true, List, [], ◌∷◌, ◌++�
 use Rattle.std.proofs.lemmas.List.Sums.{fold-append}
 use Rattle.std.proofs.lemmas.List.Folds.{fold_stays}
 use Rattle.fr_interface.specs.State.{State}
+use Rattle.fr_lines.specs.declared.versions.Version.{Version}
 use Rattle.fr_trace.specs.Auditor.{phase_of}
 use Rattle.fr_trace.specs.declared.auditor.Phase.{Phase as Given}
 use Rattle.fr_trace.specs.declared.auditor.Phase.TheVariants.{Magic, Parameters, Node, Lines, Body, Finished}
@@ -33,10 +34,10 @@ pub feed_read : (p : Phase) (line : List ℕ) (new : Progress) → is_open p ≡
 feed_read p line new opened (inl is) = inl (is ∙ sym (take_in-open p line 10 opened))
 feed_read p line new opened (inr out) = inr (out.0, ([], [], refl, out.1))
 
-pub phase_open : (p : Given) → ((i : State) → p ≡ Finished i → ⊥) → is_open (phase_of p) ≡ true
+pub phase_open : (p : Given) → ((v : Version) (i : State) → p ≡ Finished v i → ⊥) → is_open (phase_of p) ≡ true
 phase_open Magic h = refl
-phase_open Parameters h = refl
-phase_open (Node p) h = refl
-phase_open (Lines p plan) h = refl
-phase_open (Body i) h = refl
-phase_open (Finished i) h = absurd (h i refl)
+phase_open (Parameters v) h = refl
+phase_open (Node v p) h = refl
+phase_open (Lines v p plan) h = refl
+phase_open (Body v i) h = refl
+phase_open (Finished v i) h = absurd (h v i refl)

@@ -9,5 +9,6 @@ pub mod PieceLemmas
 pub mod PlanLemmas
 pub mod ReportLemmas
 pub mod TextLemmas
+pub mod ToldLemmas
 pub mod WritingLemmas
 pub mod RefusalLemmas

@@ -1,39 +1,69 @@
 -- What is accepted is the text of an interface, and the text of a legal interface is accepted.
-use Rattle.std.proofs.Common.{◌≡◌, ℕ, List, ◌++◌, Option, Some, None, Result, Ok, Err, refl, sym, ap, subst, ◌∙◌}
+use Rattle.std.proofs.Common.{◌≡◌, ℕ, true, List, [], ◌∷◌, ◌++◌, Option, Some, None, Result, Ok, Err, refl, sym, ap, subst, ◌∙◌}
 use Rattle.std.proofs.lemmas.List.{append-nil}
+use Rattle.fr_journal.specs.declared.entry.Entry.{Entry}
+use Rattle.fr_journal.specs.declared.entry.Entry.TheVariants as entries
 use Rattle.fr_interface.specs.State.{State, IsLegalInterface}
+use Rattle.fr_lines.specs.declared.versions.Version.TheVariants.{Three}
+use Rattle.fr_lines.specs.Versions.{tells}
+use Rattle.fr_slots.specs.declared.plan.Own.{Own}
 use Rattle.fr_trace.specs.Audit.{IsTextOf, IsRefusedBy, HasBegin, Leaves, Audits, Stops, StopsIn, BeginsIn}
 use Rattle.fr_trace.specs.Audit.{ReadsThrough, IsNotRefused, IsOfText, Understands, outcome}
-use Rattle.std.specs.Prelude.{IfOk}
+use Rattle.std.specs.Prelude.{IfOk, IsSomeAnd}
 use Rattle.fr_trace.specs.Feeds.{Begins}
 use Rattle.fr_trace.specs.declared.error.TraceError.{TraceError}
 use Rattle.fr_trace.specs.declared.error.TraceError.TheVariants.{BadMagic, BadLine, LineTooLong, Refused, WrongAnswer}
 use Rattle.fr_trace.specs.declared.error.TraceError.TheVariants.{Truncated, Read, Write, Memory}
 use Rattle.fr_trace.specs.Stream.{Progress, magic, params, node, lines, body, finished, reading, failed, fresh}
 use Rattle.fr_trace.specs.Stream.{take_bytes, outcome_of}
-use Rattle.fr_trace.specs.TraceText.{trace_text}
+use Rattle.fr_trace.specs.TraceText.{trace_text, AreOwnedTold, AreTold, IsTraceOf}
 use Rattle.fr_trace.proofs.AgainLemmas.{text_again, text_begins}
 use Rattle.fr_trace.proofs.FeedLemmas.{begins_before, begins_behind}
 use Rattle.fr_trace.proofs.TextLemmas.{Spelled, text_spelled}
+use Rattle.fr_trace.proofs.ToldLemmas.{IsToldSoFar, text_told}
 
-found_in : (p : Progress) (text : List ℕ) (s : State) → Spelled p text → outcome_of p ≡ Ok s → text ≡ trace_text s
-found_in (failed e) text s spelled h = cc h
-found_in (reading magic line) text s spelled h = cc h
-found_in (reading params line) text s spelled h = cc h
-found_in (reading (node p) line) text s spelled h = cc h
-found_in (reading (lines p plan) line) text s spelled h = cc h
-found_in (reading (body t) line) text s spelled h = cc h
-found_in (reading (finished t) line) text s spelled h =
+found_in : (p : Progress) (text : List ℕ) (s : State) → Spelled p text → IsToldSoFar p → outcome_of p ≡ Ok s → IsTraceOf s text
+found_in (failed e) text s spelled told h = cc h
+found_in (reading magic line) text s spelled told h = cc h
+found_in (reading (params v) line) text s spelled told h = cc h
+found_in (reading (node v p) line) text s spelled told h = cc h
+found_in (reading (lines v p plan) line) text s spelled told h = cc h
+found_in (reading (body v t) line) text s spelled told h = cc h
+found_in (reading (finished v t) line) text s spelled told h =
     let same : t ≡ s = cc h in
-    spelled.0 ∙ (ap (λ l. trace_text t ++ l) spelled.1 ∙ (append-nil (trace_text t) ∙ ap trace_text same))
+    let whole : text ≡ trace_text v t = spelled.0 ∙ (ap (λ l. trace_text v t ++ l) spelled.1 ∙ append-nil (trace_text v t)) in
+    subst (λ (x : State). IsTraceOf x text) same (v, whole, told.0, told.1)
 
--- what is accepted is the text of that interface
-pub accepted_text : (text : List ℕ) (s : State) → outcome_of (take_bytes fresh text) ≡ Ok s → text ≡ trace_text s
-accepted_text text s h = found_in (take_bytes fresh text) text s (text_spelled text) h
+-- what is accepted is a text of that interface
+pub accepted_text : (text : List ℕ) (s : State) → outcome_of (take_bytes fresh text) ≡ Ok s → IsTraceOf s text
+accepted_text text s h = found_in (take_bytes fresh text) text s (text_spelled text) (text_told text) h
 
--- the text of a legal interface is accepted
-pub legal_outcome : (text : List ℕ) (s : State) → IsLegalInterface s → text ≡ trace_text s → outcome_of (take_bytes fresh text) ≡ Ok s
-legal_outcome text s is same = ap (λ t. outcome_of (take_bytes fresh t)) same ∙ ap outcome_of (text_again s is)
+-- a text of a legal interface is accepted
+pub legal_outcome : (text : List ℕ) (s : State) → IsLegalInterface s → IsTraceOf s text → outcome_of (take_bytes fresh text) ≡ Ok s
+legal_outcome text s is trace =
+    let (v, same, owned, told) = trace in
+    ap (λ t. outcome_of (take_bytes fresh t)) same ∙ ap outcome_of (text_again v s is owned told)
+
+-- version 3 has a line for each entry and for each ownership
+tells_all : (e : Entry) → tells Three e ≡ true
+tells_all (entries.Commit task buffer payload) = refl
+tells_all (entries.Withdraw task buffer of) = refl
+tells_all (entries.Read task buffer from) = refl
+tells_all (entries.Pop task from) = refl
+tells_all (entries.Fetch window a b) = refl
+tells_all (entries.Observe window a b) = refl
+
+all_told : (entries : List Entry) → AreTold Three entries
+all_told [] = tt
+all_told (e ∷ entries) = (tells_all e, all_told entries)
+
+all_owned_told : (owned : List Own) → AreOwnedTold Three owned
+all_owned_told [] = tt
+all_owned_told (o ∷ owned) = (refl, all_owned_told owned)
+
+-- what is written is accepted
+pub written_outcome : (s : State) → IsLegalInterface s → outcome_of (take_bytes fresh (trace_text Three s)) ≡ Ok s
+written_outcome s is = legal_outcome (trace_text Three s) s is (Three, refl, all_owned_told s.plan.owned, all_told s.entries)
 
 -- ---- an audit
 
@@ -45,7 +75,9 @@ text_given (Some text) (Some rest) s h = accepted_text text s h.1
 -- a text that is accepted has the line at which its interface is made
 pub accepted_begins : (text : Option (List ℕ)) (s : State) → IsLegalInterface s → IsTextOf s text → HasBegin text
 accepted_begins None s is same = tt
-accepted_begins (Some text) s is same = subst (λ t. Begins fresh t) (sym same) (text_begins s is)
+accepted_begins (Some text) s is trace =
+    let (v, same, owned, told) = trace in
+    subst (λ t. Begins fresh t) (sym same) (text_begins v s is owned)
 
 piece_begins : (text rest : List ℕ) → StopsIn BeginsIn text rest → Begins fresh text
 piece_begins text rest h =
@@ -119,11 +151,11 @@ given_fault text old new Read h of_text = absurd of_text
 given_fault text old new Write h of_text = absurd of_text
 given_fault text old new Memory h of_text = absurd of_text
 
-pub not_refused : (text old new : Option (List ℕ)) (r : Result (Unit {0}) TraceError) (s : State) → Audits text old new r → IsLegalInterface s → text ≡ Some (trace_text s) → IsNotRefused r
-not_refused text old new (Ok x) s h is same = tt
-not_refused text old new (Err e) s h is same =
-    λ of_text. clash (outcome_of (take_bytes fresh (trace_text s))) s e (legal_outcome (trace_text s) s is refl)
-    (subst (λ (t : Option (List ℕ)). IsRefusedBy e t) same (given_fault text old new e h of_text))
+pub not_refused : (text old new : Option (List ℕ)) (r : Result (Unit {0}) TraceError) (s : State) → Audits text old new r → IsLegalInterface s → IsSomeAnd text (λ t. IsTraceOf s t) → IsNotRefused r
+not_refused text old new (Ok x) s h is trace = tt
+not_refused None old new (Err e) s h is trace = absurd trace
+not_refused (Some text) old new (Err e) s h is trace =
+    λ of_text. clash (outcome_of (take_bytes fresh text)) s e (legal_outcome text s is trace) (given_fault (Some text) old new e h of_text)
 
 -- ---- an interface alone
 

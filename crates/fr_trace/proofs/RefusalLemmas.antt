@@ -10,10 +10,11 @@ use Rattle.std.proofs.lemmas.List.Folds.{fold_stays}
 use Rattle.fr_journal.specs.declared.entry.Entry.{Entry}
 use Rattle.fr_interface.specs.State.{State}
 use Rattle.fr_lines.proofs.NodeLemmas.{node_no_lines}
-use Rattle.fr_lines.specs.Reading.{params_in, node_in, plan_line_in, entry_in}
+use Rattle.fr_lines.specs.Reading.{version_in, params_in, node_in, plan_line_in, entry_in}
+use Rattle.fr_lines.specs.declared.versions.Version.{Version}
 use Rattle.fr_lines.specs.declared.plan_lines.PlanLine.{PlanLine}
 use Rattle.fr_lines.specs.declared.plan_lines.PlanLine.TheVariants as plan_line
-use Rattle.fr_lines.specs.Spelling.{first_line, begin_line, end_line}
+use Rattle.fr_lines.specs.Spelling.{begin_line, end_line}
 use Rattle.fr_slots.specs.declared.params.RangeError.{RangeError}
 use Rattle.fr_slots.specs.declared.plan.Buffer.{Buffer}
 use Rattle.fr_slots.specs.declared.plan.Own.{Own}
@@ -31,7 +32,7 @@ use Rattle.fr_trace.specs.Feeds.{Reads}
 use Rattle.fr_trace.specs.Refusals.{line_of_error, feed_count, IsFirstFault, NamesItsLine, LineIsNamed, IsHopeless}
 use Rattle.fr_trace.specs.Refusals.{HopelessIfRefused, HasFewLines, ShortIfTaken, longest_text}
 use Rattle.fr_trace.specs.Stream.{Phase, magic, params, node, lines, body, finished, Progress, reading, failed}
-use Rattle.fr_trace.specs.Stream.{line_count, line_number, after_parameters, after_numbers, after_node, after_queue}
+use Rattle.fr_trace.specs.Stream.{line_count, line_number, after_magic, after_parameters, after_numbers, after_node, after_queue}
 use Rattle.fr_trace.specs.Stream.{after_buffer, has_owned_alone, after_own, after_plan_line, after_begin, after_fault}
 use Rattle.fr_trace.specs.Stream.{after_entry, take_line, too_long, after_line, take_open, take_in}
 use Rattle.fr_trace.specs.Stream.{take_byte, take_bytes, fresh, longest_line, answer_of, outcome_of}
@@ -45,50 +46,54 @@ abbrev GivesNext : ℕ → Result Phase TraceError → Type 0
 GivesNext n (Ok q) = line_number q ≡ n + 1
 GivesNext n (Err e) = IfSome (line_of_error e) (λ m. m ≡ n)
 
-parameters_next : (r : Result Parameters RangeError) → GivesNext 2 (after_parameters r)
-parameters_next (Err e) = refl
-parameters_next (Ok p) = refl
+magic_next : (o : Option Version) → GivesNext 1 (after_magic o)
+magic_next None = tt
+magic_next (Some v) = refl
 
-numbers_next : (o : Option (List ℤ)) → GivesNext 2 (after_numbers o)
-numbers_next None = refl
-numbers_next (Some numbers) = parameters_next (parameters_of numbers)
+parameters_next : (v : Version) (r : Result Parameters RangeError) → GivesNext 2 (after_parameters v r)
+parameters_next v (Err e) = refl
+parameters_next v (Ok p) = refl
+
+numbers_next : (v : Version) (o : Option (List ℤ)) → GivesNext 2 (after_numbers v o)
+numbers_next v None = refl
+numbers_next v (Some numbers) = parameters_next v (parameters_of numbers)
 
 bare_count : (plan : Plan) → plan.owned ≡ [] → plan.buffers ≡ [] → plan.queue ≡ None → line_count plan + 4 ≡ 3 + 1
 bare_count plan no_own no_buffer no_queue = rw (no_own, no_buffer, no_queue) refl
 
-node_next : (p : Parameters) (words : List (List ℕ)) (o : Option Plan) → node_in words ≡ o → GivesNext 3 (after_node p o)
-node_next p words None read = refl
-node_next p words (Some plan) read = let bare = node_no_lines words plan read in bare_count plan bare.0 bare.1 bare.2
+node_next : (v : Version) (p : Parameters) (words : List (List ℕ)) (o : Option Plan) → node_in words ≡ o → GivesNext 3 (after_node v p o)
+node_next v p words None read = refl
+node_next v p words (Some plan) read = let bare = node_no_lines words plan read in bare_count plan bare.0 bare.1 bare.2
 
-queue_next : (p : Parameters) (plan : Plan) (q : Queue) → GivesNext (line_count plan + 4) (after_queue p plan q)
-queue_next p plan q =
+queue_next : (v : Version) (p : Parameters) (plan : Plan) (q : Queue) → GivesNext (line_count plan + 4) (after_queue v p plan q)
+queue_next v p plan q =
     elim (cases_Bool (is_none (queue_refusal plan q))) [
       | inl taken ↦ rw taken (let none = no_queue_yet plan q taken in rw none (omega arith))
       | inr refused ↦ rw refused refl
     ]
 
-buffer_next : (p : Parameters) (plan : Plan) (b : Buffer) → GivesNext (line_count plan + 4) (after_buffer p plan b)
-buffer_next p plan b =
+buffer_next : (v : Version) (p : Parameters) (plan : Plan) (b : Buffer) → GivesNext (line_count plan + 4) (after_buffer v p plan b)
+buffer_next v p plan b =
     elim (cases_Bool (is_none plan.queue && is_none (buffer_refusal plan b))) [
       | inl taken ↦ rw taken (omega (arith, length-append plan.buffers (b ∷ [])))
       | inr refused ↦ rw refused refl
     ]
 
-own_next : (p : Parameters) (plan : Plan) (o : Own) → GivesNext (line_count plan + 4) (after_own p plan o)
-own_next p plan o =
+own_next : (v : Version) (p : Parameters) (plan : Plan) (o : Own) → GivesNext (line_count plan + 4) (after_own v p plan o)
+own_next v p plan o =
     elim (cases_Bool (has_owned_alone plan && is_none (own_refusal plan o))) [
       | inl taken ↦ rw taken (omega (arith, length-append plan.owned (o ∷ [])))
       | inr refused ↦ rw refused refl
     ]
 
-plan_line_next : (p : Parameters) (plan : Plan) (o : Option PlanLine) → GivesNext (line_count plan + 4) (after_plan_line p plan o)
-plan_line_next p plan None = refl
-plan_line_next p plan (Some (plan_line.Own o)) = own_next p plan o
-plan_line_next p plan (Some (plan_line.Buffer b)) = buffer_next p plan b
-plan_line_next p plan (Some (plan_line.Queue q)) = queue_next p plan q
+plan_line_next : (v : Version) (p : Parameters) (plan : Plan) (o : Option PlanLine) → GivesNext (line_count plan + 4) (after_plan_line v p plan o)
+plan_line_next v p plan None = refl
+plan_line_next v p plan (Some (plan_line.Own o)) = own_next v p plan o
+plan_line_next v p plan (Some (plan_line.Buffer b)) = buffer_next v p plan b
+plan_line_next v p plan (Some (plan_line.Queue q)) = queue_next v p plan q
 
-begin_next : (p : Parameters) (plan : Plan) → GivesNext (line_count plan + 4) (after_begin p plan)
-begin_next p plan =
+begin_next : (v : Version) (p : Parameters) (plan : Plan) → GivesNext (line_count plan + 4) (after_begin v p plan)
+begin_next v p plan =
     elim (cases_Bool (is_none (plan_fault p plan))) [
       | inl pass ↦ rw pass (omega arith)
       | inr fail ↦ rw fail refl
@@ -104,28 +109,28 @@ fault_named n s e =
       ])
     ]
 
-fault_next : (s : State) (e : Entry) (o : Option TraceError) → IfSome o (λ error. IfSome (line_of_error error) (λ m. m ≡ line_number (body s)))
-    → GivesNext (line_number (body s)) (after_fault s e o)
-fault_next s e None named = omega (arith, length-append s.entries (made_by s e ∷ []))
-fault_next s e (Some error) named = named
+fault_next : (v : Version) (s : State) (e : Entry) (o : Option TraceError) → IfSome o (λ error. IfSome (line_of_error error) (λ m. m ≡ line_number (body v s)))
+    → GivesNext (line_number (body v s)) (after_fault v s e o)
+fault_next v s e None named = omega (arith, length-append s.entries (made_by s e ∷ []))
+fault_next v s e (Some error) named = named
 
-entry_next : (s : State) (o : Option Entry) → GivesNext (line_number (body s)) (after_entry s o)
-entry_next s None = refl
-entry_next s (Some e) = fault_next s e (fault_of (line_number (body s)) s e) (fault_named (line_number (body s)) s e)
+entry_next : (v : Version) (s : State) (o : Option Entry) → GivesNext (line_number (body v s)) (after_entry v s o)
+entry_next v s None = refl
+entry_next v s (Some e) = fault_next v s e (fault_of (line_number (body v s)) s e) (fault_named (line_number (body v s)) s e)
 
 line_next : (p : Phase) (line : List ℕ) → GivesNext (line_number p) (take_line p line)
-line_next magic line = elim (cases_Bool (bytes_eq line first_line)) [ inl is ↦ rw is refl | inr other ↦ rw other tt ]
-line_next params line = numbers_next (params_in (words_of line))
-line_next (node p) line = node_next p (words_of line) (node_in (words_of line)) refl
-line_next (lines p plan) line = elim (cases_Bool (bytes_eq line begin_line)) [
-  | inl is ↦ rw is (begin_next p plan)
-  | inr other ↦ rw other (plan_line_next p plan (plan_line_in (words_of line)))
+line_next magic line = magic_next (version_in line)
+line_next (params v) line = numbers_next v (params_in (words_of line))
+line_next (node v p) line = node_next v p (words_of line) (node_in (words_of line)) refl
+line_next (lines v p plan) line = elim (cases_Bool (bytes_eq line begin_line)) [
+  | inl is ↦ rw is (begin_next v p plan)
+  | inr other ↦ rw other (plan_line_next v p plan (plan_line_in v (words_of line)))
 ]
-line_next (body s) line = elim (cases_Bool (bytes_eq line end_line)) [
+line_next (body v s) line = elim (cases_Bool (bytes_eq line end_line)) [
   | inl is ↦ rw is (omega arith)
-  | inr other ↦ rw other (entry_next s (entry_in (words_of line)))
+  | inr other ↦ rw other (entry_next v s (entry_in v (words_of line)))
 ]
-line_next (finished s) line = refl
+line_next (finished v s) line = refl
 
 -- ---- bytes: the line after a line feed has the next number, and a fault names the line of its byte
 
@@ -135,11 +140,11 @@ StepsTo n feed (failed e) = IfSome (line_of_error e) (λ m. m ≡ n)
 
 long_named : (p : Phase) → IfSome (line_of_error (too_long p)) (λ m. m ≡ line_number p)
 long_named magic = tt
-long_named params = refl
-long_named (node p) = refl
-long_named (lines p plan) = refl
-long_named (body s) = refl
-long_named (finished s) = refl
+long_named (params v) = refl
+long_named (node v p) = refl
+long_named (lines v p plan) = refl
+long_named (body v s) = refl
+long_named (finished v s) = refl
 
 after_line_steps : (n : ℕ) (r : Result Phase TraceError) → GivesNext n r → StepsTo n true (after_line r)
 after_line_steps n (Ok q) h = h
@@ -160,11 +165,11 @@ steps_in p line b opened = subst (λ s. StepsTo (line_number p) (b == 10) s) (sy
 
 steps : (p : Phase) (line : List ℕ) (b : ℕ) → StepsTo (line_number p) (b == 10) (take_in p line b)
 steps magic line b = steps_in magic line b refl
-steps params line b = steps_in params line b refl
-steps (node p) line b = steps_in (node p) line b refl
-steps (lines p plan) line b = steps_in (lines p plan) line b refl
-steps (body s) line b = steps_in (body s) line b refl
-steps (finished s) line b = refl
+steps (params v) line b = steps_in (params v) line b refl
+steps (node v p) line b = steps_in (node v p) line b refl
+steps (lines v p plan) line b = steps_in (lines v p plan) line b refl
+steps (body v s) line b = steps_in (body v s) line b refl
+steps (finished v s) line b = refl
 
 -- ---- texts
 
@@ -221,11 +226,11 @@ first_fault text e is =
 outcome_named_in : (s : Progress) (text : List ℕ) → take_bytes fresh text ≡ s → LineIsNamed (outcome_of s) text
 outcome_named_in (failed e) text is = first_fault text e is
 outcome_named_in (reading magic l) text is = tt
-outcome_named_in (reading params l) text is = tt
-outcome_named_in (reading (node p) l) text is = tt
-outcome_named_in (reading (lines p plan) l) text is = tt
-outcome_named_in (reading (body t) l) text is = tt
-outcome_named_in (reading (finished t) l) text is = tt
+outcome_named_in (reading (params v) l) text is = tt
+outcome_named_in (reading (node v p) l) text is = tt
+outcome_named_in (reading (lines v p plan) l) text is = tt
+outcome_named_in (reading (body v t) l) text is = tt
+outcome_named_in (reading (finished v t) l) text is = tt
 
 -- what a whole text is refused with names its line
 pub outcome_named : (text : List ℕ) → LineIsNamed (outcome_of (take_bytes fresh text)) text
@@ -301,11 +306,11 @@ short_in n p l b opened short = subst (λ s. IsShort (n + 1) s) (sym (take_in-op
 byte_short : (n : ℕ) (s : Progress) (b : ℕ) → IsShort n s → IsShort (n + 1) (take_byte s b)
 byte_short n (failed e) b short = tt
 byte_short n (reading magic l) b short = short_in n magic l b refl short
-byte_short n (reading params l) b short = short_in n params l b refl short
-byte_short n (reading (node p) l) b short = short_in n (node p) l b refl short
-byte_short n (reading (lines p plan) l) b short = short_in n (lines p plan) l b refl short
-byte_short n (reading (body s) l) b short = short_in n (body s) l b refl short
-byte_short n (reading (finished s) l) b short = tt
+byte_short n (reading (params v) l) b short = short_in n (params v) l b refl short
+byte_short n (reading (node v p) l) b short = short_in n (node v p) l b refl short
+byte_short n (reading (lines v p plan) l) b short = short_in n (lines v p plan) l b refl short
+byte_short n (reading (body v s) l) b short = short_in n (body v s) l b refl short
+byte_short n (reading (finished v s) l) b short = tt
 
 bytes_short : (bytes : List ℕ) (n : ℕ) (s : Progress) → IsShort n s → IsShort (n + length bytes) (take_bytes s bytes)
 bytes_short [] n s short = let same : n ≡ n + 0 = omega arith in subst (λ k. IsShort k s) same short
@@ -316,11 +321,11 @@ bytes_short (b ∷ bytes) n s short =
 whole_short : (p : Progress) (text : List ℕ) (s : State) → IsShort (length text) p → Spelled p text → outcome_of p ≡ Ok s → HasFewLines s → length text ≤ longest_text
 whole_short (failed e) text s short spelled h few = cc h
 whole_short (reading magic l) text s short spelled h few = cc h
-whole_short (reading params l) text s short spelled h few = cc h
-whole_short (reading (node p) l) text s short spelled h few = cc h
-whole_short (reading (lines p plan) l) text s short spelled h few = cc h
-whole_short (reading (body t) l) text s short spelled h few = cc h
-whole_short (reading (finished t) l) text s short spelled h few =
+whole_short (reading (params v) l) text s short spelled h few = cc h
+whole_short (reading (node v p) l) text s short spelled h few = cc h
+whole_short (reading (lines v p plan) l) text s short spelled h few = cc h
+whole_short (reading (body v t) l) text s short spelled h few = cc h
+whole_short (reading (finished v t) l) text s short spelled h few =
     let same : t ≡ s = cc h in
     let few' : HasFewLines t = subst HasFewLines (sym same) few in
     omega (arith, short.0, few', ap length spelled.1)

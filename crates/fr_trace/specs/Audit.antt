@@ -7,7 +7,7 @@ use Rattle.fr_trace.specs.declared.error.TraceError.TheVariants.{Read, Write, Me
 use Rattle.fr_trace.specs.Feeds.{Begins}
 use Rattle.fr_trace.specs.ReportText.{report_text}
 use Rattle.fr_trace.specs.Stream.{failed, fresh, take_bytes, answer_of, outcome_of}
-use Rattle.fr_trace.specs.TraceText.{trace_text}
+use Rattle.fr_trace.specs.TraceText.{IsTraceOf}
 
 -- an error that the text alone gives
 abbrev pub IsOfText : TraceError → Type 0
@@ -23,10 +23,10 @@ IsNotRefused (Err e) = IsOfText e → ⊥
 
 -- ---- what is done with a text, where it is known
 
--- the text is that of the interface
+-- the text is one of the interface
 abbrev pub IsTextOf : State → Option (List ℕ) → Type 0
 IsTextOf s None = Unit {0}
-IsTextOf s (Some text) = text ≡ trace_text s
+IsTextOf s (Some text) = IsTraceOf s text
 
 -- the text is refused by this first fault
 abbrev pub IsRefusedBy : TraceError → Option (List ℕ) → Type 0
@@ -38,7 +38,7 @@ abbrev pub HasBegin : Option (List ℕ) → Type 0
 HasBegin None = Unit {0}
 HasBegin (Some text) = Begins fresh text
 
--- The text is that of a legal interface, whose report is written, or the writer failed at that. Or nothing is written,
+-- The text is one of a legal interface, whose report is written, or the writer failed at that. Or nothing is written,
 -- and the text is refused by its first line at fault, or memory ran out as the text's interface was made, or the reader
 -- failed.
 abbrev pub Audits : Option (List ℕ) → Option (List ℕ) → Option (List ℕ) → Result (Unit {0}) TraceError → Type 0
@@ -126,7 +126,7 @@ abbrev pub outcome : {A : Type 0} → Result A TraceError → Result (Unit {0}) 
 outcome (Ok x) = Ok tt
 outcome (Err e) = Err e
 
--- The text is that of the legal interface which is given. Or it is refused by its first line at fault, or memory ran
+-- The text is one of the legal interface which is given. Or it is refused by its first line at fault, or memory ran
 -- out as the text's interface was made, or the reader failed.
 abbrev pub Understands : Option (List ℕ) → Result State TraceError → Type 0
 Understands text (Ok s) = IsTextOf s text × IsLegalInterface s

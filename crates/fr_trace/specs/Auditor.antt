@@ -7,11 +7,11 @@ use Rattle.fr_trace.specs.declared.error.TraceError.{TraceError}
 
 abbrev pub phase_of : Phase → View
 phase_of Magic = magic
-phase_of Parameters = params
-phase_of (Node p) = node p
-phase_of (Lines p plan) = lines p plan
-phase_of (Body interface) = body interface
-phase_of (Finished interface) = finished interface
+phase_of (Parameters v) = params v
+phase_of (Node v p) = node v p
+phase_of (Lines v p plan) = lines v p plan
+phase_of (Body v interface) = body v interface
+phase_of (Finished v interface) = finished v interface
 
 abbrev pub progress_in : Option TraceError → View → List ℕ → Progress
 progress_in (Some e) phase line = failed e

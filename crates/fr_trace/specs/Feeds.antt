@@ -10,7 +10,7 @@ use Rattle.fr_trace.specs.declared.error.TraceError.TheVariants.{Memory}
 
 -- the line is the `begin` of a plan without fault
 abbrev pub IsBegin : Phase → List ℕ → Type 0
-IsBegin (lines p plan) line = (line ≡ begin_line) × (plan_fault p plan ≡ None)
+IsBegin (lines v p plan) line = (line ≡ begin_line) × (plan_fault p plan ≡ None)
 IsBegin p line = ⊥
 
 -- the same, of a line whose line feed comes next
@@ -47,7 +47,7 @@ GivesUnless may view (Err e) read = (read ≡ Err e) ⊎ ((e ≡ Memory) × may)
 
 -- no line of a journal is expected, or the line is `end`
 abbrev pub IsNoEntry : Phase → List ℕ → Type 0
-IsNoEntry (body s) line = line ≡ end_line
+IsNoEntry (body v s) line = line ≡ end_line
 IsNoEntry p line = Unit
 
 -- the front of a line that isn't over

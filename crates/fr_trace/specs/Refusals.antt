@@ -7,7 +7,7 @@ use Rattle.fr_trace.specs.Audit.{IsOfText, HasNoFault}
 use Rattle.fr_trace.specs.declared.error.TraceError.{TraceError}
 use Rattle.fr_trace.specs.declared.error.TraceError.TheVariants.{BadLine, LineTooLong, Refused, WrongAnswer}
 use Rattle.fr_trace.specs.Stream.{failed, fresh, take_bytes, line_count, longest_line}
-use Rattle.fr_trace.specs.TraceText.{trace_text}
+use Rattle.fr_trace.specs.TraceText.{IsTraceOf}
 
 -- ---- the line
 
@@ -43,7 +43,7 @@ LineIsNamed (Err e) text = NamesItsLine e text
 
 -- no text of a legal interface begins with these bytes
 abbrev pub IsHopeless : List ℕ → Type 0
-IsHopeless bytes = (rest : List ℕ) (s : State) → IsLegalInterface s → bytes ++ rest ≡ trace_text s → ⊥
+IsHopeless bytes = (rest : List ℕ) (s : State) → IsLegalInterface s → IsTraceOf s (bytes ++ rest) → ⊥
 
 -- where a fault of the text is answered
 abbrev pub HopelessIfRefused : {A : Type 0} → Result A TraceError → List ℕ → Type 0

@@ -23,7 +23,7 @@ use Rattle.fr_lines.specs.Spelling.{line_text}
 abbrev pub tally_words : ℕ → Tally → List (List ℕ)
 tally_words number tally =
     codes "tx" ∷ decimal number ∷ decimal tally.committed ∷ decimal tally.sent ∷ decimal tally.overwritten
-    ∷ decimal tally.pending ∷ []
+    ∷ decimal tally.pending ∷ decimal tally.withdrawn ∷ []
 
 abbrev pub held_words : ℕ → Option Arrival → List (List ℕ)
 held_words number None = codes "rx" ∷ decimal number ∷ absent ∷ absent ∷ []

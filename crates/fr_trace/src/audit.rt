@@ -1,10 +1,10 @@
 //! The audit of a reader's bytes.
 
-ghost use Rattle.std.specs.Prelude.{◌≡◌, Some, IfOk, IfSome};
+ghost use Rattle.std.specs.Prelude.{IfOk, IfSome, IsSomeAnd};
 ghost use Rattle.fr_interface.specs.State.{State, IsLegalInterface};
 ghost use Rattle.fr_trace.specs.Audit.{Audits, Stops, Leaves, ReadsThrough, IsNotRefused, Understands, outcome};
 ghost use Rattle.fr_trace.specs.Refusals.{HasFewLines, LineIsNamed, ShortIfTaken};
-ghost use Rattle.fr_trace.specs.TraceText.{trace_text};
+ghost use Rattle.fr_trace.specs.TraceText.{IsTraceOf};
 
 use crate::auditor::Auditor;
 use crate::error::TraceError;
@@ -45,14 +45,14 @@ fn read_through<R: Read>(alloc: Global, reader: &mut R) -> Result<Interface, Tra
 /// Refused as `audit` is, and never with `Write`: with the error of the first line at fault, at which it stops reading;
 /// with `Read` where the reader fails; and with `Memory` where memory is refused.
 pub fn interface_of<R: Read>(alloc: Global, reader: &mut R) -> Result<Interface, TraceError>
-    // What is accepted is the text of the legal interface that is given, and nothing else.
+    // What is accepted is a text of the legal interface that is given, and nothing else.
     ensures found { Understands (R.remaining reader.old) result }
     // It reads in pieces of at most 4096 bytes, and none after the one that has the fault.
     ensures read { Stops (R.remaining reader.old) (R.remaining reader.new) (outcome result) }
     // The line that an error names is that of the byte with which the first fault shows.
     ensures line { IfSome (R.remaining reader.old) (λ text. LineIsNamed result text) }
-    // The text of a legal interface is not refused.
-    ensures only { (s : State) → IsLegalInterface s → R.remaining reader.old ≡ Some (trace_text s)
+    // A text of a legal interface is not refused, in whichever version.
+    ensures only { (s : State) → IsLegalInterface s → IsSomeAnd (R.remaining reader.old) (λ text. IsTraceOf s text)
         → IsNotRefused result }
 {
     read_through(alloc, reader)
@@ -86,7 +86,7 @@ pub fn audit<R: Read, W: Write>(
     reader: &mut R,
     writer: &mut W,
 ) -> Result<(), TraceError>
-    // What is accepted is the text of a legal interface, whose report is written, and nothing else.
+    // What is accepted is a text of a legal interface, whose report is written, and nothing else.
     ensures found { Audits (R.remaining reader.old) (W.contents writer.old) (W.contents writer.new) result }
     // It reads in pieces of at most 4096 bytes, and none after the one that has the fault.
     ensures read { Stops (R.remaining reader.old) (R.remaining reader.new) result }
@@ -94,8 +94,8 @@ pub fn audit<R: Read, W: Write>(
     ensures short { ShortIfTaken result (R.remaining reader.old) }
     // The line that an error names is that of the byte with which the first fault shows.
     ensures line { IfSome (R.remaining reader.old) (λ text. LineIsNamed result text) }
-    // The text of a legal interface is not refused.
-    ensures only { (s : State) → IsLegalInterface s → R.remaining reader.old ≡ Some (trace_text s)
+    // A text of a legal interface is not refused, in whichever version.
+    ensures only { (s : State) → IsLegalInterface s → IsSomeAnd (R.remaining reader.old) (λ text. IsTraceOf s text)
         → IsNotRefused result }
 {
     audit_through(alloc, reader, writer)

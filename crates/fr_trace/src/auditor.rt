@@ -7,7 +7,7 @@ ghost use Rattle.fr_slots.specs.Faults.{plan_fault};
 ghost use Rattle.fr_text.specs.Spaces.{words_of};
 ghost use Rattle.fr_trace.specs.Auditor.{phase_of};
 ghost use Rattle.fr_trace.specs.Feeds.{GivesPhase, GivesUnless, IsBegin, IsNoEntry};
-ghost use Rattle.fr_trace.specs.Stream.{params, node, lines, body, take_line, too_long, line_number};
+ghost use Rattle.fr_trace.specs.Stream.{magic, params, node, lines, body, take_line, too_long, line_number};
 ghost use Rattle.fr_trace.specs.Stream.{line_count, has_owned_alone, after_begin, after_own, after_buffer};
 ghost use Rattle.fr_trace.specs.Stream.{after_entry};
 ghost use Rattle.fr_trace.specs.Stream.{after_queue, after_plan_line};
@@ -21,6 +21,7 @@ use fr_lines::entries::entry_into;
 use fr_lines::nodes::node_of;
 use fr_lines::parameters::params_of;
 use fr_lines::plan_lines::{PlanLine, plan_line_of};
+use fr_lines::versions::{Version, version_of};
 use fr_slots::params::Params;
 use fr_slots::plan::{Buffer, NodePlan, Own, Queue};
 use memchr::memchr;
@@ -31,15 +32,15 @@ use std::mem;
 /// The longest line, without its line feed (own profile).
 pub const LINE: usize = 1200;
 
-/// What the next line may be.
+/// What the next line may be, in a text of the version that its first line names.
 #[derive(Drop)]
 enum Phase {
     Magic,
-    Parameters,
-    Node(Params),
-    Lines(Params, NodePlan),
-    Body(Interface),
-    Finished(Interface),
+    Parameters(Version),
+    Node(Version, Params),
+    Lines(Version, Params, NodePlan),
+    Body(Version, Interface),
+    Finished(Version, Interface),
 }
 
 /// How many lines a plan has after its first.
@@ -65,47 +66,63 @@ fn line_number(phase: &Phase) -> u32
 {
     match phase {
         Phase::Magic => 1,
-        Phase::Parameters => 2,
-        Phase::Node(_) => 3,
-        Phase::Lines(_, plan) => line_count(plan) + 4,
-        Phase::Body(interface) => lines_of(interface) + 5,
-        Phase::Finished(interface) => lines_of(interface) + 6,
+        Phase::Parameters(_) => 2,
+        Phase::Node(_, _) => 3,
+        Phase::Lines(_, _, plan) => line_count(plan) + 4,
+        Phase::Body(_, interface) => lines_of(interface) + 5,
+        Phase::Finished(_, interface) => lines_of(interface) + 6,
+    }
+}
+
+/// The first line, which names the version.
+fn first_line(line: &[u8]) -> Result<Phase, TraceError>
+    ensures { GivesPhase phase_of result (take_line magic line.now) }
+{
+    match version_of(line) {
+        Some(version) => Ok(Phase::Parameters(version)),
+        None => Err(TraceError::BadMagic),
     }
 }
 
 /// The line of the parameters.
-fn parameters_line(line: &[u8]) -> Result<Phase, TraceError>
-    ensures { GivesPhase phase_of result (take_line params line.now) }
+fn parameters_line(version: Version, line: &[u8]) -> Result<Phase, TraceError>
+    ensures { GivesPhase phase_of result (take_line (params version) line.now) }
 {
     let Some(numbers) = params_of(line) else {
         return Err(TraceError::BadLine(2));
     };
     match Params::new(numbers) {
-        Ok(params) => Ok(Phase::Node(params)),
+        Ok(params) => Ok(Phase::Node(version, params)),
         Err(_) => Err(TraceError::Refused(2)),
     }
 }
 
 /// The line of the plan's numbers.
-fn node_line(params: Params, line: &[u8]) -> Result<Phase, TraceError>
-    ensures { GivesPhase phase_of result (take_line (node params) line.now) }
+fn node_line(version: Version, params: Params, line: &[u8]) -> Result<Phase, TraceError>
+    ensures { GivesPhase phase_of result (take_line (node version params) line.now) }
 {
     match node_of(line) {
-        Some(plan) => Ok(Phase::Lines(params, plan)),
+        Some(plan) => Ok(Phase::Lines(version, params, plan)),
         None => Err(TraceError::BadLine(3)),
     }
 }
 
 /// The line `begin`, of this number, at which alone memory is taken.
-fn begin(alloc: Global, params: Params, plan: NodePlan, number: u32) -> Result<Phase, TraceError>
-    requires { number ≡ line_number (lines params plan) }
-    ensures { GivesUnless (plan_fault params plan ≡ None) phase_of result (after_begin params plan) }
+fn begin(
+    alloc: Global,
+    version: Version,
+    params: Params,
+    plan: NodePlan,
+    number: u32,
+) -> Result<Phase, TraceError>
+    requires { number ≡ line_number (lines version params plan) }
+    ensures { GivesUnless (plan_fault params plan ≡ None) phase_of result (after_begin version params plan) }
 {
     if plan.fault(&params).is_some() {
         return Err(TraceError::Refused(number));
     }
     match Interface::new(alloc, &params, &plan) {
-        Ok(interface) => Ok(Phase::Body(interface)),
+        Ok(interface) => Ok(Phase::Body(version, interface)),
         Err(_) => Err(TraceError::Memory),
     }
 }
@@ -118,50 +135,58 @@ fn has_owned_alone(plan: &NodePlan) -> bool
 }
 
 /// An ownership line of the plan, which stands before its buffers and its queue.
-fn own_line(params: Params, mut plan: NodePlan, own: Own, number: u32) -> Result<Phase, TraceError>
-    requires { number ≡ line_number (lines params plan) }
-    ensures { GivesPhase phase_of result (after_own params plan own) }
+fn own_line(
+    version: Version,
+    params: Params,
+    mut plan: NodePlan,
+    own: Own,
+    number: u32,
+) -> Result<Phase, TraceError>
+    requires { number ≡ line_number (lines version params plan) }
+    ensures { GivesPhase phase_of result (after_own version params plan own) }
 {
     if !has_owned_alone(&plan) {
         return Err(TraceError::BadLine(number));
     }
     match plan.add_own(own) {
-        Ok(()) => Ok(Phase::Lines(params, plan)),
+        Ok(()) => Ok(Phase::Lines(version, params, plan)),
         Err(_) => Err(TraceError::BadLine(number)),
     }
 }
 
 /// A buffer of the plan, which stands before its queue.
 fn buffer_line(
+    version: Version,
     params: Params,
     mut plan: NodePlan,
     buffer: Buffer,
     number: u32,
 ) -> Result<Phase, TraceError>
-    requires { number ≡ line_number (lines params plan) }
-    ensures { GivesPhase phase_of result (after_buffer params plan buffer) }
+    requires { number ≡ line_number (lines version params plan) }
+    ensures { GivesPhase phase_of result (after_buffer version params plan buffer) }
 {
     if plan.queue().is_some() {
         return Err(TraceError::BadLine(number));
     }
     match plan.add_buffer(buffer) {
-        Ok(()) => Ok(Phase::Lines(params, plan)),
+        Ok(()) => Ok(Phase::Lines(version, params, plan)),
         Err(_) => Err(TraceError::BadLine(number)),
     }
 }
 
 /// The queue of the plan, which stands after all its other lines.
 fn queue_line(
+    version: Version,
     params: Params,
     mut plan: NodePlan,
     queue: Queue,
     number: u32,
 ) -> Result<Phase, TraceError>
-    requires { number ≡ line_number (lines params plan) }
-    ensures { GivesPhase phase_of result (after_queue params plan queue) }
+    requires { number ≡ line_number (lines version params plan) }
+    ensures { GivesPhase phase_of result (after_queue version params plan queue) }
 {
     match plan.set_queue(queue) {
-        Ok(()) => Ok(Phase::Lines(params, plan)),
+        Ok(()) => Ok(Phase::Lines(version, params, plan)),
         Err(_) => Err(TraceError::BadLine(number)),
     }
 }
@@ -169,37 +194,39 @@ fn queue_line(
 /// A line of the plan, of this number, or `begin`.
 fn plan_line(
     alloc: Global,
+    version: Version,
     params: Params,
     plan: NodePlan,
     number: u32,
     line: &[u8],
 ) -> Result<Phase, TraceError>
-    requires { number ≡ line_number (lines params plan) }
-    ensures { GivesUnless (IsBegin (lines params plan) line.now) phase_of result
-        (take_line (lines params plan) line.now) }
+    requires { number ≡ line_number (lines version params plan) }
+    ensures { GivesUnless (IsBegin (lines version params plan) line.now) phase_of result
+        (take_line (lines version params plan) line.now) }
 {
     if line == b"begin".as_slice() {
-        return begin(alloc, params, plan, number);
+        return begin(alloc, version, params, plan, number);
     }
-    match plan_line_of(line) {
-        Some(PlanLine::Own(own)) => own_line(params, plan, own, number),
-        Some(PlanLine::Buffer(buffer)) => buffer_line(params, plan, buffer, number),
-        Some(PlanLine::Queue(queue)) => queue_line(params, plan, queue, number),
+    match plan_line_of(version, line) {
+        Some(PlanLine::Own(own)) => own_line(version, params, plan, own, number),
+        Some(PlanLine::Buffer(buffer)) => buffer_line(version, params, plan, buffer, number),
+        Some(PlanLine::Queue(queue)) => queue_line(version, params, plan, queue, number),
         None => Err(TraceError::BadLine(number)),
     }
 }
 
 /// A line of the journal. The interface makes its call in place.
 fn entry_line(
+    version: Version,
     interface: &mut Interface,
     bytes: &mut EntryBytes,
     line: &[u8],
 ) -> Result<(), TraceError>
-    ensures { GivesPhase (λ done. body interface.new) result
-        (after_entry interface.old (entry_in (words_of line.now))) }
+    ensures { GivesPhase (λ done. body version interface.new) result
+        (after_entry version interface.old (entry_in version (words_of line.now))) }
 {
     let number = lines_of(interface) + 5;
-    match entry_into(line, bytes) {
+    match entry_into(version, line, bytes) {
         Some(entry) => replay(interface, &entry, bytes, number),
         None => Err(TraceError::BadLine(number)),
     }
@@ -212,18 +239,14 @@ fn after(alloc: Global, phase: Phase, number: u32, line: &[u8]) -> Result<Phase,
     ensures { GivesUnless (IsBegin (phase_of phase) line.now) phase_of result (take_line (phase_of phase) line.now) }
 {
     match phase {
-        Phase::Magic => {
-            if line == b"frtrace 1".as_slice() {
-                Ok(Phase::Parameters)
-            } else {
-                Err(TraceError::BadMagic)
-            }
-        }
-        Phase::Parameters => parameters_line(line),
-        Phase::Node(params) => node_line(params, line),
-        Phase::Lines(params, plan) => plan_line(alloc, params, plan, number, line),
-        Phase::Body(interface) => Ok(Phase::Finished(interface)),
-        Phase::Finished(_) => Err(TraceError::BadLine(number)),
+        Phase::Magic => first_line(line),
+        Phase::Parameters(version) => parameters_line(version, line),
+        Phase::Node(version, params) => node_line(version, params, line),
+        Phase::Lines(version, params, plan) => plan_line(
+            alloc, version, params, plan, number, line,
+        ),
+        Phase::Body(version, interface) => Ok(Phase::Finished(version, interface)),
+        Phase::Finished(_, _) => Err(TraceError::BadLine(number)),
     }
 }
 
@@ -258,8 +281,8 @@ fn pass_line(
         (take_line (phase_of phase.old) line.now) }
 {
     if line != b"end".as_slice() {
-        if let Phase::Body(interface) = phase {
-            return entry_line(interface, bytes, line);
+        if let Phase::Body(version, interface) = phase {
+            return entry_line(*version, interface, bytes, line);
         }
     }
     move_on(alloc, phase, line)
@@ -336,7 +359,7 @@ impl Auditor {
         if self.fault.is_some() || bytes.is_empty() {
             return;
         }
-        if let Phase::Finished(_) = &self.phase {
+        if let Phase::Finished(_, _) = &self.phase {
             self.fault = Some(TraceError::BadLine(line_number(&self.phase)));
         } else if bytes.len() > LINE - self.line.as_slice().len() {
             self.fault = Some(too_long(&self.phase));
@@ -411,7 +434,7 @@ impl Auditor {
             return Err(fault);
         }
         match self.phase {
-            Phase::Finished(interface) => Ok(interface),
+            Phase::Finished(_, interface) => Ok(interface),
             Phase::Magic => Err(TraceError::BadMagic),
             _ => Err(TraceError::Truncated),
         }

@@ -5,7 +5,7 @@ use thiserror::Error;
 /// Why a trace is refused. A number is that of the line at fault, counted from 1.
 #[derive(Clone, Copy, Debug, PartialEq, Eq, Error)]
 pub enum TraceError {
-    /// The first line isn't `frtrace 1` with its line feed.
+    /// The first line is none of `frtrace 1`, `frtrace 2` and `frtrace 3`, each with its line feed.
     #[error("BadMagic")]
     BadMagic,
     /// The line has no form of the format, stands in a wrong place, or has a number out of its range;

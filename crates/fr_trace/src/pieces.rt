@@ -6,7 +6,7 @@ ghost use Rattle.fr_interface.specs.State.{State, IsLegalInterface};
 ghost use Rattle.fr_trace.specs.Feeds.{Begins, Reads};
 ghost use Rattle.fr_trace.specs.Refusals.{HasFewLines, LineIsNamed, longest_text};
 ghost use Rattle.fr_trace.specs.Stream.{fresh, take_bytes, outcome_of};
-ghost use Rattle.fr_trace.specs.TraceText.{trace_text};
+ghost use Rattle.fr_trace.specs.TraceText.{IsTraceOf};
 
 use crate::auditor::{Auditor, lines_of};
 use crate::error::TraceError;
@@ -28,10 +28,10 @@ fn fed(alloc: Global, pieces: &[&[u8]]) -> Auditor
 ///
 /// Refused with the error of the first line at fault, and with `Memory` where memory is refused.
 pub fn audit_pieces(alloc: Global, pieces: &[&[u8]]) -> Result<Interface, TraceError>
-    // What is accepted is the text of the interface that is given, however it was cut.
-    ensures found { IfOk result (λ s. (flat_map (λ p. p.now) pieces.now ≡ trace_text s) × IsLegalInterface s) }
-    // The text of a legal interface is accepted as that interface, unless memory runs out.
-    ensures only { (s : State) → IsLegalInterface s → flat_map (λ p. p.now) pieces.now ≡ trace_text s
+    // What is accepted is a text of the interface that is given, however it was cut.
+    ensures found { IfOk result (λ s. IsTraceOf s (flat_map (λ p. p.now) pieces.now) × IsLegalInterface s) }
+    // A text of a legal interface is accepted as that interface, unless memory runs out.
+    ensures only { (s : State) → IsLegalInterface s → IsTraceOf s (flat_map (λ p. p.now) pieces.now)
         → (result ≡ Ok s) ⊎ (result ≡ Err TraceError.Memory) }
     // It is no longer than so many lines of the greatest length.
     ensures short { OnOk result (length (flat_map (λ p. p.now) pieces.now) ≤ longest_text) }

@@ -17,6 +17,7 @@ fn same_answer(made: &Entry, told: &BareEntry) -> bool
     ensures { (bytes : EntryBytes) → result ≡ same_answer made.now (with_bytes bytes told.now) }
 {
     match (made, told) {
+        (Entry::Withdraw { of: made, .. }, BareEntry::Withdraw { of: told, .. }) => made == told,
         (Entry::Read { from: made, .. }, BareEntry::Read { from: told, .. }) => made == told,
         (Entry::Pop { from: made, .. }, BareEntry::Pop { from: told, .. }) => made == told,
         (
@@ -45,6 +46,7 @@ fn is_accepted(interface: &mut Interface, told: &BareEntry, bytes: &EntryBytes) 
         BareEntry::Commit { task, buffer } => interface
             .commit(*task, *buffer, &bytes.payload)
             .is_ok(),
+        BareEntry::Withdraw { task, buffer, .. } => interface.withdraw(*task, *buffer).is_ok(),
         BareEntry::Read { task, buffer, .. } => interface.read(*task, *buffer).is_ok(),
         BareEntry::Pop { task, .. } => interface.pop(*task).is_ok(),
         BareEntry::Fetch { window, .. } => interface.fetch(window).is_ok(),

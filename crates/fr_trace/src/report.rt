@@ -38,7 +38,8 @@ fn write_transmit<W: Write>(writer: &mut W, number: u8, tally: &Tally) -> io::Re
     ensures { Writes W.contents writer.old writer.new result (line_text (tally_words number tally.now)) }
 {
     write!(writer, "tx {number} {} {}", tally.committed, tally.sent)?;
-    writeln!(writer, " {} {}", tally.overwritten, tally.pending)
+    let (overwritten, pending) = (tally.overwritten, tally.pending);
+    writeln!(writer, " {overwritten} {pending} {}", tally.withdrawn)
 }
 
 /// Writes the line of a buffer, by what the interface tells of it.

@@ -1,8 +1,9 @@
-//! The text of an interface: the one trace that tells of it.
+//! The text of an interface: the one trace of version 3 that tells of it.
 
 ghost use Rattle.std.specs.Prelude.{◌++◌, IfErr, Ok, ◌≡◌};
 ghost use Rattle.fr_text.specs.Writing.{Writes};
 ghost use Rattle.std.specs.List.{flat_map};
+ghost use Rattle.fr_lines.specs.declared.versions.Version.TheVariants.{Three};
 ghost use Rattle.fr_trace.specs.TraceText.{own_line, buffer_line, queue_lines, entry_line, numbers_text};
 ghost use Rattle.fr_trace.specs.TraceText.{plan_text, trace_text};
 ghost use Rattle.fr_interface.specs.State.{IsLegalInterface};
@@ -21,7 +22,7 @@ use std::io::Write;
 
 /// Writes ownership lines.
 fn write_owned<W: Write>(writer: &mut W, owned: &[Own]) -> io::Result<()>
-    ensures { Writes W.contents writer.old writer.new result (flat_map own_line owned.now) }
+    ensures { Writes W.contents writer.old writer.new result (flat_map (own_line Three) owned.now) }
 {
     for own in owned {
         write_own(writer, own)?;
@@ -51,16 +52,16 @@ fn write_queues<W: Write>(writer: &mut W, queue: &Option<Queue>) -> io::Result<(
 
 /// Writes the lines up to the plan's numbers.
 fn write_numbers<W: Write>(writer: &mut W, params: &Params, plan: &NodePlan) -> io::Result<()>
-    ensures { Writes W.contents writer.old writer.new result (numbers_text params.now plan.now) }
+    ensures { Writes W.contents writer.old writer.new result (numbers_text Three params.now plan.now) }
 {
-    writeln!(writer, "frtrace 1")?;
+    writeln!(writer, "frtrace 3")?;
     write_params(writer, params)?;
     write_node(writer, plan)
 }
 
 /// Writes the lines up to the end of the plan.
 fn write_plan<W: Write>(writer: &mut W, params: &Params, plan: &NodePlan) -> io::Result<()>
-    ensures { Writes W.contents writer.old writer.new result (plan_text params.now plan.now) }
+    ensures { Writes W.contents writer.old writer.new result (plan_text Three params.now plan.now) }
 {
     write_numbers(writer, params, plan)?;
     write_owned(writer, plan.owned())?;
@@ -82,7 +83,7 @@ fn write_entries<W: Write>(writer: &mut W, journal: &Journal) -> io::Result<()>
 
 /// Writes the whole text.
 fn write_text<W: Write>(writer: &mut W, interface: &Interface) -> io::Result<()>
-    ensures written { Writes W.contents writer.old writer.new result (trace_text interface.now) }
+    ensures written { Writes W.contents writer.old writer.new result (trace_text Three interface.now) }
     ensures legal { IsLegalInterface interface.now }
 {
     write_plan(writer, interface.params(), interface.plan())?;
@@ -91,14 +92,15 @@ fn write_text<W: Write>(writer: &mut W, interface: &Interface) -> io::Result<()>
     writeln!(writer, "end")
 }
 
-/// Writes the trace of an interface: the one text that tells of its parameters, its plan and its journal.
+/// Writes the trace of an interface: the one text of version 3 that tells of its parameters, its plan and its journal.
+/// What was read in version 1 or 2 is written in version 3 too.
 ///
 /// Refused with `Write` where the writer fails, and then some of the text may have been written.
 pub fn write_trace<W: Write>(interface: &Interface, writer: &mut W) -> Result<(), TraceError>
-    ensures written { Writes W.contents writer.old writer.new result (trace_text interface.now) }
+    ensures written { Writes W.contents writer.old writer.new result (trace_text Three interface.now) }
     ensures refused { IfErr result (λ e. e ≡ TraceError.Write) }
     // That text is accepted, as this interface.
-    ensures again { outcome_of (take_bytes fresh (trace_text interface.now)) ≡ Ok interface.now }
+    ensures again { outcome_of (take_bytes fresh (trace_text Three interface.now)) ≡ Ok interface.now }
 {
     match write_text(writer, interface) {
         Ok(()) => Ok(()),

@@ -46,6 +46,67 @@ const THREE_COMMITS: [&[u8]; 12] = [
     b"end\n",
 ];
 
+/// The lines of a trace in which one of three commits is withdrawn and one sent. Two withdraws find nothing pending.
+const WITHDRAWN: [&[u8]; 17] = [
+    b"frtrace 2\n",
+    b"params 3 4 1 20 5 0 10 90 0 5\n",
+    b"node 1 0 0 8 8\n",
+    b"own 1 A 0 0\n",
+    b"tx event 1 A 0 1 - 0\n",
+    b"begin\n",
+    b"commit 0 0 x0001\n",
+    b"withdraw 0 0 0\n",
+    b"fetch 0 0 0 1 1 null -\n",
+    b"see 0 own -\n",
+    b"withdraw 0 0 -\n",
+    b"commit 0 0 x0002\n",
+    b"commit 0 0 x0003\n",
+    b"fetch 1 1 0 1 1 6 -\n",
+    b"withdraw 0 0 -\n",
+    b"see 1 own -\n",
+    b"end\n",
+];
+
+/// The lines of a trace in state mode, in which a withdraw leaves what was sent, and a later one takes a commit back.
+const WITHDRAWN_STATE: [&[u8]; 14] = [
+    b"frtrace 2\n",
+    b"params 3 4 1 20 5 0 10 90 0 5\n",
+    b"node 1 0 0 8 8\n",
+    b"own 1 A 0 0\n",
+    b"tx state 1 A 0 1 - 0\n",
+    b"begin\n",
+    b"commit 0 0 x0001\n",
+    b"fetch 0 0 0 1 1 0 -\n",
+    b"see 0 own -\n",
+    b"withdraw 0 0 -\n",
+    b"commit 0 0 x0002\n",
+    b"withdraw 0 0 4\n",
+    b"fetch 1 1 0 1 1 null -\n",
+    b"end\n",
+];
+
+/// The lines of a trace whose node sends in a static slot in odd cycles, and reads another node's frame of an even one.
+const DIVIDED: [&[u8]; 18] = [
+    b"frtrace 3\n",
+    b"params 3 4 1 20 5 0 10 90 0 5\n",
+    b"node 1 0 0 8 8\n",
+    b"own 3 A 0 0 1 2\n",
+    b"tx event 3 A 1 2 - 0\n",
+    b"rx 3 A 0 2\n",
+    b"begin\n",
+    b"commit 0 0 x0a0b\n",
+    b"fetch 0 0 0 3 3 - -\n",
+    b"see 0 x200303bc00c0de2d5a67 -\n",
+    b"fetch 1 1 0 3 3 0 -\n",
+    b"see 1 own -\n",
+    b"fetch 2 2 0 3 3 - -\n",
+    b"see 2 - -\n",
+    b"fetch 3 3 0 3 3 null -\n",
+    b"see 3 own -\n",
+    b"read 0 1 2:A\n",
+    b"end\n",
+];
+
 /// The lines of a trace with buffers of each mode, frames on both channels and a queue that loses one of three.
 const SEVERAL_BUFFERS: [&[u8]; 62] = [
     b"frtrace 1\n",
@@ -219,6 +280,10 @@ fn a_trace_that_is_cut_is_truncated(rt: HostRuntime) {
         all(TraceError::BadMagic)
     );
     assert_eq!(rt;
+        refusals(rt.alloc(), &[b"frtrace 3"]),
+        all(TraceError::BadMagic)
+    );
+    assert_eq!(rt;
         refusals(rt.alloc(), &lines[..1]),
         all(TraceError::Truncated)
     );
@@ -278,7 +343,16 @@ fn pieces_of_each_size_give_one_report(rt: HostRuntime) -> Result<(), Fail> {
         let told = b"rx 0 2:A x0a0b\nA 2 0 0 0 0\nB 0 1 0 0 0\n";
         assert_eq!(rt; report.as_slice(), told.as_slice());
         let report = reported(rt.alloc(), &THREE_COMMITS, size)?;
-        let told = b"tx 0 3 1 1 1\nA 0 0 0 0 0\nB 0 0 0 0 0\n";
+        let told = b"tx 0 3 1 1 1 0\nA 0 0 0 0 0\nB 0 0 0 0 0\n";
+        assert_eq!(rt; report.as_slice(), told.as_slice());
+        let report = reported(rt.alloc(), &WITHDRAWN, size)?;
+        let told = b"tx 0 3 1 1 0 1\nA 0 0 0 0 0\nB 0 0 0 0 0\n";
+        assert_eq!(rt; report.as_slice(), told.as_slice());
+        let report = reported(rt.alloc(), &WITHDRAWN_STATE, size)?;
+        let told = b"tx 0 2 1 0 0 1\nA 0 0 0 0 0\nB 0 0 0 0 0\n";
+        assert_eq!(rt; report.as_slice(), told.as_slice());
+        let report = reported(rt.alloc(), &DIVIDED, size)?;
+        let told = b"tx 0 1 1 0 0 0\nrx 1 2:A xc0de\nA 1 0 0 0 0\nB 0 0 0 0 0\n";
         assert_eq!(rt; report.as_slice(), told.as_slice());
         let report = reported(rt.alloc(), &QUEUE, size)?;
         let told = b"rx 0 - -\nqueue 0 1\nA 2 0 0 0 0\nB 1 0 0 0 1\n";
@@ -313,18 +387,193 @@ fn written(alloc: Global, lines: &[&[u8]]) -> Result<Vec<u8>, Fail> {
     Ok(text)
 }
 
+/// Whether the second text is written of the interface that the first one leaves, and of the one that it leaves itself.
+fn is_written(alloc: Global, lines: &[&[u8]], told: &[&[u8]]) -> Result<bool, Fail> {
+    let text = joined(alloc, told)?;
+    let first = written(alloc, lines)?;
+    let again = written(alloc, told)?;
+    Ok(first.as_slice() == text.as_slice() && again.as_slice() == text.as_slice())
+}
+
 #[test]
 fn an_interface_is_written_as_the_trace_that_told_of_it(rt: HostRuntime) -> Result<(), Fail> {
-    for lines in [
-        LINES.as_slice(),
-        THREE_COMMITS.as_slice(),
-        QUEUE.as_slice(),
-        SEVERAL_BUFFERS.as_slice(),
-    ] {
-        let text = joined(rt.alloc(), lines)?;
-        assert_eq!(rt; written(rt.alloc(), lines)?.as_slice(), text.as_slice());
-    }
+    assert!(rt; is_written(rt.alloc(), &DIVIDED, &DIVIDED)?);
     Ok(())
+}
+
+#[test]
+fn a_trace_without_ownership_is_written_in_version_3(rt: HostRuntime) -> Result<(), Fail> {
+    let mut told = LINES;
+    told[0] = b"frtrace 3\n";
+    assert!(rt; is_written(rt.alloc(), &LINES, &told)?);
+    let mut told = QUEUE;
+    told[0] = b"frtrace 3\n";
+    assert!(rt; is_written(rt.alloc(), &QUEUE, &told)?);
+    Ok(())
+}
+
+#[test]
+fn an_ownership_of_versions_1_and_2_is_written_with_its_cycles(
+    rt: HostRuntime,
+) -> Result<(), Fail> {
+    let mut told = THREE_COMMITS;
+    told[0] = b"frtrace 3\n";
+    told[3] = b"own 1 A 0 0 0 1\n";
+    assert!(rt; is_written(rt.alloc(), &THREE_COMMITS, &told)?);
+    let mut told = SEVERAL_BUFFERS;
+    told[0] = b"frtrace 3\n";
+    told[3] = b"own 1 AB 1 0 0 1\n";
+    told[4] = b"own 3 A 0 0 0 1\n";
+    assert!(rt; is_written(rt.alloc(), &SEVERAL_BUFFERS, &told)?);
+    let mut told = WITHDRAWN;
+    told[0] = b"frtrace 3\n";
+    told[3] = b"own 1 A 0 0 0 1\n";
+    assert!(rt; is_written(rt.alloc(), &WITHDRAWN, &told)?);
+    let mut told = WITHDRAWN_STATE;
+    told[0] = b"frtrace 3\n";
+    told[3] = b"own 1 A 0 0 0 1\n";
+    assert!(rt; is_written(rt.alloc(), &WITHDRAWN_STATE, &told)?);
+    Ok(())
+}
+
+#[test]
+fn an_ownership_has_cycles_in_version_3_alone(rt: HostRuntime) {
+    let mut lines = DIVIDED;
+    lines[0] = b"frtrace 1\n";
+    assert_eq!(rt; refusals(rt.alloc(), &lines), all(TraceError::BadLine(4)));
+    lines[0] = b"frtrace 2\n";
+    assert_eq!(rt; refusals(rt.alloc(), &lines), all(TraceError::BadLine(4)));
+    // Without them it is for every cycle, and a null frame is offered in cycle 0.
+    lines[3] = b"own 3 A 0 0\n";
+    assert_eq!(rt;
+        refusals(rt.alloc(), &lines),
+        all(TraceError::WrongAnswer(9))
+    );
+    lines[0] = b"frtrace 1\n";
+    assert_eq!(rt;
+        refusals(rt.alloc(), &lines),
+        all(TraceError::WrongAnswer(9))
+    );
+    lines[0] = b"frtrace 3\n";
+    assert_eq!(rt; refusals(rt.alloc(), &lines), all(TraceError::BadLine(4)));
+}
+
+#[test]
+fn cycles_of_an_ownership_that_are_no_filter_are_refused(rt: HostRuntime) {
+    let owned: [&[u8]; 8] = [
+        b"own 3 A 0 0 0 3\n",
+        b"own 3 A 0 0 2 2\n",
+        b"own 3 A 0 0 64 64\n",
+        b"own 3 A 0 0 0 128\n",
+        b"own 3 A 0 0 0 0\n",
+        b"own 3 A 0 0 01 2\n",
+        b"own 3 A 0 0 1\n",
+        b"own 3 A 0 0 1 2 0\n",
+    ];
+    for own in owned {
+        let mut lines = DIVIDED;
+        lines[3] = own;
+        assert_eq!(rt; refusals(rt.alloc(), &lines), all(TraceError::BadLine(4)));
+    }
+}
+
+#[test]
+fn owners_that_share_a_cycle_are_refused_at_begin(rt: HostRuntime) {
+    let mut lines = DIVIDED;
+    lines[3] = b"own 3 A 0 0 1 2\nown 3 A 0 0 3 4\n";
+    assert_eq!(rt; refusals(rt.alloc(), &lines), all(TraceError::Refused(8)));
+    // Without a shared cycle both lines are taken, and the second has cycle 0.
+    lines[3] = b"own 3 A 0 0 1 2\nown 3 A 1 0 0 4\n";
+    assert_eq!(rt;
+        refusals(rt.alloc(), &lines),
+        all(TraceError::WrongAnswer(10))
+    );
+}
+
+#[test]
+fn a_buffer_in_a_cycle_without_its_node_is_refused_at_begin(rt: HostRuntime) {
+    for buffer in [
+        b"tx event 3 A 0 1 - 0\n".as_slice(),
+        b"tx event 3 A 0 2 - 0\n".as_slice(),
+    ] {
+        let mut lines = DIVIDED;
+        lines[4] = buffer;
+        assert_eq!(rt; refusals(rt.alloc(), &lines), all(TraceError::Refused(7)));
+    }
+}
+
+#[test]
+fn an_owner_offers_in_its_cycles_alone(rt: HostRuntime) {
+    let mut lines = DIVIDED;
+    lines[8] = b"fetch 0 0 0 3 3 null -\n";
+    assert_eq!(rt;
+        refusals(rt.alloc(), &lines),
+        all(TraceError::WrongAnswer(9))
+    );
+    let mut lines = DIVIDED;
+    lines[14] = b"fetch 3 3 0 3 3 - -\n";
+    assert_eq!(rt;
+        refusals(rt.alloc(), &lines),
+        all(TraceError::WrongAnswer(15))
+    );
+}
+
+#[test]
+fn a_withdraw_is_no_line_of_version_1(rt: HostRuntime) {
+    let mut lines = WITHDRAWN;
+    lines[0] = b"frtrace 1\n";
+    assert_eq!(rt; refusals(rt.alloc(), &lines), all(TraceError::BadLine(8)));
+    lines[0] = b"frtrace 4\n";
+    assert_eq!(rt; refusals(rt.alloc(), &lines), all(TraceError::BadMagic));
+}
+
+#[test]
+fn a_withdraw_tells_the_commit_that_it_took_back(rt: HostRuntime) {
+    let wrong: [&[u8]; 3] = [
+        b"withdraw 0 0 -\n",
+        b"withdraw 0 0 1\n",
+        b"withdraw 0 0 99\n",
+    ];
+    for line in wrong {
+        let mut lines = WITHDRAWN;
+        lines[7] = line;
+        assert_eq!(rt;
+            refusals(rt.alloc(), &lines),
+            all(TraceError::WrongAnswer(8))
+        );
+    }
+    let mut lines = WITHDRAWN;
+    lines[14] = b"withdraw 0 0 6\n";
+    assert_eq!(rt;
+        refusals(rt.alloc(), &lines),
+        all(TraceError::WrongAnswer(15))
+    );
+}
+
+#[test]
+fn a_withdraw_is_refused_as_its_call_is(rt: HostRuntime) {
+    let calls: [&[u8]; 2] = [b"withdraw 1 0 0\n", b"withdraw 0 1 0\n"];
+    for line in calls {
+        let mut lines = WITHDRAWN;
+        lines[7] = line;
+        assert_eq!(rt; refusals(rt.alloc(), &lines), all(TraceError::Refused(8)));
+    }
+    let mut lines = LINES;
+    lines[0] = b"frtrace 2\n";
+    lines[5] = b"withdraw 0 0 -\n";
+    assert_eq!(rt; refusals(rt.alloc(), &lines), all(TraceError::Refused(6)));
+    let forms: [&[u8]; 5] = [
+        b"withdraw 8 0 0\n",
+        b"withdraw 0 64 0\n",
+        b"withdraw 0 0 4294967296\n",
+        b"withdraw 0 0 00\n",
+        b"withdraw 0 0\n",
+    ];
+    for line in forms {
+        let mut lines = WITHDRAWN;
+        lines[7] = line;
+        assert_eq!(rt; refusals(rt.alloc(), &lines), all(TraceError::BadLine(8)));
+    }
 }
 
 #[test]
@@ -390,7 +639,7 @@ fn an_interrupted_reader_is_read_at_once(rt: HostRuntime) -> Result<(), Fail> {
 #[test]
 fn nothing_is_read_after_a_fault(rt: HostRuntime) -> Result<(), Fail> {
     let mut report = Vec::with_capacity(rt.alloc(), 64)?;
-    let mut reader = failing(&[b"frtrace 2\n"], 1, io::ErrorKind::Other);
+    let mut reader = failing(&[b"frtrace 4\n"], 1, io::ErrorKind::Other);
     let answer = audit(rt.alloc(), &mut reader, &mut report);
     assert_eq!(rt; answer, Err(TraceError::BadMagic));
     assert_eq!(rt; reader.reads, 1);

@@ -1,10 +1,10 @@
-use Rattle.std.proofs.Common.{◌≡◌, ◌+◌, ◌≤◌, ℕ, subst, sym, Some, None, arith}
+use Rattle.std.proofs.Common.{◌≡◌, ◌+◌, ◌≤◌, ℕ, subst, sym, ◌∙◌, Some, None, arith}
 use Rattle.std.proofs.lemmas.Bool.Decides.{nat_tests}
 use Rattle.std.specs.Io.KnownBytes.{Appends}
 use Rattle.std.specs.List.{flat_map, range_with_len}
 use Rattle.fr_slots.specs.Numbers.{number_within}
 use Rattle.fr_commands.specs.PlanText.{slot_text}
-use Rattle.fr_commands.proofs.PlanTextLemmas.{one_slot}
+use Rattle.fr_commands.proofs.PlanTextLemmas.{one_more}
 use Rattle.fr_commands.proofs.plan.write_slots.Goals.{in-Some+in_ok-write_slot, in_default}
 use Rattle.fr_commands.proofs.plan.write_slots.Goals as goal
 
@@ -27,6 +27,6 @@ loop-earlier-preserved g c =
           let after = g.W.Write.contents w.write_slot.new.writer in
           let same = slot_is (earlier + 1) w.in-Some.slot (sym w.in-Some.ensures) in
           subst (λ x. Appends start (g.W.Write.contents x) (flat_map text (range_with_len 1 (earlier + 1)))) (sym w.writer-is)
-          (one_slot text earlier start before after c.loop-earlier.invariant (subst (λ (n : ℕ). Appends before after (text n)) same w.in_ok-write_slot.ensures))
+          (one_more text 1 earlier start before after c.loop-earlier.invariant (subst (λ (n : ℕ). Appends before after (text n)) (same ∙ (let e : earlier + 1 ≡ 1 + earlier = omega arith in e)) w.in_ok-write_slot.ensures))
       | in_default w ↦ absurd (no_slot_is (earlier + 1) (omega arith) (omega arith) (sym w.in_default.ensures))
     ]

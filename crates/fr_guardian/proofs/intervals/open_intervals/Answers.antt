@@ -16,17 +16,17 @@ loop-earlier-preserved c =
     let below : c.loop-earlier.earlier < p.static_slots = omega arith in
     let found = c.loop-earlier.invariant in
     let few = lawful.static_slots_fit in
-    let here = open_by_slots c.args.owned.now c.args.channel c.owned_slots-slots.result c.args.guarded (c.loop-earlier.earlier + 1) c.owned_slots-slots.ensures (omega (arith, below, few.at_most)) in
+    let here = open_by_slots c.args.owned.now c.args.cycle c.args.channel c.owned_slots-slots.result c.args.guarded (c.loop-earlier.earlier + 1) c.owned_slots-slots.ensures (omega (arith, below, few.at_most)) in
     elim c.if-not-is_open_slot.branch [
       | then-not-is_open_slot+in_ok-add w ↦
-          let closed = step_closed p lawful c.args.guarded c.args.owned.now c.args.channel c.from-static_mt.result c.loop-earlier.earlier c.loop-earlier.since c.loop-earlier.intervals.items size below found (cc) in
-          same_found p c.args.guarded c.args.owned.now c.args.channel _ _ _ _ _
+          let closed = step_closed p lawful c.args.guarded c.args.owned.now c.args.cycle c.args.channel c.from-static_mt.result c.loop-earlier.earlier c.loop-earlier.since c.loop-earlier.intervals.items size below found (cc) in
+          same_found p c.args.guarded c.args.owned.now c.args.cycle c.args.channel _ _ _ _ _
           (w.since-is ∙ ap (λ n. n * c.from-static_mt.result + c.from-static_mt.result) w.from.ensures)
           (ap (λ (v : Vec Span Global). v.items) w.intervals-is ∙ w.in_ok-add.ensures ∙ ap (λ n. c.loop-earlier.intervals.items ++ run c.loop-earlier.since (n * c.from-static_mt.result)) w.from.ensures)
           closed
       | else-not-is_open_slot w ↦
-          let opened = step_open p lawful c.args.guarded c.args.owned.now c.args.channel c.from-static_mt.result c.loop-earlier.earlier c.loop-earlier.since c.loop-earlier.intervals.items size below found (cc) in
-          same_found p c.args.guarded c.args.owned.now c.args.channel _ _ _ _ _ w.since-is (ap (λ (v : Vec Span Global). v.items) w.intervals-is) opened
+          let opened = step_open p lawful c.args.guarded c.args.owned.now c.args.cycle c.args.channel c.from-static_mt.result c.loop-earlier.earlier c.loop-earlier.since c.loop-earlier.intervals.items size below found (cc) in
+          same_found p c.args.guarded c.args.owned.now c.args.cycle c.args.channel _ _ _ _ _ w.since-is (ap (λ (v : Vec Span Global). v.items) w.intervals-is) opened
     ]
 
 pub returns : goal.returns
@@ -39,7 +39,7 @@ returns c =
     let minislots = ap (λ (x : Parameters). x.minislots) same in
     let minislot = ap (λ (x : Parameters). x.minislot_mt) same in
     let all : c.loop-earlier.earlier ≡ c.params.inside.static_slots = omega arith in
-    let found = subst (λ n. IsFound p c.args.guarded c.args.owned.now c.args.channel c.loop-earlier.since (n * c.from-static_mt.result) c.loop-earlier.intervals.items) all c.loop-earlier.invariant in
+    let found = subst (λ n. IsFound p c.args.guarded c.args.owned.now c.args.cycle c.args.channel c.loop-earlier.since (n * c.from-static_mt.result) c.loop-earlier.intervals.items) all c.loop-earlier.invariant in
     let end = ap (λ n. n * c.from-static_mt.result + c.from-3.result * c.from-4.result) c.from-2.ensures ∙ ap (λ n. c.params.inside.static_slots * c.from-static_mt.result + n * c.from-4.result) c.from-3.ensures in
-    subst (λ (xs : List Span). AreMaximalIntervals (IsOpenTo p c.args.guarded c.args.owned.now c.args.channel) xs) (sym c.in_ok-add-2.ensures)
-    (step_last p lawful c.args.guarded c.args.owned.now c.args.channel c.from-static_mt.result c.params.inside.static_slots c.params.inside.minislots c.from-4.result c.loop-earlier.since _ c.loop-earlier.intervals.items size slots minislots (c.from-4.ensures ∙ minislot) end found)
+    subst (λ (xs : List Span). AreMaximalIntervals (IsOpenTo p c.args.guarded c.args.owned.now c.args.cycle c.args.channel) xs) (sym c.in_ok-add-2.ensures)
+    (step_last p lawful c.args.guarded c.args.owned.now c.args.cycle c.args.channel c.from-static_mt.result c.params.inside.static_slots c.params.inside.minislots c.from-4.result c.loop-earlier.since _ c.loop-earlier.intervals.items size slots minislots (c.from-4.ensures ∙ minislot) end found)

@@ -3,4 +3,4 @@ use Rattle.fr_guardian.proofs.OpenLemmas.{owned_none}
 use Rattle.fr_guardian.proofs.intervals.owned_slots.Goals as goal
 
 pub loop-own-init : goal.loop-own-init
-loop-own-init c = owned_none [] c.args.channel _ refl refl
+loop-own-init c = owned_none [] c.args.cycle c.args.channel _ refl refl

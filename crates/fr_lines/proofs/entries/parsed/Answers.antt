@@ -4,12 +4,16 @@ use Rattle.fr_lines.proofs.entries.parsed.Goals as goal
 
 pub returns-then-eq-2 : goal.returns-then-eq-2
 unfolding entry_in
-returns-then-eq-2 c = c.read_of.ensures c.args.bytes.now ∙ search rules
+returns-then-eq-2 c = c.withdraw_of.ensures c.args.bytes.now ∙ search rules
 
 pub returns-then-eq-3 : goal.returns-then-eq-3
 unfolding entry_in
-returns-then-eq-3 c = c.pop_of.ensures c.args.bytes.now ∙ search rules
+returns-then-eq-3 c = c.read_of.ensures c.args.bytes.now ∙ search rules
 
 pub returns-then-eq-4 : goal.returns-then-eq-4
 unfolding entry_in
-returns-then-eq-4 c = c.fetch_of.ensures c.args.bytes.now ∙ search rules
+returns-then-eq-4 c = c.pop_of.ensures c.args.bytes.now ∙ search rules
+
+pub returns-then-eq-5 : goal.returns-then-eq-5
+unfolding entry_in
+returns-then-eq-5 c = c.fetch_of.ensures c.args.bytes.now ∙ search rules

@@ -4,7 +4,7 @@ use Rattle.std.specs.List.{flat_map}
 use Rattle.fr_interface.specs.State.{State, IsLegalInterface}
 use Rattle.fr_trace.specs.Feeds.{Begins, Reads}
 use Rattle.fr_trace.specs.Stream.{Progress, fresh, take_bytes, outcome_of}
-use Rattle.fr_trace.specs.TraceText.{trace_text}
+use Rattle.fr_trace.specs.TraceText.{IsTraceOf}
 use Rattle.fr_trace.specs.declared.error.TraceError.{TraceError}
 use Rattle.fr_trace.specs.declared.error.TraceError.TheVariants.{Memory}
 use Rattle.fr_trace.specs.Refusals.{HasFewLines, LineIsNamed, longest_text}
@@ -20,12 +20,12 @@ exact : (p : Progress) (text : List ℕ) (r : Result State TraceError) → Reads
 exact p text r (inl read) is = inl (is ∙ ap outcome_of read)
 exact p text r (inr out) is = inr (is ∙ ap outcome_of out.0, out.1)
 
-found : (text : List ℕ) (r : Result State TraceError) → IfOk r IsLegalInterface → Answers text r → IfOk r (λ s. (text ≡ trace_text s) × IsLegalInterface s)
+found : (text : List ℕ) (r : Result State TraceError) → IfOk r IsLegalInterface → Answers text r → IfOk r (λ s. IsTraceOf s text × IsLegalInterface s)
 found text (Ok s) legal (inl e) = (accepted_text text s (cc e), legal)
 found text (Ok s) legal (inr e) = cc e.0
 found text (Err f) legal e = tt
 
-only : (text : List ℕ) (r : Result State TraceError) (s : State) → IsLegalInterface s → text ≡ trace_text s → Answers text r → (r ≡ Ok s) ⊎ (r ≡ Err Memory)
+only : (text : List ℕ) (r : Result State TraceError) (s : State) → IsLegalInterface s → IsTraceOf s text → Answers text r → (r ≡ Ok s) ⊎ (r ≡ Err Memory)
 only text r s is same (inl e) = inl (e ∙ legal_outcome text s is same)
 only text r s is same (inr e) = inr e.0
 

@@ -5,6 +5,7 @@ use Rattle.std.proofs.KnownBytes.{Appends-trans}
 use Rattle.fr_journal.specs.declared.entry.Entry.{Entry}
 use Rattle.fr_slots.specs.Parameters.{Parameters}
 use Rattle.fr_slots.specs.Plans.{Plan}
+use Rattle.fr_lines.specs.declared.versions.Version.TheVariants.{Three}
 use Rattle.fr_lines.specs.Spelling.{line_feed, begin_line, end_line}
 use Rattle.fr_trace.specs.TraceText.{entry_line, plan_text, begin_text, body_text}
 use Rattle.fr_trace.proofs.WritingLemmas.{appends-last}
@@ -17,11 +18,11 @@ returns-clause-written g c =
     let first = g.W.Write.contents c.write_plan.new.writer in
     let second = g.W.Write.contents c.writeln.new.self in
     let third = g.W.Write.contents c.write_entries.new.writer in
-    let plan : Appends start first (plan_text s.params s.plan) =
-    subst (λ (p : Plan). Appends start first (plan_text s.params p)) c.plan.ensures.value
-    (subst (λ (q : Parameters). Appends start first (plan_text q c.plan.result.now)) c.params.ensures.value c.in_ok-write_plan.ensures) in
+    let plan : Appends start first (plan_text Three s.params s.plan) =
+    subst (λ (p : Plan). Appends start first (plan_text Three s.params p)) c.plan.ensures.value
+    (subst (λ (q : Parameters). Appends start first (plan_text Three q c.plan.result.now)) c.params.ensures.value c.in_ok-write_plan.ensures) in
     let entries : Appends second third (flat_map entry_line s.entries) =
     subst (λ (es : List Entry). Appends second third (flat_map entry_line es)) c.journal.ensures.entries c.in_ok-write_entries.ensures in
-    let begun = Appends-trans start first second (plan_text s.params s.plan) (begin_line ++ line_feed) plan c.in_ok-writeln.ensures.bytes in
-    appends-last c.writeln-2.result start third (g.W.Write.contents c.writeln-2.new.self) (body_text s) (end_line ++ line_feed)
-    (Appends-trans start second third (begin_text s.params s.plan) (flat_map entry_line s.entries) begun entries) c.writeln-2.ensures.bytes
+    let begun = Appends-trans start first second (plan_text Three s.params s.plan) (begin_line ++ line_feed) plan c.in_ok-writeln.ensures.bytes in
+    appends-last c.writeln-2.result start third (g.W.Write.contents c.writeln-2.new.self) (body_text Three s) (end_line ++ line_feed)
+    (Appends-trans start second third (begin_text Three s.params s.plan) (flat_map entry_line s.entries) begun entries) c.writeln-2.ensures.bytes

@@ -1,5 +1,7 @@
 use Rattle.std.proofs.Common.{◌≡◌, ◌&&◌, true, Some, List, Bor, option_map, subst, sym, ap, ◌∙◌, slice_get}
-use Rattle.fr_slots.specs.Windows.{is_static}
+use Rattle.fr_slots.specs.Windows.{Opportunity, is_static}
+use Rattle.fr_guardian.specs.Guarding.{IsOpenMacrotick}
+use Rattle.fr_guardian.specs.Intervals.{AreMaximalIntervals}
 use Rattle.fr_schedule.specs.Clusters.{IsCluster}
 use Rattle.fr_schedule.specs.Descriptions.{Description, is_guarded}
 use Rattle.fr_guardian.specs.declared.guardian.Post.{Post}
@@ -21,7 +23,8 @@ returns-else-not-is_watched-clause-value c =
     let watched : (is_static c.args.window.now && is_guarded d.guard c.args.channel) ≡ true =
     ap (λ (x : Description). is_static c.args.window.now && is_guarded x.guard c.args.channel) (sym c.self.view_is) ∙ sym c.is_watched.ensures ∙ c.if-not-is_watched.false in
     passes_found d (subst IsCluster c.self.view_is c.self.invariant.cluster) c.args.node c.args.window.now c.args.channel post.plan c.in-Some-Some.slot c.windows.result.now c.is_slot_within.result
-    plan slot watched c.windows.ensures.found
+    plan slot watched
+    (subst (λ (w : Opportunity). AreMaximalIntervals (IsOpenMacrotick d c.args.node w.cycle c.args.channel) c.windows.result.now) c.window.view_is c.windows.ensures.found)
     (subst (λ (x : Description). IsSlotWithin x.params c.windows.result.now c.in-Some-Some.slot c.is_slot_within.result) c.self.view_is c.is_slot_within.ensures)
 
 pub returns-else-not-is_watched-clause-alone : goal.returns-else-not-is_watched-clause-alone

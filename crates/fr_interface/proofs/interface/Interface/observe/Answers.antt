@@ -61,7 +61,7 @@ invariant_of-self c =
         legal = AllAfter-snoc _ _ _ legal.legal (subst (λ (o : Option Opportunity). IsSomeAnd o (λ w. w.number ≡ c.args.number)) (sym opened) (search rules));
       };
       opening_is = (λ i. record { window = None; last = last i }) ∙ sym (opening-observe entries c.args.number c.kept.result.now c.kept-2.result.now);
-      transmit_is = c.self.invariant.transmit_is ∙ sym (transmitters-other plan entries e (λ n. refl) (λ k. refl));
+      transmit_is = c.self.invariant.transmit_is ∙ sym (transmitters-other plan entries e (λ n. refl) (λ k. refl) (λ k. refl));
       receive_is =
           written c.self.inside.receive.len c.store_all.new.buffers _ (omega (arith, c.deref_mut.ensures.len, c.store_all.auto.buffers))
           ∙ c.store_all.ensures

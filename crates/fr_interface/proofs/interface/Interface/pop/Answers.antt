@@ -41,7 +41,7 @@ invariant_of-self c =
         });
       };
       opening_is = c.self.invariant.opening_is ∙ sym (opening-pop entries c.args.task c.origin_in-from.result);
-      transmit_is = c.self.invariant.transmit_is ∙ sym (transmitters-other plan entries e (λ n. refl) (λ k. refl));
+      transmit_is = c.self.invariant.transmit_is ∙ sym (transmitters-other plan entries e (λ n. refl) (λ k. refl) (λ k. refl));
       receive_is = c.self.invariant.receive_is ∙ sym (held-other params entries e plan.buffers (λ f. refl));
       queue_is = c.pop_from-oldest.ensures.left ∙ ap (option_map without_oldest) c.self.invariant.queue_is ∙ queue-pop params plan entries c.args.task c.origin_in-from.result plan.queue from_is;
       counters_are = c.self.invariant.counters_are ∙ sym (counters-other params entries e (λ bit channel. refl));

@@ -53,7 +53,7 @@ invariant_of-self c =
         });
       };
       opening_is = c.self.invariant.opening_is ∙ sym (opening-read entries c.args.task c.args.buffer c.origin_in-from.result);
-      transmit_is = c.self.invariant.transmit_is ∙ sym (transmitters-other plan entries e (λ n. refl) (λ k. refl));
+      transmit_is = c.self.invariant.transmit_is ∙ sym (transmitters-other plan entries e (λ n. refl) (λ k. refl) (λ k. refl));
       receive_is = c.self.invariant.receive_is ∙ sym (held-other params entries e plan.buffers (λ f. refl));
       queue_is = c.self.invariant.queue_is ∙ queue-other params plan entries e (λ q. refl) refl plan.queue;
       counters_are = c.self.invariant.counters_are ∙ sym (counters-other params entries e (λ bit channel. refl));

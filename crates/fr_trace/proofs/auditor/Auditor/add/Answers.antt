@@ -12,7 +12,7 @@ returns-then-is_some c =
 pub returns-in-Finished : goal.returns-in-Finished
 returns-in-Finished c =
     let some : c.args.bytes.now ≡ [] → ⊥ = search rules in
-    finished_more c.self.inside.fault c.self.inside.phase c.self.inside.line.items c.args.self.now c.args.bytes.now _ _ c.self.view_is (sym c.is_some.ensures ∙ c.if-is_some.false) c.in-Finished.is c.line_number.ensures some
+    finished_more c.self.inside.fault c.self.inside.phase c.self.inside.line.items c.args.self.now c.args.bytes.now _ _ _ c.self.view_is (sym c.is_some.ensures ∙ c.if-is_some.false) c.in-Finished.is c.line_number.ensures some
 
 pub returns-then-bytes-as_slice : goal.returns-then-bytes-as_slice
 returns-then-bytes-as_slice c =

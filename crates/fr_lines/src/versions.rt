@@ -1,0 +1,70 @@
+//! The first line of a text, which names its version.
+ghost use Rattle.std.specs.Prelude.{◌≡◌, Some, IfSome};
+ghost use Rattle.fr_lines.specs.declared.versions.Version.{Version};
+ghost use Rattle.fr_lines.specs.Reading.{version_in};
+ghost use Rattle.fr_lines.specs.Spelling.{first_line};
+
+/// A version of the format (own profile).
+#[derive(Clone, Copy, Debug, PartialEq, Eq)]
+pub enum Version {
+    /// Version 1, which has no line for a withdraw.
+    One,
+    /// Version 2, which has a line for each entry. The lines of version 1 are the same in it.
+    Two,
+    /// Version 3, whose ownership lines have their cycles; in the versions before, each is for every cycle. All other
+    /// lines of version 2 are the same in it.
+    Three,
+}
+
+impl Version {
+    ghost use Rattle.std.specs.Prelude.{◌≡◌};
+    ghost use Rattle.fr_lines.specs.Versions.{has_withdraws, has_own_cycles};
+
+    /// Whether the version has a line for a withdraw.
+    pub(crate) fn has_withdraws(self) -> bool
+        ensures { result ≡ has_withdraws self }
+    {
+        match self {
+            Version::One => false,
+            Version::Two | Version::Three => true,
+        }
+    }
+
+    /// Whether an ownership line of the version has its cycles.
+    pub(crate) fn has_own_cycles(self) -> bool
+        ensures { result ≡ has_own_cycles self }
+    {
+        match self {
+            Version::One | Version::Two => false,
+            Version::Three => true,
+        }
+    }
+}
+
+/// The version that the line names.
+#[tactic(auto, unfolding(crate::specs::Reading::version_in))]
+fn parsed(line: &[u8]) -> Option<Version>
+    ensures { result ≡ version_in line.now }
+{
+    if line == b"frtrace 1".as_slice() {
+        return Some(Version::One);
+    }
+    if line == b"frtrace 2".as_slice() {
+        return Some(Version::Two);
+    }
+    if line == b"frtrace 3".as_slice() {
+        return Some(Version::Three);
+    }
+    None
+}
+
+/// The version of the text that begins with this line.
+///
+/// `None` for any line but `frtrace 1`, `frtrace 2` and `frtrace 3`.
+pub fn version_of(line: &[u8]) -> Option<Version>
+    ensures found { IfSome result (λ v. line.now ≡ first_line v) }
+    ensures only { (v : Version) → line.now ≡ first_line v → result ≡ Some v }
+    ensures exact { result ≡ version_in line.now }
+{
+    parsed(line)
+}

@@ -1,0 +1,10 @@
+//! The versions of a scenario's format.
+
+/// A version of the format, which the first line of a text names (own profile).
+#[derive(Clone, Copy, PartialEq, Eq)]
+pub(crate) enum Version {
+    /// Version 1, which has no line for a withdraw.
+    One,
+    /// Version 2, which has one. The lines of version 1 are the same in it.
+    Two,
+}
