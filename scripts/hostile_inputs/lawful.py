@@ -76,13 +76,13 @@ class Journal:
         self.owned, self.own_cycles = random.choice((0, 1, 1)), random.choice(FILTERS)
         self.buffers = buffers(random, self.params, self.owned, self.own_cycles)
         self.capacity = random.choice((0, 1, 2, 3))
+        is_divided = self.owned and self.own_cycles != (0, 1)
+        self.version = 3 if is_divided else random.choice((1, 2, 3))
         self.queue, self.lines = [], []
 
     def text(self):
-        is_divided = self.owned and self.own_cycles != (0, 1)
-        version = 3 if is_divided else self.random.choice((1, 2, 3))
-        plan = [f"frtrace {version}", f"params {' '.join(map(str, self.params))}", f"node 2 {min(3, self.params[1])} 0 64 128"]
-        cycles = " {} {}".format(*self.own_cycles) if version == 3 else ""
+        plan = [f"frtrace {self.version}", f"params {' '.join(map(str, self.params))}", f"node 2 {min(3, self.params[1])} 0 64 128"]
+        cycles = " {} {}".format(*self.own_cycles) if self.version == 3 else ""
         plan += [f"own {self.owned} AB 0 0{cycles}"] if self.owned else []
         for it in self.buffers:
             head = f"{it.slot} {it.channels} {it.base} {it.repetition}"
@@ -105,6 +105,9 @@ class Journal:
             self.lines.append(f"pop {task} {self.queue.pop(0) if self.queue else '-'}")
         elif it.kind == "receive":
             self.lines.append(f"read {task} {number} {it.held}")
+        elif self.version > 1 and self.random.random() < 0.3:
+            self.lines.append(f"withdraw {task} {number} {it.last if it.is_pending else '-'}")
+            it.last, it.is_pending = None if it.is_pending else it.last, False
         else:
             it.last, it.is_pending = len(self.lines), True
             self.lines.append(f"commit {task} {number} x{self.random.randbytes(2 * it.words).hex()}")
@@ -201,9 +204,11 @@ class Cluster:
         place = self.random.randrange(len(made))
         if made[place].kind == "receive":
             return f"read {number} {task} {cycle} {place}"
-        # A buffer is one task's, since of two that commit in one cycle either may be the first.
+        # A buffer is one task's, since of two that commit or withdraw in one cycle either may be the first.
         if place % tasks != task:
             return None
+        if self.random.random() < 0.3:
+            return f"withdraw {number} {task} {cycle} {place}"
         return f"commit {number} {task} {cycle} {place} x{self.random.randbytes(2 * made[place].words).hex()}"
 
     def fault_line(self, cycles):
@@ -224,7 +229,9 @@ class Cluster:
                 when = sorted(self.random.randrange(cycles) for _ in range(self.random.randint(0, 4)))
                 lines += [self.host_line(number, task, cycle) for cycle in when]
         lines += [self.fault_line(cycles) for _ in range(self.random.choice((0, 0, 1, 1, 2, 3)))]
-        return "".join(f"{line}\n" for line in ["frscenario 1", *filter(None, lines), "end"]).encode()
+        lines = [line for line in lines if line]
+        version = 2 if any(line.startswith("withdraw") for line in lines) else self.random.choice((1, 2))
+        return "".join(f"{line}\n" for line in [f"frscenario {version}", *lines, "end"]).encode()
 
 
 def write_largest_trace(path):

@@ -35,8 +35,8 @@ class NoRun(Exception):
 class Preloaded:
     """The program, and the library: what SOURCE puts in the place of functions of the C library."""
 
-    def __init__(self, program, source, folder):
-        self.program, self.source, self.folder = program, source, Path(folder)
+    def __init__(self, program, source, folder, built_by="./fr_bench"):
+        self.program, self.source, self.folder, self.built_by = program, source, Path(folder), built_by
         self.library = self.folder / "preloaded.so"
 
     def make(self):
@@ -47,7 +47,7 @@ class Preloaded:
         words = [compiler, "-shared", "-fPIC", "-O1", "-xc", "-", "-o", str(self.library), "-ldl"]
         made = subprocess.run(words, input=MARK + self.source, capture_output=True, text=True)
         if made.returncode != 0 or not self.program.exists():
-            raise NoRun(made.stderr or f"{self.program} isn't there: build it by ./fr_bench")
+            raise NoRun(made.stderr or f"{self.program} isn't there: build it by {self.built_by}")
         return True
 
     def run(self, command, kind=None, number=0, **more):

@@ -54,8 +54,8 @@ impl World {
         }
     }
 
-    /// Does one event. A look is answered with the open window, a commit with its receipt, a read or a pop with its
-    /// frame, and all others with `Done`.
+    /// Does one event. A look is answered with the open window, a commit with its receipt, a withdraw with the entry of
+    /// the commit that it took back, a read or a pop with its frame, and all others with `Done`.
     ///
     /// Refused, in this order, with `UnknownNode` where the event's node isn't one of the cluster's, with `WrongTurn`
     /// where another step of its controller is due, and with what the one call refuses: `Host` for that of a task,

@@ -5,7 +5,7 @@
 //! auditor.feed(piece)?; // as often as pieces come
 //! let interface = auditor.finish()?; // of a legal journal, which the trace told
 //! write_report(&interface, &mut out)?;
-//! write_trace(&interface, &mut out)?; // the trace again, byte by byte
+//! write_trace(&interface, &mut out)?; // its one text of the newest version
 //! ```
 //!
 //! A chapter in parentheses is one of the FlexRay Protocol Specification 2.1, revision A, whose rule it is.
