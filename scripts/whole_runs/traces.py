@@ -120,6 +120,7 @@ class Traces:
     def withdraws(self):
         for line in ("withdraw 0 0 -", "withdraw 0 0 1", "withdraw 0 0 4294967295"):
             self.changed(self.withdrawn, 8, line, "WrongAnswer")
+        self.changed(self.withdrawn, 15, "withdraw 0 0 6", "WrongAnswer")
         for line in ("withdraw 1 0 0", "withdraw 0 1 0", "withdraw 0 63 -"):
             self.changed(self.withdrawn, 8, line, "Refused")
         for line in ("withdraw 8 0 0", "withdraw 0 64 0", "withdraw 0 0 4294967296", "withdraw 0 0 00", "withdraw 0 0 null",
@@ -147,8 +148,10 @@ class Traces:
             self.check(f"an ownership line has cycles in version {version}", [f"frtrace {version}", *lines[1:]], refused("BadLine 4"))
             self.check(f"they are all cycles in version {version}", [f"frtrace {version}", *lines[1:3], "own 3 A 0 0 0 1", *lines[4:]],
                        refused("BadLine 4"))
+            self.check(f"a line without cycles is for all in version {version}", [f"frtrace {version}", *lines[1:3], "own 3 A 0 0", *lines[4:]],
+                       refused("WrongAnswer 8"))
         for line in ("own 3 A 0 0", "own 3 A 0 0 0", "own 3 A 0 0 0 3", "own 3 A 0 0 2 2", "own 3 A 0 0 0 2 0", "own 3 A 0 0 00 2",
-                     "own 3 A 0 1 0 2", "own 3 A 0 0 - 2"):
+                     "own 3 A 0 1 0 2", "own 3 A 0 0 - 2", "own 3 A 0 0 64 64", "own 3 A 0 0 0 128", "own 3 A 0 0 0 0"):
             self.changed(lines, 4, line, "BadLine")
         for line in ("own 3 A 0 0 1 2", "own 3 A 0 0 0 4", "own 3 B 0 0 0 2"):
             self.check(f"a buffer is for other cycles than {line!r}", [*lines[:3], line, *lines[4:]], refused("Refused 6"))
