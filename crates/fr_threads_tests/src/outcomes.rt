@@ -34,7 +34,7 @@ fn an_outcome_from_two_texts(rt: HostRuntime) -> Result<(), Fail> {
     let mut scenario = ONE_COMMIT.as_bytes();
     // With room of its own, so that memory refused later is the run's and not the writer's.
     let mut written = Vec::with_capacity(rt.alloc(), 512)?;
-    run_text(
+    let answer = run_text(
         &rt,
         rt.alloc(),
         &mut cluster,
@@ -42,7 +42,8 @@ fn an_outcome_from_two_texts(rt: HostRuntime) -> Result<(), Fail> {
         1,
         false,
         &mut written,
-    )?;
+    );
+    assert_eq!(rt; answer, Ok(()));
     assert_eq!(rt; written.as_slice(), OUTCOME.as_bytes());
     Ok(())
 }
