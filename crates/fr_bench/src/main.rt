@@ -56,7 +56,7 @@ fn texts_of(alloc: Global, words: &Vec<String>) -> Result<Vec<&str>, OrderError>
 }
 
 /// The file of this name, opened to be read.
-fn opened<R: Files>(rt: &R, path: &str) -> Result<R::File, BenchError> {
+fn file_named<R: Files>(rt: &R, path: &str) -> Result<R::File, BenchError> {
     match fs::open(rt, path) {
         Ok(file) => Ok(file),
         Err(error) if error.kind() == io::ErrorKind::OutOfMemory => Err(BenchError::Memory),
@@ -73,8 +73,8 @@ fn run_files<R: Files + Print + AllocGlobal + Threads + Wait + Clock + Sync>(
     free: bool,
 ) -> Result<(), OutcomeError> {
     let alloc = rt.alloc();
-    let cluster = cluster_of(alloc, &mut opened(rt, cluster)?)?;
-    let mut file = opened(rt, scenario)?;
+    let cluster = cluster_of(alloc, &mut file_named(rt, cluster)?)?;
+    let mut file = file_named(rt, scenario)?;
     run_cluster(
         rt,
         alloc,
@@ -96,11 +96,11 @@ fn carry_out<R: Files + Input + Print + AllocGlobal + Threads + Wait + Clock + S
     match order {
         Order::Audit => Ok(audit::audit(alloc, &mut rt.reader(), &mut output)?),
         Order::Check(path) => {
-            let mut file = opened(rt, path)?;
+            let mut file = file_named(rt, path)?;
             Ok(check_text(alloc, &mut file, &mut output)?)
         }
         Order::Plan(path) => {
-            let mut file = opened(rt, path)?;
+            let mut file = file_named(rt, path)?;
             Ok(plan_text(alloc, &mut file, &mut output)?)
         }
         Order::Midpoint => Ok(midpoint_text(alloc, &mut rt.reader(), &mut output)?),

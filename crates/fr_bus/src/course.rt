@@ -97,7 +97,7 @@ fn has_row(channel: Channel, window: &Window) -> bool
 }
 
 /// The lane after the window, in which the longest transmission that passed on the channel had so many bytes.
-fn ended(channel: Channel, lane: &Lane, window: &Window, bytes: u16) -> Lane
+fn lane_after(channel: Channel, lane: &Lane, window: &Window, bytes: u16) -> Lane
     requires { has_row channel window.now ≡ true → close_refusal lane.now bytes ≡ None }
     ensures { result ≡ ended channel lane.now window.now bytes }
 {
@@ -218,8 +218,8 @@ impl Course {
                 windows: self.windows + 1,
                 begun: self.begun,
                 statics: self.statics + static_count(window),
-                a: ended(Channel::A, &self.a, window, a),
-                b: ended(Channel::B, &self.b, window, b),
+                a: lane_after(Channel::A, &self.a, window, a),
+                b: lane_after(Channel::B, &self.b, window, b),
             };
         }
     }

@@ -277,7 +277,7 @@ fn overruns(params: &Params, window: &Window, bytes: usize) -> bool
 }
 
 /// The byte with this bit turned, counted from its most significant one, which is 0.
-fn turned(byte: u8, bit: u16) -> u8
+fn byte_with_bit_turned(byte: u8, bit: u16) -> u8
     requires { bit < 8 }
     ensures { result ≡ turned byte bit }
 {
@@ -291,12 +291,12 @@ fn turn_bit(bytes: &mut Bytes, bit: u16)
     let place = usize::from(bit / 8);
     let all = bytes.as_mut_slice();
     if place < all.len() {
-        all[place] = turned(all[place], bit % 8);
+        all[place] = byte_with_bit_turned(all[place], bit % 8);
     }
 }
 
 /// The bytes with the bit turned, if there is one to turn.
-fn corrupted(bytes: &Bytes, corrupt: Option<u16>) -> Bytes
+fn bytes_with_bit_turned(bytes: &Bytes, corrupt: Option<u16>) -> Bytes
     ensures { result ≡ corrupted bytes.now corrupt }
 {
     let mut copy = duplicate_bytes(bytes);
@@ -307,13 +307,13 @@ fn corrupted(bytes: &Bytes, corrupt: Option<u16>) -> Bytes
 }
 
 /// What the other nodes see of the only transmission that passed.
-fn received(params: &Params, window: &Window, corrupt: Option<u16>, bytes: &Bytes) -> Seen
+fn sight_of(params: &Params, window: &Window, corrupt: Option<u16>, bytes: &Bytes) -> Seen
     ensures { result ≡ received params.now window.now corrupt bytes.now }
 {
     if overruns(params, window, bytes.len()) {
         Seen::Overrun
     } else {
-        Seen::Bytes(corrupted(bytes, corrupt))
+        Seen::Bytes(bytes_with_bit_turned(bytes, corrupt))
     }
 }
 
@@ -341,7 +341,7 @@ fn seen_in(
     if is_of(node, only) {
         Seen::Own
     } else {
-        received(params, window, corrupt, &only.bytes)
+        sight_of(params, window, corrupt, &only.bytes)
     }
 }
 

@@ -69,7 +69,7 @@ fn status_word_in(
 }
 
 /// Bytes that were seen on a channel in the window fetched last.
-fn sighted<'a>(
+fn sighting_of<'a>(
     params: &Params,
     moment: &Moment,
     channel: Channel,
@@ -108,11 +108,11 @@ fn write_seen<W: Write>(
         return Ok(());
     };
     match form {
-        Form::Capture => write_record(writer, &sighted(params, moment, channel, bytes)),
+        Form::Capture => write_record(writer, &sighting_of(params, moment, channel, bytes)),
         Form::Table => {
             let (cycle, slot) = (moment.window.cycle, moment.window.slot(channel));
             let word = status_word_in(params, cycle, slot, channel, seen);
-            write_line(writer, &sighted(params, moment, channel, bytes), word)
+            write_line(writer, &sighting_of(params, moment, channel, bytes), word)
         }
     }
 }

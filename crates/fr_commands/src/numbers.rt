@@ -54,7 +54,7 @@ fn number_of(word: &[u8]) -> Option<i32>
 }
 
 /// The text with a space in place of each line feed.
-fn spaced(alloc: Global, text: &[u8]) -> Result<Vec<u8>, AllocError>
+fn with_spaces(alloc: Global, text: &[u8]) -> Result<Vec<u8>, AllocError>
     ensures { IfOk result (λ copy. copy.items ≡ map spaced text.now) }
 {
     text.iter()
@@ -73,7 +73,7 @@ pub fn numbers_of(alloc: Global, text: &[u8]) -> Result<Vec<i32>, BenchError>
     ensures refused { IfErr result (λ e. (e ≡ refusal.Memory)
         ⊎ ((e ≡ refusal.BadNumber) × (numbers_in (words_in text.now) ≡ None))) }
 {
-    let Ok(spaced) = spaced(alloc, text) else {
+    let Ok(spaced) = with_spaces(alloc, text) else {
         return Err(BenchError::Memory);
     };
     let mut words = Words::new(spaced.as_slice());

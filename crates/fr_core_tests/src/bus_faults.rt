@@ -1,8 +1,8 @@
 //! Windows in which nodes babble, lose offers and have bits turned, as the record and each node see them.
 
 use crate::steps::{
-    SMALL_CYCLE, THREE_NODES, babble, babbled, babbled_list, bus_of, frame, mute, nothing,
-    offer_of, opened, put_all, seal, seal_refusal, sent_in, taken, window_with,
+    SMALL_CYCLE, THREE_NODES, babble, babbled_bus, babbled_list, bus_of, frame, mute, nothing,
+    offer_of, open_window, put_all, seal, seal_refusal, sent_in, sight, window_with,
 };
 use fr_bus::bus::Bus;
 use fr_bus::error::{BusError, Phase};
@@ -15,16 +15,16 @@ use std::test::Fail;
 
 #[test]
 fn a_babble_is_blocked_on_the_guarded_channel(rt: HostRuntime) -> Result<(), Fail> {
-    let mut bus = babbled(rt.alloc())?;
+    let mut bus = babbled_bus(rt.alloc())?;
     put_all(&mut bus, &frame()?)?;
     seal(&mut bus)?;
     let wanted = babbled_list(Fate::Passed)?;
     assert_eq!(rt; sent_in(&bus, 1)?, wanted.as_slice());
     let on_a = Seen::Bytes(frame_bytes(&DATA_ON_A)?);
     let seen = [
-        taken(&mut bus, 0, 1),
-        taken(&mut bus, 1, 1),
-        taken(&mut bus, 2, 1),
+        sight(&mut bus, 0, 1),
+        sight(&mut bus, 1, 1),
+        sight(&mut bus, 2, 1),
     ];
     assert_eq!(rt;
         seen,
@@ -47,16 +47,16 @@ fn mute_both(bus: &mut Bus) -> Result<(), Fail> {
 
 #[test]
 fn a_mute_loses_the_offer_and_no_babble(rt: HostRuntime) -> Result<(), Fail> {
-    let mut bus = babbled(rt.alloc())?;
+    let mut bus = babbled_bus(rt.alloc())?;
     mute_both(&mut bus)?;
     put_all(&mut bus, &frame()?)?;
     seal(&mut bus)?;
     let wanted = babbled_list(Fate::Muted)?;
     assert_eq!(rt; sent_in(&bus, 1)?, wanted.as_slice());
     let seen = [
-        taken(&mut bus, 0, 1),
-        taken(&mut bus, 1, 1),
-        taken(&mut bus, 2, 1),
+        sight(&mut bus, 0, 1),
+        sight(&mut bus, 1, 1),
+        sight(&mut bus, 2, 1),
     ];
     assert_eq!(rt;
         seen,
@@ -87,7 +87,7 @@ fn one_bit_is_turned_for_all_but_the_sender(rt: HostRuntime) -> Result<(), Fail>
     seal(&mut bus)?;
     let turned = frame_bytes(&[0x20, 0x42, 0x03, 0xc1, 0x40, 0x0a, 0x0b, 0xa3, 0x22, 0x17])?;
     let unturned = frame_bytes(&DATA_ON_B)?;
-    let seen = [taken(&mut bus, 0, 1), taken(&mut bus, 1, 1)];
+    let seen = [sight(&mut bus, 0, 1), sight(&mut bus, 1, 1)];
     assert_eq!(rt;
         seen,
         [
@@ -110,7 +110,7 @@ fn a_static_slot_is_overrun_by_an_eleventh_byte(rt: HostRuntime) -> Result<(), F
     put_all(&mut bus, &offer_of(&[7; 11], &[7; 10])?)?;
     seal(&mut bus)?;
     let on_b = Seen::Bytes(frame_bytes(&[7; 10])?);
-    let seen = [taken(&mut bus, 0, 1), taken(&mut bus, 1, 1)];
+    let seen = [sight(&mut bus, 0, 1), sight(&mut bus, 1, 1)];
     assert_eq!(rt;
         seen,
         [(Seen::Overrun, on_b), (Seen::Own, Seen::Own)].map(Some)
@@ -124,11 +124,11 @@ fn idle_minislots_overrun_nothing(rt: HostRuntime) -> Result<(), Fail> {
     for _window in 0..11 {
         window_with(&mut bus, &nothing())?;
     }
-    assert_eq!(rt; opened(&bus)?.minislot, 9);
+    assert_eq!(rt; open_window(&bus)?.minislot, 9);
     put_all(&mut bus, &offer_of(&[7; 16], &[7; 17])?)?;
     seal(&mut bus)?;
     let on_a = Seen::Bytes(frame_bytes(&[7; 16])?);
-    assert_eq!(rt; taken(&mut bus, 0, 11), Some((on_a, Seen::Overrun)));
+    assert_eq!(rt; sight(&mut bus, 0, 11), Some((on_a, Seen::Overrun)));
     Ok(())
 }
 
@@ -140,7 +140,7 @@ fn what_has_no_bytes_or_no_slot_is_not_sent(rt: HostRuntime) -> Result<(), Fail>
     }
     let on_a = offer_of(&[0; 8], &[])?;
     window_with(&mut bus, &on_a)?;
-    assert_eq!(rt; opened(&bus)?.a, None);
+    assert_eq!(rt; open_window(&bus)?.a, None);
     bus.inject(babble(0, Channel::A, &[1])?)?;
     window_with(&mut bus, &on_a)?;
     assert_eq!(rt; (sent_in(&bus, 3)?.len(), sent_in(&bus, 4)?.len()), (1, 0));
@@ -149,7 +149,7 @@ fn what_has_no_bytes_or_no_slot_is_not_sent(rt: HostRuntime) -> Result<(), Fail>
 
 #[test]
 fn seal_succeeds_with_memory(rt: HostRuntime) -> Result<(), Fail> {
-    let mut bus = babbled(rt.alloc())?;
+    let mut bus = babbled_bus(rt.alloc())?;
     put_all(&mut bus, &frame()?)?;
     let mut refusal = seal_refusal(&mut bus);
     if refusal == Some(BusError::Memory) {

@@ -2,7 +2,7 @@
 
 use crate::steps::{
     SMALL_CYCLE, THREE_NODES, advance_refusal, babble, bus_of, fault_refusal, mute, nothing,
-    offer_of, opened, put_all, put_refusal, seal_refusal, take_refusal, window_with,
+    offer_of, open_window, put_all, put_refusal, seal_refusal, take_refusal, window_with,
 };
 use fr_bus::bus::Bus;
 use fr_bus::error::{BusError, Phase};
@@ -19,13 +19,13 @@ fn a_long_slot_leaves_the_other_channel_alone(rt: HostRuntime) -> Result<(), Fai
     let mut bus = bus_of(rt.alloc(), SMALL_CYCLE, 1)?;
     for number in 1..4 {
         let first = Window::fixed(number as u32 - 1, Cycle::from_bits(0), slot(number)?);
-        assert_eq!(rt; opened(&bus)?, first);
+        assert_eq!(rt; open_window(&bus)?, first);
         window_with(&mut bus, &nothing())?;
     }
     let four_words = offer_of(&[], &[0; 16])?;
     let silence = nothing();
     for minislot in 1..11 {
-        let window = opened(&bus)?;
+        let window = open_window(&bus)?;
         assert_eq!(rt;
             (window.minislot, window.a, window.b),
             (minislot, SlotId::new(minislot + 3), slot_on_b(minislot))
@@ -50,7 +50,7 @@ fn slot_on_b(minislot: u16) -> Option<SlotId> {
 fn a_run_goes_through_its_cycles_and_ends(rt: HostRuntime) -> Result<(), Fail> {
     let mut bus = bus_of(rt.alloc(), THREE_NODES, 66)?;
     for number in 0..462 {
-        let window = opened(&bus)?;
+        let window = open_window(&bus)?;
         let cycle = Cycle::from_bits((number / 7 % 64) as u8);
         let slot = SlotId::new((number % 7) as u16 + 1);
         assert_eq!(rt;

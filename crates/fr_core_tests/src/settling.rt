@@ -28,7 +28,7 @@ fn after_window(alloc: Global, before: Option<&Event>) -> Result<World, Fail> {
 }
 
 /// What a settling of these interfaces with the record of that world tells.
-fn told(
+fn settling_of(
     alloc: Global,
     interfaces: &[Interface],
     world: &World,
@@ -70,7 +70,7 @@ fn told_of(
     interfaces: &World,
     record: &World,
 ) -> Result<Result<Settled, SettleError>, Fail> {
-    told(alloc, interfaces.interfaces(), record, &[])
+    settling_of(alloc, interfaces.interfaces(), record, &[])
 }
 
 /// What a settling of a world tells, where node 0 was to commit and to be answered so.
@@ -79,7 +79,7 @@ fn told_with(
     world: &World,
     answer: Option<Reply>,
 ) -> Result<Result<Settled, SettleError>, Fail> {
-    told(alloc, world.interfaces(), world, &[script(alloc, answer)?])
+    settling_of(alloc, world.interfaces(), world, &[script(alloc, answer)?])
 }
 
 #[test]
@@ -135,7 +135,7 @@ fn a_commit_without_a_script_differs(rt: HostRuntime) -> Result<(), Fail> {
 #[test]
 fn interfaces_of_other_nodes_differ(rt: HostRuntime) -> Result<(), Fail> {
     let idle = after_window(rt.alloc(), None)?;
-    let settled = told(rt.alloc(), &idle.interfaces()[1..], &idle, &[])?;
+    let settled = settling_of(rt.alloc(), &idle.interfaces()[1..], &idle, &[])?;
     assert_eq!(rt; settled, Err(SettleError::PlanDiffers(0)));
     Ok(())
 }

@@ -118,7 +118,7 @@ pub(crate) fn seal(bus: &mut Bus) -> Result<(), Fail> {
 }
 
 /// What a node sees in the sealed window, or nothing where it may not take it.
-pub(crate) fn taken(bus: &mut Bus, number: u8, window: u32) -> Option<(Seen, Seen)> {
+pub(crate) fn sight(bus: &mut Bus, number: u8, window: u32) -> Option<(Seen, Seen)> {
     bus.take(NodeId::new(number)?, window).ok()
 }
 
@@ -136,7 +136,7 @@ pub(crate) fn advance_refusal(bus: &mut Bus) -> Option<BusError> {
 }
 
 /// The open window.
-pub(crate) fn opened(bus: &Bus) -> Result<Window, Fail> {
+pub(crate) fn open_window(bus: &Bus) -> Result<Window, Fail> {
     Ok(bus.window().ok_or("no window")?)
 }
 
@@ -176,7 +176,7 @@ pub(crate) fn window_with(bus: &mut Bus, offer: &Offer) -> Result<(), Fail> {
 }
 
 /// The bus of the three nodes in the window of slot 2, where node 2 babbles one byte on both channels.
-pub(crate) fn babbled(alloc: Global) -> Result<Bus, Fail> {
+pub(crate) fn babbled_bus(alloc: Global) -> Result<Bus, Fail> {
     let mut bus = bus_of(alloc, THREE_NODES, 1)?;
     window_with(&mut bus, &nothing())?;
     bus.inject(babble(2, Channel::A, &[0])?)?;
@@ -185,7 +185,7 @@ pub(crate) fn babbled(alloc: Global) -> Result<Bus, Fail> {
 }
 
 /// A transmission of the record.
-pub(crate) fn sent(
+pub(crate) fn transmission(
     number: u8,
     channel: Channel,
     list: &[u8],
@@ -204,9 +204,9 @@ pub(crate) fn sent(
 /// What the babbled window's record has, where node 1's offer on A came to this.
 pub(crate) fn babbled_list(fate: Fate) -> Result<[Sent; 4], Fail> {
     Ok([
-        sent(1, Channel::A, &DATA_ON_A, false, fate)?,
-        sent(1, Channel::B, &DATA_ON_B, false, Fate::Passed)?,
-        sent(2, Channel::A, &[0], true, Fate::Blocked)?,
-        sent(2, Channel::B, &[0], true, Fate::Passed)?,
+        transmission(1, Channel::A, &DATA_ON_A, false, fate)?,
+        transmission(1, Channel::B, &DATA_ON_B, false, Fate::Passed)?,
+        transmission(2, Channel::A, &[0], true, Fate::Blocked)?,
+        transmission(2, Channel::B, &[0], true, Fate::Passed)?,
     ])
 }

@@ -1,7 +1,8 @@
 //! The turns of controllers, and a list of events.
 
 use crate::worlds::{
-    NODES, commit, observed, offer, payload_read, read, refusal, three_nodes, window, windows,
+    NODES, are_between_after, commit, offer, payload_read, read, refusal, three_nodes, window,
+    windows,
 };
 use fr_bus::error::BusError;
 use fr_bus::fault::Fault;
@@ -34,9 +35,9 @@ fn controllers_take_turns(rt: HostRuntime) -> Result<(), Fail> {
     );
     let between = [
         world.between_windows(),
-        observed(&mut world, 0)?,
-        observed(&mut world, 1)?,
-        observed(&mut world, 2)?,
+        are_between_after(&mut world, 0)?,
+        are_between_after(&mut world, 1)?,
+        are_between_after(&mut world, 2)?,
     ];
     assert_eq!(rt; between, [false, false, false, true]);
     Ok(())

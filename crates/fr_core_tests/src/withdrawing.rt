@@ -73,7 +73,7 @@ fn commit(world: &mut World, low: u8) -> Result<Reply, Fail> {
 }
 
 /// The reply to its commit that is this entry.
-fn committed(entry: u32) -> Result<Reply, Fail> {
+fn commit_reply(entry: u32) -> Result<Reply, Fail> {
     Ok(Reply::Committed(Receipt {
         task: task(0)?,
         entry,
@@ -126,7 +126,7 @@ fn interface(world: &World) -> Result<&Interface, Fail> {
 }
 
 /// What the fetch of this number handed to the bus on channel A.
-fn handed(world: &World, number: u32) -> Result<Offered, Fail> {
+fn offer_in_fetch(world: &World, number: u32) -> Result<Offered, Fail> {
     match interface(world)?.journal().get(number) {
         Some(Entry::Fetch { a, .. }) => Ok(a),
         _ => Err(Fail::from("no fetch")),
@@ -152,11 +152,11 @@ fn early_replies(world: &mut World) -> Result<[Reply; 5], Fail> {
 /// What these calls are to be answered.
 fn early_answers() -> Result<[Reply; 5], Fail> {
     Ok([
-        committed(0)?,
+        commit_reply(0)?,
         Reply::Withdrawn(Some(0)),
         Reply::Withdrawn(None),
-        committed(5)?,
-        committed(6)?,
+        commit_reply(5)?,
+        commit_reply(6)?,
     ])
 }
 
@@ -176,7 +176,11 @@ fn a_withdrawn_commit_is_never_sent(rt: HostRuntime) -> Result<(), Fail> {
     assert_eq!(rt; replies, early_answers()?);
     let reply = late_reply(&mut world)?;
     assert_eq!(rt;
-        (handed(&world, 2)?, handed(&world, 19)?, reply),
+        (
+            offer_in_fetch(&world, 2)?,
+            offer_in_fetch(&world, 19)?,
+            reply
+        ),
         (Offered::Null, Offered::Data(6), Reply::Withdrawn(None))
     );
     let tally = Tally {
@@ -196,10 +200,10 @@ fn a_state_commit_that_was_sent_stands(rt: HostRuntime) -> Result<(), Fail> {
     let first = commit(&mut world, 1)?;
     windows(&mut world, 1)?;
     let replies = [first, withdraw(&mut world)?];
-    assert_eq!(rt; replies, [committed(0)?, Reply::Withdrawn(None)]);
+    assert_eq!(rt; replies, [commit_reply(0)?, Reply::Withdrawn(None)]);
     windows(&mut world, WINDOWS)?;
     assert_eq!(rt;
-        (handed(&world, 1)?, handed(&world, 16)?),
+        (offer_in_fetch(&world, 1)?, offer_in_fetch(&world, 16)?),
         (Offered::Data(0), Offered::Data(0))
     );
     Ok(())
@@ -217,9 +221,9 @@ fn state_replies(world: &mut World) -> Result<[Reply; 4], Fail> {
 /// What these calls are to be answered.
 fn state_answers() -> Result<[Reply; 4], Fail> {
     Ok([
-        committed(0)?,
+        commit_reply(0)?,
         Reply::Withdrawn(None),
-        committed(4)?,
+        commit_reply(4)?,
         Reply::Withdrawn(Some(4)),
     ])
 }
@@ -231,7 +235,7 @@ fn a_withdrawn_state_commit_leaves_nothing(rt: HostRuntime) -> Result<(), Fail> 
     assert_eq!(rt; replies, state_answers()?);
     windows(&mut world, WINDOWS)?;
     assert_eq!(rt;
-        (handed(&world, 1)?, handed(&world, 18)?),
+        (offer_in_fetch(&world, 1)?, offer_in_fetch(&world, 18)?),
         (Offered::Data(0), Offered::Null)
     );
     let tally = Tally {
@@ -272,7 +276,7 @@ fn withdraws_are_refused_as_commits_are(rt: HostRuntime) -> Result<(), Fail> {
 }
 
 /// What a settling tells of the world, where its task was to commit, and to withdraw and be answered so.
-fn told(
+fn settling_of(
     alloc: Global,
     world: &World,
     answer: Option<u32>,
@@ -307,8 +311,8 @@ fn a_script_is_compared_with_what_was_withdrawn(rt: HostRuntime) -> Result<(), F
     withdraw(&mut world)?;
     windows(&mut world, 1)?;
     let settled = [
-        told(rt.alloc(), &world, Some(0))?,
-        told(rt.alloc(), &world, None)?,
+        settling_of(rt.alloc(), &world, Some(0))?,
+        settling_of(rt.alloc(), &world, None)?,
     ];
     let differs = Err(SettleError::ScriptDiffers(node(0)?, task(0)?));
     assert_eq!(rt; settled, [Ok(Settled { windows: 1 }), differs]);

@@ -116,7 +116,7 @@ pub(crate) fn offer(world: &mut World, number: u8) -> Result<(), Fail> {
 }
 
 /// The controller takes and observes, and then this is whether all are between two windows.
-pub(crate) fn observed(world: &mut World, number: u8) -> Result<bool, Fail> {
+pub(crate) fn are_between_after(world: &mut World, number: u8) -> Result<bool, Fail> {
     world.step(&Event::Take(node(number)?))?;
     world.step(&Event::Observe(node(number)?))?;
     Ok(world.between_windows())

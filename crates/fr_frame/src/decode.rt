@@ -41,7 +41,7 @@ pub fn decode(bytes: &[u8], channel: Channel) -> Result<Frame, DecodeError>
     // What is spelled so is read.
     ensures only { (f : Fields) → Spells f channel bytes.now → result ≡ Ok f }
 {
-    owned(lent_from(bytes, channel))
+    frame_of(lent_from(bytes, channel))
 }
 
 /// The same frame, whose payload stays among the bytes.
@@ -53,7 +53,7 @@ pub fn decode_lent(bytes: &[u8], channel: Channel) -> Result<LentFrame<'_>, Deco
 }
 
 /// What was read, with a payload of its own.
-fn owned(read: Result<LentFrame<'_>, DecodeError>) -> Result<Frame, DecodeError>
+fn frame_of(read: Result<LentFrame<'_>, DecodeError>) -> Result<Frame, DecodeError>
     ensures { result ≡ read.entry }
 {
     match read {

@@ -16,7 +16,8 @@ use Rattle.fr_slots.specs.declared.plan.Own.{Own}
 use Rattle.fr_slots.specs.Parameters.{Parameters, IsParameters}
 use Rattle.fr_timing.specs.declared.place.Place.{Place}
 use Rattle.fr_timing.specs.declared.place.Place.TheVariants.{Static, Minislot, Symbol, Idle}
-use Rattle.fr_timing.specs.Division.{place_at, dynamic_start, symbol_start, idle_start, cycle_end}
+use Rattle.fr_timing.specs.Division.{place_at}
+use Rattle.fr_timing.specs.Segments.{dynamic_start, symbol_start, idle_start, cycle_end}
 use Rattle.fr_timing.specs.Layout.{static_slot, part_of, IsAt}
 use Rattle.fr_timing.proofs.LayoutLemmas.{located_found, located_only}
 use Rattle.fr_guardian.specs.Intervals.{Span, AreMaximalIntervals, run}

@@ -11,6 +11,7 @@ use fr_slots::channel::Channel;
 use fr_slots::numbers::{Cycle, LAST_SLOT, SlotId};
 use fr_slots::params::Params;
 use fr_slots::plan::Own;
+use fr_timing::segments::segments_of;
 use std::alloc::{AllocError, Global};
 
 /// As many numbers as reach the last slot's.
@@ -94,8 +95,6 @@ pub fn open_intervals(
             since = start + static_mt;
         }
     }
-    let end = u32::from(params.static_slots) * static_mt
-        + u32::from(params.minislots) * u32::from(params.minislot_mt);
-    add(&mut intervals, since, end)?;
+    add(&mut intervals, since, segments_of(&params).symbol)?;
     Ok(intervals)
 }

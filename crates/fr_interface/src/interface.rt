@@ -331,7 +331,8 @@ impl Interface {
             window: None,
             last: self.opening.last,
         };
-        self.journal.push_observe(number, kept(a), kept(b));
+        self.journal
+            .push_observe(number, seen_within(a), seen_within(b));
         Ok(())
     }
 
@@ -507,7 +508,7 @@ fn count_of(bytes: &[u8]) -> usize
 }
 
 /// What was seen, with its bytes counted, as a payload's are.
-fn kept(seen: &Seen) -> &Seen
+fn seen_within(seen: &Seen) -> &Seen
     ensures value { result.now ≡ seen.now }
     ensures fits { IsSeen seen.now }
 {

@@ -36,14 +36,14 @@ fn frame_in_entry(
 {
     match (entry, window) {
         (Entry::Observe { window: _, a, b }, Some(window)) => {
-            owned(&Told::of(params, window, channel, seen_on(channel, a, b)).frame)
+            frame_of(&Told::of(params, window, channel, seen_on(channel, a, b)).frame)
         }
         _ => None,
     }
 }
 
 /// The frame with a payload of its own.
-fn owned(frame: &Option<LentFrame<'_>>) -> Option<Frame>
+fn frame_of(frame: &Option<LentFrame<'_>>) -> Option<Frame>
     ensures { result ≡ frame.now }
 {
     match frame {

@@ -35,7 +35,7 @@ fn queue_plan(host_entries: u16) -> Result<NodePlan, Fail> {
 }
 
 /// Fetches and observes static slot 2 in the cycle of this number.
-fn observed(interface: &mut Interface, number: u8, a: &Seen, b: &Seen) -> Result<(), Fail> {
+fn observe_slot(interface: &mut Interface, number: u8, a: &Seen, b: &Seen) -> Result<(), Fail> {
     let cycle = Cycle::new(number).ok_or("no cycle")?;
     interface.fetch(&Window::fixed(u32::from(number), cycle, slot(2)?))?;
     interface.observe(u32::from(number), a, b)?;
@@ -45,9 +45,9 @@ fn observed(interface: &mut Interface, number: u8, a: &Seen, b: &Seen) -> Result
 /// The three frames have arrived on channel A.
 fn three_arrived(alloc: Global) -> Result<Interface, Fail> {
     let mut interface = interface(alloc, ONE_WORD_CYCLE, &queue_plan(8)?)?;
-    observed(&mut interface, 0, &came(&FIRST)?, &Seen::Silence)?;
-    observed(&mut interface, 1, &came(&SECOND)?, &Seen::Silence)?;
-    observed(&mut interface, 2, &came(&THIRD)?, &Seen::Silence)?;
+    observe_slot(&mut interface, 0, &came(&FIRST)?, &Seen::Silence)?;
+    observe_slot(&mut interface, 1, &came(&SECOND)?, &Seen::Silence)?;
+    observe_slot(&mut interface, 2, &came(&THIRD)?, &Seen::Silence)?;
     Ok(interface)
 }
 
@@ -57,7 +57,7 @@ fn mark(frame: &Frame) -> Option<u8> {
 }
 
 /// The last byte of the frame that is popped, if any.
-fn popped(interface: &mut Interface) -> Result<Option<u8>, Fail> {
+fn popped_byte(interface: &mut Interface) -> Result<Option<u8>, Fail> {
     Ok(interface.pop(task(0)?)?.and_then(|frame| mark(&frame)))
 }
 
@@ -69,9 +69,9 @@ fn queue_overwrites_the_oldest(rt: HostRuntime) -> Result<(), Fail> {
         (Some(2), Some(1))
     );
     let marks = [
-        popped(&mut interface)?,
-        popped(&mut interface)?,
-        popped(&mut interface)?,
+        popped_byte(&mut interface)?,
+        popped_byte(&mut interface)?,
+        popped_byte(&mut interface)?,
     ];
     assert_eq!(rt; marks, [Some(2), Some(3), None]);
     assert_eq!(rt;

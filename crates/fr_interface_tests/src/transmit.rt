@@ -24,7 +24,7 @@ pub fn payload(bytes: &[u8]) -> Result<Payload, Fail> {
     Ok(Payload::from_slice(bytes)?)
 }
 
-fn sent(bytes: &[u8]) -> Result<Option<Bytes>, Fail> {
+fn some_bytes(bytes: &[u8]) -> Result<Option<Bytes>, Fail> {
     Ok(Some(frame_bytes(bytes)?))
 }
 
@@ -58,7 +58,7 @@ pub fn slot_two(number: u8) -> Result<Window, Fail> {
 }
 
 /// Fetches and observes static slot 2 in the cycle of this number.
-pub fn observed(interface: &mut Interface, number: u8) -> Result<(), Fail> {
+pub fn observe_slot(interface: &mut Interface, number: u8) -> Result<(), Fail> {
     interface.fetch(&slot_two(number)?)?;
     interface.observe(u32::from(number), &Seen::Own, &Seen::Own)?;
     Ok(())
@@ -107,13 +107,17 @@ fn an_offer_is_the_spelled_frame(rt: HostRuntime) -> Result<(), Fail> {
     assert_eq!(rt; (receipt.task.number(), receipt.entry), (0, 0));
     assert_eq!(rt;
         [first.a, first.b, second.a],
-        [sent(&DATA_ON_A)?, sent(&DATA_ON_B)?, sent(&NULL_ON_A)?]
+        [
+            some_bytes(&DATA_ON_A)?,
+            some_bytes(&DATA_ON_B)?,
+            some_bytes(&NULL_ON_A)?
+        ]
     );
     Ok(())
 }
 
 /// A plan that owns slot 2 on channel A in every fourth cycle from 0 on, with sync frames, and from 1 on without.
-fn divided() -> Result<NodePlan, Fail> {
+fn divided_plan() -> Result<NodePlan, Fail> {
     let mut plan = NodePlan::new(1, [0, 0], 1, 8)?;
     for (base, sync) in [(0, true), (1, false)] {
         plan.add_own(Own {
@@ -128,21 +132,21 @@ fn divided() -> Result<NodePlan, Fail> {
 }
 
 /// What it offers in slot 2 of the cycle of this number, the first of its windows.
-fn offered(alloc: Global, number: u8) -> Result<Offer, Fail> {
-    let mut interface = interface(alloc, ONE_WORD_CYCLE, &divided()?)?;
+fn offer_in(alloc: Global, number: u8) -> Result<Offer, Fail> {
+    let mut interface = interface(alloc, ONE_WORD_CYCLE, &divided_plan()?)?;
     Ok(interface.fetch(&slot_two(number)?)?)
 }
 
 #[test]
 fn a_null_frame_is_that_of_the_line_of_its_cycle(rt: HostRuntime) -> Result<(), Fail> {
-    let offer = offered(rt.alloc(), 1)?;
-    assert_eq!(rt; (offer.a, offer.b), (sent(&NULL_ON_A)?, None));
+    let offer = offer_in(rt.alloc(), 1)?;
+    assert_eq!(rt; (offer.a, offer.b), (some_bytes(&NULL_ON_A)?, None));
     Ok(())
 }
 
 #[test]
 fn nothing_is_sent_in_a_cycle_in_which_the_slot_is_not_owned(rt: HostRuntime) -> Result<(), Fail> {
-    let offer = offered(rt.alloc(), 2)?;
+    let offer = offer_in(rt.alloc(), 2)?;
     assert_eq!(rt; (offer.a, offer.b), (None, None));
     Ok(())
 }
@@ -170,7 +174,7 @@ fn full_host_entries_stop_the_host_alone(rt: HostRuntime) -> Result<(), Fail> {
         commit_refusal(&mut interface, 0, 0, &word),
     ];
     assert_eq!(rt; answers, [None, None, Some(HostError::HostFull)]);
-    observed(&mut interface, 0)?;
+    observe_slot(&mut interface, 0)?;
     assert_eq!(rt; interface.journal().len(), 4);
     Ok(())
 }

@@ -1,7 +1,7 @@
 //! Commits that a task takes back.
 
 use crate::parts::interface;
-use crate::transmit::{observed, payload, sender, slot_two};
+use crate::transmit::{observe_slot, payload, sender, slot_two};
 use fr_interface::errors::HostError;
 use fr_interface::interface::Interface;
 use fr_interface::source::Source;
@@ -17,7 +17,7 @@ use std::test::Fail;
 fn sent_then_committed(alloc: Global) -> Result<Interface, Fail> {
     let mut interface = interface(alloc, ONE_WORD_CYCLE, &sender(Mode::State, 8)?)?;
     interface.commit(task(0)?, 0, &payload(&[0, 1])?)?;
-    observed(&mut interface, 0)?;
+    observe_slot(&mut interface, 0)?;
     Ok(interface)
 }
 

@@ -7,7 +7,7 @@ ghost use Rattle.fr_slots.specs.Numbers.{most_host_entries, most_slot_entries, m
 
 use crate::entry::Entry;
 use crate::short::{
-    ShortEntry, restored, shortened_commit, shortened_host, shortened_observe, shortened_slot,
+    ShortEntry, shortened_commit, shortened_host, shortened_observe, shortened_slot, whole_entry,
 };
 use fr_frame::frame::FRAME_BYTES;
 use fr_frame::payload::{PAYLOAD_BYTES, Payload};
@@ -145,6 +145,6 @@ impl Journal {
         ensures { result ≡ slice_get self.now.entries number }
     {
         let short = self.shorts.as_slice().get(number as usize)?;
-        Some(restored(self.pool.as_slice(), *short))
+        Some(whole_entry(self.pool.as_slice(), *short))
     }
 }

@@ -242,7 +242,7 @@ fn payload(bytes: &[u8]) -> Payload
 }
 
 /// The entry, with its bytes from the pool.
-pub(crate) fn restored(pool: &[u8], entry: ShortEntry) -> Entry
+pub(crate) fn whole_entry(pool: &[u8], entry: ShortEntry) -> Entry
     requires { IsShort (length pool.now) entry }
     ensures { result ≡ restored pool.now entry }
 {

@@ -56,7 +56,7 @@ pub(crate) fn receive_of(words: &mut Words<'_>) -> Option<Buffer>
 
 /// The buffer that the line spells.
 #[tactic(auto, unfolding(crate::specs::Reading::buffer_in))]
-fn parsed(line: &[u8]) -> Option<Buffer>
+fn buffer_in(line: &[u8]) -> Option<Buffer>
     ensures { result ≡ buffer_in (words_of line.now) }
 {
     let mut words = Words::new(line);
@@ -77,5 +77,5 @@ pub fn buffer_of(line: &[u8]) -> Option<Buffer>
     ensures only { (b : Buffer) → IsSpelledBuffer b → line.now ≡ line_of (buffer_words b) → result ≡ Some b }
     ensures exact { result ≡ buffer_in (words_of line.now) }
 {
-    parsed(line)
+    buffer_in(line)
 }

@@ -140,7 +140,7 @@ fn observe_of(words: &mut Words<'_>, bytes: &mut EntryBytes) -> Option<BareEntry
 
 /// The entry that the line spells, by its first word.
 #[tactic(auto, unfolding(crate::specs::Reading::entry_in))]
-fn parsed(version: Version, line: &[u8], bytes: &mut EntryBytes) -> Option<BareEntry>
+fn entry_in(version: Version, line: &[u8], bytes: &mut EntryBytes) -> Option<BareEntry>
     ensures { option_map (with_bytes bytes.new) result ≡ entry_in version (words_of line.now) }
 {
     let mut words = Words::new(line);
@@ -182,5 +182,5 @@ pub fn entry_into(version: Version, line: &[u8], bytes: &mut EntryBytes) -> Opti
         → option_map (with_bytes bytes.new) result ≡ Some e }
     ensures exact { option_map (with_bytes bytes.new) result ≡ entry_in version (words_of line.now) }
 {
-    parsed(version, line, bytes)
+    entry_in(version, line, bytes)
 }

@@ -40,7 +40,7 @@ fn limits_of(words: &mut Words<'_>) -> Option<NodePlan>
 
 /// The plan that the line spells.
 #[tactic(auto, unfolding(crate::specs::Reading::node_in))]
-fn parsed(line: &[u8]) -> Option<NodePlan>
+fn node_in(line: &[u8]) -> Option<NodePlan>
     ensures { result ≡ node_in (words_of line.now) }
 {
     let mut words = Words::new(line);
@@ -60,5 +60,5 @@ pub fn node_of(line: &[u8]) -> Option<NodePlan>
     ensures only { (p : Plan) → IsPlan p → line.now ≡ line_of (node_words p) → result ≡ Some (bare_plan p) }
     ensures exact { result ≡ node_in (words_of line.now) }
 {
-    parsed(line)
+    node_in(line)
 }

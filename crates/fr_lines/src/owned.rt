@@ -68,7 +68,7 @@ pub(crate) fn ownership_of(version: Version, words: &mut Words<'_>) -> Option<Ow
 
 /// The ownership line that the line spells.
 #[tactic(auto, unfolding(crate::specs::Reading::own_in))]
-fn parsed(version: Version, line: &[u8]) -> Option<Own>
+fn own_in(version: Version, line: &[u8]) -> Option<Own>
     ensures { result ≡ own_in version (words_of line.now) }
 {
     let mut words = Words::new(line);
@@ -92,5 +92,5 @@ pub fn own_of(version: Version, line: &[u8]) -> Option<Own>
         → result ≡ Some o }
     ensures exact { result ≡ own_in version (words_of line.now) }
 {
-    parsed(version, line)
+    own_in(version, line)
 }

@@ -49,7 +49,7 @@ fn ten_of(words: &mut Words<'_>) -> Option<[i64; 10]>
 
 /// The ten numbers that the line spells.
 #[tactic(auto, unfolding(crate::specs::Reading::params_in))]
-fn parsed(line: &[u8]) -> Option<[i64; 10]>
+fn params_in(line: &[u8]) -> Option<[i64; 10]>
     ensures { result ≡ params_in (words_of line.now) }
 {
     let mut words = Words::new(line);
@@ -70,5 +70,5 @@ pub fn params_of(line: &[u8]) -> Option<[i64; 10]>
         → IsSomeAnd result (λ numbers. parameters_of numbers ≡ Ok p) }
     ensures exact { result ≡ params_in (words_of line.now) }
 {
-    parsed(line)
+    params_in(line)
 }

@@ -50,7 +50,7 @@ pub(crate) fn reception_of(words: &mut Words<'_>) -> Option<Queue>
 
 /// The queue that the line spells.
 #[tactic(auto, unfolding(crate::specs::Reading::queue_in))]
-fn parsed(line: &[u8]) -> Option<Queue>
+fn queue_in(line: &[u8]) -> Option<Queue>
     ensures { result ≡ queue_in (words_of line.now) }
 {
     let mut words = Words::new(line);
@@ -71,5 +71,5 @@ pub fn queue_of(line: &[u8]) -> Option<Queue>
     ensures only { (q : Queue) → IsSpelledQueue q → line.now ≡ line_of (queue_words q) → result ≡ Some q }
     ensures exact { result ≡ queue_in (words_of line.now) }
 {
-    parsed(line)
+    queue_in(line)
 }

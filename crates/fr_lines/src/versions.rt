@@ -43,7 +43,7 @@ impl Version {
 
 /// The version that the line names.
 #[tactic(auto, unfolding(crate::specs::Reading::version_in))]
-fn parsed(line: &[u8]) -> Option<Version>
+fn version_in(line: &[u8]) -> Option<Version>
     ensures { result ≡ version_in line.now }
 {
     if line == b"frtrace 1".as_slice() {
@@ -66,5 +66,5 @@ pub fn version_of(line: &[u8]) -> Option<Version>
     ensures only { (v : Version) → line.now ≡ first_line v → result ≡ Some v }
     ensures exact { result ≡ version_in line.now }
 {
-    parsed(line)
+    version_in(line)
 }

@@ -58,7 +58,7 @@ fn any_large(values: &[i32]) -> bool
 }
 
 /// How many of so many values are dropped at either end.
-fn dropped(count: usize) -> usize
+fn count_dropped(count: usize) -> usize
     ensures { result ≡ dropped count }
 {
     match count {
@@ -87,7 +87,7 @@ fn middle_of(ascending: &[i32]) -> Option<Midpoint>
     if count == 0 {
         return None;
     }
-    let dropped = dropped(count);
+    let dropped = count_dropped(count);
     let low = ascending[dropped];
     let high = ascending[count - 1 - dropped];
     Some(Midpoint {

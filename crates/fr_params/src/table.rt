@@ -22,14 +22,14 @@ pub fn from_table(table: &Table) -> Result<Params, ParamError>
 {
     let first = first_five(table)?;
     let last = last_five(table)?;
-    summed(first, last)
+    params_of(first, last)
 }
 
 /// Numbers, each in its range, under the first or the last five keys.
 type Five = (u16, u16, u16, u16, u16);
 
 /// The parameters of numbers that their keys admit, in the order of `Key`.
-fn summed(first: Five, last: Five) -> Result<Params, ParamError>
+fn params_of(first: Five, last: Five) -> Result<Params, ParamError>
     requires first_within { AreFirst first }
     requires last_within { AreLast last }
     ensures { result ≡ summed (assembled first last) }

@@ -5,6 +5,7 @@ use fr_schedule::cluster::Cluster;
 use fr_slots::channel::Channel;
 use fr_slots::numbers::{Cycle, LAST_SLOT, NodeId, SlotId};
 use fr_slots::plan::Buffer;
+use fr_timing::segments::{Segments, segments_of};
 use std::io;
 use std::io::Write;
 
@@ -119,13 +120,17 @@ pub(crate) fn write_dynamic<W: Write>(
     cycle: Cycle,
     channel: Channel,
 ) -> io::Result<()> {
-    let params = cluster.params().duplicate();
-    let start = u32::from(params.static_slots) * u32::from(params.static_mt);
-    let end = start + u32::from(params.minislots) * u32::from(params.minislot_mt);
-    if start >= end {
+    let params = cluster.params();
+    let Segments {
+        dynamic,
+        symbol,
+        ..
+    } = segments_of(params);
+    if dynamic >= symbol {
         return Ok(());
     }
-    let (left, length) = (across(&params, start), extent(&params, start, end));
+    let left = across(params, dynamic);
+    let length = extent(params, dynamic, symbol);
     write!(
         writer,
         "<g class='dynamic'><title>dynamic segment on {channel}</title>"

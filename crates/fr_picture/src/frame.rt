@@ -4,6 +4,7 @@ use crate::scale::{LEFT, across, extent};
 use fr_schedule::cluster::Cluster;
 use fr_slots::numbers::Cycle;
 use fr_slots::params::Params;
+use fr_timing::segments::{Segments, segments_of};
 use std::io;
 use std::io::Write;
 
@@ -150,25 +151,26 @@ fn write_tick<W: Write>(
 
 /// Writes the four segments of the cycle, and where they begin.
 pub(crate) fn write_segments<W: Write>(writer: &mut W, params: &Params) -> io::Result<()> {
-    let params = params.duplicate();
-    let dynamic = u32::from(params.static_slots) * u32::from(params.static_mt);
-    let symbol = dynamic + u32::from(params.minislots) * u32::from(params.minislot_mt);
-    let idle = symbol + u32::from(params.symbol_mt);
-    let end = idle + u32::from(params.nit_mt);
-    write_segment(writer, &params, "static", "static segment", 0, dynamic)?;
+    let Segments {
+        dynamic,
+        symbol,
+        idle,
+        end,
+    } = segments_of(params);
+    write_segment(writer, params, "static", "static segment", 0, dynamic)?;
     write_segment(
         writer,
-        &params,
+        params,
         "dynamic",
         "dynamic segment",
         dynamic,
         symbol,
     )?;
-    write_segment(writer, &params, "symbol", "symbol window", symbol, idle)?;
-    write_segment(writer, &params, "idle", "network idle time", idle, end)?;
+    write_segment(writer, params, "symbol", "symbol window", symbol, idle)?;
+    write_segment(writer, params, "idle", "network idle time", idle, end)?;
     let mut from = 0;
     for macrotick in [0, dynamic, symbol, idle, end] {
-        from = write_tick(writer, &params, macrotick, from)?;
+        from = write_tick(writer, params, macrotick, from)?;
     }
     Ok(())
 }

@@ -82,7 +82,7 @@ pub(crate) fn cycles_of(word: &[u8]) -> Option<FaultCycles>
 
 /// The number that the word spells, 1 to 8000.
 #[tactic(auto, unfolding(crate::specs::PartReading::counted_in))]
-fn counted(word: &[u8]) -> Option<u16>
+fn place_number(word: &[u8]) -> Option<u16>
     ensures { result ≡ counted_in word.now }
 {
     let number = number_of(word, 8001)?;
@@ -100,7 +100,7 @@ fn slots_of(word: &[u8]) -> Option<FaultPlace>
     match word {
         b"*" => Some(FaultPlace::EverySlot),
         _ => {
-            let slot = counted(word)?;
+            let slot = place_number(word)?;
             Some(FaultPlace::Slot(slot))
         }
     }
@@ -111,7 +111,7 @@ fn slots_of(word: &[u8]) -> Option<FaultPlace>
 fn minislot_of(word: &[u8]) -> Option<FaultPlace>
     ensures { result ≡ minislot_in word.now }
 {
-    let minislot = counted(word)?;
+    let minislot = place_number(word)?;
     Some(FaultPlace::Minislot(minislot))
 }
 

@@ -48,7 +48,7 @@ fn begun(text: &[u8]) -> Option<(Version, &[u8])>
 }
 
 /// What the lines after the first one say, in this version.
-fn gathered(alloc: Global, version: Version, text: &[u8]) -> Result<Gathered, ScenarioError>
+fn body_of(alloc: Global, version: Version, text: &[u8]) -> Result<Gathered, ScenarioError>
     ensures found { IfOk result
         (λ gathered. kept_from none_yet (read_from version 2 (lines_in text.now)) ≡ Ok gathered) }
     ensures refused { IfErr result (λ e. ¬ (e ≡ error.Memory) → read_from version 2 (lines_in text.now) ≡ Err e) }
@@ -90,7 +90,7 @@ impl Scenario {
         let Some((version, rest)) = begun(text.as_bytes()) else {
             return Err(ScenarioError::BadMagic);
         };
-        let gathered = gathered(alloc, version, rest)?;
+        let gathered = body_of(alloc, version, rest)?;
         let (scripts, faults) = gathered.finish(alloc)?;
         Ok(Scenario { scripts, faults })
     }

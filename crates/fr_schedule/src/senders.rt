@@ -150,7 +150,7 @@ fn free_table(alloc: Global) -> Result<Vec<u8>, AllocError>
 }
 
 /// The table after these claims were entered into a free one, and the first occasion that two of them are for.
-fn entered(alloc: Global, claims: &[Claim]) -> Result<(Vec<u8>, Option<Occasion>), AllocError>
+fn table_with(alloc: Global, claims: &[Claim]) -> Result<(Vec<u8>, Option<Occasion>), AllocError>
     ensures table { IfOk result (λ made. AreEntered claims.now free made.0.items) }
     ensures first { IfOk result (λ made. IsFirst (is_shared (filters_of claims.now)) made.1) }
     ensures lawful { IfOk result (λ made. Each IsClaim claims.now) }
@@ -173,8 +173,8 @@ pub(crate) fn senders_of(
 {
     let owned = claims_of(alloc, Lines::Owned, plans)?;
     let transmitting = claims_of(alloc, Lines::Transmitting, plans)?;
-    let (_, of_owners) = entered(alloc, owned.as_slice())?;
-    let (mut senders, of_buffers) = entered(alloc, transmitting.as_slice())?;
+    let (_, of_owners) = table_with(alloc, owned.as_slice())?;
+    let (mut senders, of_buffers) = table_with(alloc, transmitting.as_slice())?;
     if let Some(fault) = file_fault(params, plans, earlier(of_owners, of_buffers)) {
         return Err(fault);
     }

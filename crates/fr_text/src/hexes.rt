@@ -51,7 +51,7 @@ fn values_of(digits: &[u8; BLOCK]) -> ([u8; BLOCK], u8)
 }
 
 /// The bytes of each two values.
-fn packed(values: &[u8; BLOCK]) -> [u8; BLOCK_BYTES]
+fn packed_bytes(values: &[u8; BLOCK]) -> [u8; BLOCK_BYTES]
     ensures { (digits : List ℕ) → AreValues BLOCK values.now digits → ArePacked BLOCK_BYTES values.now result }
 {
     let mut bytes = [0u8; BLOCK_BYTES];
@@ -71,11 +71,11 @@ fn block_of(digits: &[u8; BLOCK]) -> ([u8; BLOCK_BYTES], u8)
     ensures fits { IsBytes result.0 }
 {
     let (values, most) = values_of(digits);
-    (packed(&values), most)
+    (packed_bytes(&values), most)
 }
 
 /// The block of these digits and zeros after them.
-fn filled(digits: &[u8]) -> [u8; BLOCK]
+fn whole_block(digits: &[u8]) -> [u8; BLOCK]
     requires { length digits.now < BLOCK }
     ensures { result ≡ digits.now ++ replicate (BLOCK - length digits.now) 48 }
 {
@@ -100,7 +100,7 @@ fn digits_into<const N: usize>(digits: &[u8], bytes: &mut ArrayVec<u8, N>) -> bo
         append(bytes, &read);
         most = greater(most, greatest);
     }
-    let (read, greatest) = block_of(&filled(rest));
+    let (read, greatest) = block_of(&whole_block(rest));
     append(bytes, &read[..rest.len() / 2]);
     greater(most, greatest) < 16
 }

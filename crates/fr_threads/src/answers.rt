@@ -93,7 +93,7 @@ fn answered_script(
 }
 
 /// The scripts, with the answers that the tasks of each node got.
-pub(crate) fn answered(
+pub(crate) fn with_answers(
     alloc: Global,
     scripts: &[Script],
     answers: &[Vec<Vec<Reply>>],

@@ -47,7 +47,7 @@ pub enum RunError {
 }
 
 /// The refusal as an error.
-pub(crate) fn refused(refusal: RunRefusal) -> RunError
+pub(crate) fn error_of_refusal(refusal: RunRefusal) -> RunError
     ensures { refusal_of result ≡ Some refusal }
 {
     match refusal {
@@ -59,7 +59,7 @@ pub(crate) fn refused(refusal: RunRefusal) -> RunError
 }
 
 /// The failure as an error. A run in which every thread was stopped has none that failed, and didn't come to its end.
-pub(crate) fn failed(failure: Failure) -> RunError
+pub(crate) fn error_of_failure(failure: Failure) -> RunError
     ensures { refusal_of result ≡ None }
 {
     match failure {

@@ -6,8 +6,8 @@ ghost use Rattle.fr_bus.specs.Windows.{cycles_begun};
 ghost use Rattle.fr_interface.specs.Commits.{commits_of};
 ghost use Rattle.fr_threads.specs.Running.{IsRunOf, RefusesRun};
 
-use crate::answers::answered;
-use crate::error::{RunError, failed, refused};
+use crate::answers::with_answers;
+use crate::error::{RunError, error_of_failure, error_of_refusal};
 use crate::failure::{Failure, told_of, told_with};
 use crate::mover::run_bus;
 use crate::node::{NodeDone, run_node};
@@ -235,7 +235,7 @@ fn settled_run(
         commits,
         answers,
     } = nodes;
-    let scripts = answered(alloc, scripts, answers.as_slice())?;
+    let scripts = with_answers(alloc, scripts, answers.as_slice())?;
     match settle(
         alloc,
         cluster,
@@ -324,10 +324,10 @@ pub fn run_threads<R: Threads + Wait + Clock + Sync, G: Gate + Sync>(
     ensures run { IfOk result (IsRunOf cluster.now scripts.now cycles) }
 {
     if let Err(refusal) = check_run(cluster, scripts, faults, cycles) {
-        return Err(refused(refusal));
+        return Err(error_of_refusal(refusal));
     }
     match run_all(rt, alloc, cluster, scripts, faults, cycles, stepped, gate) {
         Ok(run) => Ok(run),
-        Err(failure) => Err(failed(failure)),
+        Err(failure) => Err(error_of_failure(failure)),
     }
 }

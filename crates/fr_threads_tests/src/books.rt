@@ -54,7 +54,7 @@ impl<L: Ledger> Till<L> {
 }
 
 /// Posts so often with the share, and hands it back.
-fn posted<L: Ledger, R: Wait>(
+fn posts_with<L: Ledger, R: Wait>(
     rt: &R,
     till: &Mutex<Till<L>>,
     mut share: Share<L>,
@@ -82,8 +82,8 @@ fn posts_of_two<L: Ledger + Send + Sync, R: Threads + Wait + Sync>(
     let till = Mutex::new(Till { book, posts: 0 });
     let (first, second) = thread::join(
         rt,
-        || posted(rt, &till, first, 3),
-        || posted(rt, &till, second, 4),
+        || posts_with(rt, &till, first, 3),
+        || posts_with(rt, &till, second, 4),
     );
     shares.push(first)?;
     shares.push(second)?;

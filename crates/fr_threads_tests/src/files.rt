@@ -48,7 +48,7 @@ guard 2 A 0 60 80\n\
 guard 2 B 0 0 80\n";
 
 /// What `check` writes for a file.
-fn checked(alloc: Global, mut file: &[u8]) -> Result<Vec<u8>, BenchError> {
+fn check_output(alloc: Global, mut file: &[u8]) -> Result<Vec<u8>, BenchError> {
     // With room of its own, so that memory refused later is the command's and not the writer's.
     let Ok(mut line) = Vec::with_capacity(alloc, 64) else {
         return Err(BenchError::Memory);
@@ -58,7 +58,7 @@ fn checked(alloc: Global, mut file: &[u8]) -> Result<Vec<u8>, BenchError> {
 }
 
 /// What `plan` writes for a file.
-fn planned(alloc: Global, mut file: &[u8]) -> Result<Vec<u8>, BenchError> {
+fn plan_output(alloc: Global, mut file: &[u8]) -> Result<Vec<u8>, BenchError> {
     let Ok(mut text) = Vec::with_capacity(alloc, 512) else {
         return Err(BenchError::Memory);
     };
@@ -69,7 +69,7 @@ fn planned(alloc: Global, mut file: &[u8]) -> Result<Vec<u8>, BenchError> {
 #[test]
 fn check_writes_the_parameters(rt: HostRuntime) -> Result<(), Fail> {
     let file = format!(in rt.alloc(); "{GUARD_AND_PARAMS}{NODES}")?;
-    let line = checked(rt.alloc(), file.as_str().as_bytes())?;
+    let line = check_output(rt.alloc(), file.as_str().as_bytes())?;
     assert_eq!(rt;
         line.as_slice(),
         b"params 3 4 1 20 5 0 10 90 0 5\n".as_slice()
@@ -80,7 +80,7 @@ fn check_writes_the_parameters(rt: HostRuntime) -> Result<(), Fail> {
 #[test]
 fn plan_writes_senders_and_windows(rt: HostRuntime) -> Result<(), Fail> {
     let file = format!(in rt.alloc(); "{GUARD_AND_PARAMS}{NODES}")?;
-    let text = planned(rt.alloc(), file.as_str().as_bytes())?;
+    let text = plan_output(rt.alloc(), file.as_str().as_bytes())?;
     assert_eq!(rt; text.as_slice(), PLAN);
     Ok(())
 }

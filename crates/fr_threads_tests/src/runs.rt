@@ -46,7 +46,7 @@ fn four_cycles<R: Threads + Wait + Clock + Sync>(
 }
 
 /// What is counted of the run: the commits of the nodes, and the windows.
-fn counted(run: &Run) -> Result<[u64; 4], Fail> {
+fn counts_of(run: &Run) -> Result<[u64; 4], Fail> {
     let [first, second, third] = run.commits.as_slice() else {
         return Err(Fail::from("three nodes"));
     };
@@ -59,7 +59,7 @@ fn interface_of(run: &Run, number: usize) -> Result<&Interface, Fail> {
 }
 
 /// What was observed by the entry of this number on channel A.
-fn observed(entry: u32) -> Option<Source> {
+fn source_of(entry: u32) -> Option<Source> {
     let channel = Channel::A;
     Some(Source::Observed(Origin { entry, channel }))
 }
@@ -78,14 +78,14 @@ fn all_sent(commits: u32) -> Option<Tally> {
 #[test]
 fn a_stepped_run_counts_commits_and_windows(rt: HostRuntime) -> Result<(), Fail> {
     let run = four_cycles(&rt, rt.alloc(), true)?;
-    assert_eq!(rt; counted(&run)?, [2, 2, 3, 28]);
+    assert_eq!(rt; counts_of(&run)?, [2, 2, 3, 28]);
     Ok(())
 }
 
 #[test]
 fn a_free_run_counts_commits_and_windows(rt: HostRuntime) -> Result<(), Fail> {
     let run = four_cycles(&rt, rt.alloc(), false)?;
-    assert_eq!(rt; counted(&run)?, [2, 2, 3, 28]);
+    assert_eq!(rt; counts_of(&run)?, [2, 2, 3, 28]);
     assert_eq!(rt; interface_of(&run, 2)?.counters().a, [8, 0, 0, 0, 0]);
     Ok(())
 }
@@ -99,7 +99,7 @@ fn a_stepped_run_leaves_what_was_received(rt: HostRuntime) -> Result<(), Fail> {
         interface_of(&run, 1)?.held(2),
         interface_of(&run, 2)?.held(1),
     ];
-    assert_eq!(rt; held, [observed(48), observed(31), None, observed(48)]);
+    assert_eq!(rt; held, [source_of(48), source_of(31), None, source_of(48)]);
     assert_eq!(rt; interface_of(&run, 0)?.queue_len(), Some(2));
     Ok(())
 }

@@ -47,7 +47,7 @@ fn one_node(alloc: Global) -> Result<Wire, Fail> {
 }
 
 /// A fault that loses what the node offers on channel A.
-fn muted(me: NodeId) -> Fault {
+fn mute(me: NodeId) -> Fault {
     Fault::Mute {
         node: me,
         channel: Channel::A,
@@ -62,7 +62,7 @@ fn one_window<L: Ledger, R: Wait + Clock>(
     me: NodeId,
 ) -> Result<(), Fail> {
     let window = wire.next(rt, me)?.ok_or("a window")?;
-    wire.inject(rt, muted(me))?;
+    wire.inject(rt, mute(me))?;
     let offer = desk.fetch(rt, &OpenGate, &window)?;
     wire.put(rt, me, window.number, &offer)?;
     wire.seal(rt, &OpenGate)?;
@@ -120,7 +120,7 @@ fn refusals<R: Wait + Clock>(rt: &R, wire: &Wire, me: NodeId) -> [Option<WireErr
     let nothing = Offer { a: None, b: None };
     [
         wire.next(rt, me).err(),
-        wire.inject(rt, muted(me)).err(),
+        wire.inject(rt, mute(me)).err(),
         wire.put(rt, me, 0, &nothing).err(),
         wire.seal(rt, &OpenGate).err(),
         wire.take(rt, me, 0).err(),

@@ -3,19 +3,7 @@ use Rattle.std.specs.Prelude.{ℕ, ◌+◌, ◌-◌, ◌*◌, ◌/◌, ◌%◌, 
 use Rattle.fr_slots.specs.Parameters.{Parameters}
 use Rattle.fr_timing.specs.declared.place.Place.{Place}
 use Rattle.fr_timing.specs.declared.place.Place.TheVariants.{Static, Minislot, Symbol, Idle}
-
--- where the dynamic segment, the symbol window, the network idle time and the next cycle start
-abbrev pub dynamic_start : Parameters → ℕ
-dynamic_start p = p.static_slots * p.static_mt
-
-abbrev pub symbol_start : Parameters → ℕ
-symbol_start p = dynamic_start p + p.minislots * p.minislot_mt
-
-abbrev pub idle_start : Parameters → ℕ
-idle_start p = symbol_start p + p.symbol_mt
-
-abbrev pub cycle_end : Parameters → ℕ
-cycle_end p = idle_start p + p.nit_mt
+use Rattle.fr_timing.specs.Segments.{dynamic_start, symbol_start, idle_start, cycle_end}
 
 unfoldable pub place_at : Parameters → ℕ → Option Place
 place_at p macrotick =

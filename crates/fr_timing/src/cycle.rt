@@ -3,11 +3,11 @@
 ghost use Rattle.std.specs.Prelude.{◌≡◌, ◌↔◌, ◌≤◌, ◌<◌, ◌+◌, ◌*◌, ◌^◌, ℕ, IfSome, IsNone};
 ghost use Rattle.fr_slots.specs.Parameters.{IsParameters};
 ghost use Rattle.fr_timing.specs.declared.place.Place.{Place};
-ghost use Rattle.fr_timing.specs.Division.{place_at, start_at, start_in_row, dynamic_start, symbol_start, idle_start};
-ghost use Rattle.fr_timing.specs.Division.{cycle_end};
+ghost use Rattle.fr_timing.specs.Division.{place_at, start_at, start_in_row};
 ghost use Rattle.fr_timing.specs.Layout.{IsAt};
 
 use crate::place::Place;
+use crate::segments::segments_of;
 use fr_slots::numbers::SlotId;
 use fr_slots::params::Params;
 
@@ -37,64 +37,35 @@ pub fn start_of(params: &Params, place: Place) -> Option<u32>
     start_at(params, place)
 }
 
-/// Where the segments after the static one start, and where the cycle ends, in macroticks.
-#[derive(Clone, Copy)]
-struct Starts {
-    dynamic: u32,
-    symbol: u32,
-    idle: u32,
-    end: u32,
-}
-
-/// Where the segments of the cycle start.
-fn starts_of(params: &Params) -> Starts
-    ensures dynamic { result.dynamic ≡ dynamic_start params.now }
-    ensures symbol { result.symbol ≡ symbol_start params.now }
-    ensures idle { result.idle ≡ idle_start params.now }
-    ensures end { result.end ≡ cycle_end params.now }
-    ensures lawful { IsParameters params.now }
-{
-    let params = params.duplicate();
-    let dynamic = u32::from(params.static_slots) * u32::from(params.static_mt);
-    let symbol = dynamic + u32::from(params.minislots) * u32::from(params.minislot_mt);
-    let idle = symbol + u32::from(params.symbol_mt);
-    Starts {
-        dynamic,
-        symbol,
-        idle,
-        end: idle + u32::from(params.nit_mt),
-    }
-}
-
 /// The place of a macrotick, by division.
 #[tactic(auto, unfolding(crate::specs::Division::place_at))]
 fn place_at(params: &Params, macrotick: u32) -> Option<Place>
     ensures place { result ≡ place_at params.now macrotick }
     ensures lawful { IsParameters params.now }
 {
-    let starts = starts_of(params);
-    if macrotick < starts.dynamic {
+    let segments = segments_of(params);
+    if macrotick < segments.dynamic {
         let static_mt = u32::from(params.static_mt);
         let slot = SlotId::new((macrotick / static_mt + 1) as u16)?;
         let offset = macrotick % static_mt;
         return Some(Place::Static { slot, offset });
     }
-    if macrotick < starts.symbol {
+    if macrotick < segments.symbol {
         let minislot_mt = u32::from(params.minislot_mt);
-        let from_start = macrotick - starts.dynamic;
+        let from_start = macrotick - segments.dynamic;
         return Some(Place::Minislot {
             number: (from_start / minislot_mt + 1) as u16,
             offset: from_start % minislot_mt,
         });
     }
-    if macrotick < starts.idle {
+    if macrotick < segments.idle {
         return Some(Place::Symbol {
-            offset: macrotick - starts.symbol,
+            offset: macrotick - segments.symbol,
         });
     }
-    if macrotick < starts.end {
+    if macrotick < segments.end {
         return Some(Place::Idle {
-            offset: macrotick - starts.idle,
+            offset: macrotick - segments.idle,
         });
     }
     None
@@ -118,7 +89,7 @@ fn start_in_row(first: u32, count: u16, length: u16, number: u16, offset: u32) -
 fn start_at(params: &Params, place: Place) -> Option<u32>
     ensures { result ≡ start_at params.now place }
 {
-    let starts = starts_of(params);
+    let segments = segments_of(params);
     match place {
         Place::Static { slot, offset } => start_in_row(
             0,
@@ -128,13 +99,13 @@ fn start_at(params: &Params, place: Place) -> Option<u32>
             offset,
         ),
         Place::Minislot { number, offset } => start_in_row(
-            starts.dynamic,
+            segments.dynamic,
             params.minislots,
             params.minislot_mt,
             number,
             offset,
         ),
-        Place::Symbol { offset } => start_in_row(starts.symbol, 1, params.symbol_mt, 1, offset),
-        Place::Idle { offset } => start_in_row(starts.idle, 1, params.nit_mt, 1, offset),
+        Place::Symbol { offset } => start_in_row(segments.symbol, 1, params.symbol_mt, 1, offset),
+        Place::Idle { offset } => start_in_row(segments.idle, 1, params.nit_mt, 1, offset),
     }
 }

@@ -249,7 +249,7 @@ fn fed_by_bytes(alloc: Global, pieces: &[&[u8]]) -> Result<(), TraceError> {
 }
 
 /// These lines as one text.
-fn joined(alloc: Global, lines: &[&[u8]]) -> Result<Vec<u8>, Fail> {
+fn text_of(alloc: Global, lines: &[&[u8]]) -> Result<Vec<u8>, Fail> {
     let mut text = Vec::with_capacity(alloc, 2048)?;
     for line in lines {
         text.write_all(line)?;
@@ -323,10 +323,10 @@ fn a_changed_line_is_refused(rt: HostRuntime) {
 }
 
 /// The report of these lines as one text that comes in pieces of this size.
-fn reported(alloc: Global, lines: &[&[u8]], size: usize) -> Result<Vec<u8>, Fail>
+fn report_of(alloc: Global, lines: &[&[u8]], size: usize) -> Result<Vec<u8>, Fail>
     requires { 0 < size }
 {
-    let text = joined(alloc, lines)?;
+    let text = text_of(alloc, lines)?;
     let mut auditor = Auditor::new(alloc);
     for piece in text.chunks(size) {
         auditor.feed(piece)?;
@@ -339,22 +339,22 @@ fn reported(alloc: Global, lines: &[&[u8]], size: usize) -> Result<Vec<u8>, Fail
 #[test]
 fn pieces_of_each_size_give_one_report(rt: HostRuntime) -> Result<(), Fail> {
     for size in 1..65 {
-        let report = reported(rt.alloc(), &LINES, size)?;
+        let report = report_of(rt.alloc(), &LINES, size)?;
         let told = b"rx 0 2:A x0a0b\nA 2 0 0 0 0\nB 0 1 0 0 0\n";
         assert_eq!(rt; report.as_slice(), told.as_slice());
-        let report = reported(rt.alloc(), &THREE_COMMITS, size)?;
+        let report = report_of(rt.alloc(), &THREE_COMMITS, size)?;
         let told = b"tx 0 3 1 1 1 0\nA 0 0 0 0 0\nB 0 0 0 0 0\n";
         assert_eq!(rt; report.as_slice(), told.as_slice());
-        let report = reported(rt.alloc(), &WITHDRAWN, size)?;
+        let report = report_of(rt.alloc(), &WITHDRAWN, size)?;
         let told = b"tx 0 3 1 1 0 1\nA 0 0 0 0 0\nB 0 0 0 0 0\n";
         assert_eq!(rt; report.as_slice(), told.as_slice());
-        let report = reported(rt.alloc(), &WITHDRAWN_STATE, size)?;
+        let report = report_of(rt.alloc(), &WITHDRAWN_STATE, size)?;
         let told = b"tx 0 2 1 0 0 1\nA 0 0 0 0 0\nB 0 0 0 0 0\n";
         assert_eq!(rt; report.as_slice(), told.as_slice());
-        let report = reported(rt.alloc(), &DIVIDED, size)?;
+        let report = report_of(rt.alloc(), &DIVIDED, size)?;
         let told = b"tx 0 1 1 0 0 0\nrx 1 2:A xc0de\nA 1 0 0 0 0\nB 0 0 0 0 0\n";
         assert_eq!(rt; report.as_slice(), told.as_slice());
-        let report = reported(rt.alloc(), &QUEUE, size)?;
+        let report = report_of(rt.alloc(), &QUEUE, size)?;
         let told = b"rx 0 - -\nqueue 0 1\nA 2 0 0 0 0\nB 1 0 0 0 1\n";
         assert_eq!(rt; report.as_slice(), told.as_slice());
     }
@@ -380,7 +380,7 @@ const QUEUE: [&[u8]; 14] = [
 ];
 
 /// The trace that is written of the interface that these lines leave.
-fn written(alloc: Global, lines: &[&[u8]]) -> Result<Vec<u8>, Fail> {
+fn trace_of(alloc: Global, lines: &[&[u8]]) -> Result<Vec<u8>, Fail> {
     let interface = audit_pieces(alloc, lines)?;
     let mut text = Vec::with_capacity(alloc, 2048)?;
     write_trace(&interface, &mut text)?;
@@ -389,9 +389,9 @@ fn written(alloc: Global, lines: &[&[u8]]) -> Result<Vec<u8>, Fail> {
 
 /// Whether the second text is written of the interface that the first one leaves, and of the one that it leaves itself.
 fn is_written(alloc: Global, lines: &[&[u8]], told: &[&[u8]]) -> Result<bool, Fail> {
-    let text = joined(alloc, told)?;
-    let first = written(alloc, lines)?;
-    let again = written(alloc, told)?;
+    let text = text_of(alloc, told)?;
+    let first = trace_of(alloc, lines)?;
+    let again = trace_of(alloc, told)?;
     Ok(first.as_slice() == text.as_slice() && again.as_slice() == text.as_slice())
 }
 

@@ -55,7 +55,7 @@ fn texts_of(alloc: Global, words: &Vec<String>) -> Result<Vec<&str>, OrderError>
 }
 
 /// The file of this name, opened to be read.
-fn opened<R: Files>(rt: &R, path: &str) -> Result<R::File, BenchError> {
+fn file_named<R: Files>(rt: &R, path: &str) -> Result<R::File, BenchError> {
     match fs::open(rt, path) {
         Ok(file) => Ok(file),
         Err(error) if error.kind() == io::ErrorKind::OutOfMemory => Err(BenchError::Memory),
@@ -75,7 +75,7 @@ fn carry_out<R: Files + Input + Print + AllocGlobal>(
             let Some(cycle) = Cycle::new(cycle) else {
                 return Err(Failure::Usage);
             };
-            let mut file = opened(rt, file)?;
+            let mut file = file_named(rt, file)?;
             Ok(show_schedule(alloc, &mut file, cycle, &mut output)?)
         }
         Order::Capture => Ok(show_trace(alloc, Form::Capture, &mut rt.reader(), &mut output)?),

@@ -17,10 +17,10 @@ fits None line h = tt
 fits (Some b) line h = buffer_line_fits (words_of line) b (sym h)
 
 pub returns-clause-found : goal.returns-clause-found
-returns-clause-found c = found c.parsed.result c.args.line.now c.parsed.ensures
+returns-clause-found c = found c.buffer_in.result c.args.line.now c.buffer_in.ensures
 
 pub returns-clause-fits : goal.returns-clause-fits
-returns-clause-fits c = fits c.parsed.result c.args.line.now c.parsed.ensures
+returns-clause-fits c = fits c.buffer_in.result c.args.line.now c.buffer_in.ensures
 
 pub returns-clause-only : goal.returns-clause-only
-returns-clause-only c b is text = c.parsed.ensures ∙ ap (λ l. buffer_in (words_of l)) text ∙ buffer_line_again b is
+returns-clause-only c b is text = c.buffer_in.ensures ∙ ap (λ l. buffer_in (words_of l)) text ∙ buffer_line_again b is

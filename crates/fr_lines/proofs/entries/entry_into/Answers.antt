@@ -28,14 +28,14 @@ told v bytes None line h = tt
 told v bytes (Some e) line h = entry_told v (words_of line) (with_bytes bytes e) (sym h)
 
 pub returns-clause-found : goal.returns-clause-found
-returns-clause-found c = found c.args.version c.parsed.new.bytes c.parsed.result c.args.line.now c.parsed.ensures
+returns-clause-found c = found c.args.version c.entry_in.new.bytes c.entry_in.result c.args.line.now c.entry_in.ensures
 
 pub returns-clause-fits : goal.returns-clause-fits
-returns-clause-fits c = fits c.args.version c.parsed.new.bytes c.parsed.result c.args.line.now c.parsed.ensures
+returns-clause-fits c = fits c.args.version c.entry_in.new.bytes c.entry_in.result c.args.line.now c.entry_in.ensures
 
 pub returns-clause-told : goal.returns-clause-told
-returns-clause-told c = told c.args.version c.parsed.new.bytes c.parsed.result c.args.line.now c.parsed.ensures
+returns-clause-told c = told c.args.version c.entry_in.new.bytes c.entry_in.result c.args.line.now c.entry_in.ensures
 
 pub returns-clause-only : goal.returns-clause-only
 returns-clause-only c e is told text =
-    c.parsed.ensures ∙ ap (λ l. entry_in c.args.version (words_of l)) text ∙ entry_line_again c.args.version e is told
+    c.entry_in.ensures ∙ ap (λ l. entry_in c.args.version (words_of l)) text ∙ entry_line_again c.args.version e is told

@@ -17,10 +17,10 @@ fits None line h = tt
 fits (Some p) line h = (node_fits (words_of line) p (sym h), node_bare (words_of line) p (sym h))
 
 pub returns-clause-found : goal.returns-clause-found
-returns-clause-found c = found c.parsed.result c.args.line.now c.parsed.ensures
+returns-clause-found c = found c.node_in.result c.args.line.now c.node_in.ensures
 
 pub returns-clause-fits : goal.returns-clause-fits
-returns-clause-fits c = fits c.parsed.result c.args.line.now c.parsed.ensures
+returns-clause-fits c = fits c.node_in.result c.args.line.now c.node_in.ensures
 
 pub returns-clause-only : goal.returns-clause-only
-returns-clause-only c p is text = c.parsed.ensures ∙ ap (λ l. node_in (words_of l)) text ∙ node_line_again p is
+returns-clause-only c p is text = c.node_in.ensures ∙ ap (λ l. node_in (words_of l)) text ∙ node_line_again p is

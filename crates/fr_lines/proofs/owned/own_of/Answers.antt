@@ -23,13 +23,13 @@ told v None line h = tt
 told v (Some b) line h = own_line_told v (words_of line) b (sym h)
 
 pub returns-clause-found : goal.returns-clause-found
-returns-clause-found c = found c.args.version c.parsed.result c.args.line.now c.parsed.ensures
+returns-clause-found c = found c.args.version c.own_in.result c.args.line.now c.own_in.ensures
 
 pub returns-clause-fits : goal.returns-clause-fits
-returns-clause-fits c = fits c.args.version c.parsed.result c.args.line.now c.parsed.ensures
+returns-clause-fits c = fits c.args.version c.own_in.result c.args.line.now c.own_in.ensures
 
 pub returns-clause-told : goal.returns-clause-told
-returns-clause-told c = told c.args.version c.parsed.result c.args.line.now c.parsed.ensures
+returns-clause-told c = told c.args.version c.own_in.result c.args.line.now c.own_in.ensures
 
 pub returns-clause-only : goal.returns-clause-only
-returns-clause-only c b is told text = c.parsed.ensures ∙ ap (λ l. own_in c.args.version (words_of l)) text ∙ own_line_again c.args.version b is told
+returns-clause-only c b is told text = c.own_in.ensures ∙ ap (λ l. own_in c.args.version (words_of l)) text ∙ own_line_again c.args.version b is told

@@ -19,8 +19,8 @@ some_and None numbers p h made = cc h
 some_and (Some zs) numbers p h made = let same : zs ≡ numbers = cc h in ap parameters_of same ∙ made
 
 pub returns-clause-found : goal.returns-clause-found
-returns-clause-found c = found c.parsed.result c.args.line.now c.parsed.ensures
+returns-clause-found c = found c.params_in.result c.args.line.now c.params_in.ensures
 
 pub returns-clause-only : goal.returns-clause-only
 returns-clause-only c p is text =
-    some_and c.parsed.result (parameter_numbers p) p (c.parsed.ensures ∙ ap (λ l. params_in (words_of l)) text ∙ params_line_again p is) (parameters_again p is)
+    some_and c.params_in.result (parameter_numbers p) p (c.params_in.ensures ∙ ap (λ l. params_in (words_of l)) text ∙ params_line_again p is) (parameters_again p is)

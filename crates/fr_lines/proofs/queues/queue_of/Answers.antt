@@ -17,10 +17,10 @@ fits None line h = tt
 fits (Some q) line h = queue_line_fits (words_of line) q (sym h)
 
 pub returns-clause-found : goal.returns-clause-found
-returns-clause-found c = found c.parsed.result c.args.line.now c.parsed.ensures
+returns-clause-found c = found c.queue_in.result c.args.line.now c.queue_in.ensures
 
 pub returns-clause-fits : goal.returns-clause-fits
-returns-clause-fits c = fits c.parsed.result c.args.line.now c.parsed.ensures
+returns-clause-fits c = fits c.queue_in.result c.args.line.now c.queue_in.ensures
 
 pub returns-clause-only : goal.returns-clause-only
-returns-clause-only c q is text = c.parsed.ensures ∙ ap (λ l. queue_in (words_of l)) text ∙ queue_line_again q is
+returns-clause-only c q is text = c.queue_in.ensures ∙ ap (λ l. queue_in (words_of l)) text ∙ queue_line_again q is

@@ -11,7 +11,7 @@ found None line h = tt
 found (Some v) line h = version_takes line v (sym h)
 
 pub returns-clause-found : goal.returns-clause-found
-returns-clause-found c = found c.parsed.result c.args.line.now c.parsed.ensures
+returns-clause-found c = found c.version_in.result c.args.line.now c.version_in.ensures
 
 pub returns-clause-only : goal.returns-clause-only
-returns-clause-only c v text = c.parsed.ensures ∙ ap version_in text ∙ version_again v
+returns-clause-only c v text = c.version_in.ensures ∙ ap version_in text ∙ version_again v

@@ -70,7 +70,7 @@ returns g c =
     rw (c.append-2.ensures, c.greater.ensures) (elim (cases_lt (max most greatest) 16) [
       | inl few ↦
           let first = c.loop-block.invariant.spelled (omega arith) in
-          let second = c.block_of-greatest-2.ensures.spelled (omega arith) ∙ c.filled.ensures in
+          let second = c.block_of-greatest-2.ensures.spelled (omega arith) ∙ c.whole_block.ensures in
           let bytes = head ++ take (length rest / 2) read in
           let spelled : encode_lower bytes ≡ digits = blocks_spelled i digits rest head read rest_is even first second in
           let fits = IsBytes-append head (take (length rest / 2) read) c.loop-block.invariant.fits (IsBytes-take (length rest / 2) read c.block_of-greatest-2.ensures.fits) in
@@ -80,6 +80,6 @@ returns g c =
           rw (le-ltb _ _ many) (sym (bytes_missing _ digits (λ bs fits is short.
           let are = digits_of_bytes digits bs fits is in
           let first = c.loop-block.invariant.only (λ k lt. are k (omega arith)) in
-          let second = c.block_of-greatest-2.ensures.only (digits_in_last i digits rest _ rest_is c.filled.ensures long are) in
+          let second = c.block_of-greatest-2.ensures.only (digits_in_last i digits rest _ rest_is c.whole_block.ensures long are) in
           omega arith)))
     ])

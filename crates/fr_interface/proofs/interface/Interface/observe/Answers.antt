@@ -38,17 +38,17 @@ invariant_of-self c =
     let window = c.in-Some.window in
     let opened : open_window entries ≡ Some window = sym (ap (λ (o : Opening). o.window) c.self.invariant.opening_is) ∙ c.in-Some.is in
     let last : c.self.inside.opening.last ≡ last_number entries = ap (λ (o : Opening). o.last) c.self.invariant.opening_is in
-    let e = Observe c.args.number c.kept.result.now c.kept-2.result.now in
-    let seen_a : c.args.a.now ≡ c.kept.result.now = sym c.kept.ensures.value in
-    let seen_b : c.args.b.now ≡ c.kept-2.result.now = sym c.kept-2.ensures.value in
+    let e = Observe c.args.number c.seen_within.result.now c.seen_within-2.result.now in
+    let seen_a : c.args.a.now ≡ c.seen_within.result.now = sym c.seen_within.ensures.value in
+    let seen_b : c.args.b.now ≡ c.seen_within-2.result.now = sym c.seen_within-2.ensures.value in
     let number : c.len-entry.result ≡ length entries = c.len-entry.ensures.value in
-    let frame_a : c.of-told_a.result.frame ≡ data_frame_seen params window A c.kept.result.now = c.of-told_a.ensures.frame ∙ ap (data_frame_seen params window A) seen_a in
-    let frame_b : c.of-told_b.result.frame ≡ data_frame_seen params window B c.kept-2.result.now = c.of-told_b.ensures.frame ∙ ap (data_frame_seen params window B) seen_b in
-    let status_a : c.of-told_a.result.status ≡ status_seen params window A c.kept.result.now = c.of-told_a.ensures.status ∙ ap (status_seen params window A) seen_a in
-    let status_b : c.of-told_b.result.status ≡ status_seen params window B c.kept-2.result.now = c.of-told_b.ensures.status ∙ ap (status_seen params window B) seen_b in
+    let frame_a : c.of-told_a.result.frame ≡ data_frame_seen params window A c.seen_within.result.now = c.of-told_a.ensures.frame ∙ ap (data_frame_seen params window A) seen_a in
+    let frame_b : c.of-told_b.result.frame ≡ data_frame_seen params window B c.seen_within-2.result.now = c.of-told_b.ensures.frame ∙ ap (data_frame_seen params window B) seen_b in
+    let status_a : c.of-told_a.result.status ≡ status_seen params window A c.seen_within.result.now = c.of-told_a.ensures.status ∙ ap (status_seen params window A) seen_a in
+    let status_b : c.of-told_b.result.status ≡ status_seen params window B c.seen_within-2.result.now = c.of-told_b.ensures.status ∙ ap (status_seen params window B) seen_b in
     let lines : c.buffers-lines.result.now ≡ plan.buffers = c.buffers-lines.ensures.value in
     let held_before : c.deref_mut.result.now ≡ map (held_in params entries) plan.buffers = c.deref_mut.ensures.value ∙ c.self.invariant.receive_is in
-    let counted_a : c.count_seen.new.counters ≡ with_seen (counters_of params entries) A (status_seen params window A c.kept.result.now) =
+    let counted_a : c.count_seen.new.counters ≡ with_seen (counters_of params entries) A (status_seen params window A c.seen_within.result.now) =
     c.count_seen.ensures ∙ (λ i. with_seen (c.self.invariant.counters_are i) A (status_a i)) in
     rw c.push_observe.ensures (record {
       host_limit = c.self.invariant.host_limit;
@@ -57,24 +57,24 @@ invariant_of-self c =
         params_are = legal.params_are;
         plan_is = legal.plan_is;
         faultless = legal.faultless;
-        entries_are = AllAfter-snoc _ _ _ legal.entries_are (c.ranges.number.fits, subst IsSeen (sym c.kept.ensures.value) c.kept.ensures.fits, subst IsSeen (sym c.kept-2.ensures.value) c.kept-2.ensures.fits);
+        entries_are = AllAfter-snoc _ _ _ legal.entries_are (c.ranges.number.fits, subst IsSeen (sym c.seen_within.ensures.value) c.seen_within.ensures.fits, subst IsSeen (sym c.seen_within-2.ensures.value) c.seen_within-2.ensures.fits);
         legal = AllAfter-snoc _ _ _ legal.legal (subst (λ (o : Option Opportunity). IsSomeAnd o (λ w. w.number ≡ c.args.number)) (sym opened) (search rules));
       };
-      opening_is = (λ i. record { window = None; last = last i }) ∙ sym (opening-observe entries c.args.number c.kept.result.now c.kept-2.result.now);
+      opening_is = (λ i. record { window = None; last = last i }) ∙ sym (opening-observe entries c.args.number c.seen_within.result.now c.seen_within-2.result.now);
       transmit_is = c.self.invariant.transmit_is ∙ sym (transmitters-other plan entries e (λ n. refl) (λ k. refl) (λ k. refl));
       receive_is =
           written c.self.inside.receive.len c.store_all.new.buffers _ (omega (arith, c.deref_mut.ensures.len, c.store_all.auto.buffers))
           ∙ c.store_all.ensures
           ∙ (λ i. stored_all (number i) window (frame_a i) (frame_b i) (lines i) (held_before i))
-          ∙ held-observe params entries c.args.number c.kept.result.now c.kept-2.result.now window opened plan.buffers;
+          ∙ held-observe params entries c.args.number c.seen_within.result.now c.seen_within-2.result.now window opened plan.buffers;
       queue_is =
           c.arrive_all.ensures
           ∙ (λ i. with_arrivals plan (number i) window (frame_a i) (frame_b i) plan.queue (c.self.invariant.queue_is i))
-          ∙ queue-observe params plan entries c.args.number c.kept.result.now c.kept-2.result.now window legal.legal opened plan.queue refl;
+          ∙ queue-observe params plan entries c.args.number c.seen_within.result.now c.seen_within-2.result.now window legal.legal opened plan.queue refl;
       counters_are =
           c.count_seen-2.ensures
           ∙ (λ i. with_seen (counted_a i) B (status_b i))
-          ∙ sym (counters-observe params entries c.args.number c.kept.result.now c.kept-2.result.now window opened);
+          ∙ sym (counters-observe params entries c.args.number c.seen_within.result.now c.seen_within-2.result.now window opened);
     })
 
 pub count_seen-requires : goal.count_seen-requires

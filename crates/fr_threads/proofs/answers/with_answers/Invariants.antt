@@ -1,7 +1,7 @@
 use Rattle.std.proofs.Common.{◌≡◌, vec_len, length, map, take}
 use Rattle.std.specs.List.{All}
 use Rattle.std.specs.Vec.{vec_capacity}
-use Rattle.fr_threads.proofs.answers.answered.Given as goal
+use Rattle.fr_threads.proofs.answers.with_answers.Given as goal
 use Rattle.fr_threads.specs.Running.{bare_script, IsAnswered}
 
 abbrev pub invariant-loop-script : goal.invariant-loop-script

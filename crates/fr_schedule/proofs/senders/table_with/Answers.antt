@@ -1,7 +1,7 @@
 use Rattle.std.proofs.Common.{List, ℕ, ap, subst, sym, ◌∙◌, length}
 use Rattle.fr_schedule.proofs.DenseSenderLemmas.{free_is, free_size}
 use Rattle.fr_schedule.specs.DenseTable.{IsFree}
-use Rattle.fr_schedule.proofs.senders.entered.Goals as goal
+use Rattle.fr_schedule.proofs.senders.table_with.Goals as goal
 
 pub enter_all-shared-requires : goal.enter_all-shared-requires
 enter_all-shared-requires c = ap length (c.as_mut_slice.ensures.value ∙ c.in_ok-nodes.ensures) ∙ free_size

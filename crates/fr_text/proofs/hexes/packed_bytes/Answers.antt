@@ -1,7 +1,7 @@
 use Rattle.std.proofs.Common.{◌<◌, ◌+◌, ◌*◌, ◌∙◌, length, arith}
 use Rattle.std.proofs.lemmas.List.{length-set}
 use Rattle.fr_text.proofs.DigitLemmas.{packed_more}
-use Rattle.fr_text.proofs.hexes.packed.Goals as goal
+use Rattle.fr_text.proofs.hexes.packed_bytes.Goals as goal
 
 pub loop-place-preserved : goal.loop-place-preserved
 loop-place-preserved c =

@@ -1,7 +1,7 @@
 use Rattle.std.proofs.Common.{◌≡◌}
 use Rattle.fr_scenario.specs.Gathering.{none_yet, kept_from}
 use Rattle.fr_scenario.specs.Reading.{lines_in, read_from}
-use Rattle.fr_scenario.proofs.scenario.gathered.Given as goal
+use Rattle.fr_scenario.proofs.scenario.body_of.Given as goal
 
 -- what is kept, with what the lines left say
 abbrev pub invariant-loop-number : goal.invariant-loop-number

@@ -1,6 +1,6 @@
 use Rattle.std.proofs.Common.{◌≡◌, ℕ, List, length}
 use Rattle.fr_text.specs.Digits.{AreValues, ArePacked}
-use Rattle.fr_text.proofs.hexes.packed.Given as goal
+use Rattle.fr_text.proofs.hexes.packed_bytes.Given as goal
 
 abbrev pub invariant-loop-place : goal.invariant-loop-place
 invariant-loop-place l = record {

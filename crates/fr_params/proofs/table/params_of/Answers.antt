@@ -1,6 +1,6 @@
 use Rattle.std.proofs.Common.{sym, ap, ◌∙◌}
 use Rattle.fr_params.proofs.SumLemmas.{sum_alone, summed_is}
-use Rattle.fr_params.proofs.table.summed.Goals as goal
+use Rattle.fr_params.proofs.table.params_of.Goals as goal
 
 pub returns-in-Ok : goal.returns-in-Ok
 returns-in-Ok c =

@@ -1,6 +1,6 @@
 use Rattle.std.proofs.Common.{◌∙◌, rules}
 use Rattle.fr_lines.specs.Reading.{entry_in}
-use Rattle.fr_lines.proofs.entries.parsed.Goals as goal
+use Rattle.fr_lines.proofs.entries.entry_in.Goals as goal
 
 pub returns-then-eq-2 : goal.returns-then-eq-2
 unfolding entry_in
