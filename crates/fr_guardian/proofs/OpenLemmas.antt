@@ -192,11 +192,10 @@ module _ (p : Parameters) (lawful : IsParameters p) (guarded : Bool) (owned : Li
       subst (λ n. IsFound p guarded owned cycle channel (earlier * n + n) ((earlier + 1) * n) (xs ++ run since (earlier * n))) (sym is)
       (found_closed earlier since xs below (subst (λ n. IsFound p guarded owned cycle channel since (earlier * n) xs) is h) closed)
 
-  pub step_last : (size slots minislots minislot since end : ℕ) (xs : List Span) → size ≡ p.static_mt → slots ≡ p.static_slots → minislots ≡ p.minislots → minislot ≡ p.minislot_mt
-      → end ≡ slots * size + minislots * minislot → IsFound p guarded owned cycle channel since (slots * size) xs
+  pub step_last : (size slots since end : ℕ) (xs : List Span) → size ≡ p.static_mt → slots ≡ p.static_slots
+      → end ≡ symbol_start p → IsFound p guarded owned cycle channel since (slots * size) xs
       → AreMaximalIntervals (IsOpenTo p guarded owned cycle channel) (xs ++ run since end)
-  step_last size slots minislots minislot since end xs a b c d e h =
-      let same : end ≡ p.static_slots * p.static_mt + p.minislots * p.minislot_mt = cc in
+  step_last size slots since end xs a b same h =
       let upto : slots * size ≡ p.static_slots * p.static_mt = cc in
       subst (λ n. AreMaximalIntervals (IsOpenTo p guarded owned cycle channel) (xs ++ run since n)) (sym same)
       (found_all since xs (subst (λ n. IsFound p guarded owned cycle channel since n xs) upto h))

@@ -11,8 +11,8 @@ use Rattle.std.proofs.lemmas.Nat.{div_below, mod_below, div-add-mod', mul-add-lt
 use Rattle.fr_slots.specs.Parameters.{Parameters, IsParameters}
 use Rattle.fr_timing.specs.declared.place.Place.{Place}
 use Rattle.fr_timing.specs.declared.place.Place.TheVariants.{Static, Minislot, Symbol, Idle}
-use Rattle.fr_timing.specs.Division.{place_at, start_at, start_in_row, dynamic_start, symbol_start, idle_start}
-use Rattle.fr_timing.specs.Division.{cycle_end}
+use Rattle.fr_timing.specs.Division.{place_at, start_at, start_in_row}
+use Rattle.fr_timing.specs.Segments.{dynamic_start, symbol_start, idle_start, cycle_end}
 use Rattle.fr_timing.specs.Layout.{Part, static_slot, minislot, symbol_window, idle_time, Stretch, numbered, Interval}
 use Rattle.fr_timing.specs.Layout.{laid_from, layout, part_of, offset_of, IsAt}
 

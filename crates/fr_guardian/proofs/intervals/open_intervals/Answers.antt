@@ -1,5 +1,6 @@
 use Rattle.std.proofs.Common.{◌≡◌, ◌+◌, ◌*◌, ◌<◌, subst, sym, ap, ◌∙◌, arith, List, ◌++◌, Vec, Global}
 use Rattle.fr_slots.specs.Parameters.{Parameters}
+use Rattle.fr_timing.specs.Segments.{symbol_start}
 use Rattle.fr_guardian.specs.Guarding.{IsOpenTo}
 use Rattle.fr_guardian.specs.Intervals.{Span, AreMaximalIntervals, run}
 use Rattle.fr_guardian.proofs.OpenLemmas.{IsFound, step_open, step_closed, step_last, same_found, open_by_slots}
@@ -36,10 +37,8 @@ returns c =
     let same = c.params.view_is ∙ c.duplicate-params.ensures.value in
     let size = c.from-static_mt.ensures ∙ ap (λ (x : Parameters). x.static_mt) same in
     let slots = ap (λ (x : Parameters). x.static_slots) same in
-    let minislots = ap (λ (x : Parameters). x.minislots) same in
-    let minislot = ap (λ (x : Parameters). x.minislot_mt) same in
     let all : c.loop-earlier.earlier ≡ c.params.inside.static_slots = omega arith in
     let found = subst (λ n. IsFound p c.args.guarded c.args.owned.now c.args.cycle c.args.channel c.loop-earlier.since (n * c.from-static_mt.result) c.loop-earlier.intervals.items) all c.loop-earlier.invariant in
-    let end = ap (λ n. n * c.from-static_mt.result + c.from-3.result * c.from-4.result) c.from-2.ensures ∙ ap (λ n. c.params.inside.static_slots * c.from-static_mt.result + n * c.from-4.result) c.from-3.ensures in
+    let end = c.segments_of.ensures.symbol ∙ ap symbol_start c.duplicate-params.ensures.value in
     subst (λ (xs : List Span). AreMaximalIntervals (IsOpenTo p c.args.guarded c.args.owned.now c.args.cycle c.args.channel) xs) (sym c.in_ok-add-2.ensures)
-    (step_last p lawful c.args.guarded c.args.owned.now c.args.cycle c.args.channel c.from-static_mt.result c.params.inside.static_slots c.params.inside.minislots c.from-4.result c.loop-earlier.since _ c.loop-earlier.intervals.items size slots minislots (c.from-4.ensures ∙ minislot) end found)
+    (step_last p lawful c.args.guarded c.args.owned.now c.args.cycle c.args.channel c.from-static_mt.result c.params.inside.static_slots c.loop-earlier.since _ c.loop-earlier.intervals.items size slots end found)
