@@ -1,10 +1,12 @@
 -- The moment that the code keeps is the one that the entries give, with one entry more.
-use Rattle.std.proofs.Common.{◌≡◌, ℕ, ◌+◌, ◌*◌, ◌≤◌, Bool, true, false, cond, List, [], ◌∷◌, ◌++◌, length, Option, Some, None}
+use Rattle.std.proofs.Common.{◌≡◌, ℕ, ◌+◌, ◌*◌, ◌≤◌, Bool, true, false, cond}
+use Rattle.std.proofs.Common.{List, [], ◌∷◌, ◌++◌, length, Option, Some, None}
 use Rattle.std.proofs.Common.{refl, sym, ap, ◌∙◌, arith, leb}
 use Rattle.std.specs.Option.{option_or}
 use Rattle.fr_capture.specs.Clocks.{IsMoment, moment_after, rounds_at, seen_after, in_moment, time_at, HasRounds}
 use Rattle.fr_capture.specs.declared.moment.Moment.{Moment}
-use Rattle.fr_capture.specs.Moments.{begins_round, fetched, is_not_later, last_window, place_in_round, round_length, rounds, time_of}
+use Rattle.fr_capture.specs.Moments.{begins_round, fetched, is_not_later, last_window}
+use Rattle.fr_capture.specs.Moments.{place_in_round, round_length, rounds, time_of}
 use Rattle.fr_capture.specs.Sightings.{in_window, sighting, sightings, sightings_at}
 use Rattle.fr_journal.specs.declared.entry.Entry.{Entry}
 use Rattle.fr_journal.specs.declared.entry.Entry.TheVariants.{Commit, Withdraw, Read, Pop, Fetch, Observe}

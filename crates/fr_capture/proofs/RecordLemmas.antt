@@ -1,5 +1,6 @@
 -- A record, written in three steps.
-use Rattle.std.proofs.Common.{◌≡◌, ℕ, ◌+◌, List, [], ◌∷◌, ◌++◌, length, Option, Result, ap, subst, ◌∙◌, append_assoc, arith}
+use Rattle.std.proofs.Common.{◌≡◌, ℕ, ◌+◌}
+use Rattle.std.proofs.Common.{List, [], ◌∷◌, ◌++◌, length, Option, Result, ap, subst, ◌∙◌, append_assoc, arith}
 use Rattle.std.specs.Io.KnownBytes.{Appends}
 use Rattle.std.specs.Prelude.{OnOk}
 use Rattle.std.proofs.KnownBytes.{Appends-trans}

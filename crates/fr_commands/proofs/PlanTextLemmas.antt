@@ -1,5 +1,6 @@
 -- The text of a plan, one node, one slot, one cycle or one interval more.
-use Rattle.std.proofs.Common.{◌≡◌, ℕ, zero, suc, ◌+◌, ◌-◌, ◌%◌, ◌<◌, ◌≤◌, ◌==◌, true, false, ◌&&◌, List, [], ◌∷◌, ◌++◌, length, take}
+use Rattle.std.proofs.Common.{◌≡◌, ℕ, zero, suc, ◌+◌, ◌-◌, ◌%◌, ◌<◌, ◌≤◌, ◌==◌, true, false, ◌&&◌}
+use Rattle.std.proofs.Common.{List, [], ◌∷◌, ◌++◌, length, take}
 use Rattle.std.proofs.Common.{Option, Some, Result, Ok, Err}
 use Rattle.std.proofs.Common.{refl, sym, ap, subst, ◌∙◌, append_assoc, append-nil, add-one, arith}
 use Rattle.std.specs.Io.KnownBytes.{Appends}

@@ -243,7 +243,10 @@ fn write_spans<W: Write>(
     spans: &[(u32, u32)],
 ) -> io::Result<()>
     ensures { OnOk result
-        (Appends (W.contents writer.old) (W.contents writer.new) (flat_map (guard_line number channel cycle) spans.now)) }
+        (Appends
+        (W.contents writer.old)
+        (W.contents writer.new)
+        (flat_map (guard_line number channel cycle) spans.now)) }
 {
     for (start, end) in spans {
         writeln!(

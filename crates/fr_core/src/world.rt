@@ -105,7 +105,8 @@ impl World {
     /// that a receive buffer or a queue holds from a faultless slot is one that the slot's owner in that cycle
     /// committed and handed over. In a static slot of a guarded channel each node sees what the account of the slot's
     /// owner in that cycle gives, with the owner's own babble and mute and the corrupt bit, whatever other nodes
-    /// commit, babble or lose; where the slot has no owner in the cycle, each sees silence. It does nothing but tell so.
+    /// commit, babble or lose; where the slot has no owner in the cycle, each sees silence. It does nothing but tell
+    /// so.
     pub fn known(&self)
         ensures headline { Headline self.now }
     {

@@ -1,5 +1,6 @@
 -- The posts of a guardian, and the open macroticks of its nodes.
-use Rattle.std.proofs.Common.{◌≡◌, ℕ, zero, suc, ◌+◌, ◌%◌, ◌≤◌, not, Bool, true, ◌||◌, List, [], ◌∷◌, ◌++◌, length, take, refl, sym, ap, subst}
+use Rattle.std.proofs.Common.{◌≡◌, ℕ, zero, suc, ◌+◌, ◌%◌, ◌≤◌, not, Bool, true, ◌||◌}
+use Rattle.std.proofs.Common.{List, [], ◌∷◌, ◌++◌, length, take, refl, sym, ap, subst}
 use Rattle.std.proofs.Common.{◌∙◌, inl, inr, arith, max, Option, Some, None, map, option_map, slice_get, ◌↔◌}
 use Rattle.std.proofs.lemmas.Option.{same_Some}
 use Rattle.std.proofs.lemmas.Grind.{flat_map-append}
@@ -26,7 +27,8 @@ use Rattle.fr_guardian.specs.Guarding.{is_open, IsOpenTo, IsOpenMacrotick}
 use Rattle.fr_guardian.specs.Periods.{period}
 use Rattle.fr_guardian.specs.Intervals.{Span, AreMaximalIntervals}
 use Rattle.fr_guardian.proofs.AloneLemmas.{each_at}
-use Rattle.fr_guardian.proofs.PeriodLemmas.{AreWithin, owned_again, period_is, period_some, within_period, period-append, within_more}
+use Rattle.fr_guardian.proofs.PeriodLemmas.{AreWithin, owned_again, period_is, period_some}
+use Rattle.fr_guardian.proofs.PeriodLemmas.{within_period, period-append, within_more}
 use Rattle.fr_guardian.proofs.SpanLemmas.{same_set, none_of}
 use Rattle.fr_timing.specs.Layout.{Part, static_slot, minislot, symbol_window, idle_time, part_of}
 

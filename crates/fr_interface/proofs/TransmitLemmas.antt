@@ -18,14 +18,17 @@ use Rattle.fr_journal.specs.declared.fate.Fate.{Fate}
 use Rattle.fr_journal.specs.declared.fate.Fate.TheVariants.{Pending}
 use Rattle.fr_journal.specs.declared.fate.Tally.{Tally}
 use Rattle.fr_journal.specs.Fate.{is_commit_on, last_commit, sends, takes_back, is_number, fate_of, fates_from, fates}
-use Rattle.fr_journal.specs.Fate.{is_sent, is_overwritten, is_pending, is_withdrawn, tally_of, pending_commit, held_commit}
+use Rattle.fr_journal.specs.Fate.{is_sent, is_overwritten, is_pending, is_withdrawn}
+use Rattle.fr_journal.specs.Fate.{tally_of, pending_commit, held_commit}
 use Rattle.fr_journal.specs.Offers.{ready}
 use Rattle.fr_journal.proofs.FateStepLemmas.{after_commit, after_other, fates_from-commit, fates_from-other, MarksLast}
 use Rattle.fr_journal.proofs.FateStepLemmas.{LastStands, OnlyLast, marks_none, stands_unsent, marks_last_from}
-use Rattle.fr_journal.proofs.HeldCommitLemmas.{pending_is, held-below, held-other, held-commit, held-taken, held_pending-counts}
+use Rattle.fr_journal.proofs.HeldCommitLemmas.{pending_is, held-below, held-other}
+use Rattle.fr_journal.proofs.HeldCommitLemmas.{held-commit, held-taken, held_pending-counts}
 use Rattle.fr_journal.proofs.HeldCommitLemmas.{same_entry, last_there, one_buffer}
 use Rattle.fr_journal.proofs.LastCommitLemmas.{IsCommitAt, payload_of-front, payload_of-next, slice_get-next}
-use Rattle.fr_journal.proofs.TallyLemmas.{fates_fill, after_commit-counts, sending-counts, withdrawing-counts, same_fates}
+use Rattle.fr_journal.proofs.TallyLemmas.{fates_fill, after_commit-counts}
+use Rattle.fr_journal.proofs.TallyLemmas.{sending-counts, withdrawing-counts, same_fates}
 use Rattle.fr_journal.proofs.TallyLemmas.{pending-one}
 use Rattle.fr_slots.specs.declared.plan.Buffer.{Buffer}
 use Rattle.fr_slots.specs.declared.plan.Mode.{Mode}

@@ -12,7 +12,8 @@ use Rattle.fr_lines.specs.declared.versions.Version.{Version}
 use Rattle.fr_lines.specs.declared.versions.Version.TheVariants.{One, Two, Three}
 use Rattle.fr_lines.specs.PartReading.{slot_in, channels_in, flag_in}
 use Rattle.fr_lines.specs.Parts.{channels_word, flag_word}
-use Rattle.fr_lines.specs.Reading.{every_cycle, at_end, fitting_own, last_cycles_in, own_cycles_in, ownership_in, own_in}
+use Rattle.fr_lines.specs.Reading.{every_cycle, at_end, fitting_own, last_cycles_in}
+use Rattle.fr_lines.specs.Reading.{own_cycles_in, ownership_in, own_in}
 use Rattle.fr_lines.specs.Spelled.{IsSpelledOwn}
 use Rattle.fr_lines.specs.Spelling.{own_cycles_words, own_words, begin_line}
 use Rattle.fr_lines.specs.Versions.{has_own_cycles, tells_own}

@@ -32,7 +32,8 @@ use Rattle.fr_scenario.specs.declared.version.Version.{Version}
 use Rattle.fr_scenario.specs.declared.version.Version.TheVariants.{One, Two}
 use Rattle.fr_scenario.specs.LineReading.{line_in}
 use Rattle.fr_scenario.specs.Reading.{lines_in, Read, unfinished, is_at_end, after_end, put_before, said, whole_line}
-use Rattle.fr_scenario.specs.Reading.{read_from, version_in, read_after, read_lines, read_text, with_contents, scenario_in, first_fault}
+use Rattle.fr_scenario.specs.Reading.{read_from, version_in, read_after, read_lines}
+use Rattle.fr_scenario.specs.Reading.{read_text, with_contents, scenario_in, first_fault}
 use Rattle.fr_scenario.specs.ScenarioText.{first_line, spelled_line, body_text, scenario_text, IsScenarioText}
 use Rattle.fr_scenario.specs.Spelled.{IsSpelledLine}
 use Rattle.fr_scenario.specs.Spelling.{line_words}

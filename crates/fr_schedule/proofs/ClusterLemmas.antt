@@ -1,5 +1,6 @@
 -- Plans that are lawful and for these parameters, without a fault among them, are those of a cluster.
-use Rattle.std.proofs.Common.{◌≡◌, ℕ, zero, suc, ◌+◌, ◌<◌, ◌≤◌, ◌==◌, Bool, true, false, ◌&&◌, ◌||◌, if◌then◌else◌, List, []}
+use Rattle.std.proofs.Common.{◌≡◌, ℕ, zero, suc, ◌+◌, ◌<◌, ◌≤◌, ◌==◌, Bool, true, false, ◌&&◌, ◌||◌, if◌then◌else◌}
+use Rattle.std.proofs.Common.{List, []}
 use Rattle.std.proofs.Common.{◌∷◌, ◌++◌, length, Option, Some, None, option_map, refl, sym, ap, subst, ◌∙◌, inl, inr}
 use Rattle.std.proofs.Common.{arith}
 use Rattle.std.proofs.lemmas.Bool.{cases_Bool, cases_eq, eqb-true, and_parts, or_cases, or_parts, or_left, or_right}
@@ -27,7 +28,8 @@ use Rattle.fr_slots.specs.declared.plan.Buffer.{Buffer}
 use Rattle.fr_slots.specs.Admission.{includes, cycle_admitted}
 use Rattle.fr_slots.specs.Faults as plan
 use Rattle.fr_slots.specs.Faults.{buffer_fault as sending_fault}
-use Rattle.fr_slots.specs.Faults.{first_of, two_pass, slots, channels, cycles, claims, sends_at, is_owned, is_overlap, transmits}
+use Rattle.fr_slots.specs.Faults.{first_of, two_pass, slots, channels, cycles}
+use Rattle.fr_slots.specs.Faults.{claims, sends_at, is_owned, is_overlap, transmits}
 use Rattle.fr_slots.specs.Faults.{not_owned, dynamic_both, too_long, is_out_of_params, out_of_params, ownership_fault}
 use Rattle.fr_slots.specs.Faults.{plan_fault}
 use Rattle.fr_slots.specs.Numbers.{IsSlot}

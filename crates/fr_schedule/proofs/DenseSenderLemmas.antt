@@ -17,11 +17,13 @@ use Rattle.fr_slots.specs.declared.plan.Own.{Own}
 use Rattle.fr_slots.specs.declared.plan.Buffer.{Buffer}
 use Rattle.fr_slots.specs.declared.sharing.Occasion.{Occasion}
 use Rattle.fr_slots.specs.Admission.{includes, cycle_admitted}
-use Rattle.fr_slots.specs.Faults.{claims, is_owned, is_overlap, transmits, sends_at, transmits_static, FitsStatic, IsFaultless}
+use Rattle.fr_slots.specs.Faults.{claims, is_owned, is_overlap, transmits, sends_at}
+use Rattle.fr_slots.specs.Faults.{transmits_static, FitsStatic, IsFaultless}
 use Rattle.fr_slots.specs.Numbers.{IsSlot, number_within}
 use Rattle.fr_slots.specs.Parameters.{Parameters, is_static_slot}
 use Rattle.fr_slots.specs.Plans.{Plan, filter_admits}
-use Rattle.fr_slots.specs.Sharing.{place_of, earlier, IsFirst, is_shared, admits_at, own_filter, own_filters, buffer_filter}
+use Rattle.fr_slots.specs.Sharing.{place_of, earlier, IsFirst, is_shared, admits_at}
+use Rattle.fr_slots.specs.Sharing.{own_filter, own_filters, buffer_filter}
 use Rattle.fr_slots.specs.Sharing.{transmit_filters}
 use Rattle.fr_slots.proofs.FaultlessLemmas.{faultless}
 use Rattle.fr_slots.proofs.ScanLemmas.{overlap-shared}

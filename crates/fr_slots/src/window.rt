@@ -29,7 +29,8 @@ impl Model for Window {
 
     ghost view = { λ w. record { number = w.number; cycle = w.cycle; minislot = w.minislot; a = w.a; b = w.b } };
 
-    ghost invariant = { λ w. IsOpportunity (record { number = w.number; cycle = w.cycle; minislot = w.minislot; a = w.a; b = w.b }) };
+    ghost invariant = { λ w.
+        IsOpportunity (record { number = w.number; cycle = w.cycle; minislot = w.minislot; a = w.a; b = w.b }) };
 
     ghost inverse = { λ w. record { number = w.number; cycle = w.cycle; minislot = w.minislot; a = w.a; b = w.b } };
 }

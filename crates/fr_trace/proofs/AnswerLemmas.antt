@@ -27,7 +27,8 @@ use Rattle.fr_slots.specs.declared.plan.Queue.{Queue}
 use Rattle.fr_slots.specs.Faults.{words_of}
 use Rattle.fr_slots.specs.Plans.{is_receive, buffer_at}
 use Rattle.fr_slots.specs.Windows.{Opportunity}
-use Rattle.fr_trace.specs.Answers.{same_channel, same_number, same_origin, same_offered, is_refused, made_by, is_answered, fault_of}
+use Rattle.fr_trace.specs.Answers.{same_channel, same_number, same_origin, same_offered}
+use Rattle.fr_trace.specs.Answers.{is_refused, made_by, is_answered, fault_of}
 
 -- ---- equal answers
 
