@@ -11,7 +11,7 @@ use fr_slots::channel::Channel;
 use std::marker::Model;
 
 /// What a node keeps of a buffer that receives: the last frame that it took (chapter 9).
-#[derive(Debug, Drop)]
+#[derive(Drop)]
 pub struct RxBuffer {
     held: Option<Arrival>,
 }

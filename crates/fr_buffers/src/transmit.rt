@@ -11,7 +11,7 @@ use fr_slots::plan::Mode;
 use std::marker::Model;
 
 /// A commit that a buffer holds.
-#[derive(Debug, Drop, PartialEq, Eq)]
+#[derive(Drop, PartialEq, Eq)]
 pub struct HeldCommit {
     /// The number of its entry, from 0.
     pub entry: u32,
@@ -21,7 +21,7 @@ pub struct HeldCommit {
 
 /// What a node keeps of a buffer that transmits: its mode, its last commit unless that was withdrawn, and what became
 /// of all of them (chapter 9; the modes, withdraws and the tally are own profile).
-#[derive(Debug, Drop)]
+#[derive(Drop)]
 pub struct TxBuffer {
     mode: Mode,
     last: Option<HeldCommit>,

@@ -6,7 +6,7 @@ ghost use Rattle.fr_bus.specs.States.{collects, seals};
 use thiserror::Error;
 
 /// Where the open window stands (own profile).
-#[derive(Clone, Copy, Debug, PartialEq, Eq)]
+#[derive(Clone, Copy, PartialEq, Eq)]
 pub enum Phase {
     /// Nodes put their offers, and faults are injected.
     Collect,

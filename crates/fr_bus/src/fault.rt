@@ -7,7 +7,7 @@ use fr_slots::channel::Channel;
 use fr_slots::numbers::NodeId;
 
 /// A fault of the open window, and of no other (own profile). On a channel without a slot it has no effect.
-#[derive(Debug, Drop, PartialEq, Eq)]
+#[derive(Drop, PartialEq, Eq)]
 pub enum Fault {
     /// The node sends these bytes on the channel, beside what it offers. Without bytes it sends nothing more.
     Babble {

@@ -24,7 +24,7 @@ use std::alloc::{AllocError, Global};
 use std::marker::Model;
 
 /// What becomes of a transmission (own profile).
-#[derive(Clone, Copy, Debug, PartialEq, Eq)]
+#[derive(Clone, Copy, PartialEq, Eq)]
 pub enum Fate {
     /// It reaches the channel.
     Passed,
@@ -35,7 +35,7 @@ pub enum Fate {
 }
 
 /// A transmission of a sealed window (own profile).
-#[derive(Debug, Drop, PartialEq, Eq)]
+#[derive(Drop, PartialEq, Eq)]
 pub struct Sent {
     /// Who sent it.
     pub node: NodeId,

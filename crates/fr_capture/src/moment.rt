@@ -13,7 +13,7 @@ use fr_timing::cycle::start_of;
 use fr_timing::place::Place;
 
 /// A window, and when it began (own profile).
-#[derive(Clone, Copy, Debug)]
+#[derive(Clone, Copy)]
 pub struct Moment {
     pub window: Window,
     /// How many rounds of 64 cycles are over.

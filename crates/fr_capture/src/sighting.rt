@@ -5,7 +5,7 @@ use fr_slots::numbers::{Cycle, SlotId};
 use std::marker::Model;
 
 /// Bytes on a channel, at most as many as the longest frame has, and when they were seen (own profile).
-#[derive(Debug, Drop)]
+#[derive(Drop)]
 pub struct SeenBytes<'a> {
     /// Microseconds from the start of the first round of 64 cycles to that of the window.
     pub time: u64,

@@ -9,7 +9,7 @@ use fr_status::seen::Seen;
 
 /// What a controller carries from one of its steps to the next (own profile). In each window it looks, fetches, puts,
 /// takes and observes, in this order.
-#[derive(Debug, Drop, PartialEq, Eq)]
+#[derive(Drop, PartialEq, Eq)]
 pub enum Carried {
     /// Nothing: it looks next.
     Idle,

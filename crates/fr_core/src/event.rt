@@ -8,7 +8,7 @@ use fr_slots::numbers::{NodeId, TaskId};
 use fr_slots::window::Window;
 
 /// One atomic step of a cluster: one call of one node's interface, or one of the bus (own profile).
-#[derive(Debug, Drop, PartialEq, Eq)]
+#[derive(Drop, PartialEq, Eq)]
 pub enum Event {
     /// The task gives the payload to the node's transmit buffer of this number (chapter 9).
     Commit {
@@ -53,7 +53,7 @@ pub enum Event {
 }
 
 /// What an accepted event is answered (own profile).
-#[derive(Debug, Drop, PartialEq, Eq)]
+#[derive(Drop, PartialEq, Eq)]
 pub enum Reply {
     /// Whose commit it is, and which entry of its interface's journal.
     Committed(Receipt),

@@ -6,7 +6,7 @@ use fr_slots::numbers::{NodeId, TaskId};
 use std::marker::Model;
 
 /// One call of a task at its node's interface (chapter 9).
-#[derive(Debug, Drop, PartialEq, Eq)]
+#[derive(Drop, PartialEq, Eq)]
 pub enum Action {
     /// It gives the payload to the transmit buffer of this number.
     Commit { buffer: u8, payload: Payload },
@@ -19,7 +19,7 @@ pub enum Action {
 }
 
 /// A line of a script (own profile).
-#[derive(Debug, Drop, PartialEq, Eq)]
+#[derive(Drop, PartialEq, Eq)]
 pub struct Line {
     /// The cycle of the run in which it is to be done, from 0.
     pub cycle: u16,
@@ -51,7 +51,7 @@ impl Model for Script {
 }
 
 /// What a task did, with the answer that it got.
-#[derive(Debug, Drop, PartialEq, Eq)]
+#[derive(Drop, PartialEq, Eq)]
 pub(crate) struct Deed {
     pub action: Action,
     pub answer: Reply,

@@ -27,7 +27,7 @@ use std::alloc::Global;
 use thiserror::Error;
 
 /// What a settling found that agrees.
-#[derive(Clone, Copy, Debug, PartialEq, Eq)]
+#[derive(Clone, Copy, PartialEq, Eq)]
 pub struct Settled {
     /// How many windows the record has.
     pub windows: u32,

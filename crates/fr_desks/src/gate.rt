@@ -3,7 +3,7 @@
 use fr_slots::numbers::{NodeId, TaskId};
 
 /// Who makes a call (own profile).
-#[derive(Clone, Copy, Debug, PartialEq, Eq)]
+#[derive(Clone, Copy, PartialEq, Eq)]
 pub enum Actor {
     /// This task of the node.
     Task(NodeId, TaskId),
@@ -14,7 +14,7 @@ pub enum Actor {
 }
 
 /// Where a call stands (own profile).
-#[derive(Clone, Copy, Debug, PartialEq, Eq)]
+#[derive(Clone, Copy, PartialEq, Eq)]
 pub enum Side {
     /// It has not asked for its lock.
     Before,
@@ -25,7 +25,7 @@ pub enum Side {
 }
 
 /// A point that each call passes (own profile).
-#[derive(Clone, Copy, Debug, PartialEq, Eq)]
+#[derive(Clone, Copy, PartialEq, Eq)]
 pub struct Point {
     /// Who makes the call.
     pub actor: Actor,
@@ -40,7 +40,7 @@ pub trait Gate {
 }
 
 /// A gate that holds nobody (own profile).
-#[derive(Clone, Copy, Debug)]
+#[derive(Clone, Copy)]
 pub struct OpenGate;
 
 impl Gate for OpenGate {

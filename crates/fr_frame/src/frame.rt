@@ -31,7 +31,7 @@ pub fn duplicate_bytes(bytes: &Bytes) -> Bytes
 }
 
 /// What a frame says (chapter 4).
-#[derive(Debug, Drop, PartialEq, Eq)]
+#[derive(Drop, PartialEq, Eq)]
 pub struct Frame {
     /// The payload preamble indicator, which is carried and not looked at.
     pub preamble: bool,

@@ -5,7 +5,7 @@ use std::marker::Model;
 
 /// A frame as it is read from its bytes, among which its payload stays. So no payload is moved where a frame is looked
 /// at and let go.
-#[derive(Debug, Drop)]
+#[derive(Drop)]
 pub struct LentFrame<'a> {
     /// The payload preamble indicator, which is carried and not looked at.
     pub preamble: bool,

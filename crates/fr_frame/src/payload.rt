@@ -25,7 +25,7 @@ pub enum FrameError {
 }
 
 /// The bytes that a frame carries: 0 to 127 words of two bytes (chapter 4).
-#[derive(Debug, Drop, PartialEq, Eq)]
+#[derive(Drop, PartialEq, Eq)]
 pub struct Payload {
     bytes: ArrayVec<u8, PAYLOAD_BYTES>,
 }

@@ -37,7 +37,7 @@ use std::alloc::Global;
 use std::marker::Model;
 
 /// What a fetch hands to the bus: the bytes of a frame for each channel, or nothing.
-#[derive(Debug, Drop, PartialEq, Eq)]
+#[derive(Drop, PartialEq, Eq)]
 pub struct Offer {
     /// What goes out on channel A.
     pub a: Option<Bytes>,
@@ -46,7 +46,7 @@ pub struct Offer {
 }
 
 /// Which entry of the journal a commit is, and whose (own profile).
-#[derive(Clone, Copy, Debug, PartialEq, Eq)]
+#[derive(Clone, Copy, PartialEq, Eq)]
 pub struct Receipt {
     /// The task that made the commit.
     pub task: TaskId,

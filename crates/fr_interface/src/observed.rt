@@ -24,7 +24,7 @@ use fr_status::status::{SlotStatus, lent_status_of};
 
 /// What a channel of a window tells: the status of its slot, and the valid data frame that came, whose payload stays
 /// among the bytes that were seen. A channel without a slot tells neither.
-#[derive(Debug, Drop)]
+#[derive(Drop)]
 pub(crate) struct Told<'a> {
     pub status: Option<SlotStatus>,
     pub frame: Option<LentFrame<'a>>,

@@ -3,7 +3,7 @@
 use fr_slots::window::Window;
 
 /// What is known of the windows after some entries.
-#[derive(Clone, Copy, Debug, PartialEq, Eq)]
+#[derive(Clone, Copy, PartialEq, Eq)]
 pub(crate) struct Opening {
     /// The window that is open.
     pub window: Option<Window>,

@@ -18,7 +18,7 @@ use fr_slots::window::Window;
 use std::alloc::{AllocError, Global};
 
 /// The transmit buffer that offers a commit in a window on a channel, and that commit.
-#[derive(Clone, Copy, Debug, PartialEq, Eq)]
+#[derive(Clone, Copy, PartialEq, Eq)]
 pub(crate) struct Sender {
     /// The number of the buffer.
     pub buffer: u8,

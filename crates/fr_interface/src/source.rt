@@ -3,7 +3,7 @@
 use fr_journal::entry::Origin;
 
 /// Where the content of a buffer comes from.
-#[derive(Clone, Copy, Debug, PartialEq, Eq)]
+#[derive(Clone, Copy, PartialEq, Eq)]
 pub enum Source {
     /// The commit of this number, in a transmit buffer.
     Commit(u32),

@@ -10,7 +10,7 @@ use fr_slots::window::Window;
 use fr_status::seen::Seen;
 
 /// Where a received frame comes from: an entry that observed a window, and one of its channels.
-#[derive(Clone, Copy, Debug, PartialEq, Eq)]
+#[derive(Clone, Copy, PartialEq, Eq)]
 pub struct Origin {
     /// The number of the entry, from 0.
     pub entry: u32,
@@ -18,14 +18,14 @@ pub struct Origin {
 }
 
 /// A valid data frame that arrived, and where it comes from.
-#[derive(Debug, Drop, PartialEq, Eq)]
+#[derive(Drop, PartialEq, Eq)]
 pub struct Arrival {
     pub origin: Origin,
     pub frame: Frame,
 }
 
 /// What a fetch handed to the bus on a channel.
-#[derive(Clone, Copy, Debug, PartialEq, Eq)]
+#[derive(Clone, Copy, PartialEq, Eq)]
 pub enum Offered {
     /// No frame.
     Nothing,
@@ -38,7 +38,7 @@ pub enum Offered {
 /// An entry of a journal: one accepted call. Entries are numbered from 0 in their order.
 ///
 /// Commits, withdraws, reads and pops are the host's, fetches and observes the controller's (chapter 9).
-#[derive(Debug, Drop, PartialEq, Eq)]
+#[derive(Drop, PartialEq, Eq)]
 pub enum Entry {
     /// A task gave a payload to a transmit buffer.
     Commit {

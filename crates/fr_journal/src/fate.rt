@@ -1,7 +1,7 @@
 //! What becomes of commits.
 
 /// What became of a commit (own profile).
-#[derive(Clone, Copy, Debug, PartialEq, Eq)]
+#[derive(Clone, Copy, PartialEq, Eq)]
 pub enum Fate {
     /// A later fetch handed it to the bus.
     Sent,
@@ -14,7 +14,7 @@ pub enum Fate {
 }
 
 /// How many commits on a transmit buffer met each fate (own profile).
-#[derive(Clone, Copy, Debug, PartialEq, Eq)]
+#[derive(Clone, Copy, PartialEq, Eq)]
 pub struct Tally {
     /// All commits on the buffer.
     pub committed: u32,

@@ -7,7 +7,7 @@ use fr_slots::window::Window;
 use fr_status::seen::Seen;
 
 /// An entry of a journal without what was committed or seen (own profile).
-#[derive(Clone, Copy, Debug, PartialEq, Eq)]
+#[derive(Clone, Copy, PartialEq, Eq)]
 pub enum BareEntry {
     /// A task gave a payload to a transmit buffer.
     Commit {
@@ -44,7 +44,7 @@ pub enum BareEntry {
 }
 
 /// What was committed or seen by the entry that was read last. What an entry has no use for is left from those before.
-#[derive(Debug, Drop)]
+#[derive(Drop)]
 pub struct EntryBytes {
     /// What was committed.
     pub payload: Payload,

@@ -11,7 +11,7 @@ use fr_slots::plan::{Buffer, Own, Queue};
 use fr_text::words::Words;
 
 /// A line of a plan after the line of its numbers (own profile).
-#[derive(Clone, Copy, Debug, PartialEq, Eq)]
+#[derive(Clone, Copy, PartialEq, Eq)]
 pub enum PlanLine {
     /// A line `own`.
     Own(Own),

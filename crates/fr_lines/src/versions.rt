@@ -5,7 +5,7 @@ ghost use Rattle.fr_lines.specs.Reading.{version_in};
 ghost use Rattle.fr_lines.specs.Spelling.{first_line};
 
 /// A version of the format (own profile).
-#[derive(Clone, Copy, Debug, PartialEq, Eq)]
+#[derive(Clone, Copy, PartialEq, Eq)]
 pub enum Version {
     /// Version 1, which has no line for a withdraw.
     One,

@@ -11,7 +11,7 @@ pub const GREATEST: u32 = 1_000_000;
 /// The midpoint of some values, and which of them it lies between.
 ///
 /// Ranks are counted from 1: the value of rank 1 is the least of all.
-#[derive(Clone, Copy, Debug, PartialEq, Eq)]
+#[derive(Clone, Copy, PartialEq, Eq)]
 pub struct Midpoint {
     /// Half the sum of the values of both ranks, truncated toward zero.
     pub value: i32,

@@ -31,7 +31,7 @@ pub enum LaneError {
 /// It stands after the slots that were closed, at the one that is next. The first dynamic slot is the one after the
 /// last static slot, and opens at minislot 1. The next one opens after the minislots that the one before it took: one
 /// where nothing was sent, else those that its longest transmission fills and the idle ones after them (own profile).
-#[derive(Clone, Copy, Debug, PartialEq, Eq)]
+#[derive(Clone, Copy, PartialEq, Eq)]
 pub struct Lane {
     params: Params,
     /// The slot that is next.

@@ -8,7 +8,7 @@ use fr_slots::numbers::SlotId;
 use fr_slots::window::Window;
 
 /// The cycles of a run in which a fault comes (own profile).
-#[derive(Clone, Copy, Debug, PartialEq, Eq)]
+#[derive(Clone, Copy, PartialEq, Eq)]
 pub enum FaultCycles {
     /// Every cycle of the run.
     Every,
@@ -17,7 +17,7 @@ pub enum FaultCycles {
 }
 
 /// The windows of a cycle in which a fault comes (own profile).
-#[derive(Clone, Copy, Debug, PartialEq, Eq)]
+#[derive(Clone, Copy, PartialEq, Eq)]
 pub enum FaultPlace {
     /// Every static slot.
     EverySlot,
@@ -29,7 +29,7 @@ pub enum FaultPlace {
 }
 
 /// A fault, and the windows of a run in which it comes (own profile).
-#[derive(Debug, Drop, PartialEq, Eq)]
+#[derive(Drop, PartialEq, Eq)]
 pub struct FaultLine {
     /// What goes wrong.
     pub fault: Fault,

@@ -11,14 +11,14 @@ use fr_slots::plan::{LINES, NodePlan};
 use std::alloc::{AllocError, Global};
 
 /// A node's claim to the occasions of a filter.
-#[derive(Clone, Copy, Debug)]
+#[derive(Clone, Copy)]
 pub(crate) struct Claim {
     pub(crate) filter: Filter,
     pub(crate) node: NodeId,
 }
 
 /// Lines of a plan that claim occasions.
-#[derive(Clone, Copy, Debug, PartialEq, Eq)]
+#[derive(Clone, Copy, PartialEq, Eq)]
 pub(crate) enum Lines {
     /// The ownership lines, each for its cycles.
     Owned,

@@ -14,7 +14,7 @@ use fr_slots::plan::NodePlan;
 use fr_slots::sharing::Occasion;
 
 /// A rule that a transmit buffer keeps by itself.
-#[derive(Clone, Copy, Debug, PartialEq, Eq)]
+#[derive(Clone, Copy, PartialEq, Eq)]
 pub(crate) enum Rule {
     /// A static one is for channels on which its node owns the slot in the buffer's cycles (chapter 5).
     Owned,

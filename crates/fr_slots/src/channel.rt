@@ -27,7 +27,7 @@ impl fmt::Display for Channel {
 }
 
 /// The channels that a line of a plan speaks of: one of them, or both.
-#[derive(Clone, Copy, Debug, Default, PartialEq, Eq)]
+#[derive(Clone, Copy, Default, PartialEq, Eq)]
 pub enum Channels {
     A,
     B,

@@ -21,7 +21,7 @@ pub enum FilterError {
 }
 
 /// The cycles that leave the base when their number is divided by the repetition (chapter 9).
-#[derive(Clone, Copy, Debug, PartialEq, Eq)]
+#[derive(Clone, Copy, PartialEq, Eq)]
 pub struct CycleFilter {
     base: u8,
     repetition: u8,
@@ -123,7 +123,7 @@ fn both_admit(one: CycleFilter, other: CycleFilter, cycle: Cycle) -> bool
 }
 
 /// The slot, channels and cycles that a buffer is for.
-#[derive(Clone, Copy, Debug, Default, PartialEq, Eq)]
+#[derive(Clone, Copy, Default, PartialEq, Eq)]
 pub struct Filter {
     pub slot: SlotId,
     pub channels: Channels,

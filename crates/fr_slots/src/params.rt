@@ -112,7 +112,7 @@ pub enum RangeError {
 
 /// The parameters of a cluster, each in its range, which together fill the cycle (chapter 5; the
 /// ranges and the sum are own profile).
-#[derive(Clone, Copy, Debug, PartialEq, Eq)]
+#[derive(Clone, Copy, PartialEq, Eq)]
 pub struct Params {
     /// The number of static slots.
     pub static_slots: u16,

@@ -30,7 +30,7 @@ pub const SLOT_ENTRIES: u32 = 65536;
 
 /// A static slot that a node owns in the cycles that a filter admits (chapter 5; that nodes divide a static slot by
 /// cycles is own profile).
-#[derive(Clone, Copy, Debug, Default, PartialEq, Eq)]
+#[derive(Clone, Copy, Default, PartialEq, Eq)]
 pub struct Own {
     /// The slot, 1 to 1023.
     pub slot: SlotId,
@@ -64,7 +64,7 @@ impl Own {
 }
 
 /// What a buffer does (chapter 9; the names are own profile).
-#[derive(Clone, Copy, Debug, Default, PartialEq, Eq)]
+#[derive(Clone, Copy, Default, PartialEq, Eq)]
 pub enum Mode {
     /// Sends each commit at most once.
     Event,
@@ -91,7 +91,7 @@ impl Mode {
 }
 
 /// A buffer of a node.
-#[derive(Clone, Copy, Debug, Default, PartialEq, Eq)]
+#[derive(Clone, Copy, Default, PartialEq, Eq)]
 pub struct Buffer {
     pub mode: Mode,
     pub filter: Filter,
@@ -142,7 +142,7 @@ impl Buffer {
 }
 
 /// The receive queue of a node (own profile).
-#[derive(Clone, Copy, Debug, PartialEq, Eq)]
+#[derive(Clone, Copy, PartialEq, Eq)]
 pub struct Queue {
     /// How many frames it holds, 1 to 256.
     pub capacity: u16,
@@ -181,7 +181,7 @@ pub enum PlanError {
 }
 
 /// The plan of a node. It takes no memory.
-#[derive(Drop, Debug)]
+#[derive(Drop)]
 pub struct NodePlan {
     tasks: u8,
     latest: [u16; 2],

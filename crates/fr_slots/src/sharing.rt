@@ -9,7 +9,7 @@ use crate::filter::Filter;
 use crate::numbers::{Cycle, SlotId};
 
 /// A slot on a channel in a cycle.
-#[derive(Clone, Copy, Debug, PartialEq, Eq)]
+#[derive(Clone, Copy, PartialEq, Eq)]
 pub struct Occasion {
     pub slot: SlotId,
     pub channel: Channel,

@@ -9,7 +9,7 @@ use std::marker::Model;
 
 /// One opportunity to send: a static slot, or a minislot at which a channel opens a slot (own
 /// profile).
-#[derive(Clone, Copy, Debug, PartialEq, Eq)]
+#[derive(Clone, Copy, PartialEq, Eq)]
 pub struct Window {
     /// The window's number in its run, from 0.
     pub number: u32,

@@ -10,7 +10,7 @@ use fr_slots::channel::Channel;
 ///
 /// The five counts of a channel are those of valid frames, syntax errors, content errors, boundary violations and
 /// transmission conflicts, in this order.
-#[derive(Clone, Copy, Debug, PartialEq, Eq)]
+#[derive(Clone, Copy, PartialEq, Eq)]
 pub struct Counters {
     pub a: [u32; 5],
     pub b: [u32; 5],

@@ -14,7 +14,7 @@ use fr_slots::params::Params;
 
 /// The status of a slot on a channel: five bits (chapter 6), of which at most one is set (own
 /// profile).
-#[derive(Clone, Copy, Debug, PartialEq, Eq)]
+#[derive(Clone, Copy, PartialEq, Eq)]
 pub struct SlotStatus {
     /// A frame that is right for the slot came, be it a data frame or a null frame.
     pub valid: bool,

@@ -9,7 +9,7 @@ use fr_interface::errors::{HostError, InterfaceError, SlotError};
 use std::alloc::AllocError;
 
 /// Why a thread of a run, or the run, ends before it is over.
-#[derive(Clone, Copy, Debug, PartialEq, Eq)]
+#[derive(Clone, Copy, PartialEq, Eq)]
 pub(crate) enum Failure {
     /// An interface refused the call of a task.
     Host(HostError),

@@ -6,7 +6,7 @@ use fr_slots::numbers::SlotId;
 /// (chapter 5; action points aren't modelled).
 ///
 /// An `offset` is in macroticks, 0 for the first macrotick of the part.
-#[derive(Clone, Copy, Debug, PartialEq, Eq)]
+#[derive(Clone, Copy, PartialEq, Eq)]
 pub enum Place {
     /// In a static slot. Static slots run together on both channels.
     Static { slot: SlotId, offset: u32 },

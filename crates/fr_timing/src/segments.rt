@@ -7,7 +7,7 @@ ghost use Rattle.fr_timing.specs.Segments.{dynamic_start, symbol_start, idle_sta
 use fr_slots::params::Params;
 
 /// Where the segments of a cycle start, in macroticks from its start (chapter 5). The static segment starts at 0.
-#[derive(Clone, Copy, Debug, PartialEq, Eq)]
+#[derive(Clone, Copy, PartialEq, Eq)]
 pub struct Segments {
     /// Where the dynamic segment starts, and the static one ends.
     pub dynamic: u32,
