@@ -5,7 +5,7 @@ ghost use Rattle.fr_bench.specs.declared.failure.Failure.TheVariants as failure;
 
 use fr_commands::error::BenchError;
 use fr_orders::command::OrderError;
-use fr_outcome::error::OutcomeError;
+use fr_threads::outcome_error::OutcomeError;
 use fr_trace::error::TraceError;
 use thiserror::Error;
 

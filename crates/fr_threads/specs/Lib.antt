@@ -1,1 +1,3 @@
+pub mod OutcomeText
+pub mod Outcomes
 pub mod Running

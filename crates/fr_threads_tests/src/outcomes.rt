@@ -1,6 +1,6 @@
 //! The outcome of a run, from the text of a cluster file and that of a scenario.
 
-use fr_outcome::outcome::run_text;
+use fr_threads::outcome::run_text;
 use std::test::Fail;
 
 /// A cluster of two static slots, whose one node owns the first.

@@ -1,10 +1,10 @@
 //! Why the outcome of a run isn't printed.
 ghost use Rattle.std.specs.Prelude.{◌≡◌};
-ghost use Rattle.fr_outcome.specs.declared.error.OutcomeError.TheVariants as refusal;
+ghost use Rattle.fr_threads.specs.declared.outcome_error.OutcomeError.TheVariants as refusal;
 
 use fr_commands::error::BenchError;
 use fr_scenario::error::ScenarioError;
-use fr_threads::error::RunError;
+use crate::error::RunError;
 use thiserror::Error;
 
 /// Why `run` hasn't printed the outcome of a run (own profile). Printed, it is the error's name, and for an error of a

@@ -1,9 +1,9 @@
 //! `fr_bench run`.
 ghost use Rattle.std.specs.Prelude.{IfSome, OnOk, ◌≡◌, ◌⊎◌};
-ghost use Rattle.fr_outcome.specs.Outcomes.{IsScenarioIn, IsScenarioOf, Prints, Answers, IsFileRefused, IsFileRun};
+ghost use Rattle.fr_threads.specs.Outcomes.{IsScenarioIn, IsScenarioOf, Prints, Answers, IsFileRefused, IsFileRun};
 
-use crate::error::OutcomeError;
-use crate::text::write_outcome;
+use crate::outcome_error::OutcomeError;
+use crate::outcome_text::write_outcome;
 use fr_commands::cluster_file::cluster_of;
 use fr_commands::error::BenchError;
 use fr_commands::input::read_up_to;
@@ -12,7 +12,7 @@ use fr_desks::gate::OpenGate;
 use fr_scenario::error::ScenarioError;
 use fr_scenario::scenario::Scenario;
 use fr_schedule::cluster::Cluster;
-use fr_threads::run::run_threads;
+use crate::run::run_threads;
 use std::alloc::Global;
 use std::io::{Read, Write};
 use std::str;

@@ -4,10 +4,10 @@ use Rattle.std.proofs.Common.{◌≡◌, ◌⊎◌, ℕ, List, Option, Some, Non
 use Rattle.std.specs.Prelude.{IfSome}
 use Rattle.std.specs.Io.KnownBytes.{Appends}
 use Rattle.std.specs.Str.{IsUtf8}
-use Rattle.fr_outcome.specs.declared.error.OutcomeError.{OutcomeError}
-use Rattle.fr_outcome.specs.declared.error.OutcomeError.TheVariants as refusal
-use Rattle.fr_outcome.specs.Outcomes.{IsRefused, IsShort, IsScenarioIn, IsScenarioOf, Adds, RunIsRefused}
-use Rattle.fr_outcome.specs.OutcomeText.{outcome_text}
+use Rattle.fr_threads.specs.declared.outcome_error.OutcomeError.{OutcomeError}
+use Rattle.fr_threads.specs.declared.outcome_error.OutcomeError.TheVariants as refusal
+use Rattle.fr_threads.specs.Outcomes.{IsRefused, IsShort, IsScenarioIn, IsScenarioOf, Adds, RunIsRefused}
+use Rattle.fr_threads.specs.OutcomeText.{outcome_text}
 use Rattle.fr_runs.specs.declared.check.RunRefusal.{RunRefusal}
 use Rattle.fr_runs.specs.Refusing.{Refuses}
 use Rattle.fr_scenario.specs.Contents.{Contents}

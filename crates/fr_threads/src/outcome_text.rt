@@ -1,7 +1,7 @@
 //! The text of the outcome of a run.
 ghost use Rattle.std.specs.Prelude.{OnOk};
 ghost use Rattle.std.specs.Io.KnownBytes.{Appends};
-ghost use Rattle.fr_outcome.specs.OutcomeText.{node_text, nodes_text, settled_text, outcome_text};
+ghost use Rattle.fr_threads.specs.OutcomeText.{node_text, nodes_text, settled_text, outcome_text};
 
 use fr_interface::interface::Interface;
 use fr_trace::report::write_report;

@@ -5,9 +5,9 @@ use Rattle.std.specs.Str.{IsUtf8}
 use Rattle.fr_commands.specs.ClusterFiles.{IsClusterOf}
 use Rattle.fr_commands.specs.declared.error.BenchError.{BenchError}
 use Rattle.fr_commands.specs.declared.error.BenchError.TheVariants as bench
-use Rattle.fr_outcome.specs.declared.error.OutcomeError.{OutcomeError}
-use Rattle.fr_outcome.specs.declared.error.OutcomeError.TheVariants as refusal
-use Rattle.fr_outcome.specs.OutcomeText.{outcome_text}
+use Rattle.fr_threads.specs.declared.outcome_error.OutcomeError.{OutcomeError}
+use Rattle.fr_threads.specs.declared.outcome_error.OutcomeError.TheVariants as refusal
+use Rattle.fr_threads.specs.OutcomeText.{outcome_text}
 use Rattle.fr_runs.specs.declared.check.RunRefusal.{RunRefusal}
 use Rattle.fr_runs.specs.Refusing.{Refuses}
 use Rattle.fr_scenario.specs.Contents.{Contents}

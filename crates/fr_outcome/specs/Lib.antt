@@ -1,2 +1,0 @@
-pub mod OutcomeText
-pub mod Outcomes
