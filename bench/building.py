@@ -1,0 +1,29 @@
+"""Builds a small program that stands on crates of the repository, for the scripts that measure by one."""
+import shutil
+import subprocess
+import sys
+import tempfile
+from pathlib import Path
+
+TOP = Path(__file__).resolve().parent.parent
+
+
+def build(name, source, libraries, program):
+    """Proves and builds the program as a crate of this name in a copy of the repository, and puts it where `program` says.
+
+    `libraries` are the crates, and the kit's libraries, that the source names. What checks of the same crates kept on
+    this machine isn't proved again.
+    """
+    with tempfile.TemporaryDirectory() as folder:
+        copy = Path(folder)
+        shutil.copytree(TOP / "crates", copy / "crates", ignore=shutil.ignore_patterns("out", "must-fail"))
+        shutil.copy2(TOP / "HANDLES", copy)
+        listed = (TOP / "crates.txt").read_text()
+        (copy / "crates.txt").write_text(f"{listed.rstrip()}\n{name}: {' '.join(libraries)}\n")
+        crate = copy / "crates" / name
+        (crate / "src").mkdir(parents=True)
+        (crate / "src" / "main.rt").write_text(source.lstrip())
+        made = subprocess.run(["rt", "run"], cwd=crate, stdout=subprocess.DEVNULL, stderr=subprocess.PIPE, text=True)
+        if not (crate / "out" / name).exists():
+            sys.exit(made.stderr[-4000:])
+        shutil.copy2(crate / "out" / name, program)
