@@ -14,10 +14,10 @@ pub enum StepError {
     #[error("WrongTurn")]
     WrongTurn,
     /// The interface refuses the call of a task.
-    #[error("Host: {0}")]
+    #[error("Host {0}")]
     Host(HostError),
     /// The interface refuses the call of its controller.
-    #[error("Slot: {0}")]
+    #[error("Slot {0}")]
     Slot(SlotError),
     /// The bus refuses the call.
     #[error("Bus {0}")]

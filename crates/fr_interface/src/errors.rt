@@ -7,7 +7,7 @@ use thiserror::Error;
 #[derive(Clone, Copy, Debug, PartialEq, Eq, Error)]
 pub enum InterfaceError {
     /// There is no memory for its journal.
-    #[error("no memory for the journal")]
+    #[error("Memory")]
     Memory,
 }
 
@@ -15,25 +15,25 @@ pub enum InterfaceError {
 #[derive(Clone, Copy, Debug, PartialEq, Eq, Error)]
 pub enum HostError {
     /// The plan doesn't have the task.
-    #[error("the plan doesn't have the task")]
+    #[error("UnknownTask")]
     UnknownTask,
     /// The plan doesn't have the buffer.
-    #[error("the plan doesn't have the buffer")]
+    #[error("UnknownBuffer")]
     UnknownBuffer,
     /// The buffer receives.
-    #[error("the buffer receives")]
+    #[error("NotTransmit")]
     NotTransmit,
     /// The payload hasn't the length of the buffer.
-    #[error("the payload hasn't the buffer's length")]
+    #[error("WrongLength")]
     WrongLength,
     /// The journal has no room for a further host entry.
-    #[error("the journal has no room for a further host entry")]
+    #[error("HostFull")]
     HostFull,
     /// The buffer transmits.
-    #[error("the buffer transmits")]
+    #[error("NotReceive")]
     NotReceive,
     /// The plan has no receive queue.
-    #[error("the plan has no receive queue")]
+    #[error("NoQueue")]
     NoQueue,
 }
 
@@ -41,22 +41,22 @@ pub enum HostError {
 #[derive(Clone, Copy, Debug, PartialEq, Eq, Error)]
 pub enum SlotError {
     /// The window that was fetched last isn't observed.
-    #[error("the window that was fetched last isn't observed")]
+    #[error("NotObserved")]
     NotObserved,
     /// The window's number isn't above that of the window before.
-    #[error("the window's number isn't above that of the window before")]
+    #[error("WindowOrder")]
     WindowOrder,
     /// The journal has room for fewer than two further slot entries.
-    #[error("the journal has room for fewer than two further slot entries")]
+    #[error("SlotFull")]
     SlotFull,
     /// No window is open.
-    #[error("no window is open")]
+    #[error("NotFetched")]
     NotFetched,
     /// Another window is open.
-    #[error("another window is open")]
+    #[error("WrongWindow")]
     WrongWindow,
     /// The parameters have no such window.
-    #[error("the parameters have no such window")]
+    #[error("BadWindow")]
     BadWindow,
 }
 

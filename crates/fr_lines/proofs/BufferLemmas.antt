@@ -24,17 +24,9 @@ use Rattle.fr_text.proofs.LineLemmas.{cons_same, line_of-words_of, words_of-line
 use Rattle.fr_text.proofs.LineLemmas.{length-line_of-le}
 use Rattle.fr_text.specs.Plain.{ArePlain, has_no_feed}
 use Rattle.fr_text.specs.Spaces.{words_of, line_of}
-use Rattle.fr_text.specs.Words.{ended}
 
 abbrev buffer : Mode → Filter → Option ℕ → Bool → Buffer
 buffer m f w p = record { mode = m; filter = f; words = w; preamble = p }
-
--- a line with a word too many
-pub transmit_more : (mode slot channels base repetition size preamble : List ℕ) (left : List (List ℕ)) → ended left ≡ None
-    → transmit_in (mode ∷ slot ∷ channels ∷ base ∷ repetition ∷ size ∷ preamble ∷ left) ≡ None
-unfolding transmit_in
-transmit_more mode slot channels base repetition size preamble [] more = absurd (cc more)
-transmit_more mode slot channels base repetition size preamble (word ∷ words) more = refl
 
 -- ---- what is read is spelled so
 

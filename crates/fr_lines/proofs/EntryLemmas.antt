@@ -30,14 +30,6 @@ use Rattle.fr_text.specs.Plain.{ArePlain, has_no_feed}
 use Rattle.fr_text.specs.Reading.{number_in}
 use Rattle.fr_text.specs.Spaces.{words_of, line_of}
 use Rattle.fr_text.specs.Spelling.{hex_text}
-use Rattle.fr_text.specs.Words.{ended}
-
--- a line with a word too many
-pub fetch_more : (number cycle minislot slot_a slot_b offer_a offer_b : List ℕ) (left : List (List ℕ)) → ended left ≡ None
-    → fetch_in (number ∷ cycle ∷ minislot ∷ slot_a ∷ slot_b ∷ offer_a ∷ offer_b ∷ left) ≡ None
-unfolding fetch_in
-fetch_more number cycle minislot slot_a slot_b offer_a offer_b [] more = absurd (cc more)
-fetch_more number cycle minislot slot_a slot_b offer_a offer_b (word ∷ words) more = refl
 
 -- ---- what is read is spelled so
 

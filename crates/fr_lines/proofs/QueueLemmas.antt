@@ -23,14 +23,6 @@ use Rattle.fr_text.proofs.NumberLemmas.{number_takes, number_again}
 use Rattle.fr_text.specs.Plain.{ArePlain, has_no_feed}
 use Rattle.fr_text.specs.Reading.{number_in}
 use Rattle.fr_text.specs.Spaces.{words_of, line_of}
-use Rattle.fr_text.specs.Words.{ended}
-
--- a line with a word too many
-pub reception_more : (capacity first last channels base repetition : List ℕ) (left : List (List ℕ)) → ended left ≡ None
-    → reception_in (capacity ∷ first ∷ last ∷ channels ∷ base ∷ repetition ∷ left) ≡ None
-unfolding reception_in
-reception_more capacity first last channels base repetition [] more = absurd (cc more)
-reception_more capacity first last channels base repetition (word ∷ words) more = refl
 
 -- ---- what is read is spelled so
 

@@ -15,14 +15,8 @@ use fr_text::words::Words;
 pub(crate) fn transmit_of(words: &mut Words<'_>) -> Option<Buffer>
     ensures { result ≡ transmit_in words.old }
 {
-    let mode = words.next_word()?;
-    let slot = words.next_word()?;
-    let channels = words.next_word()?;
-    let base = words.next_word()?;
-    let repetition = words.next_word()?;
-    let size = words.next_word()?;
-    let preamble = words.next_word()?;
-    words.end()?;
+    let (mode, slot, channels, base) = words.next_four()?;
+    let (repetition, size, preamble) = words.three()?;
     let mode = mode_of(mode)?;
     let filter = filter_of(slot, channels, base, repetition)?;
     let words = size_of(size)?;
@@ -40,11 +34,7 @@ pub(crate) fn transmit_of(words: &mut Words<'_>) -> Option<Buffer>
 pub(crate) fn receive_of(words: &mut Words<'_>) -> Option<Buffer>
     ensures { result ≡ receive_in words.old }
 {
-    let slot = words.next_word()?;
-    let channels = words.next_word()?;
-    let base = words.next_word()?;
-    let repetition = words.next_word()?;
-    words.end()?;
+    let (slot, channels, base, repetition) = words.four()?;
     let filter = filter_of(slot, channels, base, repetition)?;
     Some(Buffer {
         mode: Mode::Receive,

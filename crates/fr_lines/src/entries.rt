@@ -24,10 +24,7 @@ use fr_text::words::Words;
 fn commit_of(words: &mut Words<'_>, bytes: &mut EntryBytes) -> Option<BareEntry>
     ensures { option_map (with_bytes bytes.new) result ≡ commit_in words.old }
 {
-    let task = words.next_word()?;
-    let buffer = words.next_word()?;
-    let payload = words.next_word()?;
-    words.end()?;
+    let (task, buffer, payload) = words.three()?;
     let task = task_of(task)?;
     let buffer = number_of(buffer, 64)?;
     if !payload_into(payload, &mut bytes.payload) {
@@ -44,10 +41,7 @@ fn commit_of(words: &mut Words<'_>, bytes: &mut EntryBytes) -> Option<BareEntry>
 fn told_withdraw_of(words: &mut Words<'_>) -> Option<BareEntry>
     ensures { (bytes : EntryBytes) → option_map (with_bytes bytes) result ≡ told_withdraw_in words.old }
 {
-    let task = words.next_word()?;
-    let buffer = words.next_word()?;
-    let of = words.next_word()?;
-    words.end()?;
+    let (task, buffer, of) = words.three()?;
     let task = task_of(task)?;
     let buffer = number_of(buffer, 64)?;
     let of = taken_back_of(of)?;
@@ -74,10 +68,7 @@ fn withdraw_of(version: Version, words: &mut Words<'_>) -> Option<BareEntry>
 fn read_of(words: &mut Words<'_>) -> Option<BareEntry>
     ensures { (bytes : EntryBytes) → option_map (with_bytes bytes) result ≡ read_in words.old }
 {
-    let task = words.next_word()?;
-    let buffer = words.next_word()?;
-    let from = words.next_word()?;
-    words.end()?;
+    let (task, buffer, from) = words.three()?;
     let task = task_of(task)?;
     let buffer = number_of(buffer, 64)?;
     let from = from_of(from)?;
@@ -93,9 +84,7 @@ fn read_of(words: &mut Words<'_>) -> Option<BareEntry>
 fn pop_of(words: &mut Words<'_>) -> Option<BareEntry>
     ensures { (bytes : EntryBytes) → option_map (with_bytes bytes) result ≡ pop_in words.old }
 {
-    let task = words.next_word()?;
-    let from = words.next_word()?;
-    words.end()?;
+    let (task, from) = words.two()?;
     let task = task_of(task)?;
     let from = from_of(from)?;
     Some(BareEntry::Pop { task, from })
@@ -106,14 +95,8 @@ fn pop_of(words: &mut Words<'_>) -> Option<BareEntry>
 fn fetch_of(words: &mut Words<'_>) -> Option<BareEntry>
     ensures { (bytes : EntryBytes) → option_map (with_bytes bytes) result ≡ fetch_in words.old }
 {
-    let number = words.next_word()?;
-    let cycle = words.next_word()?;
-    let minislot = words.next_word()?;
-    let slot_a = words.next_word()?;
-    let slot_b = words.next_word()?;
-    let offer_a = words.next_word()?;
-    let offer_b = words.next_word()?;
-    words.end()?;
+    let (number, cycle, minislot, slot_a) = words.next_four()?;
+    let (slot_b, offer_a, offer_b) = words.three()?;
     let window = window_of(number, cycle, minislot, slot_a, slot_b)?;
     let a = offered_of(offer_a)?;
     let b = offered_of(offer_b)?;
@@ -125,10 +108,7 @@ fn fetch_of(words: &mut Words<'_>) -> Option<BareEntry>
 fn observe_of(words: &mut Words<'_>, bytes: &mut EntryBytes) -> Option<BareEntry>
     ensures { option_map (with_bytes bytes.new) result ≡ observe_in words.old }
 {
-    let window = words.next_word()?;
-    let seen_a = words.next_word()?;
-    let seen_b = words.next_word()?;
-    words.end()?;
+    let (window, seen_a, seen_b) = words.three()?;
     let window = number_of(window, 1 << 32)?;
     if !seen_into(seen_a, &mut bytes.a) || !seen_into(seen_b, &mut bytes.b) {
         return None;

@@ -15,12 +15,7 @@ use fr_text::words::Words;
 fn limits_of(words: &mut Words<'_>) -> Option<NodePlan>
     ensures { result ≡ limits_in words.old }
 {
-    let tasks = words.next_word()?;
-    let latest_a = words.next_word()?;
-    let latest_b = words.next_word()?;
-    let host_entries = words.next_word()?;
-    let slot_entries = words.next_word()?;
-    words.end()?;
+    let (tasks, latest_a, latest_b, host_entries, slot_entries) = words.five()?;
     let tasks = number_of(tasks, 9)?;
     let latest_a = number_of(latest_a, 8001)?;
     let latest_b = number_of(latest_b, 8001)?;

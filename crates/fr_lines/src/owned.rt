@@ -25,9 +25,7 @@ fn fitting(own: Own) -> Option<Own>
 fn last_cycles_of(words: &mut Words<'_>) -> Option<CycleFilter>
     ensures { result ≡ last_cycles_in words.old }
 {
-    let base = words.next_word()?;
-    let repetition = words.next_word()?;
-    words.end()?;
+    let (base, repetition) = words.two()?;
     cycles_of(base, repetition)
 }
 
@@ -48,10 +46,7 @@ fn own_cycles_of(version: Version, words: &mut Words<'_>) -> Option<CycleFilter>
 pub(crate) fn ownership_of(version: Version, words: &mut Words<'_>) -> Option<Own>
     ensures { result ≡ ownership_in version words.old }
 {
-    let slot = words.next_word()?;
-    let channels = words.next_word()?;
-    let sync = words.next_word()?;
-    let startup = words.next_word()?;
+    let (slot, channels, sync, startup) = words.next_four()?;
     let slot = slot_of(slot)?;
     let channels = channels_of(channels)?;
     let sync = flag_of(sync)?;

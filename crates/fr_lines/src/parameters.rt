@@ -22,11 +22,7 @@ fn parameter_of(word: &[u8]) -> Option<i64>
 fn five_of(words: &mut Words<'_>) -> Option<(i64, i64, i64, i64, i64)>
     ensures { option_map (λ numbers. (numbers, words.new)) result ≡ five_in words.old }
 {
-    let first = words.next_word()?;
-    let second = words.next_word()?;
-    let third = words.next_word()?;
-    let fourth = words.next_word()?;
-    let fifth = words.next_word()?;
+    let (first, second, third, fourth, fifth) = words.next_five()?;
     Some((
         parameter_of(first)?,
         parameter_of(second)?,

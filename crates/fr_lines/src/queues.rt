@@ -27,13 +27,8 @@ fn fitting(queue: Queue) -> Option<Queue>
 pub(crate) fn reception_of(words: &mut Words<'_>) -> Option<Queue>
     ensures { result ≡ reception_in words.old }
 {
-    let capacity = words.next_word()?;
-    let first = words.next_word()?;
-    let last = words.next_word()?;
-    let channels = words.next_word()?;
-    let base = words.next_word()?;
-    let repetition = words.next_word()?;
-    words.end()?;
+    let (capacity, first, last, channels) = words.next_four()?;
+    let (base, repetition) = words.two()?;
     let capacity = number_of(capacity, 257)? as u16;
     let first = slot_of(first)?;
     let last = slot_of(last)?;

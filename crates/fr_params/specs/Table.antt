@@ -1,6 +1,6 @@
 -- What a table says of the parameters: the first key at fault in the order of the keys, then the sum, or the parameters
 -- (own profile).
-use Rattle.std.specs.Prelude.{ℕ, ◌==◌, ℤ, pos, List, [], ◌∷◌, Option, Some, None, Result, Ok, Err, if◌then◌else◌}
+use Rattle.std.specs.Prelude.{ℕ, ◌==◌, ℤ, Option, Some, None, Result, Ok, Err, if◌then◌else◌}
 use Rattle.toml.specs.Data.{Data, Members, get_member, as_integer}
 use Rattle.fr_slots.specs.declared.params.Key.{Key}
 use Rattle.fr_slots.specs.declared.params.Key.TheVariants.{StaticSlots, Minislots, StaticWords, StaticMt, MinislotMt}
@@ -48,10 +48,6 @@ last_five table = do
   idle ← number_at Idle table
   words_per_minislot ← number_at WordsPerMinislot table
   Ok (symbol_mt, nit_mt, cycle_mt, idle, words_per_minislot)
-
--- the ten numbers in the order of the keys
-abbrev pub numbers_of : Five → Five → List ℤ
-numbers_of a b = pos a.0 ∷ pos a.1 ∷ pos a.2 ∷ pos a.3 ∷ pos a.4 ∷ pos b.0 ∷ pos b.1 ∷ pos b.2 ∷ pos b.3 ∷ pos b.4 ∷ []
 
 -- the parameters, where their parts fill the cycle
 abbrev pub summed : Parameters → Result Parameters ParamError

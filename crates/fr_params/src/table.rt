@@ -2,12 +2,12 @@
 
 ghost use Rattle.std.specs.Prelude.{◌≡◌, option_map, IfOk};
 ghost use Rattle.fr_slots.specs.Parameters.{name_of, admits, IsWithin, AreFirst, AreLast, assembled};
-ghost use Rattle.fr_params.specs.Table.{number_at, first_five, last_five, numbers_of, summed, parameters_in};
+ghost use Rattle.fr_params.specs.Table.{number_at, first_five, last_five, summed, parameters_in};
 ghost use Rattle.toml.specs.Data.{get_member};
 ghost use Rattle.toml.specs.View.{view, table_view};
 
 use crate::error::ParamError;
-use fr_slots::params::{Key, Params};
+use fr_slots::params::{Five, Key, Params};
 use toml::{Table, Value};
 
 /// The parameters of a table (own profile). Keys that aren't parameters are ignored.
@@ -25,40 +25,17 @@ pub fn from_table(table: &Table) -> Result<Params, ParamError>
     params_of(first, last)
 }
 
-/// Numbers, each in its range, under the first or the last five keys.
-type Five = (u16, u16, u16, u16, u16);
-
-/// The parameters of numbers that their keys admit, in the order of `Key`.
+/// The parameters of numbers that their keys admit.
 fn params_of(first: Five, last: Five) -> Result<Params, ParamError>
     requires first_within { AreFirst first }
     requires last_within { AreLast last }
     ensures { result ≡ summed (assembled first last) }
 {
-    // Each number is in its range, so that only the sum can be refused.
-    match Params::new(numbers_of(first, last)) {
+    // Each number is in its range, so that only the sum is refused.
+    match Params::assemble(first, last) {
         Ok(params) => Ok(params),
         Err(_) => Err(ParamError::CycleSum),
     }
-}
-
-/// The ten numbers in the order of `Key`.
-fn numbers_of(first: Five, last: Five) -> [i64; 10]
-    ensures { result ≡ numbers_of first last }
-{
-    let (static_slots, minislots, static_words, static_mt, minislot_mt) = first;
-    let (symbol_mt, nit_mt, cycle_mt, idle, words_per_minislot) = last;
-    [
-        i64::from(static_slots),
-        i64::from(minislots),
-        i64::from(static_words),
-        i64::from(static_mt),
-        i64::from(minislot_mt),
-        i64::from(symbol_mt),
-        i64::from(nit_mt),
-        i64::from(cycle_mt),
-        i64::from(idle),
-        i64::from(words_per_minislot),
-    ]
 }
 
 /// The numbers under the first five keys.

@@ -38,12 +38,7 @@ fn host_line(node: NodeId, task: TaskId, cycle: u16, action: Action) -> SpelledL
 fn commit_of(words: &mut Words<'_>) -> Option<SpelledLine>
     ensures { result ≡ commit_in words.old }
 {
-    let node = words.next_word()?;
-    let task = words.next_word()?;
-    let cycle = words.next_word()?;
-    let buffer = words.next_word()?;
-    let payload = words.next_word()?;
-    words.end()?;
+    let (node, task, cycle, buffer, payload) = words.five()?;
     let node = node_of(node)?;
     let task = task_of(task)?;
     let cycle = run_cycle_of(cycle)?;
@@ -60,11 +55,7 @@ fn withdraw_of(version: Version, words: &mut Words<'_>) -> Option<SpelledLine>
     if version == Version::One {
         return None;
     }
-    let node = words.next_word()?;
-    let task = words.next_word()?;
-    let cycle = words.next_word()?;
-    let buffer = words.next_word()?;
-    words.end()?;
+    let (node, task, cycle, buffer) = words.four()?;
     let node = node_of(node)?;
     let task = task_of(task)?;
     let cycle = run_cycle_of(cycle)?;
@@ -77,11 +68,7 @@ fn withdraw_of(version: Version, words: &mut Words<'_>) -> Option<SpelledLine>
 fn read_of(words: &mut Words<'_>) -> Option<SpelledLine>
     ensures { result ≡ read_in words.old }
 {
-    let node = words.next_word()?;
-    let task = words.next_word()?;
-    let cycle = words.next_word()?;
-    let buffer = words.next_word()?;
-    words.end()?;
+    let (node, task, cycle, buffer) = words.four()?;
     let node = node_of(node)?;
     let task = task_of(task)?;
     let cycle = run_cycle_of(cycle)?;
@@ -94,10 +81,7 @@ fn read_of(words: &mut Words<'_>) -> Option<SpelledLine>
 fn pop_of(words: &mut Words<'_>) -> Option<SpelledLine>
     ensures { result ≡ pop_in words.old }
 {
-    let node = words.next_word()?;
-    let task = words.next_word()?;
-    let cycle = words.next_word()?;
-    words.end()?;
+    let (node, task, cycle) = words.three()?;
     let node = node_of(node)?;
     let task = task_of(task)?;
     let cycle = run_cycle_of(cycle)?;
@@ -109,12 +93,7 @@ fn pop_of(words: &mut Words<'_>) -> Option<SpelledLine>
 fn babble_of(words: &mut Words<'_>) -> Option<SpelledLine>
     ensures { result ≡ babble_in words.old }
 {
-    let node = words.next_word()?;
-    let channel = words.next_word()?;
-    let cycles = words.next_word()?;
-    let place = words.next_word()?;
-    let bytes = words.next_word()?;
-    words.end()?;
+    let (node, channel, cycles, place, bytes) = words.five()?;
     let node = node_of(node)?;
     let channel = channel_of(channel)?;
     let cycles = cycles_of(cycles)?;
@@ -136,11 +115,7 @@ fn babble_of(words: &mut Words<'_>) -> Option<SpelledLine>
 fn mute_of(words: &mut Words<'_>) -> Option<SpelledLine>
     ensures { result ≡ mute_in words.old }
 {
-    let node = words.next_word()?;
-    let channel = words.next_word()?;
-    let cycles = words.next_word()?;
-    let place = words.next_word()?;
-    words.end()?;
+    let (node, channel, cycles, place) = words.four()?;
     let node = node_of(node)?;
     let channel = channel_of(channel)?;
     let cycles = cycles_of(cycles)?;
@@ -157,11 +132,7 @@ fn mute_of(words: &mut Words<'_>) -> Option<SpelledLine>
 fn corrupt_of(words: &mut Words<'_>) -> Option<SpelledLine>
     ensures { result ≡ corrupt_in words.old }
 {
-    let channel = words.next_word()?;
-    let cycles = words.next_word()?;
-    let place = words.next_word()?;
-    let bit = words.next_word()?;
-    words.end()?;
+    let (channel, cycles, place, bit) = words.four()?;
     let channel = channel_of(channel)?;
     let cycles = cycles_of(cycles)?;
     let place = place_of(place)?;

@@ -150,6 +150,9 @@ impl Model for Params {
     ghost inverse = { fields_of };
 }
 
+/// The numbers of five keys: of the first five, or of the last five, in the order of `Key`.
+pub type Five = (u16, u16, u16, u16, u16);
+
 /// The number under the key, where the key admits it.
 #[tactic(auto, unfolding(crate::specs::Parameters::number_at))]
 fn number_at(key: Key, number: i64) -> Result<u16, RangeError>
@@ -165,7 +168,7 @@ fn number_at(key: Key, number: i64) -> Result<u16, RangeError>
 
 /// The numbers under the first five keys.
 #[tactic(auto, unfolding(crate::specs::Parameters::first_five))]
-fn first_five(numbers: &[i64; 10]) -> Result<(u16, u16, u16, u16, u16), RangeError>
+fn first_five(numbers: &[i64; 10]) -> Result<Five, RangeError>
     ensures value { result ≡ first_five numbers.now }
     ensures within { IfOk result AreFirst }
 {
@@ -185,7 +188,7 @@ fn first_five(numbers: &[i64; 10]) -> Result<(u16, u16, u16, u16, u16), RangeErr
 
 /// The numbers under the last five keys.
 #[tactic(auto, unfolding(crate::specs::Parameters::last_five))]
-fn last_five(numbers: &[i64; 10]) -> Result<(u16, u16, u16, u16, u16), RangeError>
+fn last_five(numbers: &[i64; 10]) -> Result<Five, RangeError>
     ensures value { result ≡ last_five numbers.now }
     ensures within { IfOk result AreLast }
 {
@@ -199,19 +202,32 @@ fn last_five(numbers: &[i64; 10]) -> Result<(u16, u16, u16, u16, u16), RangeErro
 
 impl Params {
     ghost use Rattle.fr_slots.specs.Parameters.{Parameters, parameters_of, IsParameters, is_static_slot};
+    ghost use Rattle.fr_slots.specs.Parameters.{AreFirst, AreLast, assembled, summed};
     ghost use Rattle.fr_slots.specs.Windows.{window_fits, static_slot_fits, dynamic_slot_fits};
 
     /// The parameters that these numbers are, in the order of `Key`.
     ///
-    /// Refused with `OutOfRange` and the first key whose number is out of range, and then with
-    /// `CycleSum` where `static_slots * static_mt + minislots * minislot_mt + symbol_mt + nit_mt`
-    /// isn't `cycle_mt` (own profile).
+    /// Refused with `OutOfRange` and the first key whose number is out of range, and then as by `assemble`.
     #[tactic(auto, unfolding(crate::specs::Parameters::parameters_of))]
     pub fn new(numbers: [i64; 10]) -> Result<Params, RangeError>
         ensures { result ≡ parameters_of numbers }
     {
-        let (static_slots, minislots, static_words, static_mt, minislot_mt) = first_five(&numbers)?;
-        let (symbol_mt, nit_mt, cycle_mt, idle, words_per_minislot) = last_five(&numbers)?;
+        let first = first_five(&numbers)?;
+        let last = last_five(&numbers)?;
+        Params::assemble(first, last)
+    }
+
+    /// The parameters that these numbers are, each of which is in its key's range.
+    ///
+    /// Refused with `CycleSum` where `static_slots * static_mt + minislots * minislot_mt + symbol_mt + nit_mt` isn't
+    /// `cycle_mt` (own profile).
+    pub fn assemble(first: Five, last: Five) -> Result<Params, RangeError>
+        requires first_within { AreFirst first }
+        requires last_within { AreLast last }
+        ensures { result ≡ summed (assembled first last) }
+    {
+        let (static_slots, minislots, static_words, static_mt, minislot_mt) = first;
+        let (symbol_mt, nit_mt, cycle_mt, idle, words_per_minislot) = last;
         let filled = u32::from(static_slots) * u32::from(static_mt)
             + u32::from(minislots) * u32::from(minislot_mt)
             + u32::from(symbol_mt)
@@ -231,15 +247,6 @@ impl Params {
             idle,
             words_per_minislot,
         })
-    }
-
-    /// A copy of the parameters.
-    pub fn duplicate(&self) -> Params
-        ensures value { result ≡ self.now }
-        ensures lawful { IsParameters self.now }
-    {
-        let _ = &self.static_slots;
-        *self
     }
 
     /// Whether the slot is a static one (chapter 5).

@@ -25,7 +25,7 @@ impl<'a> Model for Words<'a> {
 }
 
 impl<'a> Words<'a> {
-    ghost use Rattle.std.specs.Prelude.{◌≡◌, ◌∷◌, [], ◌++◌, option_to_list, option_copied, IfNone, IfSome};
+    ghost use Rattle.std.specs.Prelude.{◌≡◌, ◌≢◌, ◌<◌, ◌∷◌, [], ◌++◌, length, option_to_list, option_copied, IfNone, IfSome};
     ghost use Rattle.fr_text.specs.Spaces.{words_of};
     ghost use Rattle.fr_text.specs.Words.{ended};
 
@@ -58,6 +58,74 @@ impl<'a> Words<'a> {
                 Some(rest)
             }
         }
+    }
+
+    /// Takes the next four words, from left to right. `None` where fewer are left, which are taken then.
+    pub fn next_four(&mut self) -> Option<(&'a [u8], &'a [u8], &'a [u8], &'a [u8])>
+        ensures found { IfSome result (λ words.
+            self.old ≡ words.0.now ∷ words.1.now ∷ words.2.now ∷ words.3.now ∷ self.new) }
+        ensures fewer { IfNone result (length self.old < 4) }
+    {
+        let first = self.next_word()?;
+        let second = self.next_word()?;
+        let third = self.next_word()?;
+        let fourth = self.next_word()?;
+        Some((first, second, third, fourth))
+    }
+
+    /// Takes the next five words, from left to right. `None` where fewer are left, which are taken then.
+    pub fn next_five(&mut self) -> Option<(&'a [u8], &'a [u8], &'a [u8], &'a [u8], &'a [u8])>
+        ensures found { IfSome result (λ words.
+            self.old ≡ words.0.now ∷ words.1.now ∷ words.2.now ∷ words.3.now ∷ words.4.now ∷ self.new) }
+        ensures fewer { IfNone result (length self.old < 5) }
+    {
+        let (first, second, third, fourth) = self.next_four()?;
+        let fifth = self.next_word()?;
+        Some((first, second, third, fourth, fifth))
+    }
+
+    /// The two words that are left, from left to right. `None` where they are more or fewer.
+    pub fn two(&mut self) -> Option<(&'a [u8], &'a [u8])>
+        ensures found { IfSome result (λ words. self.old ≡ words.0.now ∷ words.1.now ∷ []) }
+        ensures other { IfNone result (length self.old ≢ 2) }
+    {
+        let first = self.next_word()?;
+        let second = self.next_word()?;
+        self.end()?;
+        Some((first, second))
+    }
+
+    /// The three words that are left, from left to right. `None` where they are more or fewer.
+    pub fn three(&mut self) -> Option<(&'a [u8], &'a [u8], &'a [u8])>
+        ensures found { IfSome result (λ words. self.old ≡ words.0.now ∷ words.1.now ∷ words.2.now ∷ []) }
+        ensures other { IfNone result (length self.old ≢ 3) }
+    {
+        let first = self.next_word()?;
+        let second = self.next_word()?;
+        let third = self.next_word()?;
+        self.end()?;
+        Some((first, second, third))
+    }
+
+    /// The four words that are left, from left to right. `None` where they are more or fewer.
+    pub fn four(&mut self) -> Option<(&'a [u8], &'a [u8], &'a [u8], &'a [u8])>
+        ensures found { IfSome result (λ words. self.old ≡ words.0.now ∷ words.1.now ∷ words.2.now ∷ words.3.now ∷ []) }
+        ensures other { IfNone result (length self.old ≢ 4) }
+    {
+        let words = self.next_four()?;
+        self.end()?;
+        Some(words)
+    }
+
+    /// The five words that are left, from left to right. `None` where they are more or fewer.
+    pub fn five(&mut self) -> Option<(&'a [u8], &'a [u8], &'a [u8], &'a [u8], &'a [u8])>
+        ensures found { IfSome result (λ words.
+            self.old ≡ words.0.now ∷ words.1.now ∷ words.2.now ∷ words.3.now ∷ words.4.now ∷ []) }
+        ensures other { IfNone result (length self.old ≢ 5) }
+    {
+        let words = self.next_five()?;
+        self.end()?;
+        Some(words)
     }
 
     /// Whether all words are taken: `None` comes where the line has one more.

@@ -27,10 +27,10 @@ pub enum RunError {
     #[error("NoRoom {0}")]
     NoRoom(NodeId),
     /// An interface refused the call of a task.
-    #[error("Host {0:?}")]
+    #[error("Host {0}")]
     Host(HostError),
     /// An interface refused the call of its controller.
-    #[error("Slot {0:?}")]
+    #[error("Slot {0}")]
     Slot(SlotError),
     /// The bus refused a call.
     #[error("Bus {0}")]
