@@ -119,7 +119,7 @@ impl Course {
         requires { cycles ≤ 1024 }
         ensures { result ≡ course_of params.now cycles [] }
     {
-        let params = *params;
+        let params = params.duplicate();
         Course {
             params,
             cycles,

@@ -16,4 +16,5 @@
 
 pub mod desk;
 pub mod gate;
+mod hint;
 pub mod wire;

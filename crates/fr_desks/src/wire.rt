@@ -6,6 +6,7 @@ ghost use Rattle.fr_bus.specs.States.{IsRun, OneSenderEach};
 ghost use Rattle.fr_desks.specs.declared.wire.WireError.TheVariants as refusal;
 
 use crate::gate::{Actor, Gate, Side, pass};
+use crate::hint::{Call, Hint, Stage};
 use fr_bus::bus::Bus;
 use fr_bus::error::{BusError, Phase};
 use fr_bus::fault::Fault;
@@ -22,14 +23,17 @@ use thiserror::Error;
 
 /// How often a call that isn't due looks again, and lets other threads run in between, before it sleeps. A window takes
 /// some ten microseconds, and to be woken takes as long.
-const LOOKS: u32 = 200;
+const LOOKS: u32 = 400;
 
-/// How long others may run in between, in microseconds, until the cores count as busy. The threads of a run itself need
+/// After how many looks the clock is asked how long they took.
+const LOOKS_A_TURN: u32 = 8;
+
+/// How long so many looks may take, in microseconds, until the cores count as busy. The threads of a run itself need
 /// less; another process that is let run may keep the core for milliseconds.
-const LONG_TURN: u128 = 300;
+const LONG_TURN: u128 = 2_400;
 
 /// How many calls that aren't due sleep at once after the cores were found busy.
-const SLEEPS: u32 = 4_096;
+const SLEEPS: u32 = 256;
 
 /// Why a call of a wire is refused (own profile).
 #[derive(Clone, Copy, Debug, PartialEq, Eq, Error)]
@@ -42,21 +46,6 @@ pub enum WireError {
     Stopped,
 }
 
-/// A call, by what it waits for.
-#[derive(Clone, Copy)]
-enum Call {
-    /// A look, a put or an inject: the open window collects.
-    Offer,
-    /// A seal: all have put.
-    Seal,
-    /// A take: the open window is sealed.
-    Take,
-    /// An advance: all have taken.
-    Advance,
-    /// A call of a node that the cluster doesn't have: nothing.
-    Stray,
-}
-
 /// What lies behind a wire's lock.
 #[derive(Drop)]
 struct Wired {
@@ -65,51 +54,46 @@ struct Wired {
 }
 
 impl Wired {
+    /// How far the open window has come.
+    fn stage(&self) -> Stage {
+        if self.stopped {
+            return Stage::Over;
+        }
+        match self.bus.phase() {
+            Phase::Collect if self.bus.all_put() => Stage::AllPut,
+            Phase::Collect => Stage::Collecting,
+            Phase::Sealed if self.bus.all_taken() => Stage::AllTaken,
+            Phase::Sealed => Stage::Sealed,
+            Phase::Finished => Stage::Over,
+        }
+    }
+
     /// Whether the call needn't wait. Nothing waits once the run is over or the wire was stopped.
     fn is_due(&self, call: Call) -> bool {
-        let phase = self.bus.phase();
-        if self.stopped || phase == Phase::Finished {
-            return true;
-        }
-        match call {
-            Call::Offer => phase == Phase::Collect,
-            Call::Seal => phase == Phase::Collect && self.bus.all_put(),
-            Call::Take => phase == Phase::Sealed,
-            Call::Advance => phase == Phase::Sealed && self.bus.all_taken(),
-            Call::Stray => true,
-        }
+        self.stage().admits(call)
     }
 }
 
 /// What some calls wait for.
 #[derive(Drop)]
 struct Signal {
-    /// How often it was given, up to a wrap.
-    given: AtomicU32,
     /// How many more calls sleep at once.
     hurried: AtomicU32,
     sleepers: Condvar,
 }
 
 impl Signal {
-    /// A signal that wasn't given yet.
+    /// A signal for which nobody waits yet.
     fn new() -> Signal {
         Signal {
-            given: AtomicU32::new(0),
             hurried: AtomicU32::new(0),
             sleepers: Condvar::new(),
         }
     }
 
-    /// Gives it, to those that look and to those that sleep.
+    /// Wakes all that sleep.
     fn give(&self) {
-        self.given.fetch_add(1, Ordering::Release);
         self.sleepers.notify_all();
-    }
-
-    /// How often it was given.
-    fn count(&self) -> u32 {
-        self.given.load(Ordering::Acquire)
     }
 
     /// Whether a call that isn't due sleeps at once.
@@ -121,22 +105,24 @@ impl Signal {
         left > 0
     }
 
-    /// Lets other threads run until it is given once more than so often, for a while, and not on busy cores.
-    fn look_out<R: Clock>(&self, rt: &R, before: u32) {
-        if self.is_hurried() {
+    /// Lets other threads run until the hint admits the call, for a while, and not on busy cores.
+    fn look_out<R: Clock>(&self, rt: &R, hint: &Hint, call: Call) {
+        if hint.admits(call) || self.is_hurried() {
             return;
         }
-        let mut now = microseconds(rt);
-        for _look in 0..LOOKS {
-            if self.count() != before {
+        let mut then = microseconds(rt);
+        for look in 1..=LOOKS {
+            thread::yield_now();
+            if hint.admits(call) {
                 return;
             }
-            thread::yield_now();
-            let then = now;
-            now = microseconds(rt);
-            if now.saturating_sub(then) > LONG_TURN {
-                self.hurried.store(SLEEPS, Ordering::Relaxed);
-                return;
+            if look % LOOKS_A_TURN == 0 {
+                let now = microseconds(rt);
+                if now.saturating_sub(then) > LONG_TURN {
+                    self.hurried.store(SLEEPS, Ordering::Relaxed);
+                    return;
+                }
+                then = now;
             }
         }
     }
@@ -164,6 +150,8 @@ pub struct Wire {
     for_nodes: Signal,
     /// All have put or taken, or the wire was stopped.
     for_bus: Signal,
+    /// How far the open window has come, for calls that look before they go for the lock.
+    hint: Hint,
 }
 
 impl Model for Wire {
@@ -185,6 +173,7 @@ impl Wire {
             }),
             for_nodes: Signal::new(),
             for_bus: Signal::new(),
+            hint: Hint::new(),
         }
     }
 
@@ -204,21 +193,6 @@ impl Wire {
         }
     }
 
-    /// The bus under its lock, if the call is due. Else how often the signal was given before it can be.
-    fn due<R: Wait>(
-        &self,
-        rt: &R,
-        signal: &Signal,
-        call: Call,
-    ) -> Result<MutexGuard<'_, Wired>, u32> {
-        let wired = self.lock.lock(rt);
-        if wired.is_due(call) {
-            Ok(wired)
-        } else {
-            Err(signal.count())
-        }
-    }
-
     /// The bus under its lock, once the call needn't wait.
     fn ready<R: Wait + Clock>(
         &self,
@@ -228,15 +202,10 @@ impl Wire {
     ) -> Result<MutexGuard<'_, Wired>, WireError>
         ensures { IfErr result (λ e. e ≡ refusal.Stopped) }
     {
-        let wired = match self.due(rt, signal, call) {
-            Ok(wired) => wired,
-            Err(before) => {
-                signal.look_out(rt, before);
-                signal
-                    .sleepers
-                    .wait_while(rt, self.lock.lock(rt), |wired| !wired.is_due(call))
-            }
-        };
+        signal.look_out(rt, &self.hint, call);
+        let wired = signal
+            .sleepers
+            .wait_while(rt, self.lock.lock(rt), |wired| !wired.is_due(call));
         if wired.stopped {
             Err(WireError::Stopped)
         } else {
@@ -273,6 +242,9 @@ impl Wire {
         let mut wired = self.ready(rt, &self.for_nodes, call)?;
         let answer = wired.bus.put(node, number, offer);
         let all = answer.is_ok() && wired.bus.all_put();
+        if all {
+            self.hint.tell(Stage::AllPut);
+        }
         drop(wired);
         if all {
             self.for_bus.give();
@@ -301,6 +273,7 @@ impl Wire {
     fn seal_all<R: Wait + Clock>(&self, rt: &R) -> Result<(), WireError> {
         let mut wired = self.ready(rt, &self.for_bus, Call::Seal)?;
         let answer = wired.bus.seal();
+        self.hint.tell(wired.stage());
         drop(wired);
         if answer.is_ok() {
             self.for_nodes.give();
@@ -319,6 +292,9 @@ impl Wire {
         let mut wired = self.ready(rt, &self.for_nodes, call)?;
         let answer = wired.bus.take(node, number);
         let all = answer.is_ok() && wired.bus.all_taken();
+        if all {
+            self.hint.tell(Stage::AllTaken);
+        }
         drop(wired);
         if all {
             self.for_bus.give();
@@ -331,6 +307,7 @@ impl Wire {
         let mut wired = self.ready(rt, &self.for_bus, Call::Advance)?;
         let answer = wired.bus.advance();
         let over = wired.bus.phase() == Phase::Finished;
+        self.hint.tell(wired.stage());
         drop(wired);
         if answer.is_ok() {
             self.for_nodes.give();
@@ -345,6 +322,7 @@ impl Wire {
     pub fn stop<R: Wait>(&self, rt: &R) {
         let mut wired = self.lock.lock(rt);
         wired.stopped = true;
+        self.hint.tell(Stage::Over);
         drop(wired);
         self.for_nodes.give();
         self.for_bus.give();

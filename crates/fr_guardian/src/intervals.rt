@@ -82,7 +82,7 @@ pub fn open_intervals(
     ensures { IfOk result
         (λ intervals. AreMaximalIntervals (IsOpenTo params.now guarded owned.now cycle channel) intervals.items) }
 {
-    let params = *params;
+    let params = params.duplicate();
     let static_mt = u32::from(params.static_mt);
     let slots = owned_slots(owned, cycle, channel);
     let mut intervals = Vec::new(alloc);

@@ -108,7 +108,7 @@ impl Interface {
         let receive = receive_buffers(alloc, plan.buffers())?;
         let queue = receive_queue(alloc, plan.queue())?;
         Ok(Interface {
-            params: *params,
+            params: params.duplicate(),
             plan: plan.duplicate(),
             journal,
             opening: Opening::NONE,

@@ -67,7 +67,7 @@ fn row_length(params: &Params, bytes: u16) -> u16
     ensures value { result ≡ row_length params.now bytes }
     ensures fits { result ≤ 300 }
 {
-    let params = *params;
+    let params = params.duplicate();
     if bytes == 0 {
         return 1;
     }
@@ -84,7 +84,7 @@ impl Lane {
     pub fn new(params: &Params) -> Lane
         ensures { result ≡ standing_after params.now [] }
     {
-        let params = *params;
+        let params = params.duplicate();
         Lane {
             params,
             slot: params.static_slots + 1,
