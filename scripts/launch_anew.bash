@@ -72,7 +72,7 @@ run_if_right() {
 
 # One build at a time: the programs stand on the same crates.
 take_turn() {
-    if ! { mkdir -p -- "$top/out" && exec {lock}>"$top/out/build.lock"; } then
+    if ! { mkdir -p -- "$top/out" && exec {lock}>"$top/out/build.lock"; } 2>/dev/null; then
         say 'not built: nothing can be written here'
         exit 1
     fi
