@@ -18,6 +18,7 @@ digest_of() {
 # What a file of digests says after a word: `kit`, `sources`, or the name of a program.
 recorded() {
     local word rest
+    [[ -f $1 ]] || return 1
     while read -r word rest; do
         if [[ $word == "$2" ]]; then
             printf '%s\n' "$rest"
