@@ -35,7 +35,7 @@ class NoRun(Exception):
 class Preloaded:
     """The program, and the library: what SOURCE puts in the place of functions of the C library."""
 
-    def __init__(self, program, source, folder, built_by="./fr_bench"):
+    def __init__(self, program, source, folder, built_by="scripts/build"):
         self.program, self.source, self.folder, self.built_by = program, source, Path(folder), built_by
         self.library = self.folder / "preloaded.so"
 
