@@ -3,7 +3,7 @@
 # The digest of all sources below a folder: of a line for each file, its digest and its name, in the order of names.
 digest_of_sources() {
     (
-        cd -- "$1" && set -o pipefail &&
+        CDPATH='' cd -- "$1" && set -o pipefail &&
             find crates.txt HANDLES crates/*/{src,specs,proofs} -type f -print0 | LC_ALL=C sort -z |
             xargs -0 sha256sum -- | digest_of -
     )
