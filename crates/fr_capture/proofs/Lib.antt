@@ -1,4 +1,5 @@
 pub mod MomentLemmas
+pub mod ReadLemmas
 pub mod RecordLemmas
 pub mod ShowLemmas
 pub mod StartLemmas

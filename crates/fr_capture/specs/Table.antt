@@ -1,6 +1,7 @@
 -- The table of the same bytes: the names of the columns, and a line for each sighting (own profile).
 use Rattle.std.specs.Prelude.{ℕ, List, [], ◌∷◌, ◌++◌, codes, Option, Some, None, Bool, not, option_map, if◌then◌else◌}
 use Rattle.std.specs.Fmt.{decimal}
+use Rattle.std.specs.Option.{option_or}
 use Rattle.fr_frame.specs.declared.decode.DecodeError.{DecodeError}
 use Rattle.fr_frame.specs.declared.decode.DecodeError.TheVariants.{TooShort, LengthMismatch, HeaderCrc, FrameCrc}
 use Rattle.fr_frame.specs.Fields.{Fields}
@@ -69,6 +70,12 @@ status_of p s = option_map (λ slot. judged p s.cycle slot (decoded s.channel s.
 abbrev pub first_words : List ℕ → Sighting → List (List ℕ)
 first_words status s =
     decimal s.time ∷ decimal s.cycle ∷ optional_number s.slot ∷ letter_of s.channel ∷ status ∷ []
+
+-- where it may be known which frame the bytes are
+abbrev pub line_knowing : Option Fields → List ℕ → Sighting → List ℕ
+line_knowing known status s =
+    words_joined (first_words status s) ++ (32 ∷ [])
+    ++ content_text (refusal s.channel s.bytes) (option_or known (decoded s.channel s.bytes)) s.bytes
 
 abbrev pub line_with : List ℕ → Sighting → List ℕ
 line_with status s =

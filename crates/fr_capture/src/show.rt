@@ -1,10 +1,11 @@
 //! A trace, read and shown.
 
 ghost use Rattle.std.specs.Prelude.{◌≡◌, ◌<◌, ◌≤◌, ◌^◌, ◌*◌, ◌⊎◌, [], IfErr, IfSome, IsSomeAnd, OnOk, option_map};
-ghost use Rattle.fr_status.specs.Status.{status_in};
+ghost use Rattle.fr_status.specs.Status.{frame_in, status_in};
 ghost use Rattle.fr_capture.specs.Table.{status_word};
 ghost use Rattle.std.specs.Io.KnownBytes.{Appends, Keeps};
 ghost use Rattle.std.specs.List.{flat_map};
+ghost use Rattle.std.specs.Option.{option_and_then};
 ghost use Rattle.fr_text.specs.Writing.{Writes};
 ghost use Rattle.fr_interface.specs.State.{State, IsLegalInterface};
 ghost use Rattle.fr_trace.specs.Audit.{IsNotRefused};
@@ -20,6 +21,7 @@ use crate::pcap::{write_file_header, write_record};
 use crate::sighting::SeenBytes;
 use crate::table::{status_word, write_head_line, write_line};
 use fr_frame::frame::Bytes;
+use fr_frame::lent::LentFrame;
 use fr_interface::interface::Interface;
 use fr_journal::entry::Entry;
 use fr_slots::channel::Channel;
@@ -49,22 +51,25 @@ fn write_heading<W: Write>(writer: &mut W, form: Form) -> io::Result<()>
     }
 }
 
-/// The word of the status of a slot in which this was seen; a channel without a slot has none.
-fn status_word_in(
+/// The word of the status of a slot in which this was seen, and the frame that came there, if a valid one did; a
+/// channel without a slot has neither.
+fn told_in<'a>(
     params: &Params,
     cycle: Cycle,
     slot: Option<SlotId>,
     channel: Channel,
-    seen: &Seen,
-) -> &'static str
-    ensures { result.now ≡ status_word (option_map (λ s. status_in params.now cycle s channel seen.now) slot) }
+    seen: &'a Seen,
+) -> (&'static str, Option<LentFrame<'a>>)
+    ensures word { result.0.now
+        ≡ status_word (option_map (λ s. status_in params.now cycle s channel seen.now) slot) }
+    ensures frame { result.1 ≡ option_and_then (λ s. frame_in params.now cycle s channel seen.now) slot }
 {
     match slot {
         Some(slot) => {
-            let (status, _) = lent_status_of(params, cycle, slot, channel, seen);
-            status_word(&status)
+            let (status, frame) = lent_status_of(params, cycle, slot, channel, seen);
+            (status_word(&status), frame)
         }
-        None => "-",
+        None => ("-", None),
     }
 }
 
@@ -111,8 +116,9 @@ fn write_seen<W: Write>(
         Form::Capture => write_record(writer, &sighting_of(params, moment, channel, bytes)),
         Form::Table => {
             let (cycle, slot) = (moment.window.cycle, moment.window.slot(channel));
-            let word = status_word_in(params, cycle, slot, channel, seen);
-            write_line(writer, &sighting_of(params, moment, channel, bytes), word)
+            let (word, frame) = told_in(params, cycle, slot, channel, seen);
+            let sighting = sighting_of(params, moment, channel, bytes);
+            write_line(writer, &sighting, word, &frame)
         }
     }
 }

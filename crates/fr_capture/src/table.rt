@@ -1,11 +1,12 @@
 //! The lines of a table.
 
 ghost use Rattle.std.specs.Prelude.{◌≡◌, ◌∷◌, ◌++◌, ◌≤◌, length};
+ghost use Rattle.std.specs.Option.{option_or};
 ghost use Rattle.fr_text.specs.Writing.{Writes};
 ghost use Rattle.fr_lines.specs.Parts.{optional_number};
 ghost use Rattle.fr_lines.specs.Spelling.{line_text};
 ghost use Rattle.fr_capture.specs.Table.{bytes_words, content_text, error_word, frame_words, head_line};
-ghost use Rattle.fr_capture.specs.Table.{indicators, line_with, mark, bit_word};
+ghost use Rattle.fr_capture.specs.Table.{indicators, line_knowing, mark, bit_word};
 ghost use Rattle.fr_frame.specs.Decoding.{decoded};
 ghost use Rattle.fr_frame.specs.Refusal.{refusal};
 
@@ -105,7 +106,7 @@ fn write_bytes<W: Write>(writer: &mut W, error: DecodeError, bytes: &[u8]) -> io
 
 /// Writes the end of a line: what a frame says, or why there is none.
 #[tactic(auto, unfolding(crate::specs::Table::content_text))]
-fn write_content<W: Write>(writer: &mut W, seen: &SeenBytes<'_>) -> io::Result<()>
+fn write_read<W: Write>(writer: &mut W, seen: &SeenBytes<'_>) -> io::Result<()>
     ensures { Writes W.contents writer.old writer.new result
         (content_text
         (refusal seen.now.channel seen.now.bytes)
@@ -118,16 +119,37 @@ fn write_content<W: Write>(writer: &mut W, seen: &SeenBytes<'_>) -> io::Result<(
     }
 }
 
-/// Writes the line of what was seen, with the word of the slot's status.
+/// The same, where the frame may be known.
+#[tactic(auto, unfolding(crate::specs::Table::content_text))]
+fn write_content<W: Write>(
+    writer: &mut W,
+    seen: &SeenBytes<'_>,
+    known: &Option<LentFrame<'_>>,
+) -> io::Result<()>
+    ensures { Writes W.contents writer.old writer.new result
+        (content_text
+        (refusal seen.now.channel seen.now.bytes)
+        (option_or known.now (decoded seen.now.channel seen.now.bytes))
+        seen.now.bytes) }
+{
+    match known {
+        Some(frame) => write_frame(writer, frame),
+        None => write_read(writer, seen),
+    }
+}
+
+/// Writes the line of what was seen, with the word of the slot's status. The bytes are read here only where it isn't
+/// known yet which frame they are.
 pub(crate) fn write_line<W: Write>(
     writer: &mut W,
     seen: &SeenBytes<'_>,
     status: &str,
+    known: &Option<LentFrame<'_>>,
 ) -> io::Result<()>
-    ensures { Writes W.contents writer.old writer.new result (line_with status.now seen.now) }
+    ensures { Writes W.contents writer.old writer.new result (line_knowing known.now status.now seen.now) }
 {
     write!(writer, "{} {}", seen.time, seen.cycle.number())?;
     write_slot(writer, seen.slot)?;
     write!(writer, " {} {status} ", seen.channel)?;
-    write_content(writer, seen)
+    write_content(writer, seen, known)
 }

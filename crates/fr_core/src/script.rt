@@ -1,5 +1,9 @@
 //! Scripts: what a task is to do.
 
+ghost use Rattle.std.specs.Prelude.{◌≡◌};
+ghost use Rattle.std.specs.List.{list_any};
+ghost use Rattle.fr_core.specs.Scripts.{is_for};
+
 use crate::event::Reply;
 use fr_frame::payload::Payload;
 use fr_slots::numbers::{NodeId, TaskId};
@@ -62,9 +66,16 @@ impl Script {
     ghost use Rattle.fr_core.specs.Scripts.{is_for};
 
     /// Whether the script is that task's.
-    pub(crate) fn is_for(&self, node: NodeId, task: TaskId) -> bool
+    pub fn is_for(&self, node: NodeId, task: TaskId) -> bool
         ensures { result ≡ is_for node task self.now }
     {
         self.node == node && self.task == task
     }
+}
+
+/// Whether one of the scripts is the task's.
+pub fn has_script(scripts: &[Script], node: NodeId, task: TaskId) -> bool
+    ensures { result ≡ list_any (is_for node task) scripts.now }
+{
+    scripts.iter().any(|script| script.is_for(node, task))
 }

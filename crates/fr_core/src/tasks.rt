@@ -1,15 +1,14 @@
 //! What tasks did, beside their scripts.
 
 ghost use Rattle.std.specs.Prelude.{◌≡◌, ◌↔◌, ◌<◌, ◌+◌, IsTrue, IfSome, Some, slice_get, option_map, ℕ};
-ghost use Rattle.std.specs.List.{list_any};
 ghost use Rattle.std.specs.Option.{option_copied};
-ghost use Rattle.fr_core.specs.Scripts.{frame_reply, IsLine, is_for};
+ghost use Rattle.fr_core.specs.Scripts.{frame_reply, IsLine};
 ghost use Rattle.fr_core.specs.Walks.{FindsTask, done_by, HasLine, HasLineAt, HaveLines, AreCourses, CourseNext};
 ghost use Rattle.fr_core.specs.Walks.{IsAsLongAt, Suits, SuitsAt, new_courses};
 ghost use Rattle.fr_slots.specs.Numbers.{most_entries};
 
 use crate::event::Reply;
-use crate::script::{Action, Deed, Line, Script};
+use crate::script::{Action, Deed, Line, Script, has_script};
 use fr_interface::interface::{Interface, Receipt};
 use fr_journal::entry::{Entry, Origin};
 use fr_slots::numbers::{NodeId, TASKS, TaskId};
@@ -115,13 +114,6 @@ fn has_line(lines: &[Line], place: usize, deed: &Deed) -> bool
         Some(line) => is_line(line, deed),
         None => false,
     }
-}
-
-/// Whether a script is given for the task.
-fn has_script(scripts: &[Script], node: NodeId, task: TaskId) -> bool
-    ensures { result ≡ list_any (is_for node task) scripts.now }
-{
-    scripts.iter().any(|script| script.is_for(node, task))
 }
 
 /// The script at this place.

@@ -1,17 +1,15 @@
 //! Whether scripts suit a cluster.
 
 ghost use Rattle.std.specs.Prelude.{◌≡◌, ◌↔◌, IsTrue, slice_get, option_map};
-ghost use Rattle.std.specs.List.{list_all, list_any};
+ghost use Rattle.std.specs.List.{list_all};
 ghost use Rattle.std.specs.Option.{option_copied};
-ghost use Rattle.fr_core.specs.Scripts.{is_for};
 ghost use Rattle.fr_core.specs.Walks.{Finds};
 ghost use Rattle.fr_runs.specs.Suiting.{sends, is_transmit, receives, action_suits, line_suits, AreInOrder, SuitsPlan};
 ghost use Rattle.fr_runs.specs.Suiting.{SuitsNode, IsScriptAfter, ScriptSuits};
 
-use fr_core::script::{Action, Line, Script};
+use fr_core::script::{Action, Line, Script, has_script};
 use fr_frame::payload::Payload;
 use fr_schedule::cluster::Cluster;
-use fr_slots::numbers::{NodeId, TaskId};
 use fr_slots::params::Params;
 use fr_slots::plan::{Buffer, NodePlan};
 
@@ -100,15 +98,6 @@ fn suits_node(params: &Params, cycles: u16, script: &Script, plan: Option<&NodeP
         Some(plan) => suits_plan(params, cycles, script, plan),
         None => false,
     }
-}
-
-/// Whether one of the scripts is the task's.
-fn has_script(scripts: &[Script], node: NodeId, task: TaskId) -> bool
-    ensures { result ≡ list_any (is_for node task) scripts.now }
-{
-    scripts
-        .iter()
-        .any(|script| script.node == node && script.task == task)
 }
 
 /// Whether the script suits the cluster, and none before it is for the same task.
