@@ -55,6 +55,7 @@ fn answered_lines(alloc: Global, lines: &[Line], replies: &[Reply]) -> Result<Ve
     ensures given { IfOk result (λ list. map bare list.items ≡ map bare lines.now) }
     ensures answered { IfOk result (λ list. All IsAnswered list.items) }
 {
+    // A task that was joined has answered each line, but what a thread hands back says nothing of how it came about.
     if lines.len() != replies.len() {
         return Err(Failure::Thread);
     }
@@ -81,6 +82,7 @@ fn answered_script(
     ensures given { IfOk result (λ s. bare_script s ≡ bare_script script.now) }
     ensures answered { IfOk result (λ s. All IsAnswered s.lines) }
 {
+    // The script suits the cluster, and each node and task was joined; neither stands in a type.
     let Some(replies) = replies_to(script, answers) else {
         return Err(Failure::Thread);
     };

@@ -233,6 +233,7 @@ fn run_ledger<R: Threads + Wait + Clock + Sync, G: Gate + Sync>(
     number: u8,
     gate: &G,
 ) -> Result<NodeDone, Failure> {
+    // A node that the cluster doesn't have has no thread, but neither its number nor its thread says so.
     let Some(node) = NodeId::new(number) else {
         return Err(Failure::Thread);
     };

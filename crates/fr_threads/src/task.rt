@@ -23,7 +23,7 @@ pub(crate) struct TaskDone<L: Ledger> {
 /// The lines of the task's script, if it has one.
 pub(crate) fn lines_of(scripts: &[Script], node: NodeId, task: TaskId) -> &[Line] {
     for script in scripts {
-        if script.node == node && script.task == task {
+        if script.is_for(node, task) {
             return script.lines.as_slice();
         }
     }
