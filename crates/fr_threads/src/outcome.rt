@@ -4,6 +4,7 @@ ghost use Rattle.fr_threads.specs.Outcomes.{IsScenarioIn, IsScenarioOf, Prints, 
 
 use crate::outcome_error::OutcomeError;
 use crate::outcome_text::write_outcome;
+use crate::run::run_threads;
 use fr_commands::cluster_file::cluster_of;
 use fr_commands::error::BenchError;
 use fr_commands::input::read_up_to;
@@ -12,7 +13,6 @@ use fr_desks::gate::OpenGate;
 use fr_scenario::error::ScenarioError;
 use fr_scenario::scenario::Scenario;
 use fr_schedule::cluster::Cluster;
-use crate::run::run_threads;
 use std::alloc::Global;
 use std::io::{Read, Write};
 use std::str;

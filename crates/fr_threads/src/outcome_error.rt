@@ -2,9 +2,9 @@
 ghost use Rattle.std.specs.Prelude.{◌≡◌};
 ghost use Rattle.fr_threads.specs.declared.outcome_error.OutcomeError.TheVariants as refusal;
 
+use crate::error::RunError;
 use fr_commands::error::BenchError;
 use fr_scenario::error::ScenarioError;
-use crate::error::RunError;
 use thiserror::Error;
 
 /// Why `run` hasn't printed the outcome of a run (own profile). Printed, it is the error's name, and for an error of a
