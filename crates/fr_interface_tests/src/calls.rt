@@ -1,75 +1,44 @@
-//! A receive buffer on both channels, in a cluster of three static slots of one word.
+//! The entries that calls leave, and calls that are refused, each at the first of its reasons.
 
-use crate::parts::{came, interface};
-use fr_frame::frame::Frame;
+use crate::parts::{buffer, came, interface, payload, plan_of, queuer, sender, slot_two};
 use fr_interface::errors::HostError;
 use fr_interface::interface::Interface;
 use fr_journal::entry::{Entry, Offered, Origin};
-use fr_slots::channel::{Channel, Channels};
-use fr_slots::filter::{CycleFilter, Filter};
-use fr_slots::plan::{Buffer, Mode, NodePlan};
-use fr_slots::window::Window;
+use fr_slots::channel::Channel;
+use fr_slots::plan::{Buffer, Mode};
 use fr_status::seen::Seen;
-use fr_testing::{DATA_ON_A, ONE_WORD_CYCLE, cycle, slot, task};
+use fr_testing::{DATA_ON_A, task};
 use std::alloc::Global;
 use std::test::Fail;
 
-/// A plan of one task and of one buffer, which receives slot 2 on both channels in every cycle.
-fn receive_plan(host_entries: u16, slot_entries: u32) -> Result<NodePlan, Fail> {
-    let mut plan = NodePlan::new(1, [0, 0], host_entries, slot_entries)?;
-    plan.add_buffer(Buffer {
-        mode: Mode::Receive,
-        filter: Filter {
-            slot: slot(2)?,
-            channels: Channels::Both,
-            cycles: CycleFilter::default(),
-        },
-        words: None,
-        preamble: false,
-    })?;
-    Ok(plan)
+/// The interface of a node that received a frame on channel A, and read it; another frame fails the test.
+fn after_a_read(alloc: Global) -> Result<Interface, Fail> {
+    let mut plan = plan_of(8)?;
+    plan.add_buffer(buffer(Mode::Receive)?)?;
+    let mut interface = interface(alloc, &plan)?;
+    interface.fetch(&slot_two(0)?)?;
+    interface.observe(0, &came(&DATA_ON_A)?, &Seen::Noise)?;
+    let frame = interface.read(task(0)?, 0)?;
+    let on_a = Origin {
+        entry: 1,
+        channel: Channel::A,
+    };
+    if frame.is_none() || frame != interface.frame_at(on_a) {
+        return Err(Fail::from("another frame"));
+    }
+    Ok(interface)
 }
 
-/// An interface with that plan.
-fn receiver(alloc: Global, host_entries: u16, slot_entries: u32) -> Result<Interface, Fail> {
-    interface(
-        alloc,
-        ONE_WORD_CYCLE,
-        &receive_plan(host_entries, slot_entries)?,
-    )
-}
-
-/// The window of static slot 2.
-fn slot_two(number: u32, in_cycle: u8) -> Result<Window, Fail> {
-    Ok(Window::fixed(number, cycle(in_cycle)?, slot(2)?))
-}
-
-/// The frame that was seen at an entry.
-fn frame_at(interface: &Interface, entry: u32, channel: Channel) -> Option<Frame> {
-    interface.frame_at(Origin { entry, channel })
-}
-
-#[test]
-fn each_accepted_call_is_an_entry(rt: HostRuntime) -> Result<(), Fail> {
-    let mut interface = receiver(rt.alloc(), 8, 8)?;
-    let window = slot_two(7, 0)?;
-    let data_frame = came(&DATA_ON_A)?;
-    interface.fetch(&window)?;
-    interface.observe(7, &data_frame, &Seen::Noise)?;
-    let frame = interface.read(task(0)?, 0)?.ok_or("nothing held")?;
-    let frames = [
-        frame_at(&interface, 1, Channel::A),
-        frame_at(&interface, 1, Channel::B),
-    ];
-    assert_eq!(rt; frames, [Some(frame), None]);
+/// The entries of these three calls.
+fn entries_of_a_read() -> Result<[Option<Entry>; 4], Fail> {
     let fetched = Entry::Fetch {
-        window,
+        window: slot_two(0)?,
         a: Offered::Nothing,
         b: Offered::Nothing,
     };
     let observed = Entry::Observe {
-        window: 7,
-        a: data_frame,
+        window: 0,
+        a: came(&DATA_ON_A)?,
         b: Seen::Noise,
     };
     let read = Entry::Read {
@@ -80,37 +49,97 @@ fn each_accepted_call_is_an_entry(rt: HostRuntime) -> Result<(), Fail> {
             channel: Channel::A,
         }),
     };
-    let journal = interface.journal();
-    let entries = [
-        journal.get(0),
-        journal.get(1),
-        journal.get(2),
-        journal.get(3),
+    Ok([Some(fetched), Some(observed), Some(read), None])
+}
+
+#[test]
+fn each_accepted_call_is_an_entry(rt: HostRuntime) -> Result<(), Fail> {
+    let interface = after_a_read(rt.alloc())?;
+    let entries = [0, 1, 2, 3].map(|number| interface.journal().get(number));
+    assert!(rt; entries == entries_of_a_read()?);
+    let on_b = Origin {
+        entry: 1,
+        channel: Channel::B,
+    };
+    assert!(rt; interface.frame_at(on_b).is_none());
+    assert_eq!(rt; interface.params().static_slots, 3);
+    assert_eq!(rt; interface.plan().host_entries(), 8);
+    Ok(())
+}
+
+/// A call of a task.
+#[derive(Clone, Copy)]
+enum Call {
+    Commit,
+    CommitTwoWords,
+    Withdraw,
+    Read,
+    Pop,
+}
+
+/// What a call of the task on the buffer is refused for. A pop is on no buffer.
+fn refusal(
+    interface: &mut Interface,
+    call: Call,
+    number: u8,
+    buffer: u8,
+) -> Result<Option<HostError>, Fail> {
+    let task = task(number)?;
+    Ok(match call {
+        Call::Commit => interface.commit(task, buffer, &payload(&[0, 1])?).err(),
+        Call::CommitTwoWords => interface.commit(task, buffer, &payload(&[0; 4])?).err(),
+        Call::Withdraw => interface.withdraw(task, buffer).err(),
+        Call::Read => interface.read(task, buffer).err(),
+        Call::Pop => interface.pop(task).err(),
+    })
+}
+
+#[test]
+fn calls_are_refused_for_the_first_reason(rt: HostRuntime) -> Result<(), Fail> {
+    let mut plan = sender(2)?;
+    plan.add_buffer(Buffer::default())?;
+    let mut interface = interface(rt.alloc(), &plan)?;
+    let rows = [
+        (Call::CommitTwoWords, 1, 2, Some(HostError::UnknownTask)),
+        (Call::CommitTwoWords, 0, 2, Some(HostError::UnknownBuffer)),
+        (Call::CommitTwoWords, 0, 1, Some(HostError::NotTransmit)),
+        (Call::CommitTwoWords, 0, 0, Some(HostError::WrongLength)),
+        (Call::Withdraw, 1, 2, Some(HostError::UnknownTask)),
+        (Call::Withdraw, 0, 2, Some(HostError::UnknownBuffer)),
+        (Call::Withdraw, 0, 1, Some(HostError::NotTransmit)),
+        (Call::Read, 1, 2, Some(HostError::UnknownTask)),
+        (Call::Read, 0, 2, Some(HostError::UnknownBuffer)),
+        (Call::Read, 0, 0, Some(HostError::NotReceive)),
+        (Call::Pop, 1, 0, Some(HostError::UnknownTask)),
+        (Call::Pop, 0, 0, Some(HostError::NoQueue)),
+        (Call::Withdraw, 0, 0, None),
+        (Call::Read, 0, 1, None),
+        (Call::Commit, 0, 0, Some(HostError::HostFull)),
+        (Call::Withdraw, 0, 0, Some(HostError::HostFull)),
+        (Call::Read, 0, 1, Some(HostError::HostFull)),
     ];
-    assert_eq!(rt; entries, [Some(fetched), Some(observed), Some(read), None]);
-    let made_with = (
-        interface.params().static_slots,
-        interface.plan().host_entries(),
+    for (call, task, buffer, wanted) in rows {
+        assert_eq!(rt; refusal(&mut interface, call, task, buffer)?, wanted);
+    }
+    assert_eq!(rt; interface.journal().len(), 2);
+    assert!(rt; interface.tally(1).is_none() && interface.tally(2).is_none());
+    assert_eq!(rt;
+        (interface.queue_len(), interface.queue_lost()),
+        (None, None)
     );
-    assert_eq!(rt; made_with, (3, 8));
     Ok(())
 }
 
 #[test]
-fn reads_that_are_refused(rt: HostRuntime) -> Result<(), Fail> {
-    let mut interface = receiver(rt.alloc(), 1, 2)?;
-    let answers = [
-        interface.read(task(1)?, 1),
-        interface.read(task(0)?, 1),
-        interface.read(task(0)?, 0),
-        interface.read(task(0)?, 0),
+fn pops_are_refused_for_the_first_reason(rt: HostRuntime) -> Result<(), Fail> {
+    let mut interface = interface(rt.alloc(), &queuer(1)?)?;
+    let rows = [
+        (0, None),
+        (1, Some(HostError::UnknownTask)),
+        (0, Some(HostError::HostFull)),
     ];
-    let wanted = [
-        Err(HostError::UnknownTask),
-        Err(HostError::UnknownBuffer),
-        Ok(None),
-        Err(HostError::HostFull),
-    ];
-    assert_eq!(rt; answers, wanted);
+    for (task, wanted) in rows {
+        assert_eq!(rt; refusal(&mut interface, Call::Pop, task, 0)?, wanted);
+    }
     Ok(())
 }

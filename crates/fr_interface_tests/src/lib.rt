@@ -1,13 +1,11 @@
-//! The tests of the host interface.
+//! The tests of the host interface. What a trace and its report can show is tried by `scripts/commands`.
 #![tactic(auto)]
 
 #[cfg(test)]
 mod calls;
 #[cfg(test)]
+mod offers;
+#[cfg(test)]
 mod parts;
 #[cfg(test)]
 mod queue;
-#[cfg(test)]
-mod transmit;
-#[cfg(test)]
-mod withdraws;

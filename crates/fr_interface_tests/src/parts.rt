@@ -1,24 +1,85 @@
-//! What the tests of an interface begin with.
+//! What the tests of an interface begin with: plans for a cluster of three static slots of one word, and windows.
 
+use fr_frame::payload::Payload;
 use fr_interface::interface::Interface;
+use fr_slots::channel::Channels;
+use fr_slots::filter::{CycleFilter, Filter};
 use fr_slots::params::Params;
-use fr_slots::plan::NodePlan;
+use fr_slots::plan::{Buffer, Mode, NodePlan, Own, Queue};
+use fr_slots::window::Window;
 use fr_status::seen::Seen;
-use fr_testing::frame_bytes;
+use fr_testing::{ONE_WORD_CYCLE, cycle, frame_bytes, slot};
 use std::alloc::Global;
 use std::test::Fail;
 
 /// The interface of a node with this plan; a plan with a fault fails the test.
-pub(crate) fn interface(
-    alloc: Global,
-    params: [i64; 10],
-    plan: &NodePlan,
-) -> Result<Interface, Fail> {
-    let params = Params::new(params)?;
+pub(crate) fn interface(alloc: Global, plan: &NodePlan) -> Result<Interface, Fail> {
+    let params = Params::new(ONE_WORD_CYCLE)?;
     if plan.fault(&params).is_some() {
         return Err(Fail::from("the plan has a fault"));
     }
     Ok(Interface::new(alloc, &params, plan)?)
+}
+
+/// A plan of one task, with room for so many host entries and for eight slot entries.
+pub(crate) fn plan_of(host_entries: u16) -> Result<NodePlan, Fail> {
+    Ok(NodePlan::new(1, [0, 0], host_entries, 8)?)
+}
+
+/// A buffer of this mode for slot 2, on both channels in every cycle.
+pub(crate) fn buffer(mode: Mode) -> Result<Buffer, Fail> {
+    Ok(Buffer {
+        mode,
+        filter: Filter {
+            slot: slot(2)?,
+            channels: Channels::Both,
+            cycles: CycleFilter::default(),
+        },
+        words: None,
+        preamble: false,
+    })
+}
+
+/// Slot 2 as a node's own, on these channels in these cycles, with sync frames or without.
+pub(crate) fn own(channels: Channels, cycles: CycleFilter, sync: bool) -> Result<Own, Fail> {
+    Ok(Own {
+        slot: slot(2)?,
+        channels,
+        cycles,
+        sync,
+        startup: false,
+    })
+}
+
+/// A plan that owns slot 2 on both channels, with an event buffer for it.
+pub(crate) fn sender(host_entries: u16) -> Result<NodePlan, Fail> {
+    let mut plan = plan_of(host_entries)?;
+    plan.add_own(own(Channels::Both, CycleFilter::default(), false)?)?;
+    plan.add_buffer(buffer(Mode::Event)?)?;
+    Ok(plan)
+}
+
+/// A plan with a queue of two frames, for slots 1 to 3 on both channels in every cycle.
+pub(crate) fn queuer(host_entries: u16) -> Result<NodePlan, Fail> {
+    let mut plan = plan_of(host_entries)?;
+    plan.set_queue(Queue {
+        capacity: 2,
+        first: slot(1)?,
+        last: slot(3)?,
+        channels: Channels::Both,
+        cycles: CycleFilter::default(),
+    })?;
+    Ok(plan)
+}
+
+/// The window of static slot 2 in the cycle of its number.
+pub(crate) fn slot_two(number: u8) -> Result<Window, Fail> {
+    Ok(Window::fixed(u32::from(number), cycle(number)?, slot(2)?))
+}
+
+/// A payload of these bytes.
+pub(crate) fn payload(bytes: &[u8]) -> Result<Payload, Fail> {
+    Ok(Payload::from_slice(bytes)?)
 }
 
 /// These bytes, as they came in.
