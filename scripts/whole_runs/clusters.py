@@ -93,6 +93,7 @@ class Clusters:
         line = '{slot = 3, channels = "A", base = 0, repetition = 2}'
         self.check("two nodes share a cycle", cluster.replace(line, line.replace("base = 0, repetition = 2", "base = 1, repetition = 4")),
                    refused("Overlap 3 A 1"))
+        self.check("a node owns another's slot", cluster.replace(line, '{slot = 2, channels = "AB"}'), refused("Overlap 2 A 0"))
         buffer = '  {kind = "receive", slot = 2, channels = "A"},\n'
         third = '  {kind = "event", slot = 3, channels = "A"%s},\n'
         self.check("a buffer is for the cycles of another node", cluster.replace(buffer, buffer + third % "", 1), refused("NotOwned 0 2"))

@@ -42,6 +42,7 @@ class Scenarios:
         self.line("commit 15 7 1023 63 x", "BadScript 0")
         self.line("babble 15 A 1023 m8000 x", "BadFault 0")
         self.line("corrupt B 1023 s8000 65535", "BadFault 0")
+        self.line("mute 15 B 1023 s8000", "BadFault 0")
 
     def limits(self):
         most = "frscenario 1\n" + "mute 0 A 0 s1\n" * 4094
@@ -117,7 +118,7 @@ def scenes(runs, folder):
         "commit 0 0 1 2 x0a0b": "BadScript 0", "commit 0 0 1 0 x": "BadScript 0", "read 0 0 1 0": "BadScript 0",
         "pop 1 0 3": "BadScript 2", "pop 0 1 2": "settled", "mute 3 A 0 s1": "BadFault 2", "mute 0 A * s*": "settled",
         "babble 2 A 3 s2 x": "BadFault 2", "babble 2 A * m1 x00": "settled", "babble 1 A * s* x00": "settled",
-        "corrupt A 0 s4 1": "BadFault 2", "corrupt B 3 m4 1": "settled",
+        "corrupt A 0 s4 1": "BadFault 2", "corrupt B 3 m4 1": "settled", "corrupt A 0 m1 65535": "settled",
     }
     for line, error in refusals.items():
         if error == "settled":
@@ -134,9 +135,13 @@ def scenes(runs, folder):
     scenes.check("run of a bad cluster", refused("Params CycleSum"), scenes.cluster.replace("cycle_mt = 90", "cycle_mt = 91"))
     few = scenes.cluster.replace("[[node]]\ntasks = 2\nown = [{slot = 1", "[[node]]\ntasks = 2\nhost_entries = 2\nown = [{slot = 1")
     scenes.check("run of three lines with room for two", refused("NoRoom 0"), cluster=few)
+    taken_back = "frscenario 2\n" + "withdraw 0 0 3 0\n" * 2
+    scenes.told("run of two withdraws with room for two", [(0, "tx 0 0 0 0 0 0")], few, f"{taken_back}end\n")
+    scenes.check("run of three withdraws with room for two", refused("NoRoom 0"), few, f"{taken_back}withdraw 0 0 3 0\nend\n")
     babbles(scenes)
     withdraws(scenes)
     faults(scenes)
+    divided(scenes)
     long_runs(scenes)
     free_runs(scenes)
 
@@ -207,6 +212,14 @@ def faults(scenes):
     scenes.told("run with a corrupt bit", lines, scenario=corrupt)
     beyond = scenes.with_line("corrupt A 0 s1 999", scenes.one_commit)
     scenes.told("run with a bit after the frame", [(1, "rx 1 1:A x0a0b"), (1, "rx 2 1:B x0a0b")], scenario=beyond)
+
+
+def divided(scenes):
+    """Slot 3 on A is node 0's in even cycles and node 1's in odd ones. What node 1 babbles there passes in the odd ones alone."""
+    cluster = (EXAMPLES / "divided-slot/cluster.toml").read_text()
+    lines = [(0, "A 7 2 0 0 0"), (1, "A 9 0 0 0 2"), (2, "A 10 2 0 0 0")]
+    scenario = scenes.with_line("babble 1 A * s3 x00", scenes.quiet)
+    scenes.told("run with a babble in a divided slot", lines, cluster, scenario)
 
 
 def long_runs(scenes):

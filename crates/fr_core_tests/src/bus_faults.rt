@@ -1,164 +1,239 @@
 //! Windows in which nodes babble, lose offers and have bits turned, as the record and each node see them.
 
 use crate::steps::{
-    SMALL_CYCLE, THREE_NODES, babble, babbled_bus, babbled_list, bus_of, frame, mute, nothing,
-    offer_of, open_window, put_all, seal, seal_refusal, sent_in, sight, window_with,
+    Harm, SMALL_CYCLE, THREE_NODES, bus_at, offer_of, open_window, put_with, window_with,
 };
 use fr_bus::bus::Bus;
 use fr_bus::error::{BusError, Phase};
-use fr_bus::fault::Fault;
-use fr_bus::outcome::Fate;
+use fr_bus::outcome::{Fate, Sent};
 use fr_slots::channel::Channel;
 use fr_status::seen::Seen;
-use fr_testing::{DATA_ON_A, DATA_ON_B, frame_bytes};
+use fr_testing::{DATA_ON_A, DATA_ON_B, frame_bytes, node};
+use std::alloc::Global;
 use std::test::Fail;
 
-#[test]
-fn a_babble_is_blocked_on_the_guarded_channel(rt: HostRuntime) -> Result<(), Fail> {
-    let mut bus = babbled_bus(rt.alloc())?;
-    put_all(&mut bus, &frame()?)?;
-    seal(&mut bus)?;
-    let wanted = babbled_list(Fate::Passed)?;
-    assert_eq!(rt; sent_in(&bus, 1)?, wanted.as_slice());
-    let on_a = Seen::Bytes(frame_bytes(&DATA_ON_A)?);
-    let seen = [
-        sight(&mut bus, 0, 1),
-        sight(&mut bus, 1, 1),
-        sight(&mut bus, 2, 1),
-    ];
-    assert_eq!(rt;
-        seen,
-        [
-            (on_a.duplicate(), Seen::Noise),
-            (Seen::Own, Seen::Conflict),
-            (on_a, Seen::Conflict)
-        ]
-        .map(Some)
-    );
-    Ok(())
-}
+/// Node 2 babbles one byte on both channels.
+const BABBLES: [Harm; 2] = [
+    Harm::Babble(2, Channel::A, &[0]),
+    Harm::Babble(2, Channel::B, &[0]),
+];
 
-/// Node 1 loses its offer on A, and node 2 its one on B.
-fn mute_both(bus: &mut Bus) -> Result<(), Fail> {
-    bus.inject(mute(1, Channel::A)?)?;
-    bus.inject(mute(2, Channel::B)?)?;
-    Ok(())
-}
-
-#[test]
-fn a_mute_loses_the_offer_and_no_babble(rt: HostRuntime) -> Result<(), Fail> {
-    let mut bus = babbled_bus(rt.alloc())?;
-    mute_both(&mut bus)?;
-    put_all(&mut bus, &frame()?)?;
-    seal(&mut bus)?;
-    let wanted = babbled_list(Fate::Muted)?;
-    assert_eq!(rt; sent_in(&bus, 1)?, wanted.as_slice());
-    let seen = [
-        sight(&mut bus, 0, 1),
-        sight(&mut bus, 1, 1),
-        sight(&mut bus, 2, 1),
-    ];
-    assert_eq!(rt;
-        seen,
-        [
-            (Seen::Silence, Seen::Noise),
-            (Seen::Silence, Seen::Conflict),
-            (Seen::Silence, Seen::Conflict)
-        ]
-        .map(Some)
-    );
-    Ok(())
-}
+/// The same, node 1 loses its offer on A, and node 2 its one on B.
+const MUTED: [Harm; 4] = [
+    Harm::Babble(2, Channel::A, &[0]),
+    Harm::Babble(2, Channel::B, &[0]),
+    Harm::Mute(1, Channel::A),
+    Harm::Mute(2, Channel::B),
+];
 
 /// A bit within the frame on A is turned, and one after its end on B.
-fn turn_bits(bus: &mut Bus) -> Result<(), Fail> {
-    for (channel, bit) in [(Channel::A, 9), (Channel::B, 80)] {
-        bus.inject(Fault::Corrupt { channel, bit })?;
+const TURNED: [Harm; 2] = [Harm::Corrupt(Channel::A, 9), Harm::Corrupt(Channel::B, 80)];
+
+/// The frame of slot 2 on channel A with that bit turned.
+const TURNED_ON_A: [u8; 10] = [0x20, 0x42, 0x03, 0xc1, 0x40, 0x0a, 0x0b, 0xa3, 0x22, 0x17];
+
+/// What a node is to see on a channel.
+#[derive(Clone, Copy)]
+enum Look {
+    Silence,
+    Noise,
+    Conflict,
+    Overrun,
+    Own,
+    Bytes(&'static [u8]),
+}
+
+/// What a node sees that is to see this.
+fn seen_as(look: Look) -> Result<Seen, Fail> {
+    Ok(match look {
+        Look::Silence => Seen::Silence,
+        Look::Noise => Seen::Noise,
+        Look::Conflict => Seen::Conflict,
+        Look::Overrun => Seen::Overrun,
+        Look::Own => Seen::Own,
+        Look::Bytes(bytes) => Seen::Bytes(frame_bytes(bytes)?),
+    })
+}
+
+/// The number of the first node that sees something else on A or B in the open window than it is to see, if any.
+fn sees_otherwise(bus: &mut Bus, looks: &[[Look; 2]]) -> Result<Option<u8>, Fail> {
+    let number = open_window(bus)?.number;
+    for (n, [a, b]) in (0..bus.nodes()).zip(looks) {
+        if bus.take(node(n)?, number)? != (seen_as(*a)?, seen_as(*b)?) {
+            return Ok(Some(n));
+        }
+    }
+    Ok(None)
+}
+
+/// A bus with a sealed window: after so many in silence, with these faults, and with these bytes of node 1.
+fn sealed(
+    alloc: Global,
+    cluster: &str,
+    windows: u32,
+    harms: &[Harm],
+    sent: [&[u8]; 2],
+) -> Result<Bus, Fail> {
+    let mut bus = bus_at(alloc, cluster, windows)?;
+    let [a, b] = sent;
+    put_with(&mut bus, harms, &offer_of(a, b)?)?;
+    bus.seal()?;
+    Ok(bus)
+}
+
+/// A window of a cluster: how many pass in silence before it, its faults, what node 1 sends, and what nodes are to see.
+#[derive(Clone, Copy)]
+struct Case {
+    cluster: &'static str,
+    windows: u32,
+    harms: &'static [Harm],
+    sent: [&'static [u8]; 2],
+    looks: &'static [[Look; 2]],
+}
+
+/// The frame of slot 2 on both channels.
+const FRAME: [&[u8]; 2] = [&DATA_ON_A, &DATA_ON_B];
+
+/// What is seen where node 2 babbles, where it also loses an offer and node 1 too, where bits are turned, where a
+/// static slot is overrun by an eleventh byte, and where the last minislots are by a seventeenth. Idle minislots overrun
+/// nothing.
+const CASES: [Case; 5] = [
+    Case {
+        cluster: THREE_NODES,
+        windows: 1,
+        harms: &BABBLES,
+        sent: FRAME,
+        looks: &[
+            [Look::Bytes(&DATA_ON_A), Look::Noise],
+            [Look::Own, Look::Conflict],
+            [Look::Bytes(&DATA_ON_A), Look::Conflict],
+        ],
+    },
+    Case {
+        cluster: THREE_NODES,
+        windows: 1,
+        harms: &MUTED,
+        sent: FRAME,
+        looks: &[
+            [Look::Silence, Look::Noise],
+            [Look::Silence, Look::Conflict],
+            [Look::Silence, Look::Conflict],
+        ],
+    },
+    Case {
+        cluster: THREE_NODES,
+        windows: 1,
+        harms: &TURNED,
+        sent: FRAME,
+        looks: &[
+            [Look::Bytes(&TURNED_ON_A), Look::Bytes(&DATA_ON_B)],
+            [Look::Own, Look::Own],
+        ],
+    },
+    Case {
+        cluster: THREE_NODES,
+        windows: 1,
+        harms: &[],
+        sent: [&[7; 11], &[7; 10]],
+        looks: &[
+            [Look::Overrun, Look::Bytes(&[7; 10])],
+            [Look::Own, Look::Own],
+        ],
+    },
+    Case {
+        cluster: SMALL_CYCLE,
+        windows: 11,
+        harms: &[],
+        sent: [&[7; 16], &[7; 17]],
+        looks: &[[Look::Bytes(&[7; 16]), Look::Overrun]],
+    },
+];
+
+#[test]
+fn each_node_sees_what_passes_turned_and_overrun(rt: HostRuntime) -> Result<(), Fail> {
+    for case in CASES {
+        let Case {
+            cluster,
+            windows,
+            harms,
+            sent,
+            looks,
+        } = case;
+        let mut bus = sealed(rt.alloc(), cluster, windows, harms, sent)?;
+        assert_eq!(rt; sees_otherwise(&mut bus, looks)?, None);
     }
     Ok(())
 }
 
+/// A transmission of the record.
+fn transmission(
+    number: u8,
+    channel: Channel,
+    list: &[u8],
+    babble: bool,
+    fate: Fate,
+) -> Result<Sent, Fail> {
+    Ok(Sent {
+        node: node(number)?,
+        channel,
+        babble,
+        bytes: frame_bytes(list)?,
+        fate,
+    })
+}
+
+/// Whether the record of the babbled window is as it should be, where node 1's offer on A came to this.
+fn is_recorded(bus: &Bus, fate: Fate) -> Result<bool, Fail> {
+    let wanted = [
+        transmission(1, Channel::A, &DATA_ON_A, false, fate)?,
+        transmission(1, Channel::B, &DATA_ON_B, false, Fate::Passed)?,
+        transmission(2, Channel::A, &[0], true, Fate::Blocked)?,
+        transmission(2, Channel::B, &[0], true, Fate::Passed)?,
+    ];
+    Ok(sent_in(bus, 1)? == wanted.as_slice())
+}
+
+/// What was sent in the window of this number.
+fn sent_in(bus: &Bus, number: usize) -> Result<&[Sent], Fail> {
+    Ok(bus.record().get(number).ok_or("no window")?.sent.as_slice())
+}
+
 #[test]
-fn one_bit_is_turned_for_all_but_the_sender(rt: HostRuntime) -> Result<(), Fail> {
-    let mut bus = bus_of(rt.alloc(), THREE_NODES, 1)?;
-    window_with(&mut bus, &nothing())?;
-    turn_bits(&mut bus)?;
-    put_all(&mut bus, &frame()?)?;
-    seal(&mut bus)?;
-    let turned = frame_bytes(&[0x20, 0x42, 0x03, 0xc1, 0x40, 0x0a, 0x0b, 0xa3, 0x22, 0x17])?;
-    let unturned = frame_bytes(&DATA_ON_B)?;
-    let seen = [sight(&mut bus, 0, 1), sight(&mut bus, 1, 1)];
-    assert_eq!(rt;
-        seen,
-        [
-            (Seen::Bytes(turned), Seen::Bytes(unturned)),
-            (Seen::Own, Seen::Own)
-        ]
-        .map(Some)
-    );
-    let sealed = bus.record().get(1).ok_or("no window")?;
-    assert_eq!(rt; sealed.corrupt, [Some(9), Some(80)]);
-    let first = sealed.sent.as_slice().get(0).ok_or("nothing sent")?;
+fn the_record_has_lost_offers_and_turned_bits(rt: HostRuntime) -> Result<(), Fail> {
+    let bus = sealed(rt.alloc(), THREE_NODES, 1, &MUTED, FRAME)?;
+    assert!(rt; is_recorded(&bus, Fate::Muted)?);
+    let bus = sealed(rt.alloc(), THREE_NODES, 1, &TURNED, FRAME)?;
+    let corrupt = bus.record().get(1).ok_or("no window")?.corrupt;
+    assert_eq!(rt; corrupt, [Some(9), Some(80)]);
+    let first = sent_in(&bus, 1)?.first().ok_or("nothing sent")?;
     assert_eq!(rt; first.bytes.as_slice(), DATA_ON_A.as_slice());
     Ok(())
 }
 
 #[test]
-fn a_static_slot_is_overrun_by_an_eleventh_byte(rt: HostRuntime) -> Result<(), Fail> {
-    let mut bus = bus_of(rt.alloc(), THREE_NODES, 1)?;
-    window_with(&mut bus, &nothing())?;
-    put_all(&mut bus, &offer_of(&[7; 11], &[7; 10])?)?;
-    seal(&mut bus)?;
-    let on_b = Seen::Bytes(frame_bytes(&[7; 10])?);
-    let seen = [sight(&mut bus, 0, 1), sight(&mut bus, 1, 1)];
-    assert_eq!(rt;
-        seen,
-        [(Seen::Overrun, on_b), (Seen::Own, Seen::Own)].map(Some)
-    );
-    Ok(())
-}
-
-#[test]
-fn idle_minislots_overrun_nothing(rt: HostRuntime) -> Result<(), Fail> {
-    let mut bus = bus_of(rt.alloc(), SMALL_CYCLE, 1)?;
-    for _window in 0..11 {
-        window_with(&mut bus, &nothing())?;
-    }
-    assert_eq!(rt; open_window(&bus)?.minislot, 9);
-    put_all(&mut bus, &offer_of(&[7; 16], &[7; 17])?)?;
-    seal(&mut bus)?;
-    let on_a = Seen::Bytes(frame_bytes(&[7; 16])?);
-    assert_eq!(rt; sight(&mut bus, 0, 11), Some((on_a, Seen::Overrun)));
-    Ok(())
-}
-
-#[test]
 fn what_has_no_bytes_or_no_slot_is_not_sent(rt: HostRuntime) -> Result<(), Fail> {
-    let mut bus = bus_of(rt.alloc(), SMALL_CYCLE, 1)?;
-    for _window in 0..3 {
-        window_with(&mut bus, &nothing())?;
-    }
+    let mut bus = bus_at(rt.alloc(), SMALL_CYCLE, 3)?;
     let on_a = offer_of(&[0; 8], &[])?;
     window_with(&mut bus, &on_a)?;
-    assert_eq!(rt; open_window(&bus)?.a, None);
-    bus.inject(babble(0, Channel::A, &[1])?)?;
-    window_with(&mut bus, &on_a)?;
+    assert!(rt; open_window(&bus)?.a.is_none());
+    put_with(&mut bus, &[Harm::Babble(0, Channel::A, &[1])], &on_a)?;
+    bus.seal()?;
     assert_eq!(rt; (sent_in(&bus, 3)?.len(), sent_in(&bus, 4)?.len()), (1, 0));
+    let bus = bus_at(rt.alloc(), SMALL_CYCLE, 11)?;
+    assert_eq!(rt; open_window(&bus)?.minislot, 9);
     Ok(())
 }
 
 #[test]
 fn seal_succeeds_with_memory(rt: HostRuntime) -> Result<(), Fail> {
-    let mut bus = babbled_bus(rt.alloc())?;
-    put_all(&mut bus, &frame()?)?;
-    let mut refusal = seal_refusal(&mut bus);
+    let mut bus = bus_at(rt.alloc(), THREE_NODES, 1)?;
+    put_with(&mut bus, &BABBLES, &offer_of(&DATA_ON_A, &DATA_ON_B)?)?;
+    let mut refusal = bus.seal().err();
     if refusal == Some(BusError::Memory) {
-        assert_eq!(rt; bus.phase(), Phase::Collect);
-        assert_eq!(rt; bus.all_put(), true);
-        refusal = seal_refusal(&mut bus);
+        assert!(rt; bus.phase() == Phase::Collect && bus.all_put());
+        refusal = bus.seal().err();
     }
     assert_eq!(rt; refusal, None);
-    let wanted = babbled_list(Fate::Passed)?;
-    assert_eq!(rt; sent_in(&bus, 1)?, wanted.as_slice());
+    assert!(rt; is_recorded(&bus, Fate::Passed)?);
     Ok(())
 }

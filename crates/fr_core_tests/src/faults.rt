@@ -1,89 +1,148 @@
-//! Faults in a guarded static slot, with lists of events.
+//! Faults in a guarded static slot, and two lists of events that differ by what a faulty node does.
 
-use crate::worlds::{
-    commit, counters, payload_if_any, read_of, step_all, tally, three_nodes, window,
-};
-use fr_bus::fault::Fault;
+use crate::steps::{Harm, fault_of};
+use crate::worlds::{commit, interface, payload_read, push_window, step_all, three_nodes};
 use fr_core::event::Event;
 use fr_core::world::World;
-use fr_frame::encode::encode;
-use fr_frame::frame::Frame;
-use fr_frame::payload::Payload;
+use fr_journal::entry::Entry;
 use fr_slots::channel::Channel;
-use fr_testing::{cycle, node};
+use fr_status::seen::Seen;
+use fr_testing::frame_bytes;
 use std::alloc::Global;
 use std::test::Fail;
 
-/// The world in which node 0 committed `0a0b`, once the window of its slot has passed with these faults.
-fn passed_with(alloc: Global, faults: [Option<Fault>; 2]) -> Result<World, Fail> {
-    let mut world = three_nodes(alloc)?;
-    world.step(&commit(0, &[0x0a, 0x0b])?)?;
-    for fault in faults.into_iter().flatten() {
-        world.step(&Event::Inject(fault))?;
-    }
-    step_all(&mut world, &window(alloc)?)?;
-    Ok(world)
-}
+/// A data frame of slot 1 in cycle 0 with payload `9999`, on channel A.
+const BABBLED: [u8; 10] = [0x20, 0x01, 0x03, 0x46, 0x80, 0x99, 0x99, 0xe9, 0x37, 0xd0];
 
-/// The node babbles a data frame of slot 1 with payload `9999` on channel A.
-fn babble(number: u8) -> Result<Option<Fault>, Fail> {
-    let frame = Frame {
-        preamble: false,
-        has_data: true,
-        sync: false,
-        startup: false,
-        id: 1,
-        payload: Payload::from_slice(&[0x99, 0x99])?,
-        cycle: cycle(0)?,
-    };
-    Ok(Some(Fault::Babble {
-        node: node(number)?,
-        channel: Channel::A,
-        bytes: encode(&frame, Channel::A),
+/// A word of payload.
+type Word = Option<[u8; 2]>;
+
+/// What comes of a commit of node 0: what node 1 holds of channel A and of B, node 1's counters of A, and how many
+/// commits of node 0 were sent.
+type Left = (Word, Word, [u32; 5], u32);
+
+/// The word in node 1's receive buffer, if any.
+fn word(world: &mut World, buffer: u8) -> Result<Word, Fail> {
+    let payload = payload_read(world, 1, buffer)?;
+    Ok(payload.and_then(|payload| match payload.as_slice() {
+        [high, low] => Some([*high, *low]),
+        _ => None,
     }))
 }
 
-#[test]
-fn a_muted_owner_that_babbles_is_received(rt: HostRuntime) -> Result<(), Fail> {
-    let mute = Some(Fault::Mute {
-        node: node(0)?,
-        channel: Channel::A,
-    });
-    let mut world = passed_with(rt.alloc(), [mute, babble(0)?])?;
-    let held = payload_if_any(&mut world, &read_of(1, 0)?)?;
-    let sent = tally(&world, 0)?.sent;
-    assert_eq!(rt;
-        (held, sent),
-        (Some(Payload::from_slice(&[0x99, 0x99])?), 1)
-    );
-    Ok(())
+/// What is left where node 0 committed `0a0b`, once the window of its slot has passed with these faults.
+fn left_by(alloc: Global, harms: &[Harm]) -> Result<Left, Fail> {
+    let mut world = three_nodes(alloc)?;
+    let mut events = Vec::new(alloc);
+    events.push(commit(0, &[0x0a, 0x0b])?)?;
+    for harm in harms {
+        events.push(Event::Inject(fault_of(*harm)?))?;
+    }
+    push_window(&mut events)?;
+    step_all(&mut world, events.as_slice())?;
+    let (on_a, on_b) = (word(&mut world, 0)?, word(&mut world, 1)?);
+    let counted = interface(&world, 1)?.counters().a;
+    let tally = interface(&world, 0)?.tally(0).ok_or("no tally")?;
+    Ok((on_a, on_b, counted, tally.sent))
 }
 
 #[test]
-fn a_bit_turned_in_the_frame_is_a_syntax_error(rt: HostRuntime) -> Result<(), Fail> {
-    let corrupt = Some(Fault::Corrupt {
-        channel: Channel::A,
-        bit: 40,
-    });
-    let mut world = passed_with(rt.alloc(), [corrupt, None])?;
-    let on_a = payload_if_any(&mut world, &read_of(1, 0)?)?;
-    let on_b = payload_if_any(&mut world, &read_of(1, 1)?)?;
-    let counted = counters(&world, 1)?.a;
-    assert_eq!(rt;
-        (on_a, on_b, counted),
+fn what_comes_of_faults_in_a_guarded_slot(rt: HostRuntime) -> Result<(), Fail> {
+    let sent = Some([0x0a, 0x0b]);
+    let babbled = Some([0x99, 0x99]);
+    let rows: [(&[Harm], Left); 4] = [
+        // A muted owner that babbles is received.
         (
-            None,
-            Some(Payload::from_slice(&[0x0a, 0x0b])?),
-            [0, 1, 0, 0, 0]
-        )
-    );
+            &[
+                Harm::Mute(0, Channel::A),
+                Harm::Babble(0, Channel::A, &BABBLED),
+            ],
+            (babbled, sent, [1, 0, 0, 0, 0], 1),
+        ),
+        // A bit that is turned in the frame is a syntax error, and one after its end turns nothing.
+        (
+            &[Harm::Corrupt(Channel::A, 40)],
+            (None, sent, [0, 1, 0, 0, 0], 1),
+        ),
+        (
+            &[Harm::Corrupt(Channel::A, 999)],
+            (sent, sent, [1, 0, 0, 0, 0], 1),
+        ),
+        (
+            &[Harm::Babble(2, Channel::A, &BABBLED)],
+            (sent, sent, [1, 0, 0, 0, 0], 1),
+        ),
+    ];
+    for (harms, left) in rows {
+        assert_eq!(rt; left_by(rt.alloc(), harms)?, left);
+    }
     Ok(())
 }
 
+/// The faults of node 2 in the window of this number of the first cycle: it babbles in each static slot, and at the
+/// first minislot for two minislots on both channels, so that the cycle has a window less. What it offers on A is lost.
+fn harms_in(window: u32) -> [Harm; 3] {
+    let bytes: &'static [u8] = if window == 3 { &[0; 20] } else { &[0] };
+    [
+        Harm::Babble(2, Channel::A, bytes),
+        Harm::Babble(2, Channel::B, bytes),
+        Harm::Mute(2, Channel::A),
+    ]
+}
+
+/// Node 0 commits before each of two cycles, of which the windows up to slot 1 of the second pass. A faulty node 2
+/// commits too, and has its faults in the first four windows and in the last.
+fn two_cycles(alloc: Global, is_faulty: bool) -> Result<Vec<Event>, Fail> {
+    let mut events = Vec::new(alloc);
+    events.push(commit(0, &[0x0a, 0x0b])?)?;
+    let windows = if is_faulty { 6 } else { 7 };
+    for window in 0..=windows {
+        if window == windows {
+            events.push(commit(0, &[0x0c, 0x0d])?)?;
+        }
+        if is_faulty && (window < 4 || window == windows) {
+            events.push(commit(2, &[0x70, 0x01])?)?;
+            for harm in harms_in(window) {
+                events.push(Event::Inject(fault_of(harm)?))?;
+            }
+        }
+        push_window(&mut events)?;
+        if window < windows {
+            events.push(Event::Advance)?;
+        }
+    }
+    Ok(events)
+}
+
+/// The world after such a list of events, each of which has to be accepted.
+fn world_of(alloc: Global, is_faulty: bool) -> Result<World, Fail> {
+    let mut world = three_nodes(alloc)?;
+    let events = two_cycles(alloc, is_faulty)?;
+    step_all(&mut world, events.as_slice())?;
+    Ok(world)
+}
+
+/// What the node saw on channel A in the last window, with the window's number.
+fn last_seen(world: &World, place: usize) -> Result<(Seen, u32), Fail> {
+    let journal = interface(world, place)?.journal();
+    let last = journal.len().checked_sub(1).ok_or("no entry")?;
+    match journal.get(last) {
+        Some(Entry::Observe { window, a, .. }) => Ok((a, window)),
+        _ => Err(Fail::from("nothing observed")),
+    }
+}
+
 #[test]
-fn a_babble_of_another_node_is_not_seen(rt: HostRuntime) -> Result<(), Fail> {
-    let mut world = passed_with(rt.alloc(), [babble(2)?, None])?;
-    let held = payload_if_any(&mut world, &read_of(1, 0)?)?;
-    assert_eq!(rt; held, Some(Payload::from_slice(&[0x0a, 0x0b])?));
+fn lists_that_differ_by_a_faulty_node_show_the_same(rt: HostRuntime) -> Result<(), Fail> {
+    let (mut quiet, mut faulty) = (world_of(rt.alloc(), false)?, world_of(rt.alloc(), true)?);
+    for place in 0..3 {
+        let (seen, number) = last_seen(&quiet, place)?;
+        let (seen_too, number_too) = last_seen(&faulty, place)?;
+        assert_eq!(rt; (number, number_too), (7, 6));
+        assert!(rt; seen == seen_too, "at node {place}");
+    }
+    quiet.alike(&faulty);
+    let words = [word(&mut quiet, 0)?, word(&mut faulty, 0)?];
+    assert_eq!(rt; words, [Some([0x0c, 0x0d]); 2]);
     Ok(())
 }

@@ -1,18 +1,12 @@
 //! The tests of frames, lanes and macroticks, of the sender table and of guardians, of the bus, of the world over
-//! events, and of what a run is asked for and its scenario file. Files that are refused are tried by
+//! events, and of runs that no scenario can ask for. What a command of the program can show is tried by
 //! `scripts/commands`. They stand apart from what they test, since a crate with tests is proved twice.
 #![tactic(auto)]
 
 #[cfg(test)]
-mod asked;
-#[cfg(test)]
-mod babbling;
-#[cfg(test)]
 mod bus_faults;
 #[cfg(test)]
 mod bus_runs;
-#[cfg(test)]
-mod divided;
 #[cfg(test)]
 mod faults;
 #[cfg(test)]
@@ -23,8 +17,6 @@ mod minislot;
 mod refusals;
 #[cfg(test)]
 mod schedule;
-#[cfg(test)]
-mod schedule_full;
 #[cfg(test)]
 mod settling;
 #[cfg(test)]

@@ -1,63 +1,56 @@
 //! The lanes of the small cycle, and the last slot of all.
 
 use fr_minislot::lane::{Lane, LaneError};
-use fr_slots::numbers::SlotId;
 use fr_slots::params::Params;
+use fr_testing::SMALL_CYCLE;
 use std::test::Fail;
 
-/// Three static slots, then ten minislots of four words, of which one stays idle after a transmission.
-fn small_cycle() -> Result<Params, Fail> {
-    Ok(Params::new([3, 10, 1, 20, 5, 4, 6, 120, 1, 4])?)
+/// As many static slots as there can be, and more minislots than there are dynamic slots.
+const LAST_SLOT: [i64; 10] = [1023, 2000, 0, 1, 1, 0, 1, 3024, 0, 1];
+
+/// What a lane is asked for: the minislot that opens next, the slot that opens at a minislot, and why more bytes than
+/// a frame has are refused.
+type Opened = (Option<u16>, Option<u16>, Option<LaneError>);
+
+/// What a new lane answers where its first slot was closed with so many bytes, if any, and then so many without any.
+fn opened(params: [i64; 10], sent: &[u16], silent: u16, minislot: u16) -> Result<Opened, Fail> {
+    let mut lane = Lane::new(&Params::new(params)?);
+    for bytes in sent {
+        lane.close(*bytes)?;
+    }
+    for _slot in 0..silent {
+        lane.close(0)?;
+    }
+    let slot = lane.opens(minislot).map(|slot| slot.number());
+    Ok((lane.next(), slot, lane.close(263).err()))
 }
 
 #[test]
 fn a_silent_lane_opens_a_slot_at_each_minislot(rt: HostRuntime) -> Result<(), Fail> {
-    let mut lane = Lane::new(&small_cycle()?);
-    for minislot in 1..11 {
-        let opened = (lane.next(), lane.opens(minislot), lane.close(0));
-        let wanted = (Some(minislot), SlotId::new(minislot + 3), Ok(()));
-        assert_eq!(rt; opened, wanted);
+    for silent in 0..10 {
+        let minislot = silent + 1;
+        let wanted = (Some(minislot), Some(minislot + 3), Some(LaneError::TooLong));
+        assert_eq!(rt; opened(SMALL_CYCLE, &[], silent, minislot)?, wanted);
     }
-    let after = (lane.next(), lane.opens(11), lane.close(263));
-    assert_eq!(rt; after, (None, None, Err(LaneError::NothingOpen)));
     Ok(())
 }
 
 #[test]
-fn four_words_take_three_minislots(rt: HostRuntime) -> Result<(), Fail> {
-    let mut lane = Lane::new(&small_cycle()?);
-    let closed = [lane.close(263), lane.close(16)];
-    assert_eq!(rt; closed, [Err(LaneError::TooLong), Ok(())]);
-    let opened = [1, 2, 3, 4].map(|minislot| lane.opens(minislot));
-    assert_eq!(rt; opened, [None, None, None, SlotId::new(5)]);
-    Ok(())
-}
-
-#[test]
-fn a_lane_ends_with_its_minislots(rt: HostRuntime) -> Result<(), Fail> {
-    let mut lane = Lane::new(&small_cycle()?);
-    lane.close(16)?;
-    for _minislot in 4..10 {
-        lane.close(0)?;
+fn a_lane_opens_what_is_left_of_its_minislots(rt: HostRuntime) -> Result<(), Fail> {
+    let (long, ended) = (Some(LaneError::TooLong), Some(LaneError::NothingOpen));
+    let rows: [([i64; 10], &[u16], u16, u16, Opened); 8] = [
+        (SMALL_CYCLE, &[], 10, 11, (None, None, ended)),
+        // Four words take three minislots.
+        (SMALL_CYCLE, &[16], 0, 1, (Some(4), None, long)),
+        (SMALL_CYCLE, &[16], 0, 3, (Some(4), None, long)),
+        (SMALL_CYCLE, &[16], 0, 4, (Some(4), Some(5), long)),
+        (SMALL_CYCLE, &[16], 6, 10, (Some(10), Some(11), long)),
+        (SMALL_CYCLE, &[16], 7, 10, (None, None, ended)),
+        (LAST_SLOT, &[], 1023, 1024, (Some(1024), Some(2047), long)),
+        (LAST_SLOT, &[], 1024, 1025, (None, None, ended)),
+    ];
+    for (params, sent, silent, minislot, wanted) in rows {
+        assert_eq!(rt; opened(params, sent, silent, minislot)?, wanted);
     }
-    let last = (lane.opens(10), lane.close(0), lane.close(0));
-    assert_eq!(rt;
-        last,
-        (SlotId::new(11), Ok(()), Err(LaneError::NothingOpen))
-    );
-    Ok(())
-}
-
-#[test]
-fn no_slot_opens_after_2047(rt: HostRuntime) -> Result<(), Fail> {
-    let params = Params::new([1023, 2000, 0, 1, 1, 0, 1, 3024, 0, 1])?;
-    let mut lane = Lane::new(&params);
-    for _slot in 1024..2047 {
-        lane.close(0)?;
-    }
-    let last = (lane.opens(1024), lane.close(0));
-    assert_eq!(rt; last, (SlotId::new(2047), Ok(())));
-    let after = (lane.opens(1025), lane.close(0));
-    assert_eq!(rt; after, (None, Err(LaneError::NothingOpen)));
     Ok(())
 }

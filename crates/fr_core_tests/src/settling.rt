@@ -1,45 +1,142 @@
 //! What a settling tells of worlds after their first window, of interfaces and a record of different worlds, and of
 //! scripts.
 
-use crate::worlds::{commit, step_all, three_node_cluster, three_nodes, window};
-use fr_bus::fault::Fault;
+use crate::steps::{Harm, fault_of};
+use crate::worlds::{commit, push_window, step_all, three_node_cluster, three_nodes};
 use fr_core::event::{Event, Reply};
 use fr_core::script::{Action, Line, Script};
-use fr_core::settle::{SettleError, Settled, settle};
+use fr_core::settle::{SettleError, settle};
 use fr_core::world::World;
 use fr_frame::payload::Payload;
 use fr_interface::interface::{Interface, Receipt};
 use fr_slots::channel::Channel;
 use fr_testing::{node, task};
+use fr_trace::pieces::audit_pieces;
+use fr_trace::trace::write_trace;
 use std::alloc::Global;
 use std::test::Fail;
 
 /// What was committed.
 const COMMITTED: [u8; 2] = [0x0a, 0x0b];
 
-/// The world after its first window, where this happened before the window.
-fn after_window(alloc: Global, before: Option<&Event>) -> Result<World, Fail> {
+/// A world: the opening one, or one after its first window, before which nothing happened, node 0 committed, or a bit
+/// was turned on channel A.
+#[derive(Clone, Copy)]
+enum Kind {
+    Opening,
+    Idle,
+    Sent,
+    Corrupt,
+}
+
+/// The world of this kind.
+fn world_of(alloc: Global, kind: Kind) -> Result<World, Fail> {
     let mut world = three_nodes(alloc)?;
-    if let Some(event) = before {
-        world.step(event)?;
+    let mut events = Vec::new(alloc);
+    match kind {
+        Kind::Opening => return Ok(world),
+        Kind::Idle => (),
+        Kind::Sent => events.push(commit(0, &COMMITTED)?)?,
+        Kind::Corrupt => {
+            let fault = fault_of(Harm::Corrupt(Channel::A, 40))?;
+            events.push(Event::Inject(fault))?;
+        }
     }
-    step_all(&mut world, &window(alloc)?)?;
+    push_window(&mut events)?;
+    step_all(&mut world, events.as_slice())?;
     Ok(world)
 }
 
-/// What a settling of these interfaces with the record of that world tells.
-fn settling_of(
+/// What a settling of these interfaces with the record of that world tells: how many windows, or what differs.
+fn told(
     alloc: Global,
     interfaces: &[Interface],
     world: &World,
     scripts: &[Script],
-) -> Result<Result<Settled, SettleError>, Fail> {
+) -> Result<Result<u32, SettleError>, Fail> {
     let cluster = three_node_cluster(alloc)?;
-    Ok(settle(alloc, &cluster, interfaces, world.bus(), scripts))
+    let settled = settle(alloc, &cluster, interfaces, world.bus(), scripts);
+    Ok(settled.map(|settled| settled.windows))
 }
 
-/// The script of the one commit of node 0, with this answer.
-fn script(alloc: Global, answer: Option<Reply>) -> Result<Script, Fail> {
+/// What a settling of the interfaces of one world with the record of another tells, without scripts.
+fn told_between(
+    alloc: Global,
+    interfaces: Kind,
+    record: Kind,
+) -> Result<Result<u32, SettleError>, Fail> {
+    let (one, other) = (world_of(alloc, interfaces)?, world_of(alloc, record)?);
+    told(alloc, one.interfaces(), &other, &[])
+}
+
+#[test]
+fn a_settling_tells_what_differs_first(rt: HostRuntime) -> Result<(), Fail> {
+    let first = node(0)?;
+    let rows = [
+        (Kind::Idle, Kind::Idle, Ok(1)),
+        (
+            Kind::Idle,
+            Kind::Opening,
+            Err(SettleError::WindowsDiffer(first)),
+        ),
+        (
+            Kind::Sent,
+            Kind::Idle,
+            Err(SettleError::OfferDiffers(first, 0)),
+        ),
+        (
+            Kind::Idle,
+            Kind::Corrupt,
+            Err(SettleError::SeenDiffers(node(1)?, 0)),
+        ),
+        (
+            Kind::Sent,
+            Kind::Sent,
+            Err(SettleError::ScriptDiffers(first, task(0)?)),
+        ),
+    ];
+    for (interfaces, record, wanted) in rows {
+        assert_eq!(rt; told_between(rt.alloc(), interfaces, record)?, wanted);
+    }
+    Ok(())
+}
+
+/// The interfaces of these places, each as its trace tells of it again.
+fn told_again(alloc: Global, world: &World, places: &[usize]) -> Result<Vec<Interface>, Fail> {
+    let mut interfaces = Vec::new(alloc);
+    for place in places {
+        let interface = world.interfaces().get(*place).ok_or("no interface")?;
+        let mut text = Vec::with_capacity(alloc, 2048)?;
+        write_trace(interface, &mut text)?;
+        interfaces.push(audit_pieces(alloc, &[text.as_slice()])?)?;
+    }
+    Ok(interfaces)
+}
+
+/// What a settling of the interfaces of these places of an idle world tells with its own record.
+fn told_of_places(alloc: Global, places: &[usize]) -> Result<Result<u32, SettleError>, Fail> {
+    let idle = world_of(alloc, Kind::Idle)?;
+    let interfaces = told_again(alloc, &idle, places)?;
+    told(alloc, interfaces.as_slice(), &idle, &[])
+}
+
+#[test]
+fn interfaces_of_other_nodes_differ(rt: HostRuntime) -> Result<(), Fail> {
+    let rows: [(&[usize], Result<u32, SettleError>); 4] = [
+        (&[0, 1, 2], Ok(1)),
+        (&[1, 0, 2], Err(SettleError::PlanDiffers(0))),
+        (&[1, 2], Err(SettleError::PlanDiffers(0))),
+        (&[0, 1], Err(SettleError::PlanDiffers(2))),
+    ];
+    for (places, wanted) in rows {
+        assert_eq!(rt; told_of_places(rt.alloc(), places)?, wanted);
+    }
+    Ok(())
+}
+
+/// The script of the one commit of node 0, answered with the entry of this number, where one is given.
+fn script(alloc: Global, entry: Option<u32>) -> Result<Script, Fail> {
+    let task = task(0)?;
     let mut lines = Vec::new(alloc);
     lines.push(Line {
         cycle: 0,
@@ -47,109 +144,30 @@ fn script(alloc: Global, answer: Option<Reply>) -> Result<Script, Fail> {
             buffer: 0,
             payload: Payload::from_slice(&COMMITTED)?,
         },
-        answer,
+        answer: entry.map(|entry| Reply::Committed(Receipt { task, entry })),
     })?;
     Ok(Script {
         node: node(0)?,
-        task: task(0)?,
+        task,
         lines,
     })
 }
 
-/// The answer that a commit of the first task got, as the entry of this number.
-fn receipt(entry: u32) -> Result<Reply, Fail> {
-    Ok(Reply::Committed(Receipt {
-        task: task(0)?,
-        entry,
-    }))
-}
-
-/// What a settling of the interfaces of one world with the record of another tells, without scripts.
-fn told_of(
-    alloc: Global,
-    interfaces: &World,
-    record: &World,
-) -> Result<Result<Settled, SettleError>, Fail> {
-    settling_of(alloc, interfaces.interfaces(), record, &[])
-}
-
-/// What a settling of a world tells, where node 0 was to commit and to be answered so.
-fn told_with(
-    alloc: Global,
-    world: &World,
-    answer: Option<Reply>,
-) -> Result<Result<Settled, SettleError>, Fail> {
-    settling_of(alloc, world.interfaces(), world, &[script(alloc, answer)?])
-}
-
-#[test]
-fn a_world_settles_with_its_own_record(rt: HostRuntime) -> Result<(), Fail> {
-    let idle = after_window(rt.alloc(), None)?;
-    let settled = told_of(rt.alloc(), &idle, &idle)?;
-    assert_eq!(rt; settled, Ok(Settled { windows: 1 }));
-    Ok(())
-}
-
-#[test]
-fn windows_that_the_record_has_not_differ(rt: HostRuntime) -> Result<(), Fail> {
-    let idle = after_window(rt.alloc(), None)?;
-    let opening = three_nodes(rt.alloc())?;
-    let settled = told_of(rt.alloc(), &idle, &opening)?;
-    assert_eq!(rt; settled, Err(SettleError::WindowsDiffer(node(0)?)));
-    Ok(())
-}
-
-#[test]
-fn an_offer_that_the_record_has_not_differs(rt: HostRuntime) -> Result<(), Fail> {
-    let sent = after_window(rt.alloc(), Some(&commit(0, &COMMITTED)?))?;
-    let idle = after_window(rt.alloc(), None)?;
-    let settled = told_of(rt.alloc(), &sent, &idle)?;
-    assert_eq!(rt; settled, Err(SettleError::OfferDiffers(node(0)?, 0)));
-    Ok(())
-}
-
-#[test]
-fn a_frame_seen_without_its_turned_bit_differs(rt: HostRuntime) -> Result<(), Fail> {
-    let idle = after_window(rt.alloc(), None)?;
-    let fault = Event::Inject(Fault::Corrupt {
-        channel: Channel::A,
-        bit: 40,
-    });
-    let corrupt = after_window(rt.alloc(), Some(&fault))?;
-    let settled = told_of(rt.alloc(), &idle, &corrupt)?;
-    assert_eq!(rt; settled, Err(SettleError::SeenDiffers(node(1)?, 0)));
-    Ok(())
-}
-
-#[test]
-fn a_commit_without_a_script_differs(rt: HostRuntime) -> Result<(), Fail> {
-    let sent = after_window(rt.alloc(), Some(&commit(0, &COMMITTED)?))?;
-    let settled = told_of(rt.alloc(), &sent, &sent)?;
-    assert_eq!(rt;
-        settled,
-        Err(SettleError::ScriptDiffers(node(0)?, task(0)?))
-    );
-    Ok(())
-}
-
-#[test]
-fn interfaces_of_other_nodes_differ(rt: HostRuntime) -> Result<(), Fail> {
-    let idle = after_window(rt.alloc(), None)?;
-    let settled = settling_of(rt.alloc(), &idle.interfaces()[1..], &idle, &[])?;
-    assert_eq!(rt; settled, Err(SettleError::PlanDiffers(0)));
-    Ok(())
+/// What a settling tells of the world in which node 0 committed, where it was to be answered so.
+fn told_with(alloc: Global, entry: Option<u32>) -> Result<Result<u32, SettleError>, Fail> {
+    let sent = world_of(alloc, Kind::Sent)?;
+    told(alloc, sent.interfaces(), &sent, &[script(alloc, entry)?])
 }
 
 #[test]
 fn a_script_is_compared_with_its_answers(rt: HostRuntime) -> Result<(), Fail> {
-    let sent = after_window(rt.alloc(), Some(&commit(0, &COMMITTED)?))?;
-    let settled = [
-        told_with(rt.alloc(), &sent, None)?,
-        told_with(rt.alloc(), &sent, Some(receipt(0)?))?,
-        told_with(rt.alloc(), &sent, Some(receipt(1)?))?,
+    let rows = [
+        (None, Ok(1)),
+        (Some(0), Ok(1)),
+        (Some(1), Err(SettleError::ScriptDiffers(node(0)?, task(0)?))),
     ];
-    let differs = Err(SettleError::ScriptDiffers(node(0)?, task(0)?));
-    let agrees = Ok(Settled { windows: 1 });
-    assert_eq!(rt; settled, [agrees, agrees, differs]);
+    for (entry, wanted) in rows {
+        assert_eq!(rt; told_with(rt.alloc(), entry)?, wanted);
+    }
     Ok(())
 }

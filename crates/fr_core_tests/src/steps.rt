@@ -5,14 +5,11 @@
 use fr_bus::bus::Bus;
 use fr_bus::error::BusError;
 use fr_bus::fault::Fault;
-use fr_bus::outcome::{Fate, Sent};
 use fr_interface::interface::Offer;
 use fr_schedule::cluster::Cluster;
 use fr_slots::channel::Channel;
-use fr_slots::numbers::NodeId;
 use fr_slots::window::Window;
-use fr_status::seen::Seen;
-use fr_testing::{DATA_ON_A, DATA_ON_B, frame_bytes, node};
+use fr_testing::{frame_bytes, node};
 use std::alloc::Global;
 use std::test::Fail;
 
@@ -36,7 +33,7 @@ own = [{slot = 2, channels = \"AB\"}]
 [[node]]
 ";
 
-/// Three static slots, then ten minislots of four words, of which one stays idle after a transmission, and one node.
+/// Three static slots, then ten minislots of four words, of which one stays idle after a transmission, and two nodes.
 pub(crate) const SMALL_CYCLE: &str = "guard = \"AB\"
 [params]
 static_slots = 3
@@ -59,6 +56,52 @@ pub(crate) fn bus_of(alloc: Global, text: &str, cycles: u16) -> Result<Bus, Fail
     Ok(Bus::new(alloc, &cluster, cycles)?)
 }
 
+/// What a fault does: it babbles these bytes, it loses what a node offers, or it turns a bit.
+#[derive(Clone, Copy)]
+pub(crate) enum Harm {
+    Babble(u8, Channel, &'static [u8]),
+    Mute(u8, Channel),
+    Corrupt(Channel, u16),
+}
+
+/// The fault that does this.
+pub(crate) fn fault_of(harm: Harm) -> Result<Fault, Fail> {
+    Ok(match harm {
+        Harm::Babble(number, channel, bytes) => Fault::Babble {
+            node: node(number)?,
+            channel,
+            bytes: frame_bytes(bytes)?,
+        },
+        Harm::Mute(number, channel) => Fault::Mute {
+            node: node(number)?,
+            channel,
+        },
+        Harm::Corrupt(channel, bit) => Fault::Corrupt { channel, bit },
+    })
+}
+
+/// A call of a bus: the offer of nothing by a node in the window of this number, a fault, the seal, the taking by a
+/// node in the window of this number, and the advance.
+#[derive(Clone, Copy)]
+pub(crate) enum Call {
+    Put(u8, u32),
+    Inject(Harm),
+    Seal,
+    Take(u8, u32),
+    Advance,
+}
+
+/// What the call is refused for.
+pub(crate) fn refusal(bus: &mut Bus, call: Call) -> Result<Option<BusError>, Fail> {
+    Ok(match call {
+        Call::Put(number, window) => bus.put(node(number)?, window, &nothing()).err(),
+        Call::Inject(harm) => bus.inject(fault_of(harm)?).err(),
+        Call::Seal => bus.seal().err(),
+        Call::Take(number, window) => bus.take(node(number)?, window).err(),
+        Call::Advance => bus.advance().err(),
+    })
+}
+
 /// Nothing on both channels.
 pub(crate) fn nothing() -> Offer {
     Offer { a: None, b: None }
@@ -72,82 +115,14 @@ pub(crate) fn offer_of(a: &[u8], b: &[u8]) -> Result<Offer, Fail> {
     })
 }
 
-/// The frame of slot 2 on both channels.
-pub(crate) fn frame() -> Result<Offer, Fail> {
-    offer_of(&DATA_ON_A, &DATA_ON_B)
-}
-
-/// A babble of a node.
-pub(crate) fn babble(number: u8, channel: Channel, list: &[u8]) -> Result<Fault, Fail> {
-    Ok(Fault::Babble {
-        node: node(number)?,
-        channel,
-        bytes: frame_bytes(list)?,
-    })
-}
-
-/// A lost offer of a node.
-pub(crate) fn mute(number: u8, channel: Channel) -> Result<Fault, Fail> {
-    Ok(Fault::Mute {
-        node: node(number)?,
-        channel,
-    })
-}
-
-/// What the offer of nothing is refused for.
-pub(crate) fn put_refusal(bus: &mut Bus, number: u8, window: u32) -> Option<BusError> {
-    let Some(node) = NodeId::new(number) else {
-        return Some(BusError::UnknownNode);
-    };
-    bus.put(node, window, &nothing()).err()
-}
-
-/// What a fault is refused for.
-pub(crate) fn fault_refusal(bus: &mut Bus, fault: Fault) -> Option<BusError> {
-    bus.inject(fault).err()
-}
-
-/// What the seal is refused for.
-pub(crate) fn seal_refusal(bus: &mut Bus) -> Option<BusError> {
-    bus.seal().err()
-}
-
-/// Seals the open window.
-pub(crate) fn seal(bus: &mut Bus) -> Result<(), Fail> {
-    Ok(bus.seal()?)
-}
-
-/// What a node sees in the sealed window, or nothing where it may not take it.
-pub(crate) fn sight(bus: &mut Bus, number: u8, window: u32) -> Option<(Seen, Seen)> {
-    bus.take(NodeId::new(number)?, window).ok()
-}
-
-/// What the taking is refused for.
-pub(crate) fn take_refusal(bus: &mut Bus, number: u8, window: u32) -> Option<BusError> {
-    let Some(node) = NodeId::new(number) else {
-        return Some(BusError::UnknownNode);
-    };
-    bus.take(node, window).err()
-}
-
-/// What the advance is refused for.
-pub(crate) fn advance_refusal(bus: &mut Bus) -> Option<BusError> {
-    bus.advance().err()
-}
-
 /// The open window.
 pub(crate) fn open_window(bus: &Bus) -> Result<Window, Fail> {
     Ok(bus.window().ok_or("no window")?)
 }
 
-/// What was sent in the window of this number.
-pub(crate) fn sent_in(bus: &Bus, number: usize) -> Result<&[Sent], Fail> {
-    Ok(bus.record().get(number).ok_or("no window")?.sent.as_slice())
-}
-
 /// Node 1 offers this in the open window, and the others nothing.
 pub(crate) fn put_all(bus: &mut Bus, offer: &Offer) -> Result<(), Fail> {
-    let number = bus.window().ok_or("no window")?.number;
+    let number = open_window(bus)?.number;
     for n in 0..bus.nodes() {
         if n == 1 {
             bus.put(node(n)?, number, offer)?;
@@ -159,8 +134,8 @@ pub(crate) fn put_all(bus: &mut Bus, offer: &Offer) -> Result<(), Fail> {
 }
 
 /// All nodes take what they see, and the next window opens.
-pub(crate) fn take_all(bus: &mut Bus) -> Result<(), Fail> {
-    let number = bus.window().ok_or("no window")?.number;
+fn take_all(bus: &mut Bus) -> Result<(), Fail> {
+    let number = open_window(bus)?.number;
     for n in 0..bus.nodes() {
         bus.take(node(n)?, number)?;
     }
@@ -175,38 +150,19 @@ pub(crate) fn window_with(bus: &mut Bus, offer: &Offer) -> Result<(), Fail> {
     take_all(bus)
 }
 
-/// The bus of the three nodes in the window of slot 2, where node 2 babbles one byte on both channels.
-pub(crate) fn babbled_bus(alloc: Global) -> Result<Bus, Fail> {
-    let mut bus = bus_of(alloc, THREE_NODES, 1)?;
-    window_with(&mut bus, &nothing())?;
-    bus.inject(babble(2, Channel::A, &[0])?)?;
-    bus.inject(babble(2, Channel::B, &[0])?)?;
+/// A bus on which so many windows have passed in silence.
+pub(crate) fn bus_at(alloc: Global, text: &str, windows: u32) -> Result<Bus, Fail> {
+    let mut bus = bus_of(alloc, text, 1)?;
+    for _window in 0..windows {
+        window_with(&mut bus, &nothing())?;
+    }
     Ok(bus)
 }
 
-/// A transmission of the record.
-pub(crate) fn transmission(
-    number: u8,
-    channel: Channel,
-    list: &[u8],
-    babble: bool,
-    fate: Fate,
-) -> Result<Sent, Fail> {
-    Ok(Sent {
-        node: node(number)?,
-        channel,
-        babble,
-        bytes: frame_bytes(list)?,
-        fate,
-    })
-}
-
-/// What the babbled window's record has, where node 1's offer on A came to this.
-pub(crate) fn babbled_list(fate: Fate) -> Result<[Sent; 4], Fail> {
-    Ok([
-        transmission(1, Channel::A, &DATA_ON_A, false, fate)?,
-        transmission(1, Channel::B, &DATA_ON_B, false, Fate::Passed)?,
-        transmission(2, Channel::A, &[0], true, Fate::Blocked)?,
-        transmission(2, Channel::B, &[0], true, Fate::Passed)?,
-    ])
+/// Injects these faults, and all nodes put: node 1 this and the others nothing.
+pub(crate) fn put_with(bus: &mut Bus, harms: &[Harm], offer: &Offer) -> Result<(), Fail> {
+    for harm in harms {
+        bus.inject(fault_of(*harm)?)?;
+    }
+    put_all(bus, offer)
 }

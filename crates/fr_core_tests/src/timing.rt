@@ -2,17 +2,32 @@
 
 ghost use Rattle.std.specs.Prelude.{◌≡◌, ◌<◌};
 
-use fr_slots::numbers::SlotId;
 use fr_slots::params::Params;
-use fr_testing::SMALL_CYCLE;
+use fr_testing::{ONE_WORD_CYCLE, SMALL_CYCLE, slot};
 use fr_timing::cycle::{locate, start_of};
 use fr_timing::place::Place;
 use std::test::Fail;
 
+/// The small cycle without minislots.
+const WITHOUT_MINISLOTS: [i64; 10] = [3, 0, 1, 20, 5, 4, 6, 70, 1, 4];
+
+/// A cycle with the greatest number of minislots, and of macroticks.
+const LONGEST: [i64; 10] = [4, 8000, 127, 500, 2, 1000, 1000, 20000, 2, 127];
+
+/// The place of the macrotick in a cycle of these parameters.
+fn place_of(params: [i64; 10], macrotick: u32) -> Result<Option<Place>, Fail> {
+    Ok(locate(&Params::new(params)?, macrotick))
+}
+
 /// A place in a static slot.
 fn in_static_slot(number: u16, offset: u32) -> Result<Place, Fail> {
-    let slot = SlotId::new(number).ok_or("no slot")?;
+    let slot = slot(number)?;
     Ok(Place::Static { slot, offset })
+}
+
+/// A place in a minislot.
+fn in_minislot(number: u16, offset: u32) -> Place {
+    Place::Minislot { number, offset }
 }
 
 /// The macrotick that the place of a macrotick names.
@@ -22,70 +37,45 @@ fn there_and_back(params: &Params, macrotick: u32) -> Option<u32>
     start_of(params, locate(params, macrotick)?)
 }
 
-/// A place in a minislot.
-fn in_minislot(number: u16, offset: u32) -> Place {
-    Place::Minislot { number, offset }
-}
-
 #[test]
-fn places_of_the_small_cycle(rt: HostRuntime) -> Result<(), Fail> {
-    let params = Params::new(SMALL_CYCLE)?;
-    let places = [0, 59, 60, 109, 110, 119, 120].map(|macrotick| locate(&params, macrotick));
-    let wanted = [
-        Some(in_static_slot(1, 0)?),
-        Some(in_static_slot(3, 19)?),
-        Some(in_minislot(1, 0)),
-        Some(in_minislot(10, 4)),
-        Some(Place::Symbol { offset: 0 }),
-        Some(Place::Idle { offset: 5 }),
-        None,
+fn macroticks_have_their_places(rt: HostRuntime) -> Result<(), Fail> {
+    let rows = [
+        (SMALL_CYCLE, 0, Some(in_static_slot(1, 0)?)),
+        (SMALL_CYCLE, 59, Some(in_static_slot(3, 19)?)),
+        (SMALL_CYCLE, 60, Some(in_minislot(1, 0))),
+        (SMALL_CYCLE, 109, Some(in_minislot(10, 4))),
+        (SMALL_CYCLE, 110, Some(Place::Symbol { offset: 0 })),
+        (SMALL_CYCLE, 119, Some(Place::Idle { offset: 5 })),
+        (SMALL_CYCLE, 120, None),
+        (WITHOUT_MINISLOTS, 60, Some(Place::Symbol { offset: 0 })),
+        (ONE_WORD_CYCLE, 80, Some(Place::Idle { offset: 0 })),
+        (LONGEST, 19999, Some(Place::Idle { offset: 999 })),
+        (LONGEST, 20000, None),
+        (LONGEST, u32::MAX, None),
     ];
-    assert_eq!(rt; places, wanted);
+    for (params, macrotick, place) in rows {
+        assert!(rt; place_of(params, macrotick)? == place, "at {macrotick}");
+    }
     Ok(())
 }
 
 #[test]
-fn macroticks_of_the_small_cycle(rt: HostRuntime) -> Result<(), Fail> {
+fn places_have_their_macroticks(rt: HostRuntime) -> Result<(), Fail> {
     let params = Params::new(SMALL_CYCLE)?;
-    let macroticks = [
-        start_of(&params, in_static_slot(3, 19)?),
-        start_of(&params, in_minislot(10, 4)),
-        start_of(&params, Place::Symbol { offset: 3 }),
-        start_of(&params, Place::Idle { offset: 0 }),
-        there_and_back(&params, 77),
+    let rows = [
+        (in_static_slot(3, 19)?, Some(59)),
+        (in_static_slot(3, 20)?, None),
+        (in_static_slot(4, 0)?, None),
+        (in_minislot(0, 0), None),
+        (in_minislot(10, 4), Some(109)),
+        (in_minislot(11, 0), None),
+        (Place::Symbol { offset: 3 }, Some(113)),
+        (Place::Idle { offset: 0 }, Some(114)),
+        (Place::Idle { offset: u32::MAX }, None),
     ];
-    assert_eq!(rt; macroticks, [59, 109, 113, 114, 77].map(Some));
-    Ok(())
-}
-
-#[test]
-fn places_that_the_small_cycle_has_not(rt: HostRuntime) -> Result<(), Fail> {
-    let params = Params::new(SMALL_CYCLE)?;
-    let macroticks = [
-        start_of(&params, in_static_slot(4, 0)?),
-        start_of(&params, in_static_slot(3, 20)?),
-        start_of(&params, in_minislot(0, 0)),
-        start_of(&params, in_minislot(11, 0)),
-        start_of(&params, Place::Idle { offset: u32::MAX }),
-    ];
-    assert_eq!(rt; macroticks, [None; 5]);
-    Ok(())
-}
-
-#[test]
-fn the_symbol_window_stands_between_its_neighbours(rt: HostRuntime) -> Result<(), Fail> {
-    let without_minislots = Params::new([3, 0, 1, 20, 5, 4, 6, 70, 1, 4])?;
-    let without_symbols = Params::new([3, 4, 1, 20, 5, 0, 10, 90, 0, 5])?;
-    let places = [locate(&without_minislots, 60), locate(&without_symbols, 80)];
-    let wanted = [Place::Symbol { offset: 0 }, Place::Idle { offset: 0 }];
-    assert_eq!(rt; places, wanted.map(Some));
-    Ok(())
-}
-
-#[test]
-fn the_longest_cycle_ends_in_idle_time(rt: HostRuntime) -> Result<(), Fail> {
-    let params = Params::new([4, 8000, 127, 500, 2, 1000, 1000, 20000, 2, 127])?;
-    let places = [19999, 20000, u32::MAX].map(|macrotick| locate(&params, macrotick));
-    assert_eq!(rt; places, [Some(Place::Idle { offset: 999 }), None, None]);
+    for (place, macrotick) in rows {
+        assert_eq!(rt; start_of(&params, place), macrotick);
+    }
+    assert_eq!(rt; there_and_back(&params, 77), Some(77));
     Ok(())
 }

@@ -1,14 +1,13 @@
 //! Withdraws among the events of a run of two cycles: what they take back, what is then sent, and how they are settled.
 
-use crate::worlds::refusal;
+use crate::worlds::{commit, interface, refusal, step_all};
 use fr_core::error::StepError;
 use fr_core::event::{Event, Reply};
 use fr_core::script::{Action, Line, Script};
-use fr_core::settle::{SettleError, Settled, settle};
+use fr_core::settle::{SettleError, settle};
 use fr_core::world::World;
 use fr_frame::payload::Payload;
 use fr_interface::errors::HostError;
-use fr_interface::interface::{Interface, Receipt};
 use fr_interface::source::Source;
 use fr_journal::entry::{Entry, Offered};
 use fr_journal::fate::Tally;
@@ -17,8 +16,8 @@ use fr_testing::{node, task};
 use std::alloc::Global;
 use std::test::Fail;
 
-/// Three static slots of one word, and four minislots.
-const ONE_WORD_CYCLE: &str = "[params]
+/// Three static slots of one word, and four minislots. The one node has room for six host entries.
+const CLUSTER: &str = "[params]
 static_slots = 3
 minislots = 4
 static_words = 1
@@ -29,55 +28,32 @@ nit_mt = 10
 cycle_mt = 90
 idle = 0
 words_per_minislot = 5
-";
-
-/// The one node owns slot 1, with a transmit buffer in event mode, and receives slot 2.
-const EVENT_MODE: &str = "[[node]]
+[[node]]
 tasks = 1
 host_entries = 6
 own = [{slot = 1, channels = \"AB\"}]
-buffer = [{kind = \"event\", slot = 1, channels = \"AB\"}, {kind = \"receive\", slot = 2, channels = \"A\"}]
+";
+
+/// It has a transmit buffer in event mode for slot 1, and receives slot 2.
+const EVENT_MODE: &str =
+    "buffer = [{kind = \"event\", slot = 1, channels = \"AB\"}, {kind = \"receive\", slot = 2, channels = \"A\"}]
 ";
 
 /// The same in state mode.
-const STATE_MODE: &str = "[[node]]
-tasks = 1
-host_entries = 6
-own = [{slot = 1, channels = \"AB\"}]
-buffer = [{kind = \"state\", slot = 1, channels = \"AB\"}, {kind = \"receive\", slot = 2, channels = \"A\"}]
+const STATE_MODE: &str =
+    "buffer = [{kind = \"state\", slot = 1, channels = \"AB\"}, {kind = \"receive\", slot = 2, channels = \"A\"}]
 ";
 
-/// How many windows a cycle has in which nothing is sent in the minislots.
-const WINDOWS: u32 = 7;
-
 /// The cluster of the one node.
-fn cluster_of(alloc: Global, one_node: &str) -> Result<Cluster, Fail> {
-    let text = format!(in alloc; "{ONE_WORD_CYCLE}{one_node}")?;
+fn cluster_of(alloc: Global, buffers: &str) -> Result<Cluster, Fail> {
+    let text = format!(in alloc; "{CLUSTER}{buffers}")?;
     Ok(Cluster::from_text(alloc, text.as_str())?)
 }
 
 /// The opening world of the one node.
-fn opening(alloc: Global, one_node: &str) -> Result<World, Fail> {
-    let cluster = cluster_of(alloc, one_node)?;
+fn opening(alloc: Global, buffers: &str) -> Result<World, Fail> {
+    let cluster = cluster_of(alloc, buffers)?;
     Ok(World::new(alloc, &cluster, 2)?)
-}
-
-/// Its task commits this to buffer 0.
-fn commit(world: &mut World, low: u8) -> Result<Reply, Fail> {
-    Ok(world.step(&Event::Commit {
-        node: node(0)?,
-        task: task(0)?,
-        buffer: 0,
-        payload: Payload::from_slice(&[0, low])?,
-    })?)
-}
-
-/// The reply to its commit that is this entry.
-fn commit_reply(entry: u32) -> Result<Reply, Fail> {
-    Ok(Reply::Committed(Receipt {
-        task: task(0)?,
-        entry,
-    }))
 }
 
 /// A withdraw from this buffer.
@@ -89,205 +65,209 @@ fn withdraw_of(number: u8, of: u8, buffer: u8) -> Result<Event, Fail> {
     })
 }
 
-/// Its task withdraws from buffer 0.
-fn withdraw(world: &mut World) -> Result<Reply, Fail> {
-    Ok(world.step(&withdraw_of(0, 0, 0)?)?)
+/// What happens: its task commits a word, or withdraws; the open window is fetched; the window that was fetched ends;
+/// or so many whole windows pass.
+#[derive(Clone, Copy)]
+enum Deed {
+    Commit(u8),
+    Withdraw,
+    Fetch,
+    Finish,
+    Windows(u32),
 }
 
-/// The node fetches the open window.
+/// The entry that the reply names: of a commit its own, and of a withdraw that of what it took back.
+fn entry_of(reply: Reply) -> Option<u32> {
+    match reply {
+        Reply::Committed(receipt) => Some(receipt.entry),
+        Reply::Withdrawn(of) => of,
+        _ => None,
+    }
+}
+
+/// The open window is fetched.
 fn fetch(world: &mut World) -> Result<(), Fail> {
-    world.step(&Event::Look(node(0)?))?;
-    world.step(&Event::Fetch(node(0)?))?;
-    Ok(())
+    let node = node(0)?;
+    step_all(world, &[Event::Look(node), Event::Fetch(node)])
 }
 
 /// The window that was fetched ends.
 fn finish(world: &mut World) -> Result<(), Fail> {
-    world.step(&Event::Put(node(0)?))?;
-    world.step(&Event::Seal)?;
-    world.step(&Event::Take(node(0)?))?;
-    world.step(&Event::Observe(node(0)?))?;
-    world.step(&Event::Advance)?;
-    Ok(())
+    let node = node(0)?;
+    step_all(world, &[Event::Put(node), Event::Seal])?;
+    step_all(
+        world,
+        &[Event::Take(node), Event::Observe(node), Event::Advance],
+    )
 }
 
-/// So many whole windows.
-fn windows(world: &mut World, count: u32) -> Result<(), Fail> {
-    for _window in 0..count {
-        fetch(world)?;
-        finish(world)?;
+/// Does this, and answers the entry that the reply names.
+fn done(world: &mut World, deed: Deed) -> Result<Option<u32>, Fail> {
+    match deed {
+        Deed::Commit(low) => return Ok(entry_of(world.step(&commit(0, &[0, low])?)?)),
+        Deed::Withdraw => return Ok(entry_of(world.step(&withdraw_of(0, 0, 0)?)?)),
+        Deed::Fetch => fetch(world)?,
+        Deed::Finish => finish(world)?,
+        Deed::Windows(count) => {
+            for _window in 0..count {
+                fetch(world)?;
+                finish(world)?;
+            }
+        }
     }
-    Ok(())
-}
-
-/// The node's interface.
-fn interface(world: &World) -> Result<&Interface, Fail> {
-    Ok(world.interfaces().first().ok_or("no interface")?)
+    Ok(None)
 }
 
 /// What the fetch of this number handed to the bus on channel A.
-fn offer_in_fetch(world: &World, number: u32) -> Result<Offered, Fail> {
-    match interface(world)?.journal().get(number) {
+fn offer_in(world: &World, number: u32) -> Result<Offered, Fail> {
+    match interface(world, 0)?.journal().get(number) {
         Some(Entry::Fetch { a, .. }) => Ok(a),
         _ => Err(Fail::from("no fetch")),
     }
 }
 
-/// What became of the commits, and where what the buffer holds comes from.
-fn outcome(world: &World) -> Result<(Option<Tally>, Option<Source>), Fail> {
-    let interface = interface(world)?;
-    Ok((interface.tally(0), interface.held(0)))
+/// A course of events: the node's buffers; what happens, with the entry that each reply is to name; what the fetches of
+/// these numbers are to hand over; what is to become of the commits, and what the buffer is to hold.
+#[derive(Clone, Copy)]
+struct Course {
+    buffers: &'static str,
+    deeds: &'static [(Deed, Option<u32>)],
+    offers: &'static [(u32, Offered)],
+    tally: Tally,
+    held: Option<Source>,
 }
 
-/// Its task commits and withdraws before the first window, and withdraws and commits twice after it.
-fn early_replies(world: &mut World) -> Result<[Reply; 5], Fail> {
-    let first = commit(world, 1)?;
-    let second = withdraw(world)?;
-    windows(world, 1)?;
-    let third = withdraw(world)?;
-    let fourth = commit(world, 2)?;
-    Ok([first, second, third, fourth, commit(world, 3)?])
-}
+/// How many windows a cycle has in which nothing is sent in the minislots.
+const WINDOWS: u32 = 7;
 
-/// What these calls are to be answered.
-fn early_answers() -> Result<[Reply; 5], Fail> {
-    Ok([
-        commit_reply(0)?,
-        Reply::Withdrawn(Some(0)),
-        Reply::Withdrawn(None),
-        commit_reply(5)?,
-        commit_reply(6)?,
-    ])
-}
-
-/// Its task withdraws once the window of slot 1 in the second cycle was fetched, after the first window of a run.
-fn late_reply(world: &mut World) -> Result<Reply, Fail> {
-    windows(world, WINDOWS - 1)?;
-    fetch(world)?;
-    let reply = withdraw(world)?;
-    finish(world)?;
-    Ok(reply)
-}
-
-#[test]
-fn a_withdrawn_commit_is_never_sent(rt: HostRuntime) -> Result<(), Fail> {
-    let mut world = opening(rt.alloc(), EVENT_MODE)?;
-    let replies = early_replies(&mut world)?;
-    assert_eq!(rt; replies, early_answers()?);
-    let reply = late_reply(&mut world)?;
-    assert_eq!(rt;
-        (
-            offer_in_fetch(&world, 2)?,
-            offer_in_fetch(&world, 19)?,
-            reply
-        ),
-        (Offered::Null, Offered::Data(6), Reply::Withdrawn(None))
-    );
-    let tally = Tally {
+/// A withdrawn commit is never sent.
+const WITHDRAWN: Course = Course {
+    buffers: EVENT_MODE,
+    deeds: &[
+        (Deed::Commit(1), Some(0)),
+        (Deed::Withdraw, Some(0)),
+        (Deed::Windows(1), None),
+        (Deed::Withdraw, None),
+        (Deed::Commit(2), Some(5)),
+        (Deed::Commit(3), Some(6)),
+        (Deed::Windows(WINDOWS - 1), None),
+        (Deed::Fetch, None),
+        // The last commit was handed over.
+        (Deed::Withdraw, None),
+        (Deed::Finish, None),
+    ],
+    offers: &[(2, Offered::Null), (19, Offered::Data(6))],
+    tally: Tally {
         committed: 3,
         sent: 1,
         overwritten: 1,
         pending: 0,
         withdrawn: 1,
-    };
-    assert_eq!(rt; outcome(&world)?, (Some(tally), Some(Source::Commit(6))));
-    Ok(())
-}
+    },
+    held: Some(Source::Commit(6)),
+};
 
-#[test]
-fn a_state_commit_that_was_sent_stands(rt: HostRuntime) -> Result<(), Fail> {
-    let mut world = opening(rt.alloc(), STATE_MODE)?;
-    let first = commit(&mut world, 1)?;
-    windows(&mut world, 1)?;
-    let replies = [first, withdraw(&mut world)?];
-    assert_eq!(rt; replies, [commit_reply(0)?, Reply::Withdrawn(None)]);
-    windows(&mut world, WINDOWS)?;
-    assert_eq!(rt;
-        (offer_in_fetch(&world, 1)?, offer_in_fetch(&world, 16)?),
-        (Offered::Data(0), Offered::Data(0))
-    );
-    Ok(())
-}
+/// A state commit that was sent stands.
+const SENT: Course = Course {
+    buffers: STATE_MODE,
+    deeds: &[
+        (Deed::Commit(1), Some(0)),
+        (Deed::Windows(1), None),
+        (Deed::Withdraw, None),
+        (Deed::Windows(WINDOWS), None),
+    ],
+    offers: &[(1, Offered::Data(0)), (16, Offered::Data(0))],
+    tally: Tally {
+        committed: 1,
+        sent: 1,
+        overwritten: 0,
+        pending: 0,
+        withdrawn: 0,
+    },
+    held: Some(Source::Commit(0)),
+};
 
-/// Its task commits before the first window, and after it withdraws, commits and withdraws.
-fn state_replies(world: &mut World) -> Result<[Reply; 4], Fail> {
-    let first = commit(world, 1)?;
-    windows(world, 1)?;
-    let second = withdraw(world)?;
-    let third = commit(world, 2)?;
-    Ok([first, second, third, withdraw(world)?])
-}
-
-/// What these calls are to be answered.
-fn state_answers() -> Result<[Reply; 4], Fail> {
-    Ok([
-        commit_reply(0)?,
-        Reply::Withdrawn(None),
-        commit_reply(4)?,
-        Reply::Withdrawn(Some(4)),
-    ])
-}
-
-#[test]
-fn a_withdrawn_state_commit_leaves_nothing(rt: HostRuntime) -> Result<(), Fail> {
-    let mut world = opening(rt.alloc(), STATE_MODE)?;
-    let replies = state_replies(&mut world)?;
-    assert_eq!(rt; replies, state_answers()?);
-    windows(&mut world, WINDOWS)?;
-    assert_eq!(rt;
-        (offer_in_fetch(&world, 1)?, offer_in_fetch(&world, 18)?),
-        (Offered::Data(0), Offered::Null)
-    );
-    let tally = Tally {
+/// A withdrawn state commit leaves nothing.
+const LEFT_EMPTY: Course = Course {
+    buffers: STATE_MODE,
+    deeds: &[
+        (Deed::Commit(1), Some(0)),
+        (Deed::Windows(1), None),
+        (Deed::Withdraw, None),
+        (Deed::Commit(2), Some(4)),
+        (Deed::Withdraw, Some(4)),
+        (Deed::Windows(WINDOWS), None),
+    ],
+    offers: &[(1, Offered::Data(0)), (18, Offered::Null)],
+    tally: Tally {
         committed: 2,
         sent: 1,
         overwritten: 0,
         pending: 0,
         withdrawn: 1,
-    };
-    assert_eq!(rt; outcome(&world)?, (Some(tally), None));
+    },
+    held: None,
+};
+
+/// Whether the course comes as it is to.
+fn comes(alloc: Global, course: Course) -> Result<bool, Fail> {
+    let mut world = opening(alloc, course.buffers)?;
+    let mut comes = true;
+    for (deed, wanted) in course.deeds {
+        comes = done(&mut world, *deed)? == *wanted && comes;
+    }
+    for (number, wanted) in course.offers {
+        comes = comes && offer_in(&world, *number)? == *wanted;
+    }
+    let interface = interface(&world, 0)?;
+    let (tally, held) = (interface.tally(0), interface.held(0));
+    Ok(comes && tally == Some(course.tally) && held == course.held)
+}
+
+#[test]
+fn a_withdraw_takes_back_what_is_pending_alone(rt: HostRuntime) -> Result<(), Fail> {
+    for course in [WITHDRAWN, SENT, LEFT_EMPTY] {
+        assert!(rt; comes(rt.alloc(), course)?);
+    }
     Ok(())
 }
 
 #[test]
 fn withdraws_are_refused_as_commits_are(rt: HostRuntime) -> Result<(), Fail> {
     let mut world = opening(rt.alloc(), EVENT_MODE)?;
-    let refused = [
-        refusal(&mut world, &withdraw_of(1, 0, 0)?),
-        refusal(&mut world, &withdraw_of(0, 1, 2)?),
-        refusal(&mut world, &withdraw_of(0, 0, 2)?),
-        refusal(&mut world, &withdraw_of(0, 0, 1)?),
+    let rows = [
+        (1, 0, 0, Some(StepError::UnknownNode)),
+        (0, 1, 2, Some(StepError::Host(HostError::UnknownTask))),
+        (0, 0, 2, Some(StepError::Host(HostError::UnknownBuffer))),
+        (0, 0, 1, Some(StepError::Host(HostError::NotTransmit))),
+        (0, 0, 0, None),
+        (0, 0, 0, None),
+        (0, 0, 0, None),
+        (0, 0, 0, None),
+        (0, 0, 0, None),
+        (0, 0, 0, None),
+        (0, 0, 0, Some(StepError::Host(HostError::HostFull))),
     ];
-    assert_eq!(rt;
-        refused,
-        [
-            Some(StepError::UnknownNode),
-            Some(StepError::Host(HostError::UnknownTask)),
-            Some(StepError::Host(HostError::UnknownBuffer)),
-            Some(StepError::Host(HostError::NotTransmit))
-        ]
-    );
-    for _call in 0..6 {
-        withdraw(&mut world)?;
+    for (number, of, buffer, wanted) in rows {
+        assert_eq!(rt;
+            refusal(&mut world, &withdraw_of(number, of, buffer)?),
+            wanted
+        );
     }
-    let full = refusal(&mut world, &withdraw_of(0, 0, 0)?);
-    assert_eq!(rt; full, Some(StepError::Host(HostError::HostFull)));
     Ok(())
 }
 
-/// What a settling tells of the world, where its task was to commit, and to withdraw and be answered so.
-fn settling_of(
-    alloc: Global,
-    world: &World,
-    answer: Option<u32>,
-) -> Result<Result<Settled, SettleError>, Fail> {
+/// What a settling tells of a world in which the task committed and withdrew, where it was to be answered so.
+fn told_with(alloc: Global, answer: Option<u32>) -> Result<Result<u32, SettleError>, Fail> {
+    let mut world = opening(alloc, EVENT_MODE)?;
+    for deed in [Deed::Commit(1), Deed::Withdraw, Deed::Windows(1)] {
+        done(&mut world, deed)?;
+    }
+    let payload = Payload::from_slice(&[0, 1])?;
     let mut lines = Vec::new(alloc);
     lines.push(Line {
         cycle: 0,
-        action: Action::Commit {
-            buffer: 0,
-            payload: Payload::from_slice(&[0, 1])?,
-        },
+        action: Action::Commit { buffer: 0, payload },
         answer: None,
     })?;
     lines.push(Line {
@@ -301,20 +281,15 @@ fn settling_of(
         lines,
     };
     let cluster = cluster_of(alloc, EVENT_MODE)?;
-    Ok(settle(alloc, &cluster, world.interfaces(), world.bus(), &[script]))
+    let settled = settle(alloc, &cluster, world.interfaces(), world.bus(), &[script]);
+    Ok(settled.map(|settled| settled.windows))
 }
 
 #[test]
 fn a_script_is_compared_with_what_was_withdrawn(rt: HostRuntime) -> Result<(), Fail> {
-    let mut world = opening(rt.alloc(), EVENT_MODE)?;
-    commit(&mut world, 1)?;
-    withdraw(&mut world)?;
-    windows(&mut world, 1)?;
-    let settled = [
-        settling_of(rt.alloc(), &world, Some(0))?,
-        settling_of(rt.alloc(), &world, None)?,
-    ];
     let differs = Err(SettleError::ScriptDiffers(node(0)?, task(0)?));
-    assert_eq!(rt; settled, [Ok(Settled { windows: 1 }), differs]);
+    for (answer, wanted) in [(Some(0), Ok(1)), (None, differs)] {
+        assert_eq!(rt; told_with(rt.alloc(), answer)?, wanted);
+    }
     Ok(())
 }

@@ -7,9 +7,7 @@ use fr_core::event::{Event, Reply};
 use fr_core::world::World;
 use fr_frame::payload::Payload;
 use fr_interface::interface::Interface;
-use fr_journal::fate::Tally;
 use fr_schedule::cluster::Cluster;
-use fr_status::counters::Counters;
 use fr_testing::{node, task};
 use std::alloc::Global;
 use std::test::Fail;
@@ -37,6 +35,7 @@ own = [{slot = 2, channels = \"AB\"}]
 buffer = [{kind = \"receive\", slot = 1, channels = \"A\"}, {kind = \"receive\", slot = 1, channels = \"B\"}]
 [[node]]
 tasks = 2
+buffer = [{kind = \"event\", slot = 4, channels = \"A\", words = 1}]
 ";
 
 /// The number of the cluster's nodes.
@@ -47,10 +46,10 @@ pub(crate) fn three_node_cluster(alloc: Global) -> Result<Cluster, Fail> {
     Ok(Cluster::from_text(alloc, THREE_NODES)?)
 }
 
-/// The opening world of the three nodes, for a run of one cycle.
+/// The opening world of the three nodes, for a run of two cycles.
 pub(crate) fn three_nodes(alloc: Global) -> Result<World, Fail> {
     let cluster = three_node_cluster(alloc)?;
-    Ok(World::new(alloc, &cluster, 1)?)
+    Ok(World::new(alloc, &cluster, 2)?)
 }
 
 /// The first task of the node gives this to its buffer 0.
@@ -63,24 +62,9 @@ pub(crate) fn commit(number: u8, list: &[u8]) -> Result<Event, Fail> {
     })
 }
 
-/// The first task of the node reads its buffer 0.
-pub(crate) fn read(number: u8) -> Result<Event, Fail> {
-    read_of(number, 0)
-}
-
-/// The first task of the node reads its buffer of this number.
-pub(crate) fn read_of(number: u8, buffer: u8) -> Result<Event, Fail> {
-    Ok(Event::Read {
-        node: node(number)?,
-        task: task(0)?,
-        buffer,
-    })
-}
-
-/// The events of a whole window: each node looks, fetches and puts, the window is sealed, and each node takes and
-/// observes.
-pub(crate) fn window(alloc: Global) -> Result<Vec<Event>, Fail> {
-    let mut events = Vec::new(alloc);
+/// The events of a whole window but for the advance: each node looks, fetches and puts, the window is sealed, and each
+/// node takes and observes.
+pub(crate) fn push_window(events: &mut Vec<Event>) -> Result<(), Fail> {
     for number in 0..NODES {
         events.push(Event::Look(node(number)?))?;
         events.push(Event::Fetch(node(number)?))?;
@@ -91,7 +75,7 @@ pub(crate) fn window(alloc: Global) -> Result<Vec<Event>, Fail> {
         events.push(Event::Take(node(number)?))?;
         events.push(Event::Observe(node(number)?))?;
     }
-    Ok(events)
+    Ok(())
 }
 
 /// Why the event is refused, or nothing where it is accepted.
@@ -107,53 +91,24 @@ pub(crate) fn step_all(world: &mut World, events: &[Event]) -> Result<(), Fail> 
     Ok(())
 }
 
-/// The controller looks, fetches and puts.
-pub(crate) fn offer(world: &mut World, number: u8) -> Result<(), Fail> {
-    world.step(&Event::Look(node(number)?))?;
-    world.step(&Event::Fetch(node(number)?))?;
-    world.step(&Event::Put(node(number)?))?;
-    Ok(())
-}
-
-/// The controller takes and observes, and then this is whether all are between two windows.
-pub(crate) fn are_between_after(world: &mut World, number: u8) -> Result<bool, Fail> {
-    world.step(&Event::Take(node(number)?))?;
-    world.step(&Event::Observe(node(number)?))?;
-    Ok(world.between_windows())
-}
-
-/// The payload that the event reads; no frame fails the test.
-pub(crate) fn payload_read(world: &mut World, event: &Event) -> Result<Payload, Fail> {
-    match world.step(event)? {
-        Reply::Frame(Some(frame)) => Ok(frame.payload),
+/// The payload that the node's receive buffer holds, if any, as its first task reads it.
+pub(crate) fn payload_read(
+    world: &mut World,
+    number: u8,
+    buffer: u8,
+) -> Result<Option<Payload>, Fail> {
+    let read = Event::Read {
+        node: node(number)?,
+        task: task(0)?,
+        buffer,
+    };
+    match world.step(&read)? {
+        Reply::Frame(frame) => Ok(frame.map(|frame| frame.payload)),
         _ => Err(Fail::from("no frame")),
     }
 }
 
-/// The payload that the event reads, or nothing where there is no frame.
-pub(crate) fn payload_if_any(world: &mut World, event: &Event) -> Result<Option<Payload>, Fail> {
-    match world.step(event)? {
-        Reply::Frame(Some(frame)) => Ok(Some(frame.payload)),
-        _ => Ok(None),
-    }
-}
-
 /// The interface at this place; none fails the test.
-fn interface(world: &World, place: usize) -> Result<&Interface, Fail> {
+pub(crate) fn interface(world: &World, place: usize) -> Result<&Interface, Fail> {
     Ok(world.interfaces().get(place).ok_or("no interface")?)
-}
-
-/// What became of the commits on the node's buffer 0.
-pub(crate) fn tally(world: &World, place: usize) -> Result<Tally, Fail> {
-    Ok(interface(world, place)?.tally(0).ok_or("no tally")?)
-}
-
-/// The node's status counters.
-pub(crate) fn counters(world: &World, place: usize) -> Result<Counters, Fail> {
-    Ok(interface(world, place)?.counters())
-}
-
-/// How many windows the record has.
-pub(crate) fn windows(world: &World) -> usize {
-    world.bus().record().len()
 }
