@@ -129,7 +129,7 @@ fn desk_answers_the_held_frame(rt: HostRuntime) -> Result<(), Fail> {
     let frames = read_frames::<Brand, _>(&rt, alloc, blank, interface)?;
     let first = data_frame(2, 0, &[0x0a, 0x0b])?;
     let second = data_frame(2, 1, &[0x0c, 0x0d])?;
-    assert_eq!(rt; frames, [None, Some(first), Some(second)]);
+    assert!(rt; frames == [None, Some(first), Some(second)]);
     Ok(())
 }
 
@@ -168,7 +168,7 @@ fn desk_answers_the_queued_frames(rt: HostRuntime) -> Result<(), Fail> {
     let frames = popped_frames::<Brand, _>(&rt, alloc, blank, interface)?;
     let first = data_frame(2, 0, &[0x0a, 0x0b])?;
     let second = data_frame(2, 1, &[0x0c, 0x0d])?;
-    assert_eq!(rt; frames, [Some(first), Some(second), None]);
+    assert!(rt; frames == [Some(first), Some(second), None]);
     Ok(())
 }
 
@@ -207,44 +207,7 @@ fn desk_stores_what_it_was_given(rt: HostRuntime) -> Result<(), Fail> {
         buffer: 0,
         payload: Payload::from_slice(&[0x0a, 0x0b])?,
     };
-    assert_eq!(rt; entry, Some(stored));
-    assert_eq!(rt; frame, data_frame(1, 0, &[0x0a, 0x0b])?);
-    Ok(())
-}
-
-/// What two withdraws through a desk answer, the first of which finds a commit, and whether the next window of slot 1
-/// is offered a null frame on channel A.
-fn left_by_withdraws<L: Ledger, R: Wait>(
-    rt: &R,
-    alloc: Global,
-    blank: Blank,
-    interface: Interface,
-) -> Result<([Option<u32>; 2], bool, u32), Fail>
-    requires name { blank.name ≡ L.name }
-    requires parts { blank.parts ≡ L.parts }
-    requires one_each { blank.parts ≡ parts_for interface.plan.tasks }
-    requires fresh { interface.entries ≡ [] }
-{
-    let (desk, mut passes) = Desk::<L>::open(alloc, blank, node(0)?, interface)?;
-    let mut pass = next_pass(&mut passes)?;
-    let payload = Payload::from_slice(&[0x0a, 0x0b])?;
-    let _receipt = desk.commit(rt, &OpenGate, &mut pass, 0, &payload)?;
-    let found = desk.withdraw(rt, &OpenGate, &mut pass, 0)?;
-    let nothing = desk.withdraw(rt, &OpenGate, &mut pass, 0)?;
-    let offer = desk.fetch(rt, &OpenGate, &window(0, 1)?)?;
-    let bytes = offer.a.ok_or("an offer")?;
-    let frame = decode(bytes.as_slice(), Channel::A)?;
-    let (interface, _book, _own) = desk.close();
-    Ok(([found, nothing], !frame.has_data, interface.journal().len()))
-}
-
-#[test]
-fn a_desk_takes_a_commit_back(rt: HostRuntime) -> Result<(), Fail> {
-    let alloc = rt.alloc();
-    let interface = sender(alloc)?;
-    let blank = Blank::new(parts(&interface));
-    let (answers, is_null, entries) = left_by_withdraws::<Brand, _>(&rt, alloc, blank, interface)?;
-    assert_eq!(rt; answers, [Some(0), None]);
-    assert_eq!(rt; (is_null, entries), (true, 4));
+    assert!(rt; entry == Some(stored));
+    assert!(rt; frame == data_frame(1, 0, &[0x0a, 0x0b])?);
     Ok(())
 }

@@ -1,5 +1,5 @@
-//! The tests of books, desks and wires, of runs in threads and their outcome, of the words of an order, and of what
-//! commands do with a text. `scripts/commands` tries the commands on many more.
+//! The tests of books, desks and wires, and of runs in threads and their outcome. `scripts/commands` tries each command
+//! of the program, runs too, on many texts.
 #![tactic(auto)]
 
 #[cfg(test)]
@@ -9,15 +9,9 @@ mod books;
 #[cfg(test)]
 mod desks;
 #[cfg(test)]
-mod files;
-#[cfg(test)]
 mod hold;
 #[cfg(test)]
-mod midpoints;
-#[cfg(test)]
 mod opened;
-#[cfg(test)]
-mod orders;
 #[cfg(test)]
 mod outcomes;
 #[cfg(test)]

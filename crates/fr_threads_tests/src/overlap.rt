@@ -68,44 +68,26 @@ fn controllers_overlap<R: Threads + Wait + Clock + Sync>(
 
 #[test]
 fn two_tasks_really_overlap(rt: HostRuntime) -> Result<(), Fail> {
-    let alloc = rt.alloc();
-    let overlap = [
-        tasks_overlap(&rt, alloc, true, Side::Before, [0, 0], [1, 0])?,
-        tasks_overlap(&rt, alloc, true, Side::Before, [1, 0], [0, 0])?,
+    let rows = [
+        (true, Side::Before, [0, 0], [1, 0]),
+        (true, Side::Before, [1, 0], [0, 0]),
+        // Two tasks of one node, in a free run.
+        (false, Side::Before, [0, 0], [0, 1]),
+        (false, Side::Before, [0, 1], [0, 0]),
+        // A lock that is held holds no other node.
+        (true, Side::Inside, [0, 0], [1, 0]),
+        (true, Side::Inside, [1, 0], [0, 0]),
     ];
-    assert_eq!(rt; overlap, [true, true]);
+    for (stepped, side, held, other) in rows {
+        assert!(rt; tasks_overlap(&rt, rt.alloc(), stepped, side, held, other)?);
+    }
     Ok(())
 }
 
 #[test]
 fn two_controllers_really_overlap(rt: HostRuntime) -> Result<(), Fail> {
-    let alloc = rt.alloc();
-    let overlap = [
-        controllers_overlap(&rt, alloc, 0, 1)?,
-        controllers_overlap(&rt, alloc, 1, 0)?,
-    ];
-    assert_eq!(rt; overlap, [true, true]);
-    Ok(())
-}
-
-#[test]
-fn a_held_lock_holds_no_other_node(rt: HostRuntime) -> Result<(), Fail> {
-    let alloc = rt.alloc();
-    let overlap = [
-        tasks_overlap(&rt, alloc, true, Side::Inside, [0, 0], [1, 0])?,
-        tasks_overlap(&rt, alloc, true, Side::Inside, [1, 0], [0, 0])?,
-    ];
-    assert_eq!(rt; overlap, [true, true]);
-    Ok(())
-}
-
-#[test]
-fn two_tasks_of_one_node_really_overlap(rt: HostRuntime) -> Result<(), Fail> {
-    let alloc = rt.alloc();
-    let overlap = [
-        tasks_overlap(&rt, alloc, false, Side::Before, [0, 0], [0, 1])?,
-        tasks_overlap(&rt, alloc, false, Side::Before, [0, 1], [0, 0])?,
-    ];
-    assert_eq!(rt; overlap, [true, true]);
+    for (held, other) in [(0, 1), (1, 0)] {
+        assert!(rt; controllers_overlap(&rt, rt.alloc(), held, other)?);
+    }
     Ok(())
 }

@@ -101,17 +101,8 @@ fn desk_and_wire_do_answer(rt: HostRuntime) -> Result<(), Fail> {
     let blank = Blank::new(parts(&interface));
     let entries = entries_of_two::<Brand, _>(&rt, alloc, blank, interface, &wire)?;
     let over = wire.next(&rt, node(0)?)?;
-    assert_eq!(rt; entries, 4);
-    assert_eq!(rt; over, None);
-    assert_eq!(rt; wire.close().record().len(), 2);
-    Ok(())
-}
-
-#[test]
-fn a_wire_knows_its_nodes(rt: HostRuntime) -> Result<(), Fail> {
-    let wire = one_node(rt.alloc())?;
-    let unknown = wire.next(&rt, node(1)?);
-    assert_eq!(rt; unknown, Err(WireError::Bus(BusError::UnknownNode)));
+    assert!(rt; over.is_none());
+    assert_eq!(rt; (entries, wire.close().record().len()), (4, 2));
     Ok(())
 }
 
@@ -131,6 +122,8 @@ fn refusals<R: Wait + Clock>(rt: &R, wire: &Wire, me: NodeId) -> [Option<WireErr
 #[test]
 fn each_call_of_a_stopped_wire_is_refused(rt: HostRuntime) -> Result<(), Fail> {
     let wire = one_node(rt.alloc())?;
+    let unknown = wire.next(&rt, node(1)?).err();
+    assert_eq!(rt; unknown, Some(WireError::Bus(BusError::UnknownNode)));
     wire.stop(&rt);
     let refused = refusals(&rt, &wire, node(0)?);
     assert_eq!(rt; refused, [Some(WireError::Stopped); 6]);
