@@ -14,6 +14,8 @@ ODD_UTF8 = ["\ufeff".encode(), "\u00e9".encode()]
 NUMBER = re.compile(rb"[0-9]+")
 WORD = re.compile(rb"[^ \n]+")
 FILE_LIMIT = 1_048_576
+MOST = 4_000_000
+"""The bytes that a change may make of a text."""
 
 
 def between(random, text, put):
@@ -96,7 +98,9 @@ def foreign_line(random, text, other):
 
 def repeated_line(random, text, _):
     times = random.choice((2, 16, 17, 63, 64, 65, 66, 300))
-    return lines_changed(random, text, lambda lines, at, _: lines.insert(at, lines[at] * times))
+    def repeat(lines, at, _):
+        lines.insert(at, lines[at] * min(times, MOST // len(lines[at])))
+    return lines_changed(random, text, repeat)
 
 
 def long_line(random, text, _):
@@ -127,7 +131,7 @@ def odd_number(random, text, _):
 
 
 def huge_number(random, text, _):
-    return instead(random, text, NUMBER, lambda old: (old or b"7") * random.choice((20, 100, 400)))
+    return instead(random, text, NUMBER, lambda old: (old[:10_000] or b"7") * random.choice((20, 100, 400)))
 
 
 def lost_word(random, text, _):
@@ -161,5 +165,5 @@ CHANGES = (
 def changed(random, text, other):
     """The text with one or several changes; OTHER is a text of the same kind, from which lines and words come."""
     for _ in range(random.choice((1, 1, 1, 1, 2, 3, 8))):
-        text = random.choice(CHANGES)(random, text, other)
+        text = random.choice(CHANGES)(random, text, other)[:MOST]
     return long_end(random, text, other) if random.random() < 0.003 else text

@@ -66,15 +66,29 @@ class Preloaded:
         return (ran.returncode, ran.stdout, ran.stderr), met
 
 
+FOLDER = EXAMPLES / "three-nodes"
+CLUSTER = str(FOLDER / "cluster.toml")
+
+
+def trace():
+    return (EXAMPLES / "receive-buffer" / "trace").read_bytes()
+
+
 def commands():
-    """Each command with an example, as its words and what it is given."""
-    folder = EXAMPLES / "three-nodes"
-    cluster = str(folder / "cluster.toml")
-    trace = (EXAMPLES / "receive-buffer" / "trace").read_bytes()
+    """Each command of fr_bench with an example, as its words and what it is given."""
     return {
-        "audit": (["audit"], trace),
-        "check": (["check", cluster], b""),
-        "plan": (["plan", cluster], b""),
+        "audit": (["audit"], trace()),
+        "check": (["check", CLUSTER], b""),
+        "plan": (["plan", CLUSTER], b""),
         "midpoint": (["midpoint"], b"3 -1 4 1 -5 9 2 -6\n"),
-        "run": (["run", cluster, str(folder / "scenario"), "--cycles", "4"], b""),
+        "run": (["run", CLUSTER, str(FOLDER / "scenario"), "--cycles", "4"], b""),
+    }
+
+
+def views():
+    """The same of fr_view."""
+    return {
+        "schedule": (["schedule", CLUSTER], b""),
+        "capture": (["capture"], trace()),
+        "frames": (["frames"], trace()),
     }
