@@ -74,5 +74,6 @@ def short_minislots(cluster: Cluster, text: Text, bits_of_macrotick: float) -> I
         headline = f"minislots are too short for the frames of {counted(len(short), 'buffer')}"
         reason = (f"p words are {START} + {BITS_OF_BYTE} * ({BYTES_BESIDE_PAYLOAD} + 2 * p) + {END} + {TRAILING} + "
                   "{IDLE} bits: start, bytes, end, trailing and silence (chapters 3 and 5). A frame has the minislots "
-                  "of its words, with `idle` more. Right would be a greater `minislot_mt`, or a smaller `words_per_minislot`.")
+                  "of its words, with `idle` more. Right would be a greater `minislot_mt`, or a smaller "
+                  "`words_per_minislot`.")
         yield text.finding(headline, reason, ("params", "minislot_mt"), short[:MOST_NOTES])

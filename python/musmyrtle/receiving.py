@@ -60,7 +60,8 @@ def idle_receiver(traffic: Traffic, text: Text, buffer: Buffer) -> Finding:
     if not senders:
         notes = [(f"{it} has it on {it.channels}, without a transmit buffer", it.path)
                  for it in traffic.cluster.owned() if it.slot == buffer.slot][:MOST_NOTES]
-    where = f"in slot {buffer.slot} on {buffer.channels} in {buffer.cycles}"
+    where = f"in slot {buffer.slot} on {buffer.channels}"
+    where += "" if buffer.cycles.repetition == 1 else f" in {buffer.cycles}"
     headline = f"{buffer} receives nothing: nobody sends data {where}"
     reason = ("Null frames don't count. Right would be a slot, channels and cycles in which another node has a "
               "transmit buffer.")

@@ -38,10 +38,9 @@ def silent_buffer(cluster: Cluster, text: Text, buffer: Buffer) -> Finding:
         notes = (("`minislots`", ("params", "minislots")),)
         return text.finding(f"{headline}slot {buffer.slot} can't be reached", reason, (*buffer.path, "slot"), notes)
     key = f"latest_{buffer.channels.lower()}"
-    latest, path = cluster.nodes[buffer.node].latest[buffer.channels], ("node", buffer.node)
-    notes = [(f"`{key}` of node {buffer.node}", (*path, key))] if text.place_of((*path, key)) else []
+    latest, is_there = cluster.nodes[buffer.node].latest[buffer.channels], key in text.document["node"][buffer.node]
+    notes = [(f"`{key}` of node {buffer.node}", ("node", buffer.node, key))] if is_there else []
     if latest == 0:
-        is_there = key in text.document["node"][buffer.node]
         headline += f"`{key}` of node {buffer.node} is 0" if is_there else f"node {buffer.node} has no `{key}`"
         reason = "A node begins no dynamic transmission after its latest minislot. "
     else:
