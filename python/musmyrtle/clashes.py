@@ -3,6 +3,8 @@ from collections import defaultdict
 
 from musmyrtle.cluster import CYCLES, Buffer, Cluster, Fault, Ownership
 
+MOST_NOTES = 4
+
 
 def clashes(cluster: Cluster) -> list[Fault]:
     return [*not_owned(cluster), *dynamic_both(cluster), *overlaps(cluster), *too_long(cluster)]
@@ -29,7 +31,9 @@ def fault_of_unowned(cluster: Cluster, buffer: Buffer, channel: str, cycle: int)
               f"channels and in each of its cycles. Right would be a line in `own` with slot = {buffer.slot} that has "
               f"channel {channel} and cycle {cycle}, or another slot, or fewer channels or cycles of the buffer.")
     lines = [it for it in cluster.owned() if it.slot == buffer.slot]
-    notes = tuple((f"{it} has slot {it.slot} on {it.channels} in {it.cycles}", it.path) for it in lines)
+    # A node without any line for the slot may have meant another one of its own.
+    lines += [it for it in cluster.nodes[buffer.node].owned if it.slot != buffer.slot]
+    notes = tuple((f"{it} has slot {it.slot} on {it.channels} in {it.cycles}", it.path) for it in lines[:MOST_NOTES])
     return Fault(f"NotOwned {buffer.node} {buffer.number}", headline, reason, (*buffer.path, "slot"), notes)
 
 
