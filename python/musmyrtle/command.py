@@ -1,5 +1,6 @@
 """The command `fr_lint`."""
 import argparse
+import io
 import os
 import re
 import sys
@@ -60,6 +61,9 @@ def told(answer: Answer, found: Lint, is_bold: bool = False) -> Iterator[str]:
         yield ("No more can be said: the file is TOML 1.1, which fr_bench reads, and fr_lint reads TOML 1.0. "
                f"{found.refusals[0][1].headline}.\n")
         return
+    if answer.refusal is None and found.refusals:
+        yield f"No more can be said: fr_lint takes the input for {found.refusals[0][0]}, and fr_bench decides.\n"
+        return
     if answer.refusal is not None:
         yield from told_reasons(answer, found, is_bold)
     for finding in found.warnings:
@@ -90,13 +94,16 @@ def main(words: list[str] | None = None) -> int:
         print(f"fr_lint: {given.program} can't be run: {error.strerror}", file=sys.stderr)
         return USAGE
     found = lint(task)
+    if isinstance(sys.stdout, io.TextIOWrapper):
+        # A file may have a name, or a line, that the terminal can't spell.
+        sys.stdout.reconfigure(errors="backslashreplace")
     is_bold = sys.stdout.isatty() and "NO_COLOR" not in os.environ
     try:
         print("\n".join(told(answer, found, is_bold)), end="", flush=True)
     except BrokenPipeError:
         os.dup2(os.open(os.devnull, os.O_WRONLY), sys.stdout.fileno())
     if answer.status:
-        return REFUSED
+        return USAGE if answer.status == USAGE else REFUSED
     return WARNED if given.strict and found.warnings else FINE
 
 

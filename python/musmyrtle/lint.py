@@ -25,7 +25,6 @@ class Lint:
 
     refusals: list[tuple[str, Finding]] = field(default_factory=list)
     warnings: list[Finding] = field(default_factory=list)
-    remarks: list[str] = field(default_factory=list)
     is_doubtful: bool = False
     """Whether nothing can be said, since the file may be TOML 1.1."""
 

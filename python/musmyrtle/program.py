@@ -18,8 +18,9 @@ class Answer:
 
 def usual_program() -> str | None:
     """The launcher of the checkout that this package is in, or its program, or else the one on the path of commands."""
+    is_checkout = (CHECKOUT / "python/musmyrtle/program.py").is_file()
     for file in (CHECKOUT / "fr_bench", CHECKOUT / "dist/fr_bench"):
-        if file.is_file():
+        if is_checkout and file.is_file():
             return str(file)
     return shutil.which("fr_bench")
 
