@@ -10,6 +10,9 @@ from dataclasses import dataclass, field
 Path = tuple[str | int, ...]
 """The way to a value from the top of a document: keys of tables and numbers of items."""
 
+DEEPEST = 80
+"""So many arrays and inline tables in one another are read, and so many parts of a key or a header."""
+
 BARE = re.compile(r"[A-Za-z0-9_-]+")
 BLANK = re.compile(r"[ \t]*")
 GAP = re.compile(r"(?:[ \t\r\n]|#[^\n]*)*")
@@ -53,10 +56,11 @@ class Lost(Exception):
 
 
 class Walk:
-    """A walk through a TOML text, which leaves what it saw in `root`."""
+    """A walk through a TOML text, which leaves what it saw in `root`, and where something was first nested too deep."""
 
     def __init__(self, text: str):
         self.text, self.at, self.root = text, 0, Thing(0)
+        self.too_deep: int | None = None
         try:
             self.document()
         except (Lost, RecursionError, tomllib.TOMLDecodeError):
@@ -74,6 +78,10 @@ class Walk:
     def need(self, word: str) -> None:
         if not self.takes(word):
             raise Lost
+
+    def nested(self, begin: int, depth: int) -> None:
+        if depth > DEEPEST and self.too_deep is None:
+            self.too_deep = begin
 
     def document(self) -> None:
         table = self.root
@@ -116,6 +124,7 @@ class Walk:
             else:
                 name = value_of(self.string())
             found.append((name, begin))
+            self.nested(found[0][1], len(found))
             self.skip(BLANK)
             if not self.takes("."):
                 return found
@@ -141,6 +150,8 @@ class Walk:
 
     def value(self, depth: int) -> Thing:
         begin = self.at
+        if self.text[begin : begin + 1] in ("[", "{"):
+            self.nested(begin, depth + 1)
         if self.takes("["):
             return self.array(Thing(begin, depth=depth + 1))
         if self.takes("{"):
@@ -203,7 +214,8 @@ class Places:
     def __init__(self, file: str, text: str, document: dict):
         self.file, self.text, self.document = file, text, document
         self.lines = text.split("\n")
-        self.root = Walk(text).root
+        walk = Walk(text)
+        self.root, self.too_deep = walk.root, walk.too_deep
 
     def at(self, offset: int) -> Place:
         line = self.text.count("\n", 0, offset)

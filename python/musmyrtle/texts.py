@@ -5,11 +5,13 @@ from collections.abc import Iterable
 from dataclasses import dataclass
 
 from musmyrtle.findings import Finding, Note
-from musmyrtle.places import Path, Place, Places, Thing
+from musmyrtle.places import DEEPEST, Path, Place, Places, Thing
 
 FILE_LIMIT = 1_048_576
-DEEPEST = 80
 GREATEST = 2**63 - 1
+NOT_DEEPER = f"At most {DEEPEST} arrays and inline tables in one another are read, and as many parts of a key."
+IN_64_BITS = "64 bits have to hold each one."
+LONG_NUMBER = re.compile(r"[0-9_]{4300,}")
 WHERE = re.compile(r" \(at (?:line (\d+), column (\d+)|end of document)\)$")
 
 
@@ -45,6 +47,10 @@ def spot(file: str, text: str, line: int, column: int) -> Place:
     return Place(file, line, column, lines[line - 1].rstrip("\r") if line <= len(lines) else "")
 
 
+def place_at(file: str, text: str, found: re.Match | None) -> Place | None:
+    return Places(file, text, {}).at(found.start()) if found else None
+
+
 def read_text(file: str, data: bytes) -> Text:
     if len(data) > FILE_LIMIT:
         headline = f"the file has {len(data)} bytes"
@@ -58,8 +64,12 @@ def read_text(file: str, data: bytes) -> Text:
         document = tomllib.loads(text)
     except tomllib.TOMLDecodeError as error:
         return Text(file, refusal="Toml", why=no_toml(file, text, str(error)), is_doubtful=True)
-    except (RecursionError, ValueError):
-        return Text(file, refusal="Toml", why=Finding("the file can't be read as TOML", "It is nested too deep."))
+    except RecursionError:
+        return Text(file, refusal="Toml", why=Finding("arrays or tables are nested too deep", NOT_DEEPER))
+    except ValueError:
+        # Python reads no integer of so many digits.
+        found = LONG_NUMBER.search(text)
+        return Text(file, refusal="Toml", why=Finding("an integer is too great", IN_64_BITS, place_at(file, text, found)))
     places = Places(file, text, document)
     finding = beyond(places)
     return Text(file, document, places, "Toml" if finding else None, finding)
@@ -88,18 +98,18 @@ def no_toml(file: str, text: str, told: str) -> Finding:
 
 def beyond(places: Places) -> Finding | None:
     """What `tomllib` takes and `fr_bench` doesn't."""
-    todo: list[tuple[Thing | None, object, int]] = [(places.root, places.document, 0)]
+    if places.too_deep is not None:
+        return Finding("arrays, tables or a key are nested too deep", NOT_DEEPER, places.at(places.too_deep))
+    todo: list[tuple[Thing | None, object]] = [(places.root, places.document)]
     while todo:
-        thing, value, depth = todo.pop()
-        if depth > DEEPEST:
-            return Finding("arrays or tables are nested too deep", f"At most {DEEPEST} are read.", where(places, thing))
+        thing, value = todo.pop()
         if isinstance(value, dict):
-            todo += [(thing and thing.keys.get(key), held, depth + 1) for key, held in reversed(value.items())]
+            todo += [(thing and thing.keys.get(key), held) for key, held in reversed(value.items())]
         elif isinstance(value, list):
             items = thing.items if thing and len(thing.items) == len(value) else [None] * len(value)
-            todo += [(item, held, depth + 1) for item, held in reversed(list(zip(items, value)))]
+            todo += reversed(list(zip(items, value)))
         elif type(value) is int and not -GREATEST - 1 <= value <= GREATEST:
-            return Finding("an integer is too great", "64 bits have to hold each one.", where(places, thing))
+            return Finding("an integer is too great", IN_64_BITS, where(places, thing))
         elif value in (float("inf"), float("-inf")) and thing and "inf" not in thing.spelling:
             reason = "A number with a point or an exponent has at most 308 digits before its point."
             return Finding("a number is too great", reason, where(places, thing))

@@ -116,6 +116,8 @@ TEXTS = (
     ("Toml", "cluster.toml:16:9", ("the line is no TOML: Invalid value",), "tasks = 2", "tasks = two"),
     ("Toml", "cluster.toml:17:10", ("Cannot overwrite a value",), OWN, "tasks = 3"),
     ("Toml", "cluster.toml:12:8", ("an integer is too great",), "idle = 0", f"idle = {2**63}"),
+    ("Toml", "cluster.toml:12:10", ("an integer is too great",), "idle = 0", f"spare = [{'9' * 5000}]"),
+    ("Toml", "cluster.toml:1:1", ("nested too deep",), 'guard = "A"', f"{'a.' * 80}a = 1"),
     ("Toml", "cluster.toml:12:10", ("a number is too great",), "idle = 0", "spare = [1e309]"),
     ("Toml", "cluster.toml:1:89", ("nested too deep", "At most 80"), 'guard = "A"', f"spare = {'[' * 81}{']' * 81}"),
 )
