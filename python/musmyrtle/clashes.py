@@ -56,11 +56,14 @@ def overlaps(cluster: Cluster) -> list[Fault]:
         if buffer.transmits:
             for channel in buffer.channels:
                 claims[buffer.slot, channel][1].append(buffer)
-    found = []
+    found, told = [], []
     for (slot, channel), sorts in sorted(claims.items(), key=lambda claim: claim[0]):
         both = [it for it in map(first_clash, sorts) if it]
-        if both:
-            found.append(fault_of_overlap(slot, channel, *min(both, key=lambda clash: clash[0])))
+        clash = min(both, key=lambda it: it[0]) if both else None
+        # Lines that clash on A and on B alike are told once.
+        if clash and clash not in told:
+            told.append(clash)
+            found.append(fault_of_overlap(slot, channel, *clash))
     return found
 
 

@@ -68,8 +68,8 @@ def read_text(file: str, data: bytes) -> Text:
         return Text(file, refusal="Toml", why=Finding("arrays or tables are nested too deep", NOT_DEEPER))
     except ValueError:
         # Python reads no integer of so many digits.
-        found = LONG_NUMBER.search(text)
-        return Text(file, refusal="Toml", why=Finding("an integer is too great", IN_64_BITS, place_at(file, text, found)))
+        place = place_at(file, text, LONG_NUMBER.search(text))
+        return Text(file, refusal="Toml", why=Finding("an integer is too great", IN_64_BITS, place))
     places = Places(file, text, document)
     finding = beyond(places)
     return Text(file, document, places, "Toml" if finding else None, finding)

@@ -162,6 +162,10 @@ class RefusedClusters(Cases):
         found, answer = self.look(text)
         self.assertEqual([refusal for refusal, _ in found.refusals], ["BadNode 0", "BadBuffer 0 0", "BadNode 2"])
 
+    def test_a_clash_on_both_channels_is_told_once(self):
+        found, _ = self.look(self.changed(CLUSTER, ('own = [{slot = 2, channels = "AB"}]', f"{OWN} # again")))
+        self.assertEqual([refusal for refusal, _ in found.refusals], ["NotOwned 1 0", "Overlap 1 A 0"])
+
     def test_a_file_of_the_newer_toml_is_left_to_the_program(self):
         found, answer = self.look(self.changed(CLUSTER, (EVENT, EVENT.replace("}", ",}"))))
         self.assertTrue(found.is_doubtful)
