@@ -4,7 +4,7 @@ from collections.abc import Iterator
 from musmyrtle.cluster import Buffer, Cluster, Node
 from musmyrtle.findings import Finding, Note, counted
 from musmyrtle.places import Place
-from musmyrtle.scenario import FaultLine, Line, Scenario
+from musmyrtle.scenario import FaultLine, FaultLines, Line, Scenario
 from musmyrtle.texts import Text
 
 MOST_CYCLES = 1024
@@ -90,11 +90,12 @@ class Run:
         return None
 
     def bad_faults(self) -> Refusals:
-        found = []
+        found, before = [], FaultLines()
         for number, line in enumerate(self.scenario.faults):
-            finding = self.bad_fault(line) or self.met_fault(line, self.scenario.faults[:number])
+            finding = self.bad_fault(line) or self.met_fault(line, before.meeting(line))
             if finding:
                 found.append((f"BadFault {number}", finding))
+            before.add(line)
         return found
 
     def bad_fault(self, line: FaultLine) -> Finding | None:
@@ -114,8 +115,7 @@ class Run:
         note = self.note(("params", key), f"`{key}`")
         return Finding(f"there is no {name} {line.place}", reason, scenario.place_of(line, "PLACE"), (note,))
 
-    def met_fault(self, line: FaultLine, before: list[FaultLine]) -> Finding | None:
-        other = next((it for it in before if it.meets(line)), None)
+    def met_fault(self, line: FaultLine, other: FaultLine | None) -> Finding | None:
         if other is None:
             return None
         whose = "" if line.kind == "corrupt" else f" of node {line.word('NODE')}"

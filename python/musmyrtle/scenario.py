@@ -1,6 +1,7 @@
 """A scenario: the lines of its tasks and its faults, and the first line at fault and the further ones."""
 import re
 from dataclasses import dataclass, field
+from itertools import product
 
 from musmyrtle.findings import Finding, nearest
 from musmyrtle.places import Place
@@ -70,17 +71,31 @@ class FaultLine(Line):
         """The cycle, or nothing for every one."""
         return None if self.word("CYCLES") == EVERY else self.value("CYCLES")
 
-    def meets(self, other: "FaultLine") -> bool:
-        """Whether both are the same kind of fault for one window."""
-        if (self.kind, self.is_static, self.word("CHANNEL")) != (other.kind, other.is_static, other.word("CHANNEL")):
-            return False
-        if self.kind != "corrupt" and self.word("NODE") != other.word("NODE"):
-            return False
-        return same_or_every(self.cycle, other.cycle) and same_or_every(self.place, other.place)
+    @property
+    def sort(self) -> tuple[str, str, str, bool]:
+        """Its kind, node and channel, and whether it is for static slots."""
+        return self.kind, "" if self.kind == "corrupt" else self.word("NODE"), self.word("CHANNEL"), self.is_static
 
 
-def same_or_every(one: int | None, other: int | None) -> bool:
-    return one is None or other is None or one == other
+class FaultLines:
+    """The fault lines so far, found by the windows that they name. A line stands under its cycle and its place, and for
+    a line that is for every cycle or place, under `ANY` as well."""
+
+    ANY = -1
+
+    def __init__(self):
+        self.lines: dict[tuple, FaultLine] = {}
+
+    def add(self, line: FaultLine) -> None:
+        for key in product((line.sort,), (line.cycle, self.ANY), (line.place, self.ANY)):
+            self.lines.setdefault(key, line)
+
+    def meeting(self, line: FaultLine) -> FaultLine | None:
+        """The first line so far that is the same sort of fault for a window that this one names too."""
+        cycles = (self.ANY,) if line.cycle is None else (line.cycle, None)
+        places = (self.ANY,) if line.place is None else (line.place, None)
+        found = [self.lines[key] for key in product((line.sort,), cycles, places) if key in self.lines]
+        return min(found, key=lambda it: it.number, default=None)
 
 
 @dataclass

@@ -18,6 +18,7 @@ class Strikes:
 
     def __init__(self, cluster: Cluster, scenario: Scenario, cycles: int):
         self.cluster, self.scenario, self.cycles = cluster, scenario, cycles
+        self.babbles = {(it.word("CHANNEL"), it.is_static) for it in scenario.faults if it.kind == "babble" and it.size}
 
     def findings(self) -> Iterator[Finding]:
         for line in self.scenario.faults:
@@ -45,8 +46,9 @@ class Strikes:
         return line.place <= last_without_traffic or self.is_anything_dynamic()
 
     def is_anything_dynamic(self) -> bool:
-        babbles = any(it.kind == "babble" and not it.is_static for it in self.scenario.faults)
-        return babbles or any(it.transmits and not self.cluster.is_static(it.slot) for it in self.cluster.buffers())
+        if any(not is_static for _, is_static in self.babbles):
+            return True
+        return any(it.transmits and not self.cluster.is_static(it.slot) for it in self.cluster.buffers())
 
     def unopened(self, line: FaultLine) -> str:
         last = LAST_SLOT - self.cluster.parameters.static_slots
@@ -81,9 +83,7 @@ class Strikes:
             what = "A frame of a static slot" if line.is_static else "The longest transmission"
             return f"{what} has {8 * size} bits, and the first is bit 0. A bit past the end turns nothing."
         channel = line.word("CHANNEL")
-        babbling = any(it.kind == "babble" and it.is_static == line.is_static and it.word("CHANNEL") == channel
-                       and it.size > 0 for it in self.scenario.faults)
-        if babbling or any(self.offers(line, node.number) for node in self.cluster.nodes):
+        if (channel, line.is_static) in self.babbles or any(self.offers(line, it.number) for it in self.cluster.nodes):
             return None
         return f"Nobody sends on {channel} at {line.word('PLACE')} in its cycles, so no bit of anything can be turned."
 
