@@ -186,8 +186,7 @@ class Reader:
         value = self.table[key]
         if type(value) is int and least <= value <= greatest:
             return value
-        is_small = type(value) is int and greatest < least
-        self.wrong(key, f"no key at all, since there is nothing from {least} to {greatest}{why}" if is_small else right)
+        self.wrong(key, right)
         return least
 
     def flag(self, key: str) -> bool:
