@@ -62,11 +62,16 @@ def nearest(word: str, known: tuple[str, ...] | list[str]) -> str | None:
     return plain_words[found[0]] if found else None
 
 
+def printable(text: str) -> str:
+    """The text with a mark in the place of each character that a terminal might obey."""
+    return "".join(it if it.isprintable() else "?" for it in text.replace("\t", " "))
+
+
 def excerpt(place: Place) -> list[str]:
     """The line of a place with a mark below it, of a long line the part round the mark."""
     column = place.column or 1
     cut = max(0, column - WIDTH // 2) if len(place.source) > WIDTH else 0
-    source = place.source[cut : cut + WIDTH].replace("\t", " ")
+    source = printable(place.source[cut : cut + WIDTH])
     number = f"{place.line:>7} | "
     lines = [f"{number}{source}".rstrip()]
     if place.column is not None:
@@ -77,11 +82,12 @@ def excerpt(place: Place) -> list[str]:
 def block(kind: str, finding: Finding, is_bold: bool = False) -> str:
     """The text of a finding, as a person reads it."""
     where = f"{finding.place}: " if finding.place else ""
-    head = f"{where}{kind}: {finding.headline}"
+    head = printable(f"{where}{kind}: {finding.headline}")
     lines = [f"\x1b[1m{head}\x1b[0m" if is_bold else head]
     lines += excerpt(finding.place) if finding.place else []
-    lines += [f"    {line}" for line in wrap(finding.reason, WIDTH, break_long_words=False, break_on_hyphens=False)]
+    reason = wrap(printable(finding.reason), WIDTH, break_long_words=False, break_on_hyphens=False)
+    lines += [f"    {line}" for line in reason]
     for note in finding.notes:
-        lines.append(f"  {note.place}: {note.text}" if note.place else f"  {note.text}")
+        lines.append(printable(f"  {note.place}: {note.text}" if note.place else f"  {note.text}"))
         lines += excerpt(note.place) if note.place else []
     return "\n".join(lines) + "\n"

@@ -78,6 +78,11 @@ class RefusedScenarios(Cases):
     def test_faults(self):
         self.rows(FAULTS)
 
+    def test_what_a_terminal_might_obey_is_not_printed(self):
+        found, answer = self.look(CLUSTER, "frscenario 1\n\x1b[2J 0\nend\n", 4)
+        self.assertIn("no line begins with `?[2J`", self.text(found, answer))
+        self.assertNotIn("\x1b", self.text(found, answer))
+
     def test_too_many_lines(self):
         self.refused("TooManyLines", "scenario:4097", ("more than 4096 lines",), CLUSTER,
                      "frscenario 1\n" + "pop 0 0 0\n" * 4096, 4)
