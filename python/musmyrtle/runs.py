@@ -1,0 +1,166 @@
+"""A run of a cluster and a scenario for some cycles: for what it is refused, in the program's order."""
+from collections.abc import Iterator
+
+from musmyrtle.cluster import Buffer, Cluster, Node
+from musmyrtle.findings import Finding, Note, counted
+from musmyrtle.places import Place
+from musmyrtle.scenario import FaultLine, FaultLines, Line, Scenario
+from musmyrtle.texts import Text
+
+MOST_CYCLES = 1024
+MOST_SLOT_ENTRIES = 65536
+MOST_HOST_ENTRIES = 16384
+
+Refusals = list[tuple[str, Finding]]
+
+
+class Run:
+    """What is asked of a run, and where its parts stand."""
+
+    def __init__(self, cluster: Cluster, text: Text, scenario: Scenario, cycles: int):
+        self.cluster, self.text, self.scenario, self.cycles = cluster, text, scenario, cycles
+
+    def refusals(self) -> Refusals:
+        return [*self.bad_scripts(), *self.bad_faults(), *self.no_rooms()]
+
+    def bad_scripts(self) -> Refusals:
+        found = []
+        for number, ((node, task), lines) in enumerate(self.scenario.numbered()):
+            found += [(f"BadScript {number}", finding) for finding in self.bad_script(node, task, lines)]
+        return found
+
+    def bad_script(self, node: int, task: int, lines: list[Line]) -> Iterator[Finding]:
+        nodes = self.cluster.nodes
+        first = lines[0]
+        if node >= len(nodes):
+            reason = f"The cluster has {counted(len(nodes), 'node')}, and the first is node 0."
+            yield Finding(f"there is no node {node}", reason, self.scenario.place_of(first, "NODE"))
+            return
+        tasks = nodes[node].tasks
+        if task >= tasks:
+            reason = f"Node {node} has {counted(tasks, 'task')}, and the first is task 0."
+            note = self.note(("node", node, "tasks"), f"`tasks` of node {node}")
+            yield Finding(f"node {node} has no task {task}", reason, self.scenario.place_of(first, "TASK"), (note,))
+            return
+        before = None
+        for line in lines:
+            found = self.bad_cycle(line, before) or self.bad_action(nodes[node], line)
+            if found:
+                yield found
+            before = line
+
+    def bad_cycle(self, line: Line, before: Line | None) -> Finding | None:
+        cycle, place = line.value("CYCLE"), self.scenario.place_of(line, "CYCLE")
+        if cycle >= self.cycles:
+            reason = f"It has {counted(self.cycles, 'cycle')}, and the first is cycle 0."
+            return Finding(f"the run has no cycle {cycle}", reason, place)
+        if before and cycle < before.value("CYCLE"):
+            note = Note("the line of the same task before it", self.scenario.place_of(before, "CYCLE"))
+            reason = "The lines of one task stand in the order of their cycles."
+            headline = f"cycle {cycle} comes after cycle {before.value('CYCLE')} of the same task"
+            return Finding(headline, reason, place, (note,))
+        return None
+
+    def bad_action(self, node: Node, line: Line) -> Finding | None:
+        note = self.note(node.path, f"node {node.number}")
+        if line.kind == "pop":
+            headline = f"node {node.number} has no queue"
+            reason = f"Right would be a table `queue` of node {node.number}, or another node."
+            return None if node.queue else Finding(headline, reason, self.scenario.place_of(line), (note,))
+        number = line.value("BUFFER")
+        if number >= len(node.buffers):
+            headline = f"node {node.number} has no buffer {number}"
+            reason = f"It has {counted(len(node.buffers), 'buffer')}, and the first is buffer 0."
+            return Finding(headline, reason, self.scenario.place_of(line, "BUFFER"), (note,))
+        return self.bad_use(node.buffers[number], line)
+
+    def bad_use(self, buffer: Buffer, line: Line) -> Finding | None:
+        note = self.note(buffer.path, f"{buffer}, of kind {buffer.kind} for slot {buffer.slot}")
+        if buffer.transmits == (line.kind == "read"):
+            right = "a receive buffer" if line.kind == "read" else "a transmit buffer, of kind event or state"
+            place = self.scenario.place_of(line, "BUFFER")
+            headline = f"`{line.kind}` names {buffer}, which is of kind {buffer.kind}"
+            return Finding(headline, f"Right would be {right}.", place, (note,))
+        if line.kind == "commit" and line.size != 2 * buffer.words:
+            reason = f"{buffer} sends {counted(buffer.words, 'word')}, which is {counted(2 * buffer.words, 'byte')}."
+            if self.cluster.is_static(buffer.slot):
+                reason += " In a static slot these are the `static_words` of `[params]`."
+            headline = f"the payload has {counted(line.size, 'byte')}, and {buffer} sends {2 * buffer.words}"
+            return Finding(headline, reason[0].upper() + reason[1:], self.scenario.place_of(line, "HEX"), (note,))
+        return None
+
+    def bad_faults(self) -> Refusals:
+        found, before = [], FaultLines()
+        for number, line in enumerate(self.scenario.faults):
+            finding = self.bad_fault(line) or self.met_fault(line, before.meeting(line))
+            if finding:
+                found.append((f"BadFault {number}", finding))
+            before.add(line)
+        return found
+
+    def bad_fault(self, line: FaultLine) -> Finding | None:
+        scenario, parameters = self.scenario, self.cluster.parameters
+        nodes = len(self.cluster.nodes)
+        if line.kind != "corrupt" and line.value("NODE") >= nodes:
+            reason = f"The cluster has {counted(nodes, 'node')}, and the first is node 0."
+            return Finding(f"there is no node {line.word('NODE')}", reason, scenario.place_of(line, "NODE"))
+        if line.cycle is not None and line.cycle >= self.cycles:
+            reason = f"It has {counted(self.cycles, 'cycle')}, and the first is cycle 0."
+            return Finding(f"the run has no cycle {line.cycle}", reason, scenario.place_of(line, "CYCLES"))
+        name, key = ("static slot", "static_slots") if line.is_static else ("minislot", "minislots")
+        most = getattr(parameters, key)
+        if line.place is None or line.place <= most:
+            return None
+        reason = f"The cluster has {counted(most, name)}."
+        note = self.note(("params", key), f"`{key}`")
+        return Finding(f"there is no {name} {line.place}", reason, scenario.place_of(line, "PLACE"), (note,))
+
+    def met_fault(self, line: FaultLine, other: FaultLine | None) -> Finding | None:
+        if other is None:
+            return None
+        whose = "" if line.kind == "corrupt" else f" of node {line.word('NODE')}"
+        cycle = next((it.cycle for it in (line, other) if it.cycle is not None), None)
+        place = next((it.word("PLACE") for it in (line, other) if it.place is not None), "s*")
+        when = "in every cycle" if cycle is None else f"in cycle {cycle}"
+        headline = f"two lines {line.kind}{whose} on {line.word('CHANNEL')} at {place} {when}"
+        reason = "A window takes one fault of a kind for each node and channel. Right would be another cycle or place."
+        note = Note(f"line {other.number} names it too", self.scenario.place_of(other, "PLACE"))
+        return Finding(headline, reason, self.scenario.place_of(line, "PLACE"), (note,))
+
+    def no_rooms(self) -> Refusals:
+        return [(f"NoRoom {node.number}", finding) for node in self.cluster.nodes for finding in self.no_room(node)]
+
+    def no_room(self, node: Node) -> Iterator[Finding]:
+        lines = sum(len(it) for (number, _), it in self.scenario.scripts.items() if number == node.number)
+        if lines > node.host_entries:
+            has = counted(lines, "line")
+            headline = f"node {node.number} has {has} in the scenario, and room for {node.host_entries}"
+            right = f"`host_entries = {lines}` or more" if lines <= MOST_HOST_ENTRIES else "fewer lines"
+            reason = f"Each `commit`, `withdraw`, `read` and `pop` is an entry of its journal. Right would be {right}."
+            yield Finding(headline, reason, self.place_of(node, "host_entries"))
+        finding = slot_room(self.cluster, node, self.cycles, self.place_of(node, "slot_entries"))
+        if finding:
+            yield finding
+
+    def place_of(self, node: Node, key: str) -> Place | None:
+        return self.text.place_of((*node.path, key))
+
+    def note(self, path: tuple, text: str) -> Note:
+        return Note(text, self.text.place_of(path))
+
+
+def slot_room(cluster: Cluster, node: Node, cycles: int, place: Place | None) -> Finding | None:
+    """Why the journal of a node is too small for so many cycles, if it is."""
+    windows = cluster.parameters.windows
+    needed = 2 * cycles * windows
+    if needed <= node.slot_entries:
+        return None
+    want = f"{counted(cycles, 'cycle')} want{'s' if cycles == 1 else ''}"
+    headline = f"{want} {needed} slot entries of node {node.number}, and it has {node.slot_entries}"
+    right = f"`slot_entries = {needed}` or more"
+    if needed > MOST_SLOT_ENTRIES:
+        most = MOST_SLOT_ENTRIES // (2 * windows)
+        right = f"at most {counted(most, 'cycle')}, with `slot_entries = {2 * windows * most}`"
+    reason = (f"Each window is two entries of the journal, and each cycle has up to {windows} windows, its static "
+              f"slots and minislots: 2 * {cycles} * {windows} = {needed}. Right would be {right}.")
+    return Finding(headline, reason, place)

@@ -1,0 +1,97 @@
+"""Warnings of what is to be sent and can't be, of slots that are owned for nothing, and of sync slots."""
+from collections.abc import Iterator
+
+from musmyrtle.cluster import Buffer, Cluster, Node
+from musmyrtle.findings import Finding, counted, joined
+from musmyrtle.texts import Text
+
+LEAST_SYNC_NODES = 2
+MOST_SYNC_NODES = 15
+
+
+def first_minislot(cluster: Cluster, slot: int) -> int:
+    """The minislot at which a dynamic slot opens if nothing was sent in those before it; it never opens earlier."""
+    return slot - cluster.parameters.static_slots
+
+
+def can_send(cluster: Cluster, buffer: Buffer) -> bool:
+    """Whether a transmit buffer has a chance to send."""
+    if cluster.is_static(buffer.slot):
+        return True
+    latest = cluster.nodes[buffer.node].latest[buffer.channels]
+    return first_minislot(cluster, buffer.slot) <= min(latest, cluster.parameters.minislots)
+
+
+def silent_buffers(cluster: Cluster, text: Text) -> Iterator[Finding]:
+    for buffer in cluster.buffers():
+        if buffer.transmits and not can_send(cluster, buffer):
+            yield silent_buffer(cluster, text, buffer)
+
+
+def silent_buffer(cluster: Cluster, text: Text, buffer: Buffer) -> Finding:
+    """Why a buffer for a dynamic slot never sends."""
+    first, minislots = first_minislot(cluster, buffer.slot), cluster.parameters.minislots
+    headline = f"{buffer} never sends: "
+    opens = f"slot {buffer.slot} opens at minislot {first} at the earliest, if nothing is sent in the slots before it"
+    if first > minislots:
+        reason = f"S{opens[1:]}, and a cycle has {minislots}. Right would be a lower slot or more minislots."
+        notes = (("`minislots`", ("params", "minislots")),)
+        return text.finding(f"{headline}slot {buffer.slot} can't be reached", reason, (*buffer.path, "slot"), notes)
+    key = f"latest_{buffer.channels.lower()}"
+    latest, is_there = cluster.nodes[buffer.node].latest[buffer.channels], key in text.document["node"][buffer.node]
+    notes = [(f"`{key}` of node {buffer.node}", ("node", buffer.node, key))] if is_there else []
+    if latest == 0:
+        headline += f"`{key}` of node {buffer.node} is 0" if is_there else f"node {buffer.node} has no `{key}`"
+        reason = "A node begins no dynamic transmission after its latest minislot. "
+    else:
+        headline += f"`{key}` of node {buffer.node} is {latest}, too early for slot {buffer.slot}"
+        reason = f"S{opens[1:]}. "
+    reason += f"Right would be `{key} = {first}` or more."
+    return text.finding(headline, reason, (*buffer.path, "slot"), notes)
+
+
+def unfilled_slots(cluster: Cluster, text: Text) -> Iterator[Finding]:
+    for node in cluster.nodes:
+        for line in node.owned:
+            filling = [it for it in node.buffers
+                       if it.transmits and it.slot == line.slot and it.cycles.meet(line.cycles)]
+            empty = [channel for channel in line.channels if not any(channel in it.channels for it in filling)]
+            if empty:
+                channels = joined(empty)
+                headline = f"slot {line.slot} is owned by node {node.number} on {channels}, and never filled there"
+                reason = (f"No transmit buffer of the node is for it, so on {channels} the node sends null frames "
+                          f"alone. Right would be a transmit buffer with slot = {line.slot}, or no ownership there.")
+                yield text.finding(headline, reason, line.path)
+
+
+def sync_slots(cluster: Cluster, text: Text) -> Iterator[Finding]:
+    syncing = [node for node in cluster.nodes if any(line.is_sync for line in node.owned)]
+    if not LEAST_SYNC_NODES <= len(syncing) <= MOST_SYNC_NODES:
+        names = f": {joined([str(it.number) for it in syncing])}" if syncing else ""
+        headline = f"the cluster has {counted(len(syncing), 'node')} with a sync slot{names}"
+        reason = (f"A cluster has {LEAST_SYNC_NODES} to {MOST_SYNC_NODES} sync nodes (chapter 8, clock "
+                  "synchronization). Right would be `sync = true` at an ownership line of each of these. The bench "
+                  "runs in step without.")
+        yield text.finding(headline, reason, ("node",) if len(syncing) < 1 else syncing[0].path)
+    for node in syncing:
+        yield from sync_slots_of(node, text)
+
+
+def sync_slots_of(node: Node, text: Text) -> Iterator[Finding]:
+    lines = [line for line in node.owned if line.is_sync]
+    slots = sorted({line.slot for line in lines})
+    if len(slots) > 1:
+        headline = f"node {node.number} has {len(slots)} sync slots: {joined([str(it) for it in slots])}"
+        reason = ("A node sends sync frames in one slot, its key slot (chapter 8). Right would be `sync = true` for "
+                  "one slot.")
+        second = next(line for line in lines if line.slot != lines[0].slot)
+        yield text.finding(headline, reason, (*second.path, "sync"), [(str(lines[0]), (*lines[0].path, "sync"))])
+    for slot in slots:
+        own = [line for line in lines if line.slot == slot]
+        channels = {channel for line in own for channel in line.channels}
+        if len(channels) == 1:
+            only = channels.pop()
+            headline = f"sync slot {slot} of node {node.number} is on channel {only} only"
+            reason = ("A sync frame goes out on each channel that the node is attached to, which here is both (chapter "
+                      '8). Right would be `channels = "AB"`.')
+            yield text.finding(headline, reason, (*own[0].path, "channels"))

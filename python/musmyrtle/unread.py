@@ -1,0 +1,61 @@
+"""Warnings of keys that nothing reads."""
+from collections.abc import Iterator
+
+from musmyrtle.cluster import BUFFER_KEYS, NODE_KEYS, OWN_KEYS, PARAMETERS, QUEUE_KEYS
+from musmyrtle.findings import Finding, joined, nearest
+from musmyrtle.places import Path
+from musmyrtle.texts import Text
+
+TOP_KEYS = ("guard", "params", "node", "physical")
+PHYSICAL_KEYS = ("bit_rate", "macrotick_us")
+
+
+def tables_of(document: dict) -> Iterator[tuple[str, dict, Path, tuple[str, ...]]]:
+    """Each table that is read: what it is, its keys, its path, and the keys that are read of it."""
+    yield "the top of the file", document, (), TOP_KEYS
+    for name, keys in (("params", tuple(PARAMETERS)), ("physical", PHYSICAL_KEYS)):
+        if isinstance(document.get(name), dict):
+            yield f"`[{name}]`", document[name], (name,), keys
+    for number, node in numbered_tables(document.get("node")):
+        path: Path = ("node", number)
+        yield f"node {number}", node, path, NODE_KEYS
+        for place, line in numbered_tables(node.get("own")):
+            yield f"ownership line {place} of node {number}", line, (*path, "own", place), OWN_KEYS
+        if isinstance(node.get("queue"), dict):
+            yield f"the queue of node {number}", node["queue"], (*path, "queue"), QUEUE_KEYS
+        for place, buffer in numbered_tables(node.get("buffer")):
+            yield f"buffer {place} of node {number}", buffer, (*path, "buffer", place), BUFFER_KEYS
+
+
+def numbered_tables(value: object) -> Iterator[tuple[int, dict]]:
+    items = enumerate(value) if isinstance(value, list) else ()
+    return ((number, item) for number, item in items if isinstance(item, dict))
+
+
+def unread_keys(text: Text) -> Iterator[Finding]:
+    for who, table, path, keys in tables_of(text.document):
+        for key in table:
+            if key not in keys:
+                meant = nearest(key, [it for it in keys if it not in table])
+                hint = f"Is `{meant}` meant? " if meant else ""
+                reason = f"{hint}Keys of {who} are {joined([f'`{it}`' for it in keys])}."
+                yield text.finding(f"`{key}` of {who} is read by nothing", reason, (*path, key))
+
+
+def idle_keys(text: Text, static_slots: int) -> Iterator[Finding]:
+    """Keys that are read elsewhere, and mean nothing where they stand."""
+    for number, node in numbered_tables(text.document.get("node")):
+        for place, buffer in numbered_tables(node.get("buffer")):
+            path: Path = ("node", number, "buffer", place)
+            for key, why in idle_of(buffer, static_slots):
+                yield text.finding(f"`{key}` of buffer {place} of node {number} isn't read", why, (*path, key))
+
+
+def idle_of(buffer: dict, static_slots: int) -> Iterator[tuple[str, str]]:
+    is_receive = buffer.get("kind") == "receive"
+    if is_receive and "preamble" in buffer:
+        yield "preamble", "A receive buffer takes frames with any preamble indicator."
+    if "words" in buffer and is_receive:
+        yield "words", "A receive buffer takes frames of any length that the slot allows."
+    elif "words" in buffer and type(buffer.get("slot")) is int and buffer["slot"] <= static_slots:
+        yield "words", "In a static slot each frame has the `static_words` of `[params]`."

@@ -1,0 +1,75 @@
+"""What the tests share: the cluster of three nodes and its scenario, changed, and what is said of them."""
+import os
+import tempfile
+import unittest
+from pathlib import Path
+
+from musmyrtle.command import told, words_for
+from musmyrtle.lint import Lint, Task, lint
+from musmyrtle.program import Answer, ask
+
+EXAMPLES = Path(__file__).resolve().parents[2] / "examples"
+CLUSTER = (EXAMPLES / "three-nodes/cluster.toml").read_text()
+SCENARIO = (EXAMPLES / "three-nodes/scenario").read_text()
+PROGRAM = os.environ.get("FR_BENCH")
+"""The program to which each refusal is held as well, if it is named."""
+
+
+class Cases(unittest.TestCase):
+    def setUp(self):
+        folder = tempfile.TemporaryDirectory()
+        self.addCleanup(folder.cleanup)
+        self.folder = Path(folder.name)
+
+    def changed(self, text: str, changes: tuple[str, ...]) -> str:
+        """The text with each second of the words in the place of the one before it."""
+        for old, new in zip(changes[::2], changes[1::2]):
+            self.assertIn(old, text)
+            text = text.replace(old, new, 1)
+        return text
+
+    def look(self, cluster: str | bytes | None, scenario: str | bytes | None = None, cycles: int | None = None):
+        """What is found, and what the program answers; without one, as if it answered what is expected."""
+        script = None if scenario is None else self.written("scenario", scenario)
+        task = Task(self.written("cluster.toml", cluster), script, cycles)
+        found = lint(task)
+        expected = found.refusals[0][0] if found.refusals else None
+        if PROGRAM is None:
+            return found, Answer(1 if expected else 0, expected)
+        answer = ask(PROGRAM, words_for(task))
+        if not found.is_doubtful:
+            self.assertEqual(answer.refusal, expected)
+        return found, answer
+
+    def written(self, name: str, text: str | bytes | None) -> str:
+        if text is not None:
+            (self.folder / name).write_bytes(text if isinstance(text, bytes) else text.encode())
+        return str(self.folder / name)
+
+    def text(self, found: Lint, answer: Answer) -> str:
+        """All words that are printed, without the folder and with each gap as one space."""
+        return " ".join("\n".join(told(answer, found)).replace(f"{self.folder}/", "").split())
+
+    def refused(self, refusal: str, place: str, words: tuple[str, ...], *given) -> None:
+        """That a file is refused so, at this place, and that the words stand in the reason."""
+        found, answer = self.look(*given)
+        self.assertTrue(found.refusals, "nothing is refused")
+        told_refusal, finding = found.refusals[0]
+        self.assertEqual((told_refusal, str(finding.place).rpartition("/")[2]), (refusal, place))
+        for word in words:
+            self.assertIn(word, self.text(found, answer))
+
+    def warned(self, place: str, words: tuple[str, ...], *given) -> None:
+        """That a file is accepted, and that one warning has this place and the words."""
+        found, answer = self.look(*given)
+        self.assertEqual(found.refusals, [])
+        texts = [f"{it.headline} {it.reason} {' '.join(note.text for note in it.notes)}" for it in found.warnings
+                 if str(it.place).rpartition("/")[2] == place]
+        self.assertTrue(any(all(word in text for word in words) for text in texts),
+                        f"{words} at {place} isn't in {self.text(found, answer)}")
+
+    def quiet(self, word: str, *given) -> None:
+        """That no warning has the word."""
+        found, _ = self.look(*given)
+        self.assertEqual(found.refusals, [])
+        self.assertEqual([it.headline for it in found.warnings if word in it.headline], [])
