@@ -1,1 +1,27 @@
-"""What is round the bench: the command `fr_lint`, and modules that read cluster files and scenarios."""
+"""What is round the bench: host programs in a proved world, scenarios made by a program, and the command `fr_lint`.
+
+    from musmyrtle import World
+
+    with World("cluster.toml", cycles=8) as world:
+        world.node(0).commit(0, b"\\0\\7")
+        world.cycle()
+        print(world.node(1).read(1))
+"""
+from musmyrtle.builder import Scenario
+from musmyrtle.faults import Babble, Corrupt, Fault, Mute
+from musmyrtle.names import Names, UnknownName
+from musmyrtle.refusals import (
+    AlreadyPut, AlreadyTaken, BadLine, BusRefused, HostFull, HostRefused, Memory, NoQueue, NotAllPut, NotAllTaken,
+    NotCollecting, NotReceive, NotSealed, NotTransmit, NoWindow, Refused, SessionOver, SlotFull, SlotRefused,
+    TooManyFaults, UnknownBuffer, UnknownNode, UnknownTask, WrongLength, WrongTurn,
+)
+from musmyrtle.replies import Counters, Frame, Queue, ReceiveBuffer, Record, Report, Sent, TransmitBuffer, Window
+from musmyrtle.world import Buffer, Node, World
+
+__all__ = [
+    "AlreadyPut", "AlreadyTaken", "Babble", "BadLine", "Buffer", "BusRefused", "Corrupt", "Counters", "Fault", "Frame",
+    "HostFull", "HostRefused", "Memory", "Mute", "Names", "NoQueue", "NoWindow", "Node", "NotAllPut", "NotAllTaken",
+    "NotCollecting", "NotReceive", "NotSealed", "NotTransmit", "Queue", "ReceiveBuffer", "Record", "Refused", "Report",
+    "Scenario", "Sent", "SessionOver", "SlotFull", "SlotRefused", "TooManyFaults", "TransmitBuffer", "UnknownBuffer",
+    "UnknownName", "UnknownNode", "UnknownTask", "Window", "World", "WrongLength", "WrongTurn",
+]

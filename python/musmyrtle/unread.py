@@ -7,6 +7,8 @@ from musmyrtle.places import Path
 from musmyrtle.texts import Text
 
 TOP_KEYS = ("guard", "params", "node", "physical")
+NAMED = ("name",)
+"""The program doesn't read it, and host programs find nodes and buffers by it."""
 PHYSICAL_KEYS = ("bit_rate", "macrotick_us")
 
 
@@ -18,13 +20,13 @@ def tables_of(document: dict) -> Iterator[tuple[str, dict, Path, tuple[str, ...]
             yield f"`[{name}]`", document[name], (name,), keys
     for number, node in numbered_tables(document.get("node")):
         path: Path = ("node", number)
-        yield f"node {number}", node, path, NODE_KEYS
+        yield f"node {number}", node, path, NODE_KEYS + NAMED
         for place, line in numbered_tables(node.get("own")):
             yield f"ownership line {place} of node {number}", line, (*path, "own", place), OWN_KEYS
         if isinstance(node.get("queue"), dict):
             yield f"the queue of node {number}", node["queue"], (*path, "queue"), QUEUE_KEYS
         for place, buffer in numbered_tables(node.get("buffer")):
-            yield f"buffer {place} of node {number}", buffer, (*path, "buffer", place), BUFFER_KEYS
+            yield f"buffer {place} of node {number}", buffer, (*path, "buffer", place), BUFFER_KEYS + NAMED
 
 
 def numbered_tables(value: object) -> Iterator[tuple[int, dict]]:

@@ -1,0 +1,5 @@
+pub mod LineLemmas
+pub mod SessionLemmas
+pub mod MovingLemmas
+pub mod QueryLemmas
+pub mod LawLemmas

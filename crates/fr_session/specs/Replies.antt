@@ -1,0 +1,58 @@
+-- The replies to events, each as its words.
+use Rattle.std.specs.Prelude.{ℕ, List, [], ◌∷◌, codes, Option, Some, None, Result, Ok, Err}
+use Rattle.std.specs.Fmt.{decimal}
+use Rattle.fr_core.specs.declared.error.StepError.{StepError}
+use Rattle.fr_core.specs.declared.event.Reply.{Reply}
+use Rattle.fr_core.specs.declared.event.Reply.TheVariants as reply
+use Rattle.fr_core.specs.ErrorNames.{step_error_text}
+use Rattle.fr_frame.specs.Fields.{Fields}
+use Rattle.fr_lines.specs.Parts.{absent, indicators, optional_number}
+use Rattle.fr_lines.specs.Spelling.{line_text}
+use Rattle.fr_slots.specs.Windows.{Opportunity}
+use Rattle.fr_text.specs.Spelling.{hex_text}
+
+-- ---- the first line, with the version of the protocol
+
+abbrev pub greeting : List ℕ
+greeting = line_text (codes "frworld" ∷ codes "1" ∷ [])
+
+-- ---- refusals
+
+abbrev pub refusal_words : StepError → List (List ℕ)
+refusal_words error = codes "refused" ∷ step_error_text error ∷ []
+
+-- the line of this number is no request
+abbrev pub bad_line_words : ℕ → List (List ℕ)
+bad_line_words number = codes "refused" ∷ codes "BadLine" ∷ decimal number ∷ []
+
+-- ---- frames and windows
+
+abbrev pub frame_words : Fields → List (List ℕ)
+frame_words f = codes "frame" ∷ decimal f.cycle ∷ decimal f.id ∷ indicators f ∷ hex_text f.payload ∷ []
+
+abbrev pub frame_reply : Option Fields → List (List ℕ)
+frame_reply None = codes "frame" ∷ absent ∷ []
+frame_reply (Some f) = frame_words f
+
+abbrev pub window_words : List ℕ → Opportunity → List (List ℕ)
+window_words kind w = kind ∷ decimal w.number ∷ decimal w.cycle ∷ decimal w.minislot ∷ optional_number w.a
+    ∷ optional_number w.b ∷ []
+
+abbrev pub withdrawn_words : Option ℕ → List (List ℕ)
+withdrawn_words of = codes "withdrawn" ∷ optional_number of ∷ []
+
+-- ---- what an event is answered
+
+abbrev pub reply_words : Reply → List (List ℕ)
+reply_words (reply.Committed receipt) = codes "committed" ∷ decimal receipt.entry ∷ []
+reply_words (reply.Withdrawn of) = withdrawn_words of
+reply_words (reply.Frame frame) = frame_reply frame
+reply_words (reply.Window window) = window_words (codes "window") window
+reply_words reply.Done = codes "done" ∷ []
+
+abbrev pub answer_words : Result Reply StepError → List (List ℕ)
+answer_words (Ok answered) = reply_words answered
+answer_words (Err error) = refusal_words error
+
+abbrev pub answer_text : Result Reply StepError → List ℕ
+answer_text answer = line_text (answer_words answer)

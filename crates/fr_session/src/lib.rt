@@ -1,0 +1,23 @@
+//! A session with the world of a cluster: requests in, a line each, and a reply to each before the next is read (own
+//! profile).
+//!
+//! ```text
+//! serve(alloc, &mut world, &mut reader, &mut writer)?;
+//! // commit 0 0 0 x0a0b      committed 0
+//! // look 0                  window 0 0 0 1 1
+//! // fetch 1                 refused WrongTurn
+//! // fetch                   refused BadLine 4
+//! ```
+//!
+//! *(own profile)* marks a rule of this project's own, which says nothing of the standard.
+#![tactic(auto)]
+
+pub mod error;
+pub mod laws;
+mod lines;
+mod moving;
+mod queries;
+mod reading;
+mod replies;
+pub mod request;
+pub mod session;

@@ -1,0 +1,152 @@
+//! What is due in a window, as events.
+ghost use Rattle.std.specs.Prelude.{◌≡◌, ◌≤◌, ◌++◌, List, IfOk, OnOk};
+ghost use Rattle.std.specs.List.{flat_map, range_with_len};
+ghost use Rattle.fr_core.specs.Runs.{Answer, StepsAll};
+ghost use Rattle.fr_session.specs.Moving.{first_refusal, hindrance};
+ghost use Rattle.fr_session.specs.Moving.{observe_events, offer_events, see_events, for_nodes};
+ghost use Rattle.fr_session.specs.Moving.{window_events, DoesAll, MovesOn, is_at_cycle, EndsCycle, RunsCycles};
+
+use fr_bus::bus::Bus;
+use fr_core::error::StepError;
+use fr_core::event::{Event, Reply};
+use fr_core::world::World;
+use fr_runs::fault_line::opens_cycle;
+use fr_slots::numbers::NodeId;
+use std::alloc::{AllocError, Global};
+
+/// The first refusal that isn't `WrongTurn`: the one found before, or else this.
+fn first_refusal(found: Option<StepError>, answer: &Result<Reply, StepError>) -> Option<StepError>
+    ensures { result ≡ first_refusal found answer.now }
+{
+    match (found, answer) {
+        (Some(found), _) => Some(found),
+        (None, Ok(_)) => None,
+        (None, Err(StepError::WrongTurn)) => None,
+        (None, Err(error)) => Some(*error),
+    }
+}
+
+/// What hinders the bus, where its advance has this answer and this refusal was found before.
+fn hindrance(found: Option<StepError>, last: &Result<Reply, StepError>) -> Option<StepError>
+    ensures { result ≡ hindrance found last.now }
+{
+    match (last, found) {
+        (Ok(_), _) => None,
+        (Err(_), Some(found)) => Some(found),
+        (Err(error), None) => Some(*error),
+    }
+}
+
+/// Appends the observe of each of so many nodes.
+fn push_observes(events: &mut Vec<Event>, nodes: u8) -> Result<(), AllocError>
+    requires { nodes ≤ 16 }
+    ensures { OnOk result (events.new.items ≡ events.old.items ++ for_nodes observe_events nodes) }
+{
+    for number in 0..nodes {
+        let node = NodeId::from_number(number);
+        events.push(Event::Observe(node))?;
+    }
+    Ok(())
+}
+
+/// Appends for each of so many nodes the steps that bring its offer to the bus.
+fn push_offers(events: &mut Vec<Event>, nodes: u8) -> Result<(), AllocError>
+    requires { nodes ≤ 16 }
+    ensures { OnOk result (events.new.items ≡ events.old.items ++ for_nodes offer_events nodes) }
+{
+    for number in 0..nodes {
+        let node = NodeId::from_number(number);
+        events.push(Event::Look(node))?;
+        events.push(Event::Fetch(node))?;
+        events.push(Event::Put(node))?;
+    }
+    Ok(())
+}
+
+/// Appends for each of so many nodes the steps that bring what it sees to its interface.
+fn push_sights(events: &mut Vec<Event>, nodes: u8) -> Result<(), AllocError>
+    requires { nodes ≤ 16 }
+    ensures { OnOk result (events.new.items ≡ events.old.items ++ for_nodes see_events nodes) }
+{
+    for number in 0..nodes {
+        let node = NodeId::from_number(number);
+        events.push(Event::Take(node))?;
+        events.push(Event::Observe(node))?;
+    }
+    Ok(())
+}
+
+/// All that can be due in a window of so many nodes, but for the advance.
+pub(crate) fn window_events(alloc: Global, nodes: u8) -> Result<Vec<Event>, AllocError>
+    requires { nodes ≤ 16 }
+    ensures { IfOk result (λ events. events.items ≡ window_events nodes) }
+{
+    let mut events = Vec::new(alloc);
+    push_observes(&mut events, nodes)?;
+    push_offers(&mut events, nodes)?;
+    events.push(Event::Seal)?;
+    push_sights(&mut events, nodes)?;
+    Ok(events)
+}
+
+/// Does the events, and tells the first refusal that isn't `WrongTurn`.
+fn do_all(world: &mut World, events: &[Event]) -> Option<StepError>
+    ensures { DoesAll world.old events.now result world.new }
+{
+    let mut found = None;
+    for event in events {
+        let answer = world.step(event);
+        found = first_refusal(found, &answer);
+    }
+    found
+}
+
+/// Does all of these events, which are those of a window, that is still due, and then the bus's advance. Tells what
+/// hinders the bus.
+pub(crate) fn finish_window(world: &mut World, events: &[Event]) -> Option<StepError>
+    ensures { MovesOn world.old events.now result world.new }
+{
+    let found = do_all(world, events);
+    let last = world.step(&Event::Advance);
+    hindrance(found, &last)
+}
+
+/// Whether the open window is the first of its cycle, or the run is over.
+fn is_at_cycle(bus: &Bus) -> bool
+    ensures { result ≡ is_at_cycle bus.now.opened }
+{
+    match bus.window() {
+        Some(window) => opens_cycle(&window),
+        None => true,
+    }
+}
+
+/// Does windows until the first one of a cycle is open, and tells what hinders the bus before.
+fn finish_cycle(world: &mut World, events: &[Event]) -> Option<StepError>
+    ensures { EndsCycle events.now world.old result world.new }
+{
+    // A cycle has at most 1023 static slots and 8000 minislots.
+    for count in 0..9023u32 {
+        match finish_window(world, events) {
+            Some(error) => return Some(error),
+            None => {}
+        }
+        if is_at_cycle(world.bus()) {
+            return None;
+        }
+    }
+    None
+}
+
+/// Does so many cycles, and tells what hinders the bus before.
+pub(crate) fn finish_cycles(world: &mut World, events: &[Event], cycles: u16) -> Option<StepError>
+    ensures { RunsCycles events.now cycles world.old result world.new }
+{
+    for count in 0..cycles {
+        match finish_cycle(world, events) {
+            Some(error) => return Some(error),
+            None => {}
+        }
+    }
+    None
+}

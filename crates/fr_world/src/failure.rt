@@ -1,0 +1,52 @@
+//! How the program ends when it hasn't done what it was asked.
+ghost use Rattle.std.specs.Prelude.{◌≡◌};
+ghost use Rattle.fr_world.specs.Failures.{failure_of, status_of};
+
+use fr_bus::error::BusError;
+use fr_commands::error::BenchError;
+use fr_session::error::SessionError;
+use fr_words::error::OrderError;
+use thiserror::Error;
+
+/// Why the program hasn't done what it was asked; printed, it is the line on standard error (own profile).
+#[derive(Clone, Copy, Debug, Drop, PartialEq, Eq, Error)]
+pub enum Failure {
+    /// The words were no command.
+    #[error("usage")]
+    Usage,
+    /// Memory for reading the words, or for reading and writing, was refused.
+    #[error("refused Memory")]
+    Memory,
+    /// The cluster file was refused, or couldn't be read.
+    #[error("refused {0}")]
+    Text(#[from] BenchError),
+    /// The world couldn't be made.
+    #[error("refused {0}")]
+    World(#[from] BusError),
+    /// The session ended before its input did.
+    #[error("refused {0}")]
+    Session(#[from] SessionError),
+}
+
+impl Failure {
+    /// The program's exit status: 2 for words that are no command, 1 for everything else.
+    pub fn status(&self) -> u8
+        ensures { result ≡ status_of self.now }
+    {
+        match self {
+            Failure::Usage => 2,
+            Failure::Memory | Failure::Text(_) | Failure::World(_) | Failure::Session(_) => 1,
+        }
+    }
+}
+
+impl From<OrderError> for Failure {
+    ghost from_gives = { λ error given. given ≡ failure_of error };
+
+    fn from(error: OrderError) -> Failure {
+        match error {
+            OrderError::Usage => Failure::Usage,
+            OrderError::Memory => Failure::Memory,
+        }
+    }
+}

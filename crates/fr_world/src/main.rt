@@ -1,0 +1,76 @@
+//! The program through which host programs take part in a cluster. It opens the world of a cluster file for a run of
+//! some cycles, and then answers each line on standard input with a line or a block of lines on standard output, before
+//! it reads the next.
+//!
+//! ```text
+//! fr_world cluster.toml --cycles 4
+//! ```
+//!
+//! Its exit status says how it went: 0 where the input came to its end, 1 where the cluster is refused or a stream
+//! fails, 2 where the words are no command. Such a refusal is one line on standard error. That of a request is its
+//! reply.
+//!
+//! *(own profile)* marks a rule of this project's own, which says nothing of the standard.
+#![tactic(auto)]
+
+mod command;
+mod failure;
+
+use command::{Command, command_of};
+use failure::Failure;
+use fr_commands::cluster_file::cluster_of;
+use fr_commands::files::file_named;
+use fr_core::world::World;
+use fr_session::session::serve;
+use fr_words::given::{texts_of, words_given};
+use std::io;
+use std::io::{BufReader, BufWriter};
+use std::process::ExitCode;
+use std::rt::{Env, Files};
+
+/// The opening world of the command's cluster.
+fn world_of<R: Files + AllocGlobal>(rt: &R, command: Command<'_>) -> Result<World, Failure> {
+    let mut file = file_named(rt, command.file)?;
+    let cluster = cluster_of(rt.alloc(), &mut file)?;
+    Ok(World::new(rt.alloc(), &cluster, command.cycles)?)
+}
+
+/// Serves the world of the command's cluster on standard input and output.
+///
+/// The room for reading and writing is taken first, so that no reply needs memory of its own.
+fn serve_world<R: Files + Input + Print + AllocGlobal>(
+    rt: &R,
+    command: Command<'_>,
+) -> Result<(), Failure> {
+    let mut world = world_of(rt, command)?;
+    let Ok(mut reader) = BufReader::new(rt.alloc(), rt.reader()) else {
+        return Err(Failure::Memory);
+    };
+    let Ok(mut writer) = BufWriter::new(rt.alloc(), io::writer(rt)) else {
+        return Err(Failure::Memory);
+    };
+    let served = serve(rt.alloc(), &mut world, &mut reader, &mut writer);
+    // What a write that failed has left is let go, so that nothing comes after the failure.
+    let _left = writer.into_parts();
+    Ok(served?)
+}
+
+/// Does what the words ask for.
+fn run<R: Env + Files + Input + Print + AllocGlobal>(rt: &R) -> Result<(), Failure> {
+    let words = words_given(rt)?;
+    let texts: Vec<&str> = texts_of(rt.alloc(), &words)?;
+    match command_of(texts.as_slice()) {
+        Some(command) => serve_world(rt, command),
+        None => Err(Failure::Usage),
+    }
+}
+
+fn main(rt: HostRuntime) -> ExitCode {
+    match run(&rt) {
+        Ok(()) => ExitCode::SUCCESS,
+        Err(failure) => {
+            let _ = eprintln!(rt; "{failure}");
+            ExitCode::from(failure.status())
+        }
+    }
+}

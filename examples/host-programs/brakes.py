@@ -1,0 +1,101 @@
+#!/usr/bin/env python3
+"""A brake by wire, tried on a proved bus: a pedal, a brake and the car that they slow down.
+
+    examples/host-programs/brakes.py                   the car stops
+    examples/host-programs/brakes.py --babble          a radio babbles over the pedal: the guardians stop it, and the car stops
+    examples/host-programs/brakes.py --babble --guard none    without guardians nothing of the pedal arrives
+"""
+import argparse
+import sys
+import tempfile
+from dataclasses import dataclass
+from pathlib import Path
+
+HERE = Path(__file__).resolve().parent
+sys.path.insert(0, str(HERE.parents[1] / "python"))
+
+from musmyrtle import Babble, Node, Window, World  # noqa: E402
+
+CYCLE_SECONDS = 0.005
+FULL_DECELERATION = 8.0
+"""In metres per second squared, with the pedal down."""
+CYCLES = 600
+PEDAL_SLOT = 1
+
+
+def word_of(value: float, step: float) -> bytes:
+    """A value of so many steps, as a frame's first word; its second is spare."""
+    return round(value / step).to_bytes(2, "big") + bytes(2)
+
+
+def value_of(payload: bytes, step: float) -> float:
+    return int.from_bytes(payload[:2], "big") * step
+
+
+@dataclass
+class Car:
+    """What the brake slows down, and what its wheels tell."""
+
+    speed: float = 20.0
+    """In metres per second."""
+
+    def brake(self, force: float) -> None:
+        """One cycle with this share of the full force, 0 to 1."""
+        self.speed = max(0.0, self.speed - force * FULL_DECELERATION * CYCLE_SECONDS)
+
+
+def pedal(node: Node, position: float):
+    """The pedal's host program: it tells its position in each cycle."""
+    while True:
+        node["position"].commit(word_of(position, 0.001))
+        yield
+
+
+def brake(node: Node, car: Car):
+    """The brake's host program: it brakes as the pedal last said, and tells the speed."""
+    while True:
+        frame = node["position"].read()
+        car.brake(value_of(frame.payload, 0.001) if frame else 0.0)
+        node["speed"].commit(word_of(car.speed, 0.01))
+        yield
+
+
+def is_the_pedals(window: Window) -> bool:
+    return window.is_static and window.a == PEDAL_SLOT
+
+
+def stopped(cluster: Path, babble: bool, cycles: int = CYCLES) -> Car:
+    """The car after so many cycles with the pedal down."""
+    car = Car()
+    with World(cluster, cycles) as world:
+        hosts = pedal(world["pedal"], 1.0), brake(world["brake"], car)
+        radio = world["radio"].number
+        noise = [Babble(radio, channel, b"\xff") for channel in "AB"] if babble else []
+        if noise:
+            with world.fault(noise[0], is_the_pedals), world.fault(noise[1], is_the_pedals):
+                world.play(*hosts, cycles=cycles)
+        else:
+            world.play(*hosts, cycles=cycles)
+    return car
+
+
+def with_guard(guard: str, folder: Path) -> Path:
+    """The cluster with another guard."""
+    file = folder / "brakes.toml"
+    file.write_text((HERE / "brakes.toml").read_text().replace('guard = "AB"', f'guard = "{guard}"'))
+    return file
+
+
+def main() -> int:
+    parser = argparse.ArgumentParser(description=__doc__, formatter_class=argparse.RawDescriptionHelpFormatter)
+    parser.add_argument("--babble", action="store_true", help="a radio sends over the pedal in each cycle")
+    parser.add_argument("--guard", choices=("AB", "A", "B", "none"), default="AB")
+    given = parser.parse_args()
+    with tempfile.TemporaryDirectory() as folder:
+        car = stopped(with_guard(given.guard, Path(folder)), given.babble)
+    print(f"after {CYCLES * CYCLE_SECONDS:.0f} s: {car.speed:.1f} m/s")
+    return 0
+
+
+if __name__ == "__main__":
+    sys.exit(main())

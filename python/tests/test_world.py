@@ -1,0 +1,191 @@
+"""Worlds, and scenarios that a program makes."""
+import subprocess
+import sys
+import unittest
+from pathlib import Path
+from tempfile import TemporaryDirectory
+
+from musmyrtle import (
+    Babble, BadLine, Corrupt, HostRefused, Mute, NoWindow, NotReceive, Refused, Scenario, SessionOver, UnknownBuffer,
+    UnknownName, UnknownNode, Window, World, WrongLength, WrongTurn,
+)
+from musmyrtle.builder import NotInAScenario
+from musmyrtle.session import usual_world
+
+TOP = Path(__file__).resolve().parents[2]
+THREE_NODES = TOP / "examples/three-nodes/cluster.toml"
+HOSTS = TOP / "examples/host-programs"
+
+
+def words(number: int) -> bytes:
+    return number.to_bytes(2, "big")
+
+
+class TestWorld(unittest.TestCase):
+    def setUp(self):
+        self.world = World(THREE_NODES, cycles=8)
+        self.addCleanup(self.world.close)
+        self.sender, self.receiver = self.world.node(0), self.world.node(1)
+
+    def test_a_payload_arrives_in_its_cycle(self):
+        for number in range(4):
+            self.sender.commit(0, words(number))
+            self.world.cycle()
+            frame = self.receiver.read(1)
+            self.assertEqual((frame.payload, frame.slot, frame.cycle, frame.sync), (words(number), 1, number, True))
+
+    def test_steps_of_a_window(self):
+        window = self.receiver.look()
+        self.assertEqual(window, Window(0, 0, 0, 1, 1))
+        with self.assertRaises(WrongTurn):
+            self.receiver.put()
+        self.receiver.fetch()
+        self.receiver.put()
+        self.assertEqual(self.world.window().number, 1)
+
+    def test_refusals_have_names_and_change_nothing(self):
+        before = self.sender.report()
+        for kind, call in ((WrongLength, lambda: self.sender.commit(0, b"1234")),
+                           (UnknownBuffer, lambda: self.sender.commit(9, b"12")),
+                           (NotReceive, lambda: self.sender.read(0)),
+                           (UnknownNode, lambda: self.world.node(3).report()),
+                           (NoWindow, lambda: self.world.record(0)),
+                           (BadLine, lambda: self.world.ask("commit 0"))):
+            with self.assertRaises(kind):
+                call()
+        self.assertTrue(issubclass(WrongLength, HostRefused) and issubclass(HostRefused, Refused))
+        self.assertEqual(self.sender.report(), before)
+
+    def test_a_guardian_stops_a_babble(self):
+        self.sender.commit(0, words(7))
+        with self.world.fault(Babble(2, "A", b"\0"), when=lambda window: window.is_static):
+            self.world.cycle()
+        self.assertEqual([(it.node, it.channel, it.babble, it.fate) for it in self.world.record(0).sent],
+                         [(0, "A", False, "passed"), (0, "B", False, "passed"), (2, "A", True, "blocked")])
+        self.assertEqual(self.receiver.read(1).payload, words(7))
+
+    def test_a_mute_and_a_turned_bit(self):
+        self.sender.commit(0, words(7))
+        self.world.inject(Mute(0, "A"))
+        self.world.inject(Corrupt("B", 3))
+        self.world.cycle()
+        record = self.world.record(0)
+        self.assertEqual([it.fate for it in record.sent], ["muted", "passed"])
+        self.assertEqual(record.corrupt, {"B": 3})
+        self.assertIsNone(self.receiver.read(1))
+
+    def test_a_report_is_told_in_parts(self):
+        self.sender.commit(0, words(1))
+        self.world.run(2)
+        report = self.sender.report()
+        self.assertEqual((report.buffers[0].committed, report.buffers[0].sent), (1, 1))
+        self.assertEqual(report.queue.lost, 0)
+        self.assertEqual(self.receiver.report().buffers[1].payload, words(1))
+        self.assertTrue(self.sender.trace().startswith("frtrace 3\n"))
+
+    def test_host_programs_take_turns(self):
+        def host():
+            for number in range(3):
+                self.sender.commit(0, words(number))
+                yield
+
+        self.assertIsNone(self.world.play(host(), cycles=8))
+        self.assertIsNone(self.world.now())
+        self.assertEqual(self.receiver.report().buffers[1].payload, words(2))
+
+    def test_a_transcript_can_be_asked_again(self):
+        self.test_a_payload_arrives_in_its_cycle()
+        with self.assertRaises(WrongLength):
+            self.sender.commit(0, b"")
+        asked = self.world.transcript()
+        command = [usual_world(), str(THREE_NODES), "--cycles", "8"]
+        once, again = (subprocess.run(command, input=asked.encode(), stdout=subprocess.PIPE).stdout for _ in range(2))
+        self.assertEqual(once, again)
+        self.assertEqual(len(once.splitlines()), 1 + len(asked.splitlines()))
+
+    def test_many_requests_in_one_write(self):
+        self.assertEqual(self.world.send(["now", "commit 0 0 0 x01", "now"]),
+                         ["open 0 0 0 1 1", "refused BadLine 2", "open 0 0 0 1 1"])
+
+    def test_names(self):
+        with World(HOSTS / "brakes.toml", cycles=1) as world:
+            self.assertEqual(world["brake"]["position"].number, 1)
+            for name in (lambda: world["clutch"], lambda: world["brake"]["force"]):
+                with self.assertRaises(UnknownName):
+                    name()
+
+    def test_a_world_that_is_not_opened_says_why(self):
+        for cluster, cycles, said in ((THREE_NODES, 0, "usage"), ("/dev/null", 1, "refused Params Missing static_slots"),
+                                      (TOP / "no such file", 1, "refused Read")):
+            with self.assertRaises(SessionOver) as raised:
+                World(cluster, cycles)
+            self.assertEqual(str(raised.exception), said)
+
+    def test_a_closed_world_is_over(self):
+        self.world.close()
+        self.world.close()
+        with self.assertRaises(SessionOver):
+            self.world.now()
+
+
+class TestScenario(unittest.TestCase):
+    def lines(self, scenario: Scenario) -> list[str]:
+        return scenario.text().splitlines()[1:-1]
+
+    def test_tasks(self):
+        scenario = Scenario(HOSTS / "brakes.toml", cycles=6)
+        scenario.task("brake").at([4, 1]).read("position")
+        scenario.task("pedal").every(2, first=1).commit("position", [b"\0\1\0\0", b"\0\2\0\0", b"\0\3\0\0"])
+        self.assertEqual(self.lines(scenario), [
+            "commit 0 0 1 0 x00010000", "commit 0 0 3 0 x00020000", "commit 0 0 5 0 x00030000",
+            "read 1 0 1 1", "read 1 0 4 1"])
+
+    def test_faults(self):
+        scenario = Scenario(THREE_NODES, cycles=4)
+        scenario.babble(2, b"\0", slot=1)
+        scenario.corrupt(9, minislot=2, channels="B", cycles=3)
+        scenario.lose(2, cycles=range(2, 9))
+        self.assertEqual(self.lines(scenario), [
+            "babble 2 A * s1 x00", "babble 2 B * s1 x00", "corrupt B 3 m2 9",
+            "mute 2 A 2 s*", "mute 2 A 3 s*", "mute 2 B 2 s*", "mute 2 B 3 s*", "mute 2 A 2 m1", "mute 2 A 3 m1"])
+
+    def test_what_no_line_says(self):
+        with TemporaryDirectory() as folder:
+            cluster = Path(folder) / "cluster.toml"
+            buffer = '{kind = "event", slot = 4, channels = "A", words = 1},'
+            text = THREE_NODES.read_text()
+            cluster.write_text(text.replace(buffer, buffer.replace("slot = 4", "slot = 5"))
+                               .replace('{kind = "receive", slot = 2, channels = "A"},', buffer))
+            with self.assertRaises(NotInAScenario):
+                Scenario(cluster, cycles=4).lose(2)
+
+
+class TestBrakes(unittest.TestCase):
+    def setUp(self):
+        sys.path.insert(0, str(HOSTS))
+        self.addCleanup(sys.path.remove, str(HOSTS))
+        import brakes
+        self.brakes = brakes
+
+    def test_the_car_stops_beside_a_babbling_radio(self):
+        with TemporaryDirectory() as folder:
+            for guard, babble, speed in (("AB", False, 0.0), ("AB", True, 0.0), ("B", True, 0.0), ("none", True, 20.0)):
+                with self.subTest(guard=guard, babble=babble):
+                    cluster = self.brakes.with_guard(guard, Path(folder))
+                    self.assertEqual(self.brakes.stopped(cluster, babble).speed, speed)
+
+    def test_the_same_in_c(self):
+        import shutil
+        compiler = shutil.which("cc")
+        if not compiler:
+            self.skipTest("there is no C compiler")
+        with TemporaryDirectory() as folder:
+            program = Path(folder) / "host"
+            subprocess.run([compiler, "-o", program, HOSTS / "host.c"], check=True)
+            command = [program, usual_world(), HOSTS / "brakes.toml"]
+            lines = subprocess.run(command, stdout=subprocess.PIPE, text=True, check=True).stdout.splitlines()
+        self.assertEqual(lines, [f"frame {cycle} 1 --su x{100 * cycle:04x}0000" for cycle in range(8)])
+
+
+if __name__ == "__main__":
+    unittest.main()

@@ -1,0 +1,276 @@
+"""Runs of the third program: sessions with the world of a cluster, request by request, and its words."""
+import os
+import select
+import socket
+import subprocess
+
+from .runner import EXAMPLES, SECONDS, USAGE, Folder, refused, run
+
+GREETING = "frworld 1\n"
+
+THREE_NODES = "three-nodes/cluster.toml"
+
+DATA_A, DATA_B = "x200203c1400a0ba32217", "x200203c1400a0b85a2c6"
+"""The data frame of slot 2 in cycle 0 with payload `0a0b`, on each channel."""
+
+SMALL = """[params]
+static_slots = 2
+minislots = 0
+static_words = 1
+static_mt = 20
+minislot_mt = 5
+symbol_mt = 0
+nit_mt = 10
+cycle_mt = 50
+idle = 0
+words_per_minislot = 5
+
+[[node]]
+host_entries = 2
+slot_entries = 6
+own = [{slot = 2, channels = "AB"}]
+buffer = [{kind = "event", slot = 2, channels = "AB"}]
+
+[[node]]
+tasks = 2
+buffer = [{kind = "receive", slot = 2, channels = "A"}]
+"""
+"""Two static slots and no minislot. The journal of node 0 has room for three windows and two calls of its task."""
+
+A_WINDOW = [
+    ("look 0", "window 0 0 0 1 1"), ("look 1", "window 0 0 0 1 1"), ("fetch 0", "done"), ("fetch 1", "done"), ("put 0", "done"),
+    ("seal", "refused Bus NotAllPut"), ("put 1", "done"), ("now", "open 0 0 0 1 1"), ("seal", "done"), ("now", "sealed 0 0 0 1 1"),
+    ("advance", "refused Bus NotAllTaken"), ("take 0", "done"), ("observe 0", "done"), ("take 1", "done"), ("advance", "done"),
+    ("now", "open 1 0 0 2 2"), ("look 1", "refused WrongTurn"), ("observe 1", "done"), ("look 1", "window 1 0 0 2 2"),
+]
+"""A window by its single events, each with its reply."""
+
+TWO_CYCLES = [
+    ("commit 0 0 0 x0a0b", "committed 0"), ("commit 0 0 0 x0c0d", "committed 1"), ("withdraw 0 0 0", "refused Host HostFull"),
+    ("read 1 1 0", "frame -"), ("window", "open 1 0 0 2 2"), ("babble 1 B x00", "done"), ("window", "open 2 1 0 1 1"),
+    ("read 1 0 0", "frame 0 2 ---- x0c0d"), ("record 0", "lines 1\nwindow 0 0 0 1 1"), ("record 2", "refused NoWindow"),
+    ("report 0", "lines 3\ntx 0 2 1 1 0 0\nA 0 0 0 0 0\nB 0 0 0 0 0"), ("cycle", "refused Slot SlotFull"), ("now", "open 3 1 0 2 2"),
+]
+"""A run by whole windows, in which the journal of node 0 is full before the last one."""
+
+REFUSALS = [
+    ("commit 3 0 0 x0000", "refused UnknownNode"), ("look 15", "refused UnknownNode"), ("report 3", "refused UnknownNode"),
+    ("trace 15", "refused UnknownNode"), ("babble 3 A x00", "refused Bus UnknownNode"), ("mute 4 B", "refused Bus UnknownNode"),
+    ("commit 0 2 0 x0000", "refused Host UnknownTask"), ("commit 0 0 2 x0000", "refused Host UnknownBuffer"),
+    ("commit 0 0 1 x0000", "refused Host NotTransmit"), ("commit 0 0 0 x00000000", "refused Host WrongLength"),
+    ("withdraw 0 0 1", "refused Host NotTransmit"), ("withdraw 0 0 0", "withdrawn -"), ("read 0 0 0", "refused Host NotReceive"),
+    ("read 0 0 1", "frame -"), ("pop 1 0", "refused Host NoQueue"), ("pop 0 0", "frame -"), ("fetch 0", "refused WrongTurn"),
+    ("put 0", "refused WrongTurn"), ("take 0", "refused WrongTurn"), ("observe 0", "refused WrongTurn"),
+    ("seal", "refused Bus NotAllPut"), ("advance", "refused Bus NotSealed"), ("corrupt A 3", "done"),
+    ("corrupt A 4", "refused Bus TooManyFaults"), ("mute 1 A", "done"), ("mute 1 A", "refused Bus TooManyFaults"),
+    ("babble 1 B x", "done"), ("babble 1 B x00", "refused Bus TooManyFaults"), ("record 0", "refused NoWindow"),
+    ("record 4294967295", "refused NoWindow"), ("commit 0 1 0 x1234", "committed 3"), ("withdraw 0 0 0", "withdrawn 3"),
+]
+"""Each refusal that a request has in the three-node cluster, with what is accepted beside it."""
+
+NO_REQUESTS = [
+    "", " ", "now ", " now", "now  ", "Now", "now 1", "window 1", "cycle 1", "seal 0", "advance 0", "look", "look 16", "look 00",
+    "look -1", "look 0 0", "fetch", "put", "take", "observe x", "commit", "commit 0 0 0", "commit 0 0 0 x0", "commit 0 0 0 x000",
+    "commit 0 0 0 X0000", "commit 0 0 0 x0A00", "commit 0 0 0 0000", "commit 0 0 0 x0000 x0000", "commit 0  0 0 x0000",
+    "commit 0 8 0 x0000", "commit 0 0 64 x0000", "commit 16 0 0 x0000", "commit +1 0 0 x0000", "withdraw 0 0", "withdraw 0 0 0 0",
+    "read 0 0", "read 0 0 0 0", "pop 0", "pop 0 0 0", "babble 0 A", "babble 0 AB x00", "babble 0 a x00", "babble 0 A x0",
+    "mute 0", "mute 0 C", "mute 0 A 1", "corrupt A", "corrupt A 65536", "corrupt 1 A", "run", "run 1025", "run -1", "run 1 1",
+    "record", "record 4294967296", "report", "report 16", "trace", "trace 0 0", "quit", "frworld 1", "now\r", "now\t", "now\0",
+    "commit 0 0 0 x" + "00" * 255, "babble 0 A x" + "00" * 263, "x" * 1200, "x" * 1201, "now " * 300, "now" + " " * 1198,
+    "now" + " " * 5_000_000, "x" * 4095, "x" * 4096, "x" * 8191, "x" * 8192, "x" * 8193, "x" * 16384, "\N{EURO SIGN}",
+]
+
+
+def text_of(lines):
+    return "".join(f"{line}\n" for line in lines)
+
+
+def strikes(cycles, place, cycle, minislot, slot):
+    """Whether a fault line of a scenario comes in a window."""
+    if cycles not in ("*", str(cycle)):
+        return False
+    return place == (f"m{minislot}" if minislot != "0" else f"s{slot}") or place == "s*" and minislot == "0"
+
+
+class Talk:
+    """A session on two pipes, to which each request is given once the reply to the one before has come."""
+
+    def __init__(self, program, cluster, cycles):
+        pipes = {"stdin": subprocess.PIPE, "stdout": subprocess.PIPE, "stderr": subprocess.PIPE}
+        self.ran = subprocess.Popen([program, cluster, "--cycles", str(cycles)], cwd=EXAMPLES, bufsize=0, **pipes)
+        self.held = b""
+
+    def line(self):
+        """The next line that is written."""
+        while b"\n" not in self.held:
+            ready, _, _ = select.select([self.ran.stdout], [], [], SECONDS)
+            more = self.ran.stdout.read(65536) if ready else b""
+            if not more:
+                raise OSError(f"no reply, but {self.held}")
+            self.held += more
+        line, _, self.held = self.held.partition(b"\n")
+        return line.decode()
+
+    def ask(self, request):
+        """The reply to a request; that of a block is its lines."""
+        self.ran.stdin.write(f"{request}\n".encode())
+        reply = self.line()
+        if not reply.startswith("lines "):
+            return reply
+        return [self.line() for _ in range(int(reply.split(" ")[1]))]
+
+    def close(self, rest=b""):
+        """Ends the input after some last bytes, and gives what came then."""
+        output, errors = self.ran.communicate(rest, timeout=SECONDS)
+        return self.held + output, errors, self.ran.returncode
+
+
+class Sessions:
+    """Runs of the third program."""
+
+    def __init__(self, runs, folder):
+        self.runs, self.folder = runs, folder
+        self.small = folder / "small.toml"
+        self.small.write_text(SMALL)
+
+    def check(self, name, cluster, cycles, asked, rest=b"", status=0):
+        """All requests at once are answered so, and each reply is one write."""
+        given = text_of(request for request, _ in asked).encode() + rest
+        wanted = [GREETING] + [f"{reply}\n" for _, reply in asked]
+        ours, theirs = socket.socketpair(socket.AF_UNIX, socket.SOCK_SEQPACKET)
+        ours.settimeout(SECONDS)
+        ours.setsockopt(socket.SOL_SOCKET, socket.SO_RCVBUF, 1 << 20)
+        with ours, theirs:
+            _, errors, ended = run([self.runs.program, cluster, "--cycles", str(cycles)], given, output=theirs.fileno())
+            theirs.close()
+            got = []
+            while message := ours.recv(1 << 20):
+                got.append(message.decode())
+        self.runs.compare(name, (got, errors, ended), (wanted, b"", status))
+
+    def worked(self):
+        self.check("a window by its events", self.small, 2, A_WINDOW)
+        self.check("two cycles by windows", self.small, 2, TWO_CYCLES)
+        self.check("each refusal", THREE_NODES, 4, REFUSALS)
+        self.check("no requests at all", THREE_NODES, 1, [])
+        late = "refused Bus NotCollecting"
+        over = [("run 0", "open 0 0 0 1 1"), ("run 2", "over"), ("now", "over"), ("look 0", late), ("window", late), ("cycle", late),
+                ("run 1", late), ("run 0", "over"), ("advance", "refused Bus NotSealed"), ("mute 0 A", late),
+                ("read 1 0 1", "frame -"), ("record 13", "lines 1\nwindow 13 1 4 7 7")]
+        self.check("a run that is over", THREE_NODES, 2, over)
+
+    def recorded(self):
+        """A window of the record has each transmission with what became of it."""
+        asked = [("commit 0 0 0 x0a0b", "committed 0"), ("window", "open 1 0 0 2 2"), ("babble 1 A x00", "done"),
+                 ("corrupt B 7", "done"), ("window", "open 2 1 0 1 1")]
+        lines = ["window 1 0 0 2 2", f"sent 0 A offer passed {DATA_A}", f"sent 0 B offer passed {DATA_B}",
+                 "sent 1 A babble blocked x00", "corrupt B 7"]
+        asked.append(("record 1", "\n".join([f"lines {len(lines)}", *lines])))
+        self.check("a window of the record", self.small, 2, asked)
+
+    def no_requests(self):
+        asked = [(line, f"refused BadLine {number}") for number, line in enumerate(NO_REQUESTS, 1)]
+        self.check("lines that are no request", THREE_NODES, 1, [*asked, ("now", "open 0 0 0 1 1")])
+        for rest in (b"now", b"run 1", b"commit 0 0 0 x0a0b", b"x" * 1201, b"x" * 5_000_000):
+            self.check(f"a last line {rest[:20]} without its end", THREE_NODES, 1, [("now", "open 0 0 0 1 1")], rest)
+        bytes_given = bytes(range(10)) + bytes(range(11, 256))
+        got = run([self.runs.program, THREE_NODES, "--cycles", "1"], bytes_given + b"\nnow\n")
+        self.runs.compare("all bytes", got, (b"frworld 1\nrefused BadLine 1\nopen 0 0 0 1 1\n", b"", 0))
+
+    def examples(self):
+        """What a scenario's run comes to, it comes to by requests."""
+        for folder in sorted(path for path in EXAMPLES.iterdir() if (path / "scenario").exists()):
+            for outcome in folder.glob("outcome-of-*-cycles"):
+                cycles = int(outcome.name.split("-")[2])
+                try:
+                    got = self.outcome(folder, cycles)
+                except OSError as error:
+                    got = str(error)
+                self.runs.compare(f"a session of {folder.name}", got, outcome.read_text())
+
+    def outcome(self, folder, cycles):
+        """The outcome of a stepped run, by a session that does the scenario's lines and faults."""
+        lines = [line.split(" ") for line in (folder / "scenario").read_text().splitlines()[1:-1]]
+        nodes = (folder / "cluster.toml").read_text().count("[[node]]")
+        talk = Talk(self.runs.program, folder / "cluster.toml", cycles)
+        talk.line()
+        opened = talk.ask("now")
+        windows = 0
+        for cycle in range(cycles):
+            for kind, *words in lines:
+                if kind in ("commit", "withdraw", "read", "pop") and words[2] == str(cycle):
+                    talk.ask(" ".join([kind, *words[:2], *words[3:]]))
+            while True:
+                self.strike(talk, lines, cycle, opened)
+                opened, windows = talk.ask("window"), windows + 1
+                if opened == "over" or opened.split(" ")[3:5] == ["0", "1"]:
+                    break
+        reports = [f"node {node}\n{text_of(talk.ask(f'report {node}'))}" for node in range(nodes)]
+        traces = [text_of(talk.ask(f"trace {node}")).encode() for node in range(nodes)]
+        talk.close()
+        bench = self.runs.program.with_name("fr_bench")
+        for node, trace in enumerate(traces):
+            if bench.exists():
+                report = run([bench, "audit"], trace)
+                self.runs.compare(f"audit of node {node} of {folder.name}", report,
+                                  (reports[node].partition("\n")[2].encode(), b"", 0))
+        return "".join(reports) + f"windows {windows}\nsettled\n"
+
+    def strike(self, talk, lines, cycle, opened):
+        """Brings the faults that come in the open window."""
+        minislot, slot = opened.split(" ")[3:5]
+        for kind, *words in lines:
+            if kind == "corrupt" and strikes(words[1], words[2], cycle, minislot, slot):
+                talk.ask(f"corrupt {words[0]} {words[3]}")
+            if kind in ("babble", "mute") and strikes(words[2], words[3], cycle, minislot, slot):
+                talk.ask(" ".join([kind, *words[:2], *words[4:]]))
+
+    def talks(self):
+        """Each reply comes before the next request is given, and one who dies in a line has said nothing by it."""
+        for rest in (b"", b"commit 0 0 0 x0c0d", b"now\nrun 1"):
+            talk = Talk(self.runs.program, THREE_NODES, 1)
+            try:
+                got = [talk.line(), talk.ask("commit 0 0 0 x0a0b"), talk.ask("cycle"), talk.ask("nothing"), talk.ask("read 1 1 1")]
+            except OSError as error:
+                got = str(error)
+            self.runs.compare("a talk", got, ["frworld 1", "committed 0", "over", "refused BadLine 3", "frame 0 1 --s- x0a0b"])
+            self.runs.compare(f"the end {rest}", talk.close(rest), (b"over\n" if b"\n" in rest else b"", b"", 0))
+
+    def refusals(self):
+        long = self.folder / "long.toml"
+        long.write_bytes(b"#" * 1_048_577)
+        (self.folder / "bytes.toml").write_bytes(b"guard = \"\xff\"\n")
+        for name, error in {"missing.toml": "Read", ".": "Read", "": "Read", str(long): "TooLong", "receive-buffer/trace": "Toml",
+                            str(self.folder / "bytes.toml"): "Toml"}.items():
+            self.runs.check(f"a session of {name!r}", [name, "--cycles", "1"], refused(error))
+        words, unread = [THREE_NODES, "--cycles", "1"], (GREETING.encode(), b"refused Read\n", 1)
+        with Folder(os.open(EXAMPLES, os.O_RDONLY)) as given:
+            self.runs.check("a session by a folder", words, unread, given=given)
+        self.runs.check("a session by a closed input", words, unread, closed=(0,))
+
+    def words(self):
+        lists = [[], ["help"], ["--help"], ["-h"], [""], [b"\xff"], ["a"], ["a", "--cycles"], ["--cycles", "1"],
+                 ["a", "--cycles", "1", "b"], ["a", "--cycle", "1"], ["a", "-cycles", "1"], ["a", "1", "--cycles"],
+                 ["a", "--cycles", b"\xff"], ["a", "b", "--cycles", "1"],
+                 *(["a", "--cycles", number] for number in ("0", "1025", "04", "+4", "-1", "x", "", "4 ", "1" * 40))]
+        for given in lists:
+            self.runs.check(f"the words {given}", given, USAGE)
+        for number in ("1", "1024"):
+            self.runs.check(f"{number} cycles", ["a", "--cycles", number], refused("Read"))
+
+    def outputs(self):
+        words = [THREE_NODES, "--cycles", "1"]
+        with open("/dev/full", "wb") as full:
+            self.runs.check("a session to a full device", words, refused("Write"), given=b"now\n", output=full)
+        reading, writing = os.pipe()
+        os.close(reading)
+        self.runs.check("a session to a reader that has left", words, refused("Write"), given=b"now\n", output=writing)
+        os.close(writing)
+        self.runs.check("a session to a closed output", words, refused("Write"), given=b"now\n", closed=(1,))
+        talk = Talk(self.runs.program, THREE_NODES, 1)
+        talk.line()
+        talk.ran.stdout.close()
+        talk.ran.stdin.write(b"now\n")
+        self.runs.compare("a reader that leaves", (talk.ran.wait(SECONDS), talk.ran.stderr.read()), (1, b"refused Write\n"))
+        talk.ran.stdin.close()
+        talk.ran.stderr.close()
