@@ -2,8 +2,8 @@
 use Rattle.std.specs.Prelude.{ℕ}
 use Rattle.fr_bench.specs.declared.failure.Failure.{Failure}
 use Rattle.fr_bench.specs.declared.failure.Failure.TheVariants as failure
-use Rattle.fr_orders.specs.declared.command.OrderError.{OrderError}
-use Rattle.fr_orders.specs.declared.command.OrderError.TheVariants as refusal
+use Rattle.fr_words.specs.declared.error.OrderError.{OrderError}
+use Rattle.fr_words.specs.declared.error.OrderError.TheVariants as refusal
 
 abbrev pub failure_of : OrderError → Failure
 failure_of refusal.Usage = failure.Usage

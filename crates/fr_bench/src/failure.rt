@@ -4,9 +4,9 @@ ghost use Rattle.fr_bench.specs.Failures.{failure_of, status_of};
 ghost use Rattle.fr_bench.specs.declared.failure.Failure.TheVariants as failure;
 
 use fr_commands::error::BenchError;
-use fr_orders::command::OrderError;
 use fr_threads::outcome_error::OutcomeError;
 use fr_trace::error::TraceError;
+use fr_words::error::OrderError;
 use thiserror::Error;
 
 /// Why the program hasn't done what it was asked; printed, it is the line on standard error

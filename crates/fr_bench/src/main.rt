@@ -25,44 +25,20 @@ mod failure;
 use failure::Failure;
 use fr_commands::check::check_text;
 use fr_commands::cluster_file::cluster_of;
-use fr_commands::error::BenchError;
+use fr_commands::files::file_named;
 use fr_commands::midpoint::midpoint_text;
 use fr_commands::plan::plan_text;
-use fr_orders::command::{Order, OrderError};
+use fr_orders::command::Order;
 use fr_orders::order::order;
 use fr_threads::outcome::run_cluster;
 use fr_threads::outcome_error::OutcomeError;
-use std::alloc::{AllocError, Global};
+use fr_words::given::{texts_of, words_given};
+use std::io;
 use std::process::ExitCode;
 use std::rt::{Env, Files};
 use std::sync::Wait;
 use std::thread::Threads;
 use std::time::Clock;
-use std::{env, fs, io};
-
-/// The words after the program's name, as the system gives them. A word that isn't UTF-8 names no
-/// command.
-fn words_given<R: Env + AllocGlobal>(rt: &R) -> Result<Vec<String>, OrderError> {
-    match env::args(rt) {
-        Ok(words) => Ok(words.skip(1).collect(rt.alloc())?),
-        Err(error) if error.kind() == io::ErrorKind::OutOfMemory => Err(OrderError::Memory),
-        Err(_) => Err(OrderError::Usage),
-    }
-}
-
-/// The words as texts.
-fn texts_of(alloc: Global, words: &Vec<String>) -> Result<Vec<&str>, OrderError> {
-    Ok(words.iter().map(|word| word.as_str()).collect(alloc)?)
-}
-
-/// The file of this name, opened to be read.
-fn file_named<R: Files>(rt: &R, path: &str) -> Result<R::File, BenchError> {
-    match fs::open(rt, path) {
-        Ok(file) => Ok(file),
-        Err(error) if error.kind() == io::ErrorKind::OutOfMemory => Err(BenchError::Memory),
-        Err(_) => Err(BenchError::Read),
-    }
-}
 
 /// Runs the cluster of the one file with the scenario of the other, which is opened once the cluster is accepted.
 fn run_files<R: Files + Print + AllocGlobal + Threads + Wait + Clock + Sync>(

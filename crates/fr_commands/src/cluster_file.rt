@@ -20,7 +20,7 @@ fn cluster_in(alloc: Global, bytes: &[u8]) -> Result<Cluster, BenchError>
     let Ok(text) = str::from_utf8(bytes) else {
         return Err(BenchError::Config(ConfigError::Toml));
     };
-    Ok(Cluster::from_text(alloc, text)?)
+    Ok(Cluster::from_text_leaking(alloc, text)?)
 }
 
 /// Reads a cluster file to its end, and gives the cluster that it describes (own profile).

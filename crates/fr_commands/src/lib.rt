@@ -14,6 +14,7 @@
 pub mod check;
 pub mod cluster_file;
 pub mod error;
+pub mod files;
 pub mod input;
 pub mod midpoint;
 pub mod numbers;

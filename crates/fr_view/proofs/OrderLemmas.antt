@@ -11,10 +11,11 @@ use Rattle.clap.specs.declared.error.Error.{Error}
 use Rattle.clap.proofs.OnLiterals.{clap_on_literals}
 use Rattle.fr_view.specs.declared.command.Order.{Order}
 use Rattle.fr_view.specs.declared.command.Order.TheVariants as the_order
-use Rattle.fr_view.specs.declared.command.OrderError.{OrderError}
-use Rattle.fr_view.specs.declared.command.OrderError.TheVariants as refusal
-use Rattle.fr_view.specs.Orders.{IsAnswerTo, IsNamed, IsOrder, IsScheduleBy, asks, cycle_asked, has_schedule_by}
-use Rattle.fr_view.specs.Orders.{order_error_of, the_commands, word_in}
+use Rattle.fr_words.specs.declared.error.OrderError.{OrderError}
+use Rattle.fr_words.specs.declared.error.OrderError.TheVariants as refusal
+use Rattle.fr_view.specs.Orders.{IsAnswerTo, IsOrder, IsScheduleBy, asks, cycle_asked, has_schedule_by}
+use Rattle.fr_view.specs.Orders.{the_commands}
+use Rattle.fr_words.specs.Commands.{IsNamed, order_error_of, word_in}
 
 pub are_simple : is_simple the_commands ≡ true
 unfolding clap_on_literals
@@ -41,12 +42,6 @@ taken_for words (Some order) none told nothing = (none, told)
 taken_for words None none told nothing = inr nothing
 
 -- ---- a picture
-
--- where the rows of the entered command are known, so are its words
-pub word_of_rows : (entered : Option (Text × List Row)) (rows : List Row) (id : Text)
-    → option_map (λ p. p.1) entered ≡ Some rows → word_in entered id ≡ first_of id rows
-word_of_rows None rows id are = cc are
-word_of_rows (Some (name, entered)) rows id are = let is : entered ≡ rows = cc are in rw is refl
 
 -- what is asked for by words is asked for by the same words
 pub has_alike : (f g : Text → Option Text) → ((id : Text) → f id ≡ g id) → has_schedule_by f ≡ has_schedule_by g

@@ -1,7 +1,7 @@
 -- How the program's failures follow from its errors, and the exit status of each (own profile).
 use Rattle.std.specs.Prelude.{ℕ}
-use Rattle.fr_view.specs.declared.command.OrderError.{OrderError}
-use Rattle.fr_view.specs.declared.command.OrderError.TheVariants as refusal
+use Rattle.fr_words.specs.declared.error.OrderError.{OrderError}
+use Rattle.fr_words.specs.declared.error.OrderError.TheVariants as refusal
 use Rattle.fr_view.specs.declared.failure.Failure.{Failure}
 use Rattle.fr_view.specs.declared.failure.Failure.TheVariants as failure
 

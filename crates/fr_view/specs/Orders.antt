@@ -10,61 +10,33 @@ use Rattle.clap.specs.declared.error.kind.ErrorKind.{ErrorKind}
 use Rattle.clap.specs.declared.error.kind.ErrorKind.TheVariants as kind
 use Rattle.fr_view.specs.declared.command.Order.{Order}
 use Rattle.fr_view.specs.declared.command.Order.TheVariants as the_order
-use Rattle.fr_view.specs.declared.command.OrderError.{OrderError}
-use Rattle.fr_view.specs.declared.command.OrderError.TheVariants as refusal
-
--- a command with nothing but its name
-abbrev pub named : Text → Shape
-named name = (new_app name).top
-
--- the program without a command: a command is required, the words begin with it, and of help `clap` knows nothing
-abbrev pub bare : App
-bare = record {
-  top = record (named (codes "fr_view")) {
-    no_binary_name = true;
-    subcommand_required = true;
-    disable_help_flag = true;
-    disable_help_subcommand = true;
-  };
-  subs = [];
-}
+use Rattle.fr_words.specs.declared.error.OrderError.{OrderError}
+use Rattle.fr_words.specs.declared.error.OrderError.TheVariants as refusal
+use Rattle.fr_words.specs.Commands.{IsNamed, bare, named, with_file, word_in}
 
 -- the program with its commands
 abbrev pub one_command : App
-one_command = with_subcommand bare (named (codes "capture"))
+one_command = with_subcommand (bare (codes "fr_view")) (named (codes "capture"))
 
 abbrev pub two_commands : App
 two_commands = with_subcommand one_command (named (codes "frames"))
 
--- a file that has to be there, and a cycle that may be
-abbrev pub the_file : Rule
-the_file = record (new_rule (codes "FILE")) { required = true }
-
+-- a picture of a cluster file, and a cycle that may be
 abbrev pub the_cycle : Rule
 the_cycle = record (new_rule (codes "cycle")) { long = Some (codes "cycle") }
 
-abbrev pub schedule_of_file : App
-schedule_of_file = with_rule (new_app (codes "schedule")) the_file
-
 abbrev pub schedule_command : App
-schedule_command = with_rule schedule_of_file the_cycle
+schedule_command = with_rule (with_file (codes "schedule")) the_cycle
 
 abbrev pub the_commands : App
 the_commands = with_subcommand two_commands schedule_command.top
 
 -- ---- what the words enter
 
--- the name of the command
-abbrev pub name_in : Option (Text × List Row) → Option Text
-name_in = option_map (λ entered. entered.0)
-
+-- the name of the command is this one
 abbrev pub is_named : Text → Option (Text × List Row) → Bool
 is_named name None = false
 is_named name (Some entered) = bytes_eq entered.0 name
-
--- the first word of an argument of the command
-abbrev pub word_in : Option (Text × List Row) → Text → Option Text
-word_in entered id = option_and_then (λ e. first_of id e.1) entered
 
 -- the cycle that a word is, where there is one: 0 to 63, without a leading zero
 abbrev pub cycle_asked : Option Text → Option ℕ
@@ -90,9 +62,6 @@ asks entered =
     || (is_named (codes "schedule") entered && has_schedule_by (word_in entered))
 
 -- the order is that of the command which is entered
-abbrev pub IsNamed : Text → Option (Text × List Row) → Type 0
-IsNamed name entered = name_in entered ≡ Some name
-
 abbrev pub IsOrder : Option (Text × List Row) → Order → Type 0
 IsOrder entered the_order.Capture = IsNamed (codes "capture") entered
 IsOrder entered the_order.Frames = IsNamed (codes "frames") entered
@@ -121,8 +90,3 @@ IsAnswerBy false words answer = IsAnswerTo words answer
 
 abbrev pub IsAnswer : List Text → Result Order OrderError → Type 0
 IsAnswer words answer = IsAnswerBy (is_help words) words answer
-
--- want of memory alone is no fault of the words
-abbrev pub order_error_of : ErrorKind → OrderError
-order_error_of kind.OutOfMemory = refusal.Memory
-order_error_of _ = refusal.Usage

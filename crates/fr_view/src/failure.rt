@@ -3,9 +3,9 @@ ghost use Rattle.std.specs.Prelude.{◌≡◌};
 ghost use Rattle.fr_view.specs.Failures.{failure_of, status_of};
 ghost use Rattle.fr_view.specs.declared.failure.Failure.TheVariants as failure;
 
-use crate::command::OrderError;
 use fr_commands::error::BenchError;
 use fr_trace::error::TraceError;
+use fr_words::error::OrderError;
 use thiserror::Error;
 
 /// Why the program hasn't done what it was asked; printed, it is the line on standard error (own profile).

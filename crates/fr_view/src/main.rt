@@ -19,18 +19,18 @@ mod command;
 mod failure;
 mod order;
 
-use command::{Order, OrderError};
+use command::Order;
 use failure::Failure;
 use fr_capture::form::Form;
 use fr_capture::show::show_trace;
-use fr_commands::error::BenchError;
+use fr_commands::files::file_named;
 use fr_picture::picture::show_schedule;
 use fr_slots::numbers::Cycle;
+use fr_words::given::{texts_of, words_given};
 use order::order;
-use std::alloc::Global;
+use std::io;
 use std::process::ExitCode;
 use std::rt::{Env, Files};
-use std::{env, fs, io};
 
 /// What the program prints where it is asked for help.
 const HELP: &str =
@@ -39,29 +39,6 @@ fr_view capture < TRACE > CAPTURE       what a controller saw, as a capture that
 fr_view frames < TRACE                  the same as a table
 fr_view --help                          these lines
 ";
-
-/// The words after the program's name, as the system gives them. A word that isn't UTF-8 names no command.
-fn words_given<R: Env + AllocGlobal>(rt: &R) -> Result<Vec<String>, OrderError> {
-    match env::args(rt) {
-        Ok(words) => Ok(words.skip(1).collect(rt.alloc())?),
-        Err(error) if error.kind() == io::ErrorKind::OutOfMemory => Err(OrderError::Memory),
-        Err(_) => Err(OrderError::Usage),
-    }
-}
-
-/// The words as texts.
-fn texts_of(alloc: Global, words: &Vec<String>) -> Result<Vec<&str>, OrderError> {
-    Ok(words.iter().map(|word| word.as_str()).collect(alloc)?)
-}
-
-/// The file of this name, opened to be read.
-fn file_named<R: Files>(rt: &R, path: &str) -> Result<R::File, BenchError> {
-    match fs::open(rt, path) {
-        Ok(file) => Ok(file),
-        Err(error) if error.kind() == io::ErrorKind::OutOfMemory => Err(BenchError::Memory),
-        Err(_) => Err(BenchError::Read),
-    }
-}
 
 /// Does the order.
 fn carry_out<R: Files + Input + Print + AllocGlobal>(

@@ -3,12 +3,14 @@ ghost use Rattle.std.specs.Prelude.{◌≡◌, IfNone, IfOk, IfSome, false, map}
 ghost use Rattle.clap.specs.Words.{app_of, first_value, found_of, subcommand_rows_of};
 ghost use Rattle.clap.specs.declared.builder.command.Command.TheViews.{out-Command};
 ghost use Rattle.fr_text.specs.Reading.{number_in};
-ghost use Rattle.fr_view.specs.Orders.{IsAnswer, IsOrder, IsScheduleBy, asks, bare, has_schedule_by, is_help};
+ghost use Rattle.fr_view.specs.Orders.{IsAnswer, IsOrder, IsScheduleBy, asks, has_schedule_by, is_help};
 ghost use Rattle.fr_view.specs.Orders.{schedule_command, the_commands};
 
-use crate::command::{Order, OrderError};
+use crate::command::Order;
 use clap::{Arg, ArgMatches, Command};
 use fr_text::numbers::number_of;
+use fr_words::commands::{of_file, program};
+use fr_words::error::OrderError;
 use std::alloc::{AllocError, Global};
 
 /// The command `schedule`, with its file and the number of a cycle.
@@ -16,28 +18,15 @@ fn schedule_command<'a>(alloc: Global) -> Result<Command<'a>, AllocError>
     ensures app { IfOk result (λ c. app_of c ≡ schedule_command) }
     ensures local { IfOk result (λ c. (out-Command c).has_globals ≡ false) }
 {
-    let file = Arg::new(alloc, "FILE").required(true);
     let cycle = Arg::new(alloc, "cycle").long("cycle");
-    let of_file = Command::new(alloc, "schedule").arg(file)?;
-    of_file.arg(cycle)
-}
-
-/// The program, with no command yet.
-fn program<'a>(alloc: Global) -> Command<'a>
-    ensures { app_of result ≡ bare }
-{
-    Command::new(alloc, "fr_view")
-        .no_binary_name(true)
-        .subcommand_required(true)
-        .disable_help_flag(true)
-        .disable_help_subcommand(true)
+    of_file(alloc, "schedule")?.arg(cycle)
 }
 
 /// The commands, as `clap` is told of them.
 fn commands<'a>(alloc: Global) -> Result<Command<'a>, AllocError>
     ensures { IfOk result (λ c. app_of c ≡ the_commands) }
 {
-    let first = program(alloc).subcommand(Command::new(alloc, "capture"))?;
+    let first = program(alloc, "fr_view").subcommand(Command::new(alloc, "capture"))?;
     let second = first.subcommand(Command::new(alloc, "frames"))?;
     second.subcommand(schedule_command(alloc)?)
 }

@@ -1,8 +1,9 @@
 use Rattle.std.proofs.Common.{rules, ap, ap₂, codes, ◌≡◌, ◌∙◌}
 use Rattle.std.proofs.lemmas.Result.{IfOk-weaker}
 use Rattle.clap.specs.Words.{App, app_of, with_subcommand}
-use Rattle.fr_view.specs.Orders.{bare, named, one_command, two_commands, schedule_command}
+use Rattle.fr_view.specs.Orders.{one_command, two_commands, schedule_command}
 use Rattle.fr_view.proofs.order.commands.Goals as goal
+use Rattle.fr_words.specs.Commands.{bare, named}
 
 pub returns : goal.returns
 returns c =

@@ -1,0 +1,39 @@
+//! The parts of commands that more than one program has.
+ghost use Rattle.std.specs.Prelude.{◌≡◌, IfOk, false};
+ghost use Rattle.clap.specs.Words.{app_of};
+ghost use Rattle.clap.specs.declared.builder.command.Command.TheViews.{out-Command};
+ghost use Rattle.fr_words.specs.Commands.{bare, cycles_in, with_file};
+
+use clap::{Arg, Command};
+use fr_text::numbers::number_of;
+use std::alloc::{AllocError, Global};
+
+/// The program of this name, with no command yet.
+pub fn program<'a>(alloc: Global, name: &'a str) -> Command<'a>
+    ensures { app_of result ≡ bare name.now }
+{
+    Command::new(alloc, name)
+        .no_binary_name(true)
+        .subcommand_required(true)
+        .disable_help_flag(true)
+        .disable_help_subcommand(true)
+}
+
+/// A command of this name with a file.
+pub fn of_file<'a>(alloc: Global, name: &'a str) -> Result<Command<'a>, AllocError>
+    ensures app { IfOk result (λ c. app_of c ≡ with_file name.now) }
+    ensures local { IfOk result (λ c. (out-Command c).has_globals ≡ false) }
+{
+    let file = Arg::new(alloc, "FILE").required(true);
+    Command::new(alloc, name).arg(file)
+}
+
+/// The number of cycles that a word is: 1 to 1024, without a leading zero.
+pub fn cycles_of(word: &str) -> Option<u16>
+    ensures { result ≡ cycles_in word.now }
+{
+    match number_of(word.as_bytes(), 1025) {
+        Some(0) | None => None,
+        Some(cycles) => Some(cycles as u16),
+    }
+}

@@ -1,0 +1,21 @@
+//! The words that the system gives.
+use crate::error::OrderError;
+use std::alloc::Global;
+use std::rt::Env;
+use std::{env, io};
+
+/// The words after the program's name, as the system gives them.
+///
+/// Refused with `Memory` where memory was refused, and with `Usage` where a word isn't UTF-8, which names no command.
+pub fn words_given<R: Env + AllocGlobal>(rt: &R) -> Result<Vec<String>, OrderError> {
+    match env::args(rt) {
+        Ok(words) => Ok(words.skip(1).collect(rt.alloc())?),
+        Err(error) if error.kind() == io::ErrorKind::OutOfMemory => Err(OrderError::Memory),
+        Err(_) => Err(OrderError::Usage),
+    }
+}
+
+/// The words as texts. Refused with `Memory` alone.
+pub fn texts_of(alloc: Global, words: &Vec<String>) -> Result<Vec<&str>, OrderError> {
+    Ok(words.iter().map(|word| word.as_str()).collect(alloc)?)
+}
