@@ -234,6 +234,28 @@ class Cluster:
         return "".join(f"{line}\n" for line in [f"frscenario {version}", *lines, "end"]).encode()
 
 
+def request(random, nodes):
+    """A request of a session with the world of so many nodes. It may be refused."""
+    node, task, buffer = random.randrange(nodes + 1), random.randrange(2), random.randrange(3)
+    payload, channel = f"x{random.randbytes(random.choice((0, 2, 2, 4))).hex()}", random.choice("AB")
+    return random.choice((
+        f"commit {node} {task} {buffer} {payload}", f"withdraw {node} {task} {buffer}", f"read {node} {task} {buffer}",
+        f"pop {node} {task}", f"look {node}", f"fetch {node}", f"put {node}", f"take {node}", f"observe {node}", "seal",
+        "advance", "window", "window", "cycle", f"run {random.randrange(3)}", "now", f"report {node}", f"trace {node}",
+        f"record {random.randrange(12)}", f"babble {node} {channel} x{random.randbytes(random.choice((0, 9, 40))).hex()}",
+        f"mute {node} {channel}", f"corrupt {channel} {random.randrange(90)}"))
+
+
+def session(random):
+    """Requests to the world of the three nodes of the examples."""
+    return "".join(f"{request(random, 3)}\n" for _ in range(random.randint(0, 60))).encode()
+
+
+def write_largest_session(path):
+    """A run of as many cycles as may be, and each node's trace of it."""
+    path.write_text("run 1024\n" + "".join(f"trace {node}\n" for node in range(16)))
+
+
 def write_largest_trace(path):
     """The longest lawful trace: each room is full, and each payload and all bytes that were seen are longest."""
     windows, commits = 32_768, 16_384

@@ -53,7 +53,7 @@ class Preloaded:
     def run(self, command, kind=None, number=0, **more):
         """What the command answers where its N-th call of this kind is met, and whether it came so far."""
         words, given = command
-        mark = self.folder / "-".join([kind or "whole", str(number), *words[:1], *more])
+        mark = self.folder / "-".join([kind or "whole", str(number), Path(words[0]).name, *more])
         added = {"LD_PRELOAD": str(self.library), "MARK_OF_THE_CALL": str(mark), **more}
         added |= {kind: str(number)} if kind else {}
         try:
@@ -92,3 +92,25 @@ def views():
         "capture": (["capture"], trace()),
         "frames": (["frames"], trace()),
     }
+
+
+def sessions():
+    """The same of fr_world: a request of each kind that takes memory."""
+    asked = ["commit 0 0 0 x0a0b", "window", "window", "babble 2 A x00", "window", "run 2", "now", "report 1", "trace 0",
+             "record 1"]
+    return {"session": ([CLUSTER, "--cycles", "4"], "".join(f"{line}\n" for line in asked).encode())}
+
+
+def replies(output):
+    """The replies of a session, each with the lines of its block. None where the first line or a reply isn't whole."""
+    lines = output.decode().split("\n")
+    if lines[:1] != ["frworld 1"] or lines.pop() != "":
+        return None
+    found, at = [], 1
+    while at < len(lines):
+        count = int(lines[at].split(" ")[1]) if lines[at].startswith("lines ") else 0
+        if at + count >= len(lines):
+            return None
+        found.append(lines[at : at + 1 + count])
+        at += 1 + count
+    return found

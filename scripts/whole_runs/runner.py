@@ -25,6 +25,22 @@ def refused(error):
 USAGE = b"", b"usage\n", 2
 
 
+class Folder:
+    """A folder, opened as an input."""
+
+    def __init__(self, number):
+        self.number = number
+
+    def fileno(self):
+        return self.number
+
+    def __enter__(self):
+        return self
+
+    def __exit__(self, *_):
+        os.close(self.number)
+
+
 class Runs:
     """The runs so far: how many were as wanted, and how many weren't."""
 

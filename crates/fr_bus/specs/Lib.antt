@@ -7,3 +7,4 @@ pub mod States
 pub mod BusFields
 pub mod Courses
 pub mod CourseFields
+pub mod ErrorNames

@@ -11,7 +11,7 @@ use crate::course::Course;
 use crate::error::{BusError, Phase};
 use crate::fault::Fault;
 use crate::outcome::{Sealed, all_sent};
-use crate::station::{Station, all_put, all_taken, clear, idle_stations};
+use crate::station::{Station, clear, idle_stations};
 use fr_frame::frame::Bytes;
 use fr_guardian::guardian::Guardian;
 use fr_interface::interface::Offer;
@@ -41,6 +41,10 @@ pub struct Bus {
     course: Course,
     /// One for each node.
     stations: Vec<Station>,
+    /// How many stations have put in the open window, so that none is read to know whether all have.
+    put_count: usize,
+    /// How many stations have taken in it.
+    taken_count: usize,
     /// The bits to be turned in the open window, on A and on B.
     corrupt: [Option<u16>; 2],
     record: Vec<Sealed>,
@@ -150,6 +154,8 @@ impl Bus {
             opened,
             course,
             stations,
+            put_count: 0,
+            taken_count: 0,
             corrupt: [None, None],
             record: Vec::new(alloc),
         })
@@ -188,17 +194,19 @@ impl Bus {
     }
 
     /// Whether all nodes have put their offers in the open window.
+    #[tactic(auto, using(crate::proofs::CountLemmas::all_counted))]
     pub fn all_put(&self) -> bool
         ensures { result ≡ all_put self.now }
     {
-        all_put(self.stations.as_slice())
+        self.put_count == self.stations.len()
     }
 
     /// Whether all nodes have taken what they see in the open window.
+    #[tactic(auto, using(crate::proofs::CountLemmas::all_counted))]
     pub fn all_taken(&self) -> bool
         ensures { result ≡ all_taken self.now }
     {
-        all_taken(self.stations.as_slice())
+        self.taken_count == self.stations.len()
     }
 
     /// The windows that were sealed, in order of their numbers, which are counted from 0.
@@ -255,6 +263,7 @@ impl Bus {
             return Err(BusError::AlreadyPut);
         }
         station.put(offer);
+        self.put_count += 1;
         Ok(())
     }
 
@@ -382,13 +391,13 @@ impl Bus {
         self.record.get(place)
     }
 
-    /// What the node sees on the channel of the window that was sealed last.
-    fn seen_last(&self, node: NodeId, channel: Channel) -> Seen
-        ensures { result ≡ seen_last self.now channel node }
+    /// Writes what the node sees on the channel of the window that was sealed last over what stands in `seen`.
+    fn see_last(&self, node: NodeId, channel: Channel, seen: &mut Seen)
+        ensures { seen.new ≡ seen_last self.now channel node }
     {
         match self.last() {
-            Some(sealed) => sealed.seen(self.course.params(), channel, node),
-            None => Seen::Silence,
+            Some(sealed) => sealed.see(self.course.params(), channel, node, seen),
+            None => *seen = Seen::Silence,
         }
     }
 
@@ -401,6 +410,28 @@ impl Bus {
         ensures seen { IfOk result (λ s. s ≡ (seen_last self.old channel.A node, seen_last self.old channel.B node)) }
         ensures accepted { OnOk result (self.new ≡ take_done self.old node) }
         ensures refused { OnErr result (self.new ≡ self.old) }
+    {
+        let (mut a, mut b) = (Seen::Silence, Seen::Silence);
+        self.take_into(node, number, &mut a, &mut b)?;
+        Ok((a, b))
+    }
+
+    /// The same step as `take`, with the same refusals. What the node sees on channel A and on B is written over `a`
+    /// and `b`, and bytes over those that are there. After a refusal `a` and `b` are unchanged too.
+    pub fn take_into(
+        &mut self,
+        node: NodeId,
+        number: u32,
+        a: &mut Seen,
+        b: &mut Seen,
+    ) -> Result<(), BusError>
+        ensures refusal { result_err result ≡ take_refusal self.old node number }
+        ensures seen_on_a { OnOk result (a.new ≡ seen_last self.old channel.A node) }
+        ensures seen_on_b { OnOk result (b.new ≡ seen_last self.old channel.B node) }
+        ensures accepted { OnOk result (self.new ≡ take_done self.old node) }
+        ensures refused { OnErr result (self.new ≡ self.old) }
+        ensures refused_a { OnErr result (a.new ≡ a.old) }
+        ensures refused_b { OnErr result (b.new ≡ b.old) }
     {
         if !self.is_node(node) {
             return Err(BusError::UnknownNode);
@@ -415,10 +446,11 @@ impl Bus {
         if self.stations[place].taken {
             return Err(BusError::AlreadyTaken);
         }
-        let a = self.seen_last(node, Channel::A);
-        let b = self.seen_last(node, Channel::B);
+        self.see_last(node, Channel::A, a);
+        self.see_last(node, Channel::B, b);
         self.stations[place].taken = true;
-        Ok((a, b))
+        self.taken_count += 1;
+        Ok(())
     }
 
     /// Opens the next window, without offers and faults, or ends the run: the next static slot, or else the next
@@ -437,6 +469,8 @@ impl Bus {
             return Err(BusError::NotAllTaken);
         }
         clear(&mut self.stations);
+        self.put_count = 0;
+        self.taken_count = 0;
         self.corrupt = [None, None];
         let opened = self.course.next();
         self.phase = phase_at(&opened);

@@ -3,7 +3,8 @@
 ghost use Rattle.std.specs.Prelude.{◌≡◌};
 ghost use Rattle.fr_bus.specs.States.{collects, seals};
 
-use thiserror::Error;
+use std::error::Error;
+use std::fmt;
 
 /// Where the open window stands (own profile).
 #[derive(Clone, Copy, PartialEq, Eq)]
@@ -33,39 +34,66 @@ impl Phase {
 }
 
 /// Why a call of a bus is refused (own profile).
-#[derive(Clone, Copy, Debug, PartialEq, Eq, Error)]
+#[derive(Clone, Copy, Debug, PartialEq, Eq)]
 pub enum BusError {
     /// The cluster doesn't have the node.
-    #[error("UnknownNode")]
     UnknownNode,
     /// The open window is sealed, or the run is over.
-    #[error("NotCollecting")]
     NotCollecting,
     /// The number isn't that of the open window.
-    #[error("WrongWindow")]
     WrongWindow,
     /// The node has put its offer in the open window.
-    #[error("AlreadyPut")]
     AlreadyPut,
     /// The open window has a fault of this kind, node and channel.
-    #[error("TooManyFaults")]
     TooManyFaults,
     /// A node hasn't put its offer in the open window.
-    #[error("NotAllPut")]
     NotAllPut,
     /// The open window isn't sealed, or the run is over.
-    #[error("NotSealed")]
     NotSealed,
     /// The node has taken what it sees in the open window.
-    #[error("AlreadyTaken")]
     AlreadyTaken,
     /// A node hasn't taken what it sees in the open window.
-    #[error("NotAllTaken")]
     NotAllTaken,
     /// A run has 1 to 1024 cycles.
-    #[error("BadCycles")]
     BadCycles,
     /// Memory was refused.
-    #[error("Memory")]
     Memory,
 }
+
+impl BusError {
+    ghost use Rattle.std.specs.Prelude.{◌≡◌};
+    ghost use Rattle.fr_bus.specs.ErrorNames.{bus_error_name};
+
+    /// The refusal's name, as it is printed (own profile).
+    pub fn name(self) -> &'static str
+        ensures { result.now ≡ bus_error_name self }
+    {
+        match self {
+            BusError::UnknownNode => "UnknownNode",
+            BusError::NotCollecting => "NotCollecting",
+            BusError::WrongWindow => "WrongWindow",
+            BusError::AlreadyPut => "AlreadyPut",
+            BusError::TooManyFaults => "TooManyFaults",
+            BusError::NotAllPut => "NotAllPut",
+            BusError::NotSealed => "NotSealed",
+            BusError::AlreadyTaken => "AlreadyTaken",
+            BusError::NotAllTaken => "NotAllTaken",
+            BusError::BadCycles => "BadCycles",
+            BusError::Memory => "Memory",
+        }
+    }
+}
+
+impl fmt::Display for BusError {
+    ghost use Rattle.std.specs.Prelude.{Some};
+    ghost use Rattle.fr_bus.specs.ErrorNames.{bus_error_name};
+
+    ghost output = { λ error. Some (bus_error_name error) };
+
+    /// Writes the name.
+    fn fmt<W: fmt::Write>(&self, f: &mut fmt::Formatter<W>) -> fmt::Result {
+        write!(f, "{}", self.name())
+    }
+}
+
+impl Error for BusError {}

@@ -1,7 +1,7 @@
 //! What becomes of the transmissions of a window, and what each node sees of them.
 
 ghost use Rattle.std.specs.Prelude.{◌≡◌, ◌<◌, ◌≤◌, [], ◌∷◌, ◌++◌, List, length, IfOk, OnOk, OnErr};
-ghost use Rattle.std.specs.Prelude.{None, ◌&&◌, ◌+◌, IfSome, IfNone};
+ghost use Rattle.std.specs.Prelude.{None, ◌&&◌, ◌+◌, ◌↔◌, IsTrue, IfSome, IfNone, if◌then◌else◌};
 ghost use Rattle.std.specs.List.{list_any};
 ghost use Rattle.std.specs.Option.{option_copied};
 ghost use Rattle.fr_bus.specs.Outcome.{fate_of, transmission, sent_on, sent_in, sent_of, sent_from, passed_on, is_of};
@@ -11,15 +11,17 @@ ghost use Rattle.fr_bus.specs.Corruption.{turned, with_bit_turned, corrupted};
 ghost use Rattle.fr_slots.specs.declared.channel.Channel.TheVariants as Channel;
 ghost use Rattle.fr_guardian.specs.Guarding.{passes};
 ghost use Rattle.fr_slots.specs.Windows.{slot_of};
+ghost use Rattle.fr_status.specs.Lent.{whole_seen};
+ghost use Rattle.fr_status.specs.declared.seen.Seen.TheVariants as Sight;
 
-use crate::station::{Side, Station};
+use crate::station::{Side, Station, write_over};
 use fr_frame::frame::{Bytes, duplicate_bytes};
 use fr_guardian::guardian::Guardian;
 use fr_slots::channel::Channel;
 use fr_slots::numbers::NodeId;
 use fr_slots::params::Params;
 use fr_slots::window::Window;
-use fr_status::seen::Seen;
+use fr_status::seen::{LentSeen, Seen};
 use std::alloc::{AllocError, Global};
 use std::marker::Model;
 
@@ -70,16 +72,6 @@ impl Model for Sealed {
     ghost use Rattle.fr_bus.specs.SealedFields.{recorded_in};
 
     ghost view = { recorded_in };
-}
-
-/// A copy of the bytes, if there are any.
-pub(crate) fn duplicate_option(bytes: &Option<Bytes>) -> Option<Bytes>
-    ensures { result ≡ bytes.now }
-{
-    match bytes {
-        Some(bytes) => Some(duplicate_bytes(bytes)),
-        None => None,
-    }
 }
 
 /// What becomes of a transmission that a fault loses or not, and that the guardian lets pass or not.
@@ -134,6 +126,10 @@ fn add_side(
 ) -> Result<(), AllocError>
     ensures { OnOk result (list.new.items ≡ list.old.items ++ sent_on guardian.now window.now node channel side.now) }
 {
+    // The guardian is asked only where something is sent.
+    if side.offer.is_none() && side.babble.is_none() {
+        return Ok(());
+    }
     let let_pass = guardian.passes(node, window, channel);
     add(
         list,
@@ -306,42 +302,134 @@ fn bytes_with_bit_turned(bytes: &Bytes, corrupt: Option<u16>) -> Bytes
     copy
 }
 
-/// What the other nodes see of the only transmission that passed.
-fn sight_of(params: &Params, window: &Window, corrupt: Option<u16>, bytes: &Bytes) -> Seen
-    ensures { result ≡ received params.now window.now corrupt bytes.now }
+/// Writes the bytes, with the bit turned if there is one to turn, over those that are there.
+fn write_turned(place: &mut Bytes, bytes: &Bytes, corrupt: Option<u16>)
+    ensures { place.new ≡ corrupted bytes.now corrupt }
 {
-    if overruns(params, window, bytes.len()) {
-        Seen::Overrun
-    } else {
-        Seen::Bytes(bytes_with_bit_turned(bytes, corrupt))
+    write_over(place, bytes);
+    if let Some(bit) = corrupt {
+        turn_bit(place, bit);
     }
 }
 
-/// What a node sees on a channel of the window where this was sent, and this bit is turned (own profile).
-fn seen_in(
+/// Sees silence. Nothing is written where nothing was seen before.
+fn see_silence(seen: &mut Seen)
+    ensures { seen.new ≡ Sight.Silence }
+{
+    match seen {
+        Seen::Silence => {}
+        _ => *seen = Seen::Silence,
+    }
+}
+
+/// Sees the bytes, with the bit turned if there is one to turn. They are written over those that were seen before.
+fn see_bytes(bytes: &Bytes, corrupt: Option<u16>, seen: &mut Seen)
+    ensures { seen.new ≡ Sight.Bytes (corrupted bytes.now corrupt) }
+{
+    match seen {
+        Seen::Bytes(place) => write_turned(place, bytes, corrupt),
+        _ => *seen = Seen::Bytes(bytes_with_bit_turned(bytes, corrupt)),
+    }
+}
+
+/// Sees what the other nodes see of the only transmission that passed.
+fn see_alone(params: &Params, window: &Window, corrupt: Option<u16>, bytes: &Bytes, seen: &mut Seen)
+    ensures { seen.new ≡ received params.now window.now corrupt bytes.now }
+{
+    if overruns(params, window, bytes.len()) {
+        *seen = Seen::Overrun;
+    } else {
+        see_bytes(bytes, corrupt, seen);
+    }
+}
+
+/// What a node sees where several passed, its own among them or not.
+fn sight_of_several(any_own: bool) -> Seen
+    ensures { result ≡ (if any_own then Sight.Conflict else Sight.Noise) }
+{
+    if any_own { Seen::Conflict } else { Seen::Noise }
+}
+
+/// Sees what a node sees on a channel of the window where this was sent, and this bit is turned (own profile).
+fn see_in(
     params: &Params,
     window: &Window,
     corrupt: Option<u16>,
     channel: Channel,
     node: NodeId,
     sent: &[Sent],
-) -> Seen
-    ensures { result ≡ seen_of params.now window.now corrupt node (all_passed channel sent.now) }
+    seen: &mut Seen,
+)
+    ensures { seen.new ≡ seen_of params.now window.now corrupt node (all_passed channel sent.now) }
 {
     let Some((only, rest)) = next_passed(channel, sent) else {
-        return Seen::Silence;
+        return see_silence(seen);
+    };
+    if next_passed(channel, rest).is_some() {
+        *seen = sight_of_several(any_own(channel, node, sent));
+    } else if is_of(node, only) {
+        *seen = Seen::Own;
+    } else {
+        see_alone(params, window, corrupt, &only.bytes, seen);
+    }
+}
+
+/// Whether the other nodes see this of the only transmission that passed. Bytes are copied only to turn a bit of them.
+fn shows_alone(
+    params: &Params,
+    window: &Window,
+    corrupt: Option<u16>,
+    bytes: &Bytes,
+    seen: LentSeen<'_>,
+) -> bool
+    ensures { IsTrue result ↔ (received params.now window.now corrupt bytes.now ≡ whole_seen seen.entry) }
+{
+    let is_overrun = overruns(params, window, bytes.len());
+    match seen {
+        LentSeen::Overrun => is_overrun,
+        LentSeen::Bytes(seen) => !is_overrun && are_turned(bytes, corrupt, seen),
+        _ => false,
+    }
+}
+
+/// Whether these are the bytes with the bit turned, if there is one to turn.
+fn are_turned(bytes: &Bytes, corrupt: Option<u16>, seen: &[u8]) -> bool
+    ensures { IsTrue result ↔ ((corrupted bytes.now corrupt).items ≡ seen.now) }
+{
+    if corrupt.is_none() {
+        bytes.as_slice() == seen
+    } else {
+        bytes_with_bit_turned(bytes, corrupt).as_slice() == seen
+    }
+}
+
+/// Whether a node sees this on a channel of the window where this was sent, and this bit is turned.
+fn shows_in(
+    params: &Params,
+    window: &Window,
+    corrupt: Option<u16>,
+    channel: Channel,
+    node: NodeId,
+    sent: &[Sent],
+    seen: LentSeen<'_>,
+) -> bool
+    ensures { IsTrue result
+        ↔ (seen_of params.now window.now corrupt node (all_passed channel sent.now) ≡ whole_seen seen.entry) }
+{
+    let Some((only, rest)) = next_passed(channel, sent) else {
+        return matches!(seen, LentSeen::Silence);
     };
     if next_passed(channel, rest).is_some() {
         return if any_own(channel, node, sent) {
-            Seen::Conflict
+            matches!(seen, LentSeen::Conflict)
         } else {
-            Seen::Noise
+            matches!(seen, LentSeen::Noise)
         };
     }
     if is_of(node, only) {
-        Seen::Own
+        matches!(seen, LentSeen::Own)
     } else {
-        sight_of(params, window, corrupt, &only.bytes)
+        shows_alone(params, window, corrupt, &only.bytes, seen)
     }
 }
 
@@ -365,10 +453,11 @@ fn offer_in(channel: Channel, node: NodeId, sent: &[Sent]) -> Option<&Bytes>
 }
 
 impl Sealed {
-    ghost use Rattle.std.specs.Prelude.{◌≡◌, ◌≤◌};
+    ghost use Rattle.std.specs.Prelude.{◌≡◌, ◌≤◌, ◌↔◌, IsTrue};
     ghost use Rattle.std.specs.Option.{option_copied};
     ghost use Rattle.fr_bus.specs.Record.{corrupt_on, offer_in, seen_by};
     ghost use Rattle.fr_bus.specs.Outcome.{longest};
+    ghost use Rattle.fr_status.specs.Lent.{whole_seen};
 
     /// The bit that a fault turns on the channel, if any.
     fn corrupt_on(&self, channel: Channel) -> Option<u16>
@@ -385,14 +474,41 @@ impl Sealed {
     pub fn seen(&self, params: &Params, channel: Channel, node: NodeId) -> Seen
         ensures { result ≡ seen_by params.now self.now channel node }
     {
+        let mut seen = Seen::Silence;
+        self.see(params, channel, node, &mut seen);
+        seen
+    }
+
+    /// Writes what the node sees on the channel, as `seen` says it, over what stands in `seen`. Bytes are written over
+    /// those that are there.
+    pub fn see(&self, params: &Params, channel: Channel, node: NodeId, seen: &mut Seen)
+        ensures { seen.new ≡ seen_by params.now self.now channel node }
+    {
         let corrupt = self.corrupt_on(channel);
-        seen_in(
+        see_in(
             params,
             &self.window,
             corrupt,
             channel,
             node,
             self.sent.as_slice(),
+            seen,
+        );
+    }
+
+    /// Whether the node sees this on the channel, as `seen` says it.
+    pub fn shows(&self, params: &Params, channel: Channel, node: NodeId, seen: LentSeen<'_>) -> bool
+        ensures { IsTrue result ↔ (seen_by params.now self.now channel node ≡ whole_seen seen.entry) }
+    {
+        let corrupt = self.corrupt_on(channel);
+        shows_in(
+            params,
+            &self.window,
+            corrupt,
+            channel,
+            node,
+            self.sent.as_slice(),
+            seen,
         )
     }
 

@@ -1,13 +1,11 @@
 //! What the nodes put and take in the open window, and the faults that name them.
 
-ghost use Rattle.std.specs.Prelude.{◌≡◌, ◌≤◌, length, replicate, Some, OnErr, OnOk, IfOk};
-ghost use Rattle.std.specs.List.{list_all};
+ghost use Rattle.std.specs.Prelude.{◌≡◌, ◌≤◌, length, replicate, None, Some, OnErr, OnOk, IfOk};
 ghost use Rattle.std.specs.Result.{result_err};
 ghost use Rattle.fr_bus.specs.Record.{side_on};
 ghost use Rattle.fr_bus.specs.States.{idle_station, silent_side, offering, babbling, muting};
 
-use crate::outcome::duplicate_option;
-use fr_frame::frame::Bytes;
+use fr_frame::frame::{Bytes, duplicate_bytes};
 use fr_interface::interface::Offer;
 use fr_slots::channel::Channel;
 use std::alloc::{AllocError, Global};
@@ -50,8 +48,8 @@ impl Station {
         ensures { self.new ≡ offering self.old offer.now }
     {
         self.put = true;
-        self.a.offer = duplicate_option(&offer.a);
-        self.b.offer = duplicate_option(&offer.b);
+        keep(&mut self.a.offer, &offer.a);
+        keep(&mut self.b.offer, &offer.b);
     }
 
     /// Adds a transmission of the node.
@@ -97,8 +95,8 @@ impl Side {
     fn clear(&mut self)
         ensures { self.new ≡ silent_side }
     {
-        self.offer = None;
-        self.babble = None;
+        forget(&mut self.offer);
+        forget(&mut self.babble);
         self.mute = false;
     }
 
@@ -111,6 +109,45 @@ impl Side {
             (None, None) => 0,
             _ => 1,
         }
+    }
+}
+
+/// Makes this what is kept. Bytes are written over those that are there, and nothing is written where nothing is.
+fn keep(kept: &mut Option<Bytes>, offered: &Option<Bytes>)
+    ensures { kept.new ≡ offered.now }
+{
+    match offered {
+        Some(bytes) => keep_bytes(kept, bytes),
+        None => forget(kept),
+    }
+}
+
+/// Makes a copy of these bytes what is kept.
+fn keep_bytes(kept: &mut Option<Bytes>, bytes: &Bytes)
+    ensures { kept.new ≡ Some bytes.now }
+{
+    match kept {
+        Some(place) => write_over(place, bytes),
+        None => *kept = Some(duplicate_bytes(bytes)),
+    }
+}
+
+/// Writes these bytes over those that are there.
+pub(crate) fn write_over(place: &mut Bytes, bytes: &Bytes)
+    ensures { place.new ≡ bytes.now }
+{
+    place.clear();
+    let outcome = place.try_extend_from_slice(bytes.as_slice());
+    let fits = outcome.is_ok();
+    prove!(fits);
+}
+
+/// Keeps nothing. Nothing is written where nothing is kept.
+fn forget(kept: &mut Option<Bytes>)
+    ensures { kept.new ≡ None }
+{
+    if kept.is_some() {
+        *kept = None;
     }
 }
 
@@ -155,18 +192,4 @@ pub(crate) fn idle_stations(alloc: Global, count: usize) -> Result<Vec<Station>,
         stations.push(idle_station())?;
     }
     Ok(stations)
-}
-
-/// Whether all nodes have put their offers.
-pub(crate) fn all_put(stations: &[Station]) -> bool
-    ensures { result ≡ list_all (λ s. s.put) stations.now }
-{
-    stations.iter().all(|station| station.put)
-}
-
-/// Whether all nodes have taken what they saw.
-pub(crate) fn all_taken(stations: &[Station]) -> bool
-    ensures { result ≡ list_all (λ s. s.taken) stations.now }
-{
-    stations.iter().all(|station| station.taken)
 }

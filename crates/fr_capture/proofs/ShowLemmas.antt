@@ -1,6 +1,6 @@
 -- What has been written of the sightings so far, some of it handed on and the rest in a piece.
 use Rattle.std.proofs.Common.{◌≡◌, ℕ, ◌+◌, ◌<◌, ◌≤◌}
-use Rattle.std.proofs.Common.{List, [], ◌∷◌, ◌++◌, length, take, get_or, Option, None, Result, Ok, Err}
+use Rattle.std.proofs.Common.{List, [], ◌∷◌, ◌++◌, length, take, get_or, Option, Some, None, Result, Ok, Err}
 use Rattle.std.proofs.Common.{refl, sym, ap, subst, ◌∙◌, arith, append_assoc, append-nil, inl, inr}
 use Rattle.std.specs.Io.KnownBytes.{Appends, Keeps}
 use Rattle.std.specs.List.{flat_map}
@@ -11,12 +11,12 @@ use Rattle.std.proofs.lemmas.List.{length-take, take_more, take_all}
 use Rattle.fr_capture.specs.Clocks.{IsMoment, moment_after, seen_after, HasRounds}
 use Rattle.fr_capture.specs.declared.form.Form.{Form}
 use Rattle.fr_interface.specs.State.{State}
-use Rattle.fr_trace.specs.Audit.{IsOfText, Understands}
+use Rattle.fr_trace.specs.Audit.{IsOfText, Understands, Stops, StopsAtEnd}
 use Rattle.fr_trace.specs.declared.error.TraceError.{TraceError}
 use Rattle.fr_trace.specs.declared.error.TraceError.TheVariants as error
 use Rattle.fr_trace.proofs.OutcomeLemmas.{accepted_begins}
 use Rattle.fr_capture.specs.declared.moment.Moment.{Moment}
-use Rattle.fr_capture.specs.Shows.{heading, shown, shown_of, Shows}
+use Rattle.fr_capture.specs.Shows.{heading, shown, shown_of, Shows, Ends, EndsAt}
 use Rattle.fr_capture.specs.Sightings.{sightings, sightings_at}
 use Rattle.fr_capture.proofs.MomentLemmas.{one_moment, seen_same, sightings-snoc, few_rounds}
 use Rattle.fr_journal.specs.declared.entry.Entry.{Entry}
@@ -111,3 +111,23 @@ shows_form written text old new s (Err (error.LineTooLong n)) told done refused 
 shows_form written text old new s (Err (error.Refused n)) told done refused = absurd (no_other old new (error.Refused n) tt refused)
 shows_form written text old new s (Err (error.WrongAnswer n)) told done refused = absurd (no_other old new (error.WrongAnswer n) tt refused)
 shows_form written text old new s (Err error.Truncated) told done refused = absurd (no_other old new error.Truncated tt refused)
+
+ends_at : (text rest : List ℕ) (old new : Option (List ℕ)) (s : State) (r : Result (Unit {0}) TraceError) → StopsAtEnd text rest → Understands (Some text) (Ok s)
+    → IfErr r (IsWritingFault old new) → EndsAt text rest r
+ends_at text rest old new s (Ok x) stops told refused = stops
+ends_at text rest old new s (Err error.Write) stops told refused = stops
+ends_at text rest old new s (Err error.Memory) stops told refused = inr (stops, (s, told.0, told.1))
+ends_at text rest old new s (Err error.Read) stops told refused = absurd (no_read old new refused)
+ends_at text rest old new s (Err error.BadMagic) stops told refused = absurd (no_other old new error.BadMagic tt refused)
+ends_at text rest old new s (Err (error.BadLine n)) stops told refused = absurd (no_other old new (error.BadLine n) tt refused)
+ends_at text rest old new s (Err (error.LineTooLong n)) stops told refused = absurd (no_other old new (error.LineTooLong n) tt refused)
+ends_at text rest old new s (Err (error.Refused n)) stops told refused = absurd (no_other old new (error.Refused n) tt refused)
+ends_at text rest old new s (Err (error.WrongAnswer n)) stops told refused = absurd (no_other old new (error.WrongAnswer n) tt refused)
+ends_at text rest old new s (Err error.Truncated) stops told refused = absurd (no_other old new error.Truncated tt refused)
+
+-- what is read of a trace that is accepted
+pub ends_form : (text rest old new : Option (List ℕ)) (s : State) (r : Result (Unit {0}) TraceError) → Stops text rest (Ok tt) → Understands text (Ok s)
+    → IfErr r (IsWritingFault old new) → Ends text rest r
+ends_form None rest old new s r stops told refused = tt
+ends_form (Some text) None old new s r stops told refused = stops
+ends_form (Some text) (Some rest) old new s r stops told refused = ends_at text rest old new s r stops told refused

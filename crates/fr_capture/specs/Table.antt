@@ -1,12 +1,12 @@
 -- The table of the same bytes: the names of the columns, and a line for each sighting (own profile).
-use Rattle.std.specs.Prelude.{ℕ, List, [], ◌∷◌, ◌++◌, codes, Option, Some, None, Bool, not, option_map, if◌then◌else◌}
+use Rattle.std.specs.Prelude.{ℕ, List, [], ◌∷◌, ◌++◌, codes, Option, Some, None, option_map, if◌then◌else◌}
 use Rattle.std.specs.Fmt.{decimal}
 use Rattle.std.specs.Option.{option_or}
 use Rattle.fr_frame.specs.declared.decode.DecodeError.{DecodeError}
 use Rattle.fr_frame.specs.declared.decode.DecodeError.TheVariants.{TooShort, LengthMismatch, HeaderCrc, FrameCrc}
 use Rattle.fr_frame.specs.Fields.{Fields}
 use Rattle.fr_frame.specs.Refusal.{refusal}
-use Rattle.fr_lines.specs.Parts.{absent, optional_number}
+use Rattle.fr_lines.specs.Parts.{absent, indicators, optional_number}
 use Rattle.fr_lines.specs.Spelling.{line_text}
 use Rattle.fr_slots.specs.Admission.{letter_of}
 use Rattle.fr_slots.specs.Parameters.{Parameters}
@@ -36,16 +36,6 @@ error_word TooShort = codes "short"
 error_word LengthMismatch = codes "length"
 error_word HeaderCrc = codes "header"
 error_word FrameCrc = codes "frame"
-
--- a letter for what is so, and a dash for what isn't
-abbrev pub mark : List ℕ → Bool → List ℕ
-mark letter is_so = if is_so then letter else codes "-"
-
--- payload preamble, null frame, sync frame, startup frame
-unfoldable pub indicators : Fields → List ℕ
-indicators f =
-    mark (codes "p") f.preamble ++ mark (codes "n") (not f.has_data) ++ mark (codes "s") f.sync
-    ++ mark (codes "u") f.startup
 
 -- what a frame says
 abbrev pub frame_words : Fields → List (List ℕ)

@@ -1,19 +1,19 @@
 //! The lines of a table.
 
-ghost use Rattle.std.specs.Prelude.{◌≡◌, ◌∷◌, ◌++◌, ◌≤◌, length};
+ghost use Rattle.std.specs.Prelude.{◌≡◌, ◌≤◌, length};
 ghost use Rattle.std.specs.Option.{option_or};
 ghost use Rattle.fr_text.specs.Writing.{Writes};
-ghost use Rattle.fr_lines.specs.Parts.{optional_number};
 ghost use Rattle.fr_lines.specs.Spelling.{line_text};
 ghost use Rattle.fr_capture.specs.Table.{bytes_words, content_text, error_word, frame_words, head_line};
-ghost use Rattle.fr_capture.specs.Table.{indicators, line_knowing, mark, bit_word};
+ghost use Rattle.fr_capture.specs.Table.{line_knowing, bit_word};
 ghost use Rattle.fr_frame.specs.Decoding.{decoded};
 ghost use Rattle.fr_frame.specs.Refusal.{refusal};
 
 use crate::sighting::SeenBytes;
 use fr_frame::decode::{DecodeError, decode_lent};
 use fr_frame::lent::LentFrame;
-use fr_slots::numbers::SlotId;
+use fr_lines::frames::write_indicators;
+use fr_lines::writing::write_slot;
 use fr_status::status::SlotStatus;
 use fr_text::hexes::write_hex;
 use std::io;
@@ -53,33 +53,6 @@ fn error_word(error: DecodeError) -> &'static str
         DecodeError::LengthMismatch => "length",
         DecodeError::HeaderCrc => "header",
         DecodeError::FrameCrc => "frame",
-    }
-}
-
-/// The letter of what is so, and a dash for what isn't.
-fn mark(letter: &'static str, is_so: bool) -> &'static str
-    ensures { result.now ≡ mark letter.entry.now is_so }
-{
-    if is_so { letter } else { "-" }
-}
-
-/// Writes the letters of a frame's indicators.
-#[tactic(auto, unfolding(crate::specs::Table::indicators))]
-fn write_indicators<W: Write>(writer: &mut W, frame: &LentFrame<'_>) -> io::Result<()>
-    ensures { Writes W.contents writer.old writer.new result (indicators frame.now) }
-{
-    let (preamble, null) = (mark("p", frame.preamble), mark("n", !frame.has_data));
-    let (sync, startup) = (mark("s", frame.sync), mark("u", frame.startup));
-    write!(writer, "{preamble}{null}{sync}{startup}")
-}
-
-/// Writes a space, and the word of a slot or of none.
-fn write_slot<W: Write>(writer: &mut W, slot: Option<SlotId>) -> io::Result<()>
-    ensures { Writes W.contents writer.old writer.new result (32 ∷ optional_number slot) }
-{
-    match slot {
-        Some(slot) => write!(writer, " {}", slot.number()),
-        None => write!(writer, " -"),
     }
 }
 

@@ -10,3 +10,4 @@ pub mod Scripts
 pub mod ScriptFields
 pub mod Settling
 pub mod Walks
+pub mod ErrorNames

@@ -2,27 +2,43 @@
 
 use fr_bus::error::BusError;
 use fr_interface::errors::{HostError, SlotError};
-use thiserror::Error;
+use std::error::Error;
+use std::fmt;
 
 /// Why an event is refused (own profile).
-#[derive(Clone, Copy, Debug, PartialEq, Eq, Error)]
+#[derive(Clone, Copy, Debug, PartialEq, Eq)]
 pub enum StepError {
     /// The cluster doesn't have the node.
-    #[error("UnknownNode")]
     UnknownNode,
     /// Another step of the controller is due.
-    #[error("WrongTurn")]
     WrongTurn,
     /// The interface refuses the call of a task.
-    #[error("Host {0}")]
     Host(HostError),
     /// The interface refuses the call of its controller.
-    #[error("Slot {0}")]
     Slot(SlotError),
     /// The bus refuses the call.
-    #[error("Bus {0}")]
     Bus(BusError),
 }
+
+impl fmt::Display for StepError {
+    ghost use Rattle.std.specs.Prelude.{Some};
+    ghost use Rattle.fr_core.specs.ErrorNames.{step_error_text};
+
+    ghost output = { λ error. Some (step_error_text error) };
+
+    /// Writes the refusal's name, after whose refusal it is where an interface or the bus refuses the call.
+    fn fmt<W: fmt::Write>(&self, f: &mut fmt::Formatter<W>) -> fmt::Result {
+        match self {
+            StepError::UnknownNode => write!(f, "UnknownNode"),
+            StepError::WrongTurn => write!(f, "WrongTurn"),
+            StepError::Host(error) => write!(f, "Host {error}"),
+            StepError::Slot(error) => write!(f, "Slot {error}"),
+            StepError::Bus(error) => write!(f, "Bus {error}"),
+        }
+    }
+}
+
+impl Error for StepError {}
 
 impl From<HostError> for StepError {
     ghost use Rattle.std.specs.Prelude.{◌≡◌};

@@ -5,12 +5,14 @@ ghost use Rattle.std.specs.Option.{option_copied};
 ghost use Rattle.fr_core.specs.Scripts.{frame_reply, IsLine};
 ghost use Rattle.fr_core.specs.Walks.{FindsTask, done_by, HasLine, HasLineAt, HaveLines, AreCourses, CourseNext};
 ghost use Rattle.fr_core.specs.Walks.{IsAsLongAt, Suits, SuitsAt, new_courses};
+ghost use Rattle.fr_journal.specs.Lent.{whole, HasPayload};
 ghost use Rattle.fr_slots.specs.Numbers.{most_entries};
 
 use crate::event::Reply;
 use crate::script::{Action, Deed, Line, Script, has_script};
 use fr_interface::interface::{Interface, Receipt};
-use fr_journal::entry::{Entry, Origin};
+use fr_journal::entry::Origin;
+use fr_journal::lent::{LentEntry, payload_of};
 use fr_slots::numbers::{NodeId, TASKS, TaskId};
 
 /// How many tasks a node has at most.
@@ -49,11 +51,12 @@ fn frame_reply(interface: &Interface, from: Option<Origin>) -> Reply
 }
 
 /// What the entry of this number did, and for which task, if it is the host's.
-fn done_by(interface: &Interface, number: u32, entry: &Entry) -> Option<(TaskId, Deed)>
-    ensures { result ≡ done_by interface.now number entry.now }
+fn done_by(interface: &Interface, number: u32, entry: &LentEntry<'_>) -> Option<(TaskId, Deed)>
+    requires { HasPayload entry.now }
+    ensures { result ≡ done_by interface.now number (whole entry.now) }
 {
     let (task, action, answer) = match entry {
-        Entry::Commit {
+        LentEntry::Commit {
             task,
             buffer,
             payload,
@@ -64,20 +67,26 @@ fn done_by(interface: &Interface, number: u32, entry: &Entry) -> Option<(TaskId,
             };
             let action = Action::Commit {
                 buffer: *buffer,
-                payload: payload.duplicate(),
+                payload: payload_of(*payload),
             };
             (*task, action, Reply::Committed(receipt))
         }
-        Entry::Withdraw { task, buffer, of } => {
-            let action = Action::Withdraw { buffer: *buffer };
-            (*task, action, Reply::Withdrawn(*of))
+        LentEntry::Withdraw { task, buffer, of } => {
+            (
+                *task,
+                Action::Withdraw { buffer: *buffer },
+                Reply::Withdrawn(*of),
+            )
         }
-        Entry::Read { task, buffer, from } => {
-            let action = Action::Read { buffer: *buffer };
-            (*task, action, frame_reply(interface, *from))
+        LentEntry::Read { task, buffer, from } => {
+            (
+                *task,
+                Action::Read { buffer: *buffer },
+                frame_reply(interface, *from),
+            )
         }
-        Entry::Pop { task, from } => (*task, Action::Pop, frame_reply(interface, *from)),
-        Entry::Fetch { .. } | Entry::Observe { .. } => return None,
+        LentEntry::Pop { task, from } => (*task, Action::Pop, frame_reply(interface, *from)),
+        LentEntry::Fetch { .. } | LentEntry::Observe { .. } => return None,
     };
     Some((task, Deed { action, answer }))
 }
@@ -178,11 +187,12 @@ pub(crate) fn courses_past(
     node: NodeId,
     scripts: &[Script],
     number: u32,
-    entry: &Entry,
+    entry: &LentEntry<'_>,
     courses: &mut Courses,
 )
+    requires payload { HasPayload entry.now }
     requires few { number < most_entries }
-    requires here { slice_get interface.now.entries number ≡ Some entry.now }
+    requires here { slice_get interface.now.entries number ≡ Some (whole entry.now) }
     requires so_far { AreCourses interface.now scripts.now node number courses.old }
     ensures { AreCourses interface.now scripts.now node (number + 1) courses.new }
 {

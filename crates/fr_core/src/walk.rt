@@ -1,7 +1,7 @@
 //! The walk along the journal of one node, beside the record and the scripts.
 
 ghost use Rattle.std.specs.Prelude.{◌≡◌, ◌<◌, ◌≤◌, ◌+◌, ◌↔◌, IsTrue, Some, None, nat_lt, if◌then◌else◌, length};
-ghost use Rattle.std.specs.Prelude.{slice_get};
+ghost use Rattle.std.specs.Prelude.{IfSome, slice_get};
 ghost use Rattle.std.specs.Prelude.{option_map, is_none, ◌&&◌};
 ghost use Rattle.std.specs.Option.{option_copied, option_or};
 ghost use Rattle.fr_bus.specs.Record.{seen_by};
@@ -9,6 +9,8 @@ ghost use Rattle.fr_core.specs.Agreeing.{offers_of, sight_of, sights_of};
 ghost use Rattle.fr_core.specs.Walks.{FindsNext, handed_by, window_at, FetchesNext, ObservesNext};
 ghost use Rattle.fr_core.specs.Walks.{AreFindings, is_silent};
 ghost use Rattle.fr_interface.specs.Handing.{bytes_handed};
+ghost use Rattle.fr_journal.specs.Lent.{whole, HasPayload};
+ghost use Rattle.fr_status.specs.Lent.{whole_seen};
 ghost use Rattle.fr_slots.specs.declared.channel.Channel.TheVariants as channel;
 ghost use Rattle.fr_slots.specs.Numbers.{most_entries};
 
@@ -17,12 +19,13 @@ use crate::tasks::{courses_past, new_courses, other_task};
 use fr_bus::outcome::Sealed;
 use fr_frame::frame::Bytes;
 use fr_interface::interface::Interface;
-use fr_journal::entry::{Entry, Offered};
+use fr_journal::entry::Offered;
+use fr_journal::lent::LentEntry;
 use fr_slots::channel::Channel;
 use fr_slots::numbers::{NodeId, TaskId};
 use fr_slots::params::Params;
 use fr_slots::window::Window;
-use fr_status::seen::Seen;
+use fr_status::seen::LentSeen;
 
 /// What is found of a node.
 #[derive(Clone, Copy)]
@@ -70,10 +73,11 @@ pub(crate) fn entries_of(interface: &Interface) -> u32
 }
 
 /// The entry of this number. The walk along a journal gets its entries here, each once.
-fn entry_at(interface: &Interface, number: u32) -> Option<Entry>
-    ensures { result ≡ slice_get interface.now.entries number }
+fn entry_at(interface: &Interface, number: u32) -> Option<LentEntry<'_>>
+    ensures entry { option_map whole result ≡ slice_get interface.now.entries number }
+    ensures payload { IfSome result HasPayload }
 {
-    interface.journal().get(number)
+    interface.journal().lent(number)
 }
 
 /// The interface at this place.
@@ -122,10 +126,10 @@ fn are_same(one: &Option<Bytes>, other: Option<&Bytes>) -> bool
 }
 
 /// Whether the entry handed nothing over on the channel.
-fn is_silent(entry: &Entry, channel: Channel) -> bool
-    ensures { result ≡ is_silent channel entry.now }
+fn is_silent(entry: &LentEntry<'_>, channel: Channel) -> bool
+    ensures { result ≡ is_silent channel (whole entry.now) }
 {
-    let Entry::Fetch { a, b, .. } = entry else {
+    let LentEntry::Fetch { a, b, .. } = entry else {
         return true;
     };
     match channel {
@@ -135,8 +139,13 @@ fn is_silent(entry: &Entry, channel: Channel) -> bool
 }
 
 /// What the entry of this number handed over on the channel.
-fn handed_on(interface: &Interface, number: u32, entry: &Entry, channel: Channel) -> Option<Bytes>
-    requires { slice_get interface.now.entries number ≡ Some entry.now }
+fn handed_on(
+    interface: &Interface,
+    number: u32,
+    entry: &LentEntry<'_>,
+    channel: Channel,
+) -> Option<Bytes>
+    requires { slice_get interface.now.entries number ≡ Some (whole entry.now) }
     ensures { result ≡ bytes_handed interface.now number channel }
 {
     if is_silent(entry, channel) {
@@ -150,12 +159,12 @@ fn handed_on(interface: &Interface, number: u32, entry: &Entry, channel: Channel
 fn is_handed(
     interface: &Interface,
     number: u32,
-    entry: &Entry,
+    entry: &LentEntry<'_>,
     window: &Window,
     node: NodeId,
     sealed: &Sealed,
 ) -> bool
-    requires { slice_get interface.now.entries number ≡ Some entry.now }
+    requires { slice_get interface.now.entries number ≡ Some (whole entry.now) }
     ensures { IsTrue result ↔ (offers_of node sealed.now ≡ handed_by interface.now number window.now) }
 {
     sealed.window == *window
@@ -173,13 +182,13 @@ fn is_handed(
 fn is_handed_at(
     interface: &Interface,
     number: u32,
-    entry: &Entry,
+    entry: &LentEntry<'_>,
     window: &Window,
     node: NodeId,
     recorded: &[Sealed],
     place: usize,
 ) -> bool
-    requires { slice_get interface.now.entries number ≡ Some entry.now }
+    requires { slice_get interface.now.entries number ≡ Some (whole entry.now) }
     ensures { IsTrue result
         ↔ (option_map (offers_of node) (slice_get recorded.now place)
         ≡ Some (handed_by interface.now number window.now)) }
@@ -196,14 +205,14 @@ fn fetches_past(
     node: NodeId,
     recorded: &[Sealed],
     number: u32,
-    entry: &Entry,
+    entry: &LentEntry<'_>,
     so_far: &Fetches,
 ) -> Fetches
-    requires here { slice_get interface.now.entries number ≡ Some entry.now }
+    requires here { slice_get interface.now.entries number ≡ Some (whole entry.now) }
     requires few { so_far.now.count < most_entries }
-    ensures { FetchesNext interface.now node recorded.now number so_far.now entry.now result }
+    ensures { FetchesNext interface.now node recorded.now number so_far.now (whole entry.now) result }
 {
-    let Entry::Fetch { window, .. } = entry else {
+    let LentEntry::Fetch { window, .. } = entry else {
         return *so_far;
     };
     let place = so_far.count;
@@ -224,12 +233,18 @@ fn is_of_window(sealed: &Sealed, window: &Window) -> bool
 }
 
 /// Whether the node saw this, on A and on B, by the record.
-fn is_shown(params: &Params, node: NodeId, sealed: &Sealed, a: &Seen, b: &Seen) -> bool
+fn is_shown(
+    params: &Params,
+    node: NodeId,
+    sealed: &Sealed,
+    a: LentSeen<'_>,
+    b: LentSeen<'_>,
+) -> bool
     ensures { IsTrue result
-        ↔ ((seen_by params.now sealed.now channel.A node ≡ a.now)
-        × (seen_by params.now sealed.now channel.B node ≡ b.now)) }
+        ↔ ((seen_by params.now sealed.now channel.A node ≡ whole_seen a.entry)
+        × (seen_by params.now sealed.now channel.B node ≡ whole_seen b.entry)) }
 {
-    sealed.seen(params, Channel::A, node) == *a && sealed.seen(params, Channel::B, node) == *b
+    sealed.shows(params, Channel::A, node, a) && sealed.shows(params, Channel::B, node, b)
 }
 
 /// Whether the record lets the node see this at this place.
@@ -239,12 +254,12 @@ fn is_shown_at(
     recorded: &[Sealed],
     place: usize,
     window: &Window,
-    a: &Seen,
-    b: &Seen,
+    a: LentSeen<'_>,
+    b: LentSeen<'_>,
 ) -> bool
     ensures { IsTrue result
         ↔ (option_map (sights_of params.now node) (slice_get recorded.now place)
-        ≡ Some (sight_of a.now b.now window.now)) }
+        ≡ Some (sight_of (whole_seen a.entry) (whole_seen b.entry) window.now)) }
 {
     match sealed_at(recorded, place) {
         Some(sealed) => is_of_window(sealed, window) && is_shown(params, node, sealed, a, b),
@@ -257,17 +272,17 @@ fn observes_past(
     params: &Params,
     node: NodeId,
     recorded: &[Sealed],
-    entry: &Entry,
+    entry: &LentEntry<'_>,
     so_far: &Observes,
 ) -> Observes
     requires few { so_far.now.count < most_entries }
-    ensures { ObservesNext params.now node recorded.now so_far.now entry.now result }
+    ensures { ObservesNext params.now node recorded.now so_far.now (whole entry.now) result }
 {
-    match (entry, &so_far.opened) {
-        (Entry::Observe { a, b, .. }, Some(window)) => {
+    match (entry, so_far.opened) {
+        (LentEntry::Observe { a, b, .. }, Some(window)) => {
             let place = so_far.count;
-            let is_window = is_window_at(recorded, place, window);
-            let is_sight = is_shown_at(params, node, recorded, place, window, a, b);
+            let is_window = is_window_at(recorded, place, &window);
+            let is_sight = is_shown_at(params, node, recorded, place, &window, *a, *b);
             Observes {
                 count: place + 1,
                 opened: None,
@@ -275,7 +290,7 @@ fn observes_past(
                 sight: next_found(so_far.sight, place, is_sight),
             }
         }
-        (Entry::Fetch { window, .. }, _) => Observes {
+        (LentEntry::Fetch { window, .. }, _) => Observes {
             opened: Some(*window),
             ..*so_far
         },

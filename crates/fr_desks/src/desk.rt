@@ -138,19 +138,19 @@ impl<L: Ledger> Counted<L> {
     }
 
     /// The interface's fetch.
-    fn fetch(&mut self, window: &Window) -> Result<Offer, SlotError>
+    fn fetch_into(&mut self, window: &Window, offer: &mut Offer) -> Result<(), SlotError>
         ensures refusal { result_err result ≡ fetch_refusal self.old.interface window.now }
-        ensures bytes_a { IfOk result (λ o. o.a ≡ bytes_of channel.A
+        ensures bytes_a { OnOk result (offer.new.a ≡ bytes_of channel.A
             (frame_offered self.old.interface.params self.old.interface.plan self.old.interface.entries
             window.now channel.A)) }
-        ensures bytes_b { IfOk result (λ o. o.b ≡ bytes_of channel.B
+        ensures bytes_b { OnOk result (offer.new.b ≡ bytes_of channel.B
             (frame_offered self.old.interface.params self.old.interface.plan self.old.interface.entries
             window.now channel.B)) }
         ensures accepted { OnOk result
             (self.new.interface ≡ with_entry self.old.interface (fetch_entry self.old.interface window.now)) }
         ensures refused { OnErr result (self.new.interface ≡ self.old.interface) }
     {
-        self.interface.fetch(window)
+        self.interface.fetch_into(window, offer)
     }
 
     /// The interface's observe.
@@ -311,10 +311,23 @@ impl<L: Ledger> Desk<L> {
         gate: &G,
         window: &Window,
     ) -> Result<Offer, SlotError> {
+        let mut offer = Offer { a: None, b: None };
+        self.fetch_into(rt, gate, window, &mut offer)?;
+        Ok(offer)
+    }
+
+    /// The same, in place of an offer that is there, which stays as it was where the fetch is refused.
+    pub fn fetch_into<R: Wait, G: Gate>(
+        &self,
+        rt: &R,
+        gate: &G,
+        window: &Window,
+        offer: &mut Offer,
+    ) -> Result<(), SlotError> {
         pass(gate, Actor::Controller(self.node), Side::Before);
         let mut counted = self.lock.lock(rt);
         pass(gate, Actor::Controller(self.node), Side::Inside);
-        let answer = counted.fetch(window);
+        let answer = counted.fetch_into(window, offer);
         drop(counted);
         pass(gate, Actor::Controller(self.node), Side::After);
         answer

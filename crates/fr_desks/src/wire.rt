@@ -288,9 +288,24 @@ impl Wire {
         node: NodeId,
         number: u32,
     ) -> Result<(Seen, Seen), WireError> {
+        let (mut a, mut b) = (Seen::Silence, Seen::Silence);
+        self.take_into(rt, node, number, &mut a, &mut b)?;
+        Ok((a, b))
+    }
+
+    /// The same as `take`, with what the node sees on channel A and on B written over `a` and `b`, bytes over those that
+    /// are there. Refused as `take` is.
+    pub fn take_into<R: Wait + Clock>(
+        &self,
+        rt: &R,
+        node: NodeId,
+        number: u32,
+        a: &mut Seen,
+        b: &mut Seen,
+    ) -> Result<(), WireError> {
         let call = self.call_of(node, Call::Take);
         let mut wired = self.ready(rt, &self.for_nodes, call)?;
-        let answer = wired.bus.take(node, number);
+        let answer = wired.bus.take_into(node, number, a, b);
         let all = answer.is_ok() && wired.bus.all_taken();
         if all {
             self.hint.tell(Stage::AllTaken);

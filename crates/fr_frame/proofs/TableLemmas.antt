@@ -177,31 +177,48 @@ met_is r n word fits n_is four =
 pub word_bits : (n : ℕ) (word : List ℕ) → length word ≡ 4 → ((i : ℕ) → get_or word i 0 < 256) → n ≡ from_be_bytes w32 word → bits_of 32 n ≡ bits_of_bytes word
 word_bits n word four fits is = sym (bits_of_bytes-high_first 4 n) ∙ ap bits_of_bytes (be_bytes_4 word n four fits is)
 
--- eight bytes at once
-pub block_steps : (p r n x y : ℕ) (front back : List ℕ) → r < 2 ^ 24 → bits_of 32 n ≡ bits_of_bytes front → length front ≡ 4 → length back ≡ 4
-    → bits_of 24 x ≡ left_by (true ∷ bits_of 24 p) 24 (bits_of_bytes (to_be_bytes w32 (bit_xor (r * 256 % 2 ^ 32) n)) ++ replicate 32 false)
-    → bits_of 24 y ≡ left_by (true ∷ bits_of 24 p) 24 (bits_of_bytes back ++ replicate 0 false)
-    → bits_of 24 (bit_xor x y) ≡ stepped_all (bits_of 24 p) (bits_of 24 r) (bits_of_bytes (front ++ back))
-block_steps p r n x y front back fits n_is four_front four_back x_is y_is =
+-- what the entries of two stretches of a message leave is what the stretches leave together
+pub stretches_add : (divisor : List Bool) (w zeros x y : ℕ) (front back : List ℕ)
+    → bits_of w x ≡ left_by divisor w (bits_of_bytes front ++ replicate (8 * (zeros + length back)) false)
+    → bits_of w y ≡ left_by divisor w (bits_of_bytes back ++ replicate (8 * zeros) false)
+    → bits_of w (bit_xor x y) ≡ left_by divisor w (bits_of_bytes (front ++ back) ++ replicate (8 * zeros) false)
+stretches_add d w zeros x y front back x_is y_is =
+    let zero_bits = replicate (8 * zeros) false in
+    let rest = bits_of_bytes back ++ zero_bits in
+    let long : length rest ≡ 8 * (zeros + length back) = length-append (bits_of_bytes back) zero_bits ∙ omega (arith, length-bits_of_bytes back, length-replicate (8 * zeros) false) in
+    let both : bits_of_bytes (front ++ back) ++ zero_bits ≡ bits_of_bytes front ++ rest =
+    ap (λ (t : List Bool). t ++ zero_bits) (flat_map-append (bits_of 8) front back) ∙ append_assoc (bits_of_bytes front) (bits_of_bytes back) zero_bits in
+    bits_of-sum w x y (left_by d w (bits_of_bytes front ++ replicate (length rest) false)) (left_by d w rest)
+    (x_is ∙ ap (λ (k : ℕ). left_by d w (bits_of_bytes front ++ replicate k false)) (sym long)) y_is
+    ∙ sym (left_by-append d w (bits_of_bytes front) rest)
+    ∙ ap (left_by d w) (sym both)
+
+-- the register met with the first four of the next bytes is stepped over all of them
+pub register_met : (p r n : ℕ) (front back : List ℕ) → r < 2 ^ 24 → bits_of 32 n ≡ bits_of_bytes front → length front ≡ 4
+    → left_by (true ∷ bits_of 24 p) 24 (bits_of_bytes (to_be_bytes w32 (bit_xor (r * 256 % 2 ^ 32) n) ++ back))
+    ≡ stepped_all (bits_of 24 p) (bits_of 24 r) (bits_of_bytes (front ++ back))
+register_met p r n front back fits n_is four =
     let d = true ∷ bits_of 24 p in
     let register = bits_of 24 r in
-    let met = xor_front register (bits_of_bytes front) in
+    let met = to_be_bytes w32 (bit_xor (r * 256 % 2 ^ 32) n) in
     let last = bits_of_bytes back in
-    let long : length last ≡ 32 = length-bits_of_bytes back ∙ ap (λ (k : ℕ). 8 * k) four_back in
-    let first : length (bits_of_bytes front) ≡ 32 = length-bits_of_bytes front ∙ ap (λ (k : ℕ). 8 * k) four_front in
+    let first : length (bits_of_bytes front) ≡ 32 = length-bits_of_bytes front ∙ ap (λ (k : ℕ). 8 * k) four in
     let wide : length register ≡ 24 = length-bits_of 24 r in
-    let high : bits_of 24 x ≡ left_by d 24 (met ++ replicate (length last) false) =
-    x_is ∙ ap (λ (t : List Bool). left_by d 24 (t ++ replicate 32 false)) (met_is r n front fits n_is four_front)
-    ∙ ap (λ (k : ℕ). left_by d 24 (met ++ replicate k false)) (sym long) in
-    let low : bits_of 24 y ≡ left_by d 24 last = y_is ∙ ap (left_by d 24) (append-nil last) in
     let both : bits_of_bytes (front ++ back) ≡ bits_of_bytes front ++ last = flat_map-append (bits_of 8) front back in
-    bits_of-sum 24 x y (left_by d 24 (met ++ replicate (length last) false)) (left_by d 24 last) high low
-    ∙ sym (left_by-append d 24 met last)
-    ∙ ap (left_by d 24) (sym (xor_front-append register (bits_of_bytes front) last (omega (arith, wide, first))))
+    ap (left_by d 24) (flat_map-append (bits_of 8) met back ∙ ap (λ (t : List Bool). t ++ last) (met_is r n front fits n_is four)
+    ∙ sym (xor_front-append register (bits_of_bytes front) last (omega (arith, wide, first))))
     ∙ ap (λ (k : ℕ). left_by d k (xor_front register (bits_of_bytes front ++ last))) (sym wide)
     ∙ sym (stepped_all-long (bits_of 24 p) register (bits_of_bytes front ++ last) (length-polynomial p r) (some_bits r)
     (omega (arith, wide, first, length-append (bits_of_bytes front) last)))
     ∙ ap (stepped_all (bits_of 24 p) register) (sym both)
+
+-- the same of an entry of all these bytes
+pub block_steps : (p r n x : ℕ) (front back : List ℕ) → r < 2 ^ 24 → bits_of 32 n ≡ bits_of_bytes front → length front ≡ 4
+    → bits_of 24 x ≡ left_by (true ∷ bits_of 24 p) 24 (bits_of_bytes (to_be_bytes w32 (bit_xor (r * 256 % 2 ^ 32) n) ++ back) ++ replicate 0 false)
+    → bits_of 24 x ≡ stepped_all (bits_of 24 p) (bits_of 24 r) (bits_of_bytes (front ++ back))
+block_steps p r n x front back fits n_is four x_is =
+    x_is ∙ ap (left_by (true ∷ bits_of 24 p) 24) (append-nil (bits_of_bytes (to_be_bytes w32 (bit_xor (r * 256 % 2 ^ 32) n) ++ back)))
+    ∙ register_met p r n front back fits n_is four
 
 -- the low sixteen bits, moved up by a byte
 pub moved_is : (r : ℕ) → bit_and r 65535 * 256 % 2 ^ 32 ≡ r % 2 ^ 16 * 256
@@ -246,18 +263,18 @@ block_at size (suc count) (suc i) bytes default lt =
     ∙ ap (take size) (drop-drop (i * size) size bytes ∙ ap (λ (n : ℕ). drop n bytes) more)
 
 -- a block that goes into the register is one that is divided away
-pub divided-next_block : (p register next : List Bool) (bytes : List ℕ) (i : ℕ) (total : List Bool) → length p ≡ length register → 0 < length register
-    → next ≡ stepped_all p register (bits_of_bytes (take 8 (drop (i * 8) bytes)))
-    → divided (true ∷ p) register (bits_of_bytes (drop (i * 8) bytes)) ≡ total → divided (true ∷ p) next (bits_of_bytes (drop ((i + 1) * 8) bytes)) ≡ total
-divided-next_block p register next bytes i total same some e so_far =
-    let left = drop (i * 8) bytes in
-    let more : i * 8 + 8 ≡ (i + 1) * 8 = omega arith in
-    let rest : drop 8 left ≡ drop ((i + 1) * 8) bytes = drop-drop 8 (i * 8) bytes ∙ ap (λ (n : ℕ). drop n bytes) more in
-    let cut : bits_of_bytes left ≡ bits_of_bytes (take 8 left) ++ bits_of_bytes (drop ((i + 1) * 8) bytes) =
-    ap bits_of_bytes (sym (take-append-drop 8 left)) ∙ flat_map-append (bits_of 8) (take 8 left) (drop 8 left)
-    ∙ ap (λ (t : List ℕ). bits_of_bytes (take 8 left) ++ bits_of_bytes t) rest in
-    ap (λ (r : List Bool). divided (true ∷ p) r (bits_of_bytes (drop ((i + 1) * 8) bytes))) e
-    ∙ sym (divided-bits p register (bits_of_bytes (take 8 left)) (bits_of_bytes (drop ((i + 1) * 8) bytes)) same some)
+pub divided-next_block : (size : ℕ) (p register next : List Bool) (bytes : List ℕ) (i : ℕ) (total : List Bool) → length p ≡ length register → 0 < length register
+    → next ≡ stepped_all p register (bits_of_bytes (take size (drop (i * size) bytes)))
+    → divided (true ∷ p) register (bits_of_bytes (drop (i * size) bytes)) ≡ total → divided (true ∷ p) next (bits_of_bytes (drop ((i + 1) * size) bytes)) ≡ total
+divided-next_block size p register next bytes i total same some e so_far =
+    let left = drop (i * size) bytes in
+    let more : i * size + size ≡ (i + 1) * size = omega arith in
+    let rest : drop size left ≡ drop ((i + 1) * size) bytes = drop-drop size (i * size) bytes ∙ ap (λ (n : ℕ). drop n bytes) more in
+    let cut : bits_of_bytes left ≡ bits_of_bytes (take size left) ++ bits_of_bytes (drop ((i + 1) * size) bytes) =
+    ap bits_of_bytes (sym (take-append-drop size left)) ∙ flat_map-append (bits_of 8) (take size left) (drop size left)
+    ∙ ap (λ (t : List ℕ). bits_of_bytes (take size left) ++ bits_of_bytes t) rest in
+    ap (λ (r : List Bool). divided (true ∷ p) r (bits_of_bytes (drop ((i + 1) * size) bytes))) e
+    ∙ sym (divided-bits p register (bits_of_bytes (take size left)) (bits_of_bytes (drop ((i + 1) * size) bytes)) same some)
     ∙ ap (divided (true ∷ p) register) (sym cut)
     ∙ so_far
 
@@ -279,6 +296,20 @@ eight_of [] same = absurd (omega arith)
 eight_of (a ∷ []) same = absurd (omega arith)
 eight_of (a ∷ b ∷ []) same = absurd (omega arith)
 eight_of (a ∷ b ∷ c ∷ []) same = absurd (omega arith)
+
+pub sixteen_of : (xs : List ℕ) → length xs ≡ 16
+    → xs ≡ (get_or xs 0 0 ∷ get_or xs 1 0 ∷ get_or xs 2 0 ∷ get_or xs 3 0 ∷ []) ++ ((get_or xs 4 0 ∷ get_or xs 5 0 ∷ get_or xs 6 0 ∷ get_or xs 7 0 ∷ [])
+    ++ ((get_or xs 8 0 ∷ get_or xs 9 0 ∷ get_or xs 10 0 ∷ get_or xs 11 0 ∷ []) ++ (get_or xs 12 0 ∷ get_or xs 13 0 ∷ get_or xs 14 0 ∷ get_or xs 15 0 ∷ [])))
+sixteen_of (a ∷ b ∷ c ∷ d ∷ e ∷ f ∷ g ∷ h ∷ xs) same =
+    ap (λ (t : List ℕ). a ∷ b ∷ c ∷ d ∷ e ∷ f ∷ g ∷ h ∷ t) (eight_of xs (omega arith))
+sixteen_of [] same = absurd (omega arith)
+sixteen_of (a ∷ []) same = absurd (omega arith)
+sixteen_of (a ∷ b ∷ []) same = absurd (omega arith)
+sixteen_of (a ∷ b ∷ c ∷ []) same = absurd (omega arith)
+sixteen_of (a ∷ b ∷ c ∷ d ∷ []) same = absurd (omega arith)
+sixteen_of (a ∷ b ∷ c ∷ d ∷ e ∷ []) same = absurd (omega arith)
+sixteen_of (a ∷ b ∷ c ∷ d ∷ e ∷ f ∷ []) same = absurd (omega arith)
+sixteen_of (a ∷ b ∷ c ∷ d ∷ e ∷ f ∷ g ∷ []) same = absurd (omega arith)
 
 pub four_fit : (a b c d : ℕ) → a < 256 → b < 256 → c < 256 → d < 256 → (i : ℕ) → get_or (a ∷ b ∷ c ∷ d ∷ []) i 0 < 256
 four_fit a b c d ha hb hc hd zero = ha

@@ -1,10 +1,10 @@
 //! The two cyclic redundancy checks of a frame: the header CRC and the frame CRC (chapter 4).
 
-ghost use Rattle.std.specs.Prelude.{◌≡◌, ◌<◌, ◌*◌, ◌^◌, ◌++◌, false, replicate};
+ghost use Rattle.std.specs.Prelude.{◌≡◌, ◌<◌, ◌*◌, ◌^◌, ◌++◌, [], false, replicate};
 ghost use Rattle.fr_frame.specs.Bits.{bits_of, bits_of_bytes, number_of};
 ghost use Rattle.fr_frame.specs.Crc.{header_divisor, header_polynomial, header_check};
 ghost use Rattle.fr_frame.specs.Crc.{frame_divisor, frame_polynomial, frame_check};
-ghost use Rattle.fr_frame.specs.Register.{stepped, stepped_all, left_by};
+ghost use Rattle.fr_frame.specs.Register.{stepped, stepped_all, divided, left_by};
 ghost use Rattle.fr_frame.specs.Spelling.{covered};
 
 use crate::frame::Frame;
@@ -44,14 +44,11 @@ pub fn crc24(bytes: &[u8], channel: Channel) -> u32
         Channel::A => FRAME_INITIAL_A,
         Channel::B => FRAME_INITIAL_B,
     };
-    let (blocks, rest) = bytes.as_chunks::<8>();
-    for block in blocks {
-        register = step_block(register, *block);
+    let (sixteens, rest) = bytes.as_chunks::<16>();
+    for sixteen in sixteens {
+        register = step_sixteen(register, *sixteen);
     }
-    for byte in rest {
-        register = step_byte(register, *byte);
-    }
-    register
+    step_rest(register, rest)
 }
 
 /// The header CRC of a frame: 11 bits, which check its sync and startup indicators, its frame ID
@@ -111,7 +108,7 @@ fn step_header(register: u16, bit: bool) -> u16
 
 /// What a byte and so many bytes of zeros after it leave of an empty register of the frame CRC.
 fn frame_entry(zeros: usize, byte: u8) -> u32
-    requires { zeros < 8 }
+    requires { zeros < 16 }
     ensures bits { bits_of 24 result ≡ left_by frame_divisor 24 (bits_of 8 byte ++ replicate (8 * zeros) false) }
     ensures fits { result < 2 ^ 24 }
 {
@@ -120,7 +117,7 @@ fn frame_entry(zeros: usize, byte: u8) -> u32
 
 /// The same of four bytes.
 fn frame_entries(zeros: usize, word: [u8; 4]) -> u32
-    requires { zeros < 5 }
+    requires { zeros < 13 }
     ensures bits { bits_of 24 result ≡ left_by frame_divisor 24 (bits_of_bytes word ++ replicate (8 * zeros) false) }
     ensures fits { result < 2 ^ 24 }
 {
@@ -129,16 +126,57 @@ fn frame_entries(zeros: usize, word: [u8; 4]) -> u32
     front ^ frame_entry(zeros + 1, third) ^ frame_entry(zeros, fourth)
 }
 
-/// The frame CRC's register after eight more bytes.
-fn step_block(register: u32, block: [u8; 8]) -> u32
+/// The same of eight bytes.
+fn frame_entries_of_two(zeros: usize, front: [u8; 4], back: [u8; 4]) -> u32
+    requires { zeros < 9 }
+    ensures bits { bits_of 24 result
+        ≡ left_by frame_divisor 24 (bits_of_bytes (front ++ back) ++ replicate (8 * zeros) false) }
+    ensures fits { result < 2 ^ 24 }
+{
+    frame_entries(zeros + 4, front) ^ frame_entries(zeros, back)
+}
+
+/// The frame CRC's register after sixteen more bytes.
+fn step_sixteen(register: u32, bytes: [u8; 16]) -> u32
     requires { register < 2 ^ 24 }
     ensures fits { result < 2 ^ 24 }
     ensures bits { bits_of 24 result
-        ≡ stepped_all (bits_of 24 frame_polynomial) (bits_of 24 register) (bits_of_bytes block) }
+        ≡ stepped_all (bits_of 24 frame_polynomial) (bits_of 24 register) (bits_of_bytes bytes) }
 {
-    let [a, b, c, d, e, f, g, h] = block;
+    let [a, b, c, d, e, f, g, h, i, j, k, l, m, n, o, p] = bytes;
     let met = register << 8 ^ u32::from_be_bytes([a, b, c, d]);
-    frame_entries(4, met.to_be_bytes()) ^ frame_entries(0, [e, f, g, h])
+    let front = frame_entries_of_two(8, met.to_be_bytes(), [e, f, g, h]);
+    front ^ frame_entries_of_two(0, [i, j, k, l], [m, n, o, p])
+}
+
+/// The frame CRC's register after eight more bytes.
+fn step_eight(register: u32, bytes: [u8; 8]) -> u32
+    requires { register < 2 ^ 24 }
+    ensures fits { result < 2 ^ 24 }
+    ensures bits { bits_of 24 result
+        ≡ stepped_all (bits_of 24 frame_polynomial) (bits_of 24 register) (bits_of_bytes bytes) }
+{
+    let [a, b, c, d, e, f, g, h] = bytes;
+    let met = register << 8 ^ u32::from_be_bytes([a, b, c, d]);
+    frame_entries_of_two(0, met.to_be_bytes(), [e, f, g, h])
+}
+
+/// The frame CRC's register after these bytes, which are few.
+fn step_rest(register: u32, bytes: &[u8]) -> u32
+    requires { register < 2 ^ 24 }
+    ensures fits { result < 2 ^ 24 }
+    ensures left { divided frame_divisor (bits_of 24 result) []
+        ≡ divided frame_divisor (bits_of 24 register) (bits_of_bytes bytes.now) }
+{
+    let mut register = register;
+    let (eights, rest) = bytes.as_chunks::<8>();
+    for eight in eights {
+        register = step_eight(register, *eight);
+    }
+    for byte in rest {
+        register = step_byte(register, *byte);
+    }
+    register
 }
 
 /// The frame CRC's register after one more byte.

@@ -6,6 +6,7 @@ pub mod HandingLemmas
 pub mod KeptLemmas
 pub mod NamingLemmas
 pub mod OpeningLemmas
+pub mod RangeLemmas
 pub mod ReceiveLemmas
 pub mod SenderLemmas
 pub mod TestLemmas

@@ -10,8 +10,8 @@ use Rattle.fr_buffers.specs.Transmitting.{Transmitter, offer_of, after_send}
 use Rattle.fr_interface.specs.declared.sending.Sender.{Sender}
 use Rattle.fr_interface.specs.Known.{commit_of, transmitter_of, transmitters, each_buffer}
 use Rattle.fr_interface.specs.Sending.{ready_at, sender_of, sender_at, sender_in, sender_on, commit_in, offered_in}
-use Rattle.fr_interface.specs.Sending.{offered_by, held_payload, payload_at, frame_at, frame_by, send_offered}
-use Rattle.fr_interface.specs.Sending.{after_sender}
+use Rattle.fr_interface.specs.Sending.{offered_by, owner_on, outgoing_on, held_payload, payload_at, null_frame_with}
+use Rattle.fr_interface.specs.Sending.{frame_at, frame_by, send_offered, after_sender}
 use Rattle.fr_interface.proofs.ChangeLemmas.{change_each, each-same_there, get_each}
 use Rattle.fr_interface.proofs.TransmitLemmas.{offer-ready, tally-other, tally_after, same_commit, IsOther}
 use Rattle.fr_journal.specs.declared.entry.Entry.{Entry}
@@ -21,7 +21,7 @@ use Rattle.fr_journal.specs.declared.entry.Offered.TheVariants.{Nothing, Null}
 use Rattle.fr_journal.specs.declared.fate.Tally.{Tally}
 use Rattle.fr_journal.specs.Fate.{is_commit_on, is_data_of, last_commit, held_commit, sends, takes_back, tally_of}
 use Rattle.fr_journal.specs.Offers.{ready, ready_in, may_begin, transmitter, owns, data_or, offered, offered_at}
-use Rattle.fr_journal.specs.Offers.{payload_of, null_frame, data_frame_of, frame_of_offer, frame_offered}
+use Rattle.fr_journal.specs.Offers.{payload_of, line_of, data_frame_of, frame_of_offer, frame_offered}
 use Rattle.fr_journal.proofs.FateStepLemmas.{MarksLast, OnlyLast, marks_none, marks_last_from, stands_from}
 use Rattle.fr_journal.proofs.HeldCommitLemmas.{pending_is, held_is, held-some, held-other, pending_stands, withdrawn_at}
 use Rattle.fr_journal.proofs.HeldCommitLemmas.{same_entry, last_there, one_buffer}
@@ -30,6 +30,7 @@ use Rattle.fr_slots.specs.declared.channel.Channel.{Channel}
 use Rattle.fr_slots.specs.declared.plan.Buffer.{Buffer}
 use Rattle.fr_slots.specs.declared.plan.Mode.{Mode}
 use Rattle.fr_slots.specs.declared.plan.Mode.TheVariants as mode
+use Rattle.fr_slots.specs.declared.plan.Own.{Own}
 use Rattle.fr_slots.specs.History.{AllAfter}
 use Rattle.fr_slots.specs.Parameters.{Parameters}
 use Rattle.fr_slots.specs.Plans.{Plan}
@@ -82,12 +83,12 @@ module _ (plan : Plan) (xs : List Entry) where
   commit_if false o = refl
 
   module _ (window : Opportunity) (channel : Channel) where
-    offered_where : (slot : Option ℕ) → offered_in plan window channel (sender_in plan (transmitters plan xs) window channel slot) slot ≡ offered_at plan xs window channel slot
+    offered_where : (slot : Option ℕ) → offered_in (option_and_then (line_of plan window channel) slot) (sender_in plan (transmitters plan xs) window channel slot) slot ≡ offered_at plan xs window channel slot
     offered_where None = refl
     offered_where (Some slot) = ap (data_or (cond (owns plan window channel slot) Null Nothing)) (commit_if (may_begin plan window channel) (transmitter plan window channel))
 
     -- what is offered in place is what the journal gives
-    pub offered-place : offered_by plan window channel (sender_on plan (transmitters plan xs) window channel) ≡ offered plan xs window channel
+    pub offered-place : offered_by window channel (owner_on plan window channel) (sender_on plan (transmitters plan xs) window channel) ≡ offered plan xs window channel
     offered-place = offered_where (slot_of window channel)
 
     -- ---- a sender's buffer
@@ -123,15 +124,18 @@ module _ (plan : Plan) (xs : List Entry) where
       ∙ ap (λ (o : Option ℕ). unwrap_or (option_map (λ c. c.payload) (option_map (commit_of xs) o)) []) last
 
   module _ (params : Parameters) (window : Opportunity) (channel : Channel) where
-    null_or : (slot : ℕ) (t : Bool) → cond t (Some (null_frame params plan window channel slot)) None ≡ frame_of_offer params plan xs window channel slot (cond t Null Nothing)
+    abbrev own : ℕ → Option Own
+    own slot = line_of plan window channel slot
+
+    null_or : (slot : ℕ) (t : Bool) → cond t (Some (null_frame_with params window slot (own slot))) None ≡ frame_of_offer params plan xs window channel slot (cond t Null Nothing)
     null_or slot true = refl
     null_or slot false = refl
 
-    frame_from : (slot : ℕ) (o : Option Sender) → IfSome o (IsSender plan xs) → frame_at params plan (transmitters plan xs) window channel slot o ≡ frame_of_offer params plan xs window channel slot (offered_in plan window channel o (Some slot))
+    frame_from : (slot : ℕ) (o : Option Sender) → IfSome o (IsSender plan xs) → frame_at params plan (transmitters plan xs) window channel slot (own slot) o ≡ frame_of_offer params plan xs window channel slot (offered_in (own slot) o (Some slot))
     frame_from slot None h = null_or slot (owns plan window channel slot)
     frame_from slot (Some s) h = λ i. Some (record (data_frame_of plan xs window channel slot s.commit) { payload = sender_payload s h i })
 
-    frame_where : (slot : Option ℕ) → option_and_then (λ n. frame_at params plan (transmitters plan xs) window channel n (sender_in plan (transmitters plan xs) window channel slot)) slot
+    frame_where : (slot : Option ℕ) → option_and_then (λ n. frame_at params plan (transmitters plan xs) window channel n (option_and_then own slot) (sender_in plan (transmitters plan xs) window channel slot)) slot
         ≡ option_and_then (λ n. frame_of_offer params plan xs window channel n (offered_at plan xs window channel slot)) slot
     frame_where None = refl
     frame_where (Some slot) =
@@ -139,8 +143,16 @@ module _ (plan : Plan) (xs : List Entry) where
         ∙ ap (frame_of_offer params plan xs window channel slot) (offered_where window channel (Some slot))
 
     -- the frame that goes out is the one that the journal gives
-    pub frame-place : frame_by params plan (transmitters plan xs) window channel (sender_on plan (transmitters plan xs) window channel) ≡ frame_offered params plan xs window channel
+    pub frame-place : frame_by params plan (transmitters plan xs) window channel (outgoing_on plan (transmitters plan xs) window channel) ≡ frame_offered params plan xs window channel
     frame-place = frame_where (slot_of window channel)
+
+    nothing_where : (slot : Option ℕ) → option_and_then (λ n. frame_of_offer params plan xs window channel n Nothing) slot ≡ None
+    nothing_where None = refl
+    nothing_where (Some slot) = refl
+
+    -- where nothing is offered no frame goes out
+    pub frame-nothing : offered plan xs window channel ≡ Nothing → frame_offered params plan xs window channel ≡ None
+    frame-nothing is = ap (λ (o : Offered). option_and_then (λ n. frame_of_offer params plan xs window channel n o) (slot_of window channel)) is ∙ nothing_where (slot_of window channel)
 
 -- ---- which commits go out
 
@@ -158,15 +170,15 @@ data_of false k = refl
 
 module _ (plan : Plan) (window : Opportunity) (channel : Channel) where
   -- where the channel has no slot there is no sender
-  sent_where : (k : ℕ) (buffers : List Transmitter) (slot : Option ℕ) → is_data_of k (offered_in plan window channel (sender_in plan buffers window channel slot) slot) ≡ sends_by k (sender_in plan buffers window channel slot)
+  sent_where : (k : ℕ) (buffers : List Transmitter) (slot : Option ℕ) → is_data_of k (offered_in (option_and_then (line_of plan window channel) slot) (sender_in plan buffers window channel slot) slot) ≡ sends_by k (sender_in plan buffers window channel slot)
   sent_where k buffers None = refl
   sent_where k buffers (Some slot) = by_sender (sender_in plan buffers window channel (Some slot))
     where
-      by_sender : (o : Option Sender) → is_data_of k (offered_in plan window channel o (Some slot)) ≡ sends_by k o
+      by_sender : (o : Option Sender) → is_data_of k (offered_in (line_of plan window channel slot) o (Some slot)) ≡ sends_by k o
       by_sender None = data_of (owns plan window channel slot) k
       by_sender (Some s) = refl
 
-  pub sent-by : (k : ℕ) (buffers : List Transmitter) → is_data_of k (offered_by plan window channel (sender_on plan buffers window channel)) ≡ sends_by k (sender_on plan buffers window channel)
+  pub sent-by : (k : ℕ) (buffers : List Transmitter) → is_data_of k (offered_by window channel (owner_on plan window channel) (sender_on plan buffers window channel)) ≡ sends_by k (sender_on plan buffers window channel)
   sent-by k buffers = sent_where k buffers (slot_of window channel)
 
 -- ---- which buffer's commit goes out

@@ -1,7 +1,10 @@
 pub mod Commits
+pub mod ErrorNames
 pub mod Handing
+pub mod IndexFields
 pub mod InterfaceFields
 pub mod Known
+pub mod Ranges
 pub mod Seeing
 pub mod Sending
 pub mod State

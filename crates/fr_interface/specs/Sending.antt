@@ -1,17 +1,19 @@
 -- What transmit buffers that stand in place offer in a window, and what goes out (chapter 5; the modes are own
 -- profile).
-use Rattle.std.specs.Prelude.{ℕ, List, [], slice_get, Option, Some, None, is_some, true, if◌then◌else◌, option_map}
-use Rattle.std.specs.Prelude.{unwrap_or}
+use Rattle.std.specs.Prelude.{ℕ, ◌*◌, List, [], replicate, slice_get, Option, Some, None, is_some, true, false}
+use Rattle.std.specs.Prelude.{if◌then◌else◌, option_map, unwrap_or}
 use Rattle.std.specs.Option.{option_and_then}
 use Rattle.fr_buffers.specs.Transmitting.{Transmitter, offer_of, payload_of, pending_of, after_send}
 use Rattle.fr_frame.specs.Fields.{Fields}
+use Rattle.fr_interface.specs.declared.offers.Outgoing.{Outgoing}
 use Rattle.fr_interface.specs.declared.sending.Sender.{Sender}
-use Rattle.fr_interface.specs.Known.{change_at}
+use Rattle.fr_interface.specs.Known.{change_at, transmitters}
+use Rattle.fr_interface.specs.State.{State}
 use Rattle.fr_journal.specs.declared.entry.Offered.{Offered}
 use Rattle.fr_journal.specs.declared.entry.Offered.TheVariants.{Nothing, Null}
-use Rattle.fr_journal.specs.Offers.{may_begin, transmitter, owns, data_or, sync_of, startup_of, line_of, preamble_in}
-use Rattle.fr_journal.specs.Offers.{null_frame}
+use Rattle.fr_journal.specs.Offers.{may_begin, transmitter, data_or, sync_of, startup_of, line_of, preamble_in}
 use Rattle.fr_slots.specs.declared.channel.Channel.{Channel}
+use Rattle.fr_slots.specs.declared.plan.Own.{Own}
 use Rattle.fr_slots.specs.Parameters.{Parameters}
 use Rattle.fr_slots.specs.Plans.{Plan}
 use Rattle.fr_slots.specs.Windows.{Opportunity, slot_of}
@@ -41,14 +43,29 @@ sender_on plan buffers window channel = sender_in plan buffers window channel (s
 abbrev pub commit_in : Option Sender → Option ℕ
 commit_in sender = option_map (λ s. s.commit) sender
 
-abbrev pub offered_in : Plan → Opportunity → Channel → Option Sender → Option ℕ → Offered
-offered_in plan window channel sender None = Nothing
-offered_in plan window channel sender (Some slot) =
-    data_or (if owns plan window channel slot then Null else Nothing) (commit_in sender)
+-- the ownership line for the slot that the window has on the channel
+abbrev pub owner_on : Plan → Opportunity → Channel → Option Own
+owner_on plan window channel = option_and_then (line_of plan window channel) (slot_of window channel)
 
--- what the node offers on the channel where this offers a commit
-abbrev pub offered_by : Plan → Opportunity → Channel → Option Sender → Offered
-offered_by plan window channel sender = offered_in plan window channel sender (slot_of window channel)
+abbrev pub offered_in : Option Own → Option Sender → Option ℕ → Offered
+offered_in own sender None = Nothing
+offered_in own sender (Some slot) = data_or (if is_some own then Null else Nothing) (commit_in sender)
+
+-- what the node offers on the channel where this line is the slot's and this offers a commit
+abbrev pub offered_by : Opportunity → Channel → Option Own → Option Sender → Offered
+offered_by window channel own sender = offered_in own sender (slot_of window channel)
+
+-- what goes out in the window on the channel
+abbrev pub outgoing_on : Plan → List Transmitter → Opportunity → Channel → Outgoing
+outgoing_on plan buffers window channel = record {
+  sender = sender_on plan buffers window channel;
+  own = owner_on plan window channel;
+  offered = offered_by window channel (owner_on plan window channel) (sender_on plan buffers window channel);
+}
+
+-- the same in an interface of this state
+abbrev pub outgoing_in : State → Opportunity → Channel → Outgoing
+outgoing_in s window channel = outgoing_on s.plan (transmitters s.plan s.entries) window channel
 
 abbrev pub held_payload : Transmitter → List ℕ
 held_payload b = unwrap_or (payload_of b) []
@@ -57,32 +74,46 @@ held_payload b = unwrap_or (payload_of b) []
 abbrev pub payload_at : List Transmitter → ℕ → List ℕ
 payload_at buffers number = unwrap_or (option_map held_payload (slice_get buffers number)) []
 
--- the data frame with this payload
-abbrev pub data_frame_with : Plan → Opportunity → Channel → ℕ → List ℕ → Fields
-data_frame_with plan window channel slot payload = record {
+-- the null frame of a slot that has this line
+abbrev pub null_frame_with : Parameters → Opportunity → ℕ → Option Own → Fields
+null_frame_with params window slot own = record {
+  preamble = false;
+  has_data = false;
+  sync = sync_of own;
+  startup = startup_of own;
+  id = slot;
+  payload = replicate (2 * params.static_words) 0;
+  cycle = window.cycle;
+}
+
+-- the data frame with this payload, in a slot that has this line
+abbrev pub data_frame_with : Plan → Opportunity → Channel → ℕ → Option Own → List ℕ → Fields
+data_frame_with plan window channel slot own payload = record {
   preamble = preamble_in plan window channel;
   has_data = true;
-  sync = sync_of (line_of plan window channel slot);
-  startup = startup_of (line_of plan window channel slot);
+  sync = sync_of own;
+  startup = startup_of own;
   id = slot;
   payload = payload;
   cycle = window.cycle;
 }
 
-abbrev pub data_frame_by : Plan → List Transmitter → Opportunity → Channel → ℕ → Sender → Fields
-data_frame_by plan buffers window channel slot sender =
-    data_frame_with plan window channel slot (payload_at buffers sender.buffer)
+abbrev pub data_frame_by : Plan → List Transmitter → Opportunity → Channel → ℕ → Option Own → Sender → Fields
+data_frame_by plan buffers window channel slot own sender =
+    data_frame_with plan window channel slot own (payload_at buffers sender.buffer)
 
-abbrev pub frame_at : Parameters → Plan → List Transmitter → Opportunity → Channel → ℕ → Option Sender → Option Fields
-frame_at params plan buffers window channel slot None = if owns plan window channel slot
-    then Some (null_frame params plan window channel slot) else None
-frame_at params plan buffers window channel slot (Some sender) =
-    Some (data_frame_by plan buffers window channel slot sender)
+abbrev pub frame_at : Parameters → Plan → List Transmitter → Opportunity → Channel → ℕ → Option Own → Option Sender
+    → Option Fields
+frame_at params plan buffers window channel slot own None =
+    if is_some own then Some (null_frame_with params window slot own) else None
+frame_at params plan buffers window channel slot own (Some sender) =
+    Some (data_frame_by plan buffers window channel slot own sender)
 
--- the frame that goes out where this offers a commit
-abbrev pub frame_by : Parameters → Plan → List Transmitter → Opportunity → Channel → Option Sender → Option Fields
-frame_by params plan buffers window channel sender =
-    option_and_then (λ slot. frame_at params plan buffers window channel slot sender) (slot_of window channel)
+-- the frame that goes out where this does
+abbrev pub frame_by : Parameters → Plan → List Transmitter → Opportunity → Channel → Outgoing → Option Fields
+frame_by params plan buffers window channel outgoing =
+    option_and_then (λ slot. frame_at params plan buffers window channel slot outgoing.own outgoing.sender)
+    (slot_of window channel)
 
 -- ---- sending
 

@@ -4,7 +4,8 @@ ghost use Rattle.std.specs.Prelude.{◌≡◌, take};
 ghost use Rattle.fr_interface.specs.Handing.{offered_on, bytes_in_entry};
 ghost use Rattle.fr_journal.specs.Offers.{payload_of, data_frame_of, frame_with};
 
-use crate::offers::{data_frame_with, null_frame};
+use crate::index::IndexedPlan;
+use crate::offers::{data_frame_with, line_of, null_frame_with};
 use fr_frame::encode::encode;
 use fr_frame::frame::{Bytes, Frame};
 use fr_frame::payload::Payload;
@@ -13,7 +14,6 @@ use fr_journal::journal::Journal;
 use fr_slots::channel::Channel;
 use fr_slots::numbers::SlotId;
 use fr_slots::params::Params;
-use fr_slots::plan::NodePlan;
 use fr_slots::window::Window;
 
 /// The payload of the commit of this number among the first entries, or none where it isn't one of these.
@@ -32,7 +32,7 @@ fn payload_of(journal: &Journal, entries: u32, commit: u32) -> Payload
 
 /// The data frame with the payload of the commit of this number among the first entries.
 fn data_frame_of(
-    plan: &NodePlan,
+    plan: &IndexedPlan,
     journal: &Journal,
     entries: u32,
     window: &Window,
@@ -42,14 +42,15 @@ fn data_frame_of(
 ) -> Frame
     ensures { result ≡ data_frame_of plan.now (take entries journal.now.entries) window.now channel slot commit }
 {
+    let own = line_of(plan, window, channel, slot);
     let payload = payload_of(journal, entries, commit);
-    data_frame_with(plan, window, channel, slot, payload)
+    data_frame_with(plan, window, channel, slot, &own, payload)
 }
 
 /// The frame that this offer is in the window on the channel, after the first entries.
 fn frame_with(
     params: &Params,
-    plan: &NodePlan,
+    plan: &IndexedPlan,
     journal: &Journal,
     entries: u32,
     window: &Window,
@@ -61,7 +62,10 @@ fn frame_with(
     let slot = window.slot(channel)?;
     match offered {
         Offered::Nothing => None,
-        Offered::Null => Some(null_frame(params, plan, window, channel, slot)),
+        Offered::Null => {
+            let own = line_of(plan, window, channel, slot);
+            Some(null_frame_with(params, window, slot, &own))
+        }
         Offered::Data(commit) => {
             Some(data_frame_of(plan, journal, entries, window, channel, slot, commit))
         }
@@ -81,7 +85,7 @@ fn offered_on(channel: Channel, a: Offered, b: Offered) -> Offered
 /// The bytes that the entry handed to the bus on the channel, where so many entries are before it.
 pub(crate) fn bytes_in_entry(
     params: &Params,
-    plan: &NodePlan,
+    plan: &IndexedPlan,
     journal: &Journal,
     entries: u32,
     channel: Channel,

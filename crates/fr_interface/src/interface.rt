@@ -9,21 +9,20 @@ ghost use Rattle.fr_slots.specs.Windows.{IsInRange, IsSlotOrNone};
 
 use crate::errors::{HostError, InterfaceError, SlotError};
 use crate::handing::bytes_in_entry;
+use crate::index::IndexedPlan;
 use crate::naming::frame_named;
 use crate::observed::{Told, arrive_all, count_seen, store_all};
-use crate::offers::{handed_out, offered_by};
+use crate::offers::{Outgoing, outgoing_on, spelled_by};
 use crate::opening::Opening;
 use crate::receiving::{arrival_at, observed_at, pop_from, receive_buffers, receive_queue};
-use crate::sending::{
-    commit_at, commit_to, send_from, sender_on, tally_at, transmit_buffers, withdraw_from,
-};
+use crate::sending::{commit_at, commit_to, send_from, tally_at, transmit_buffers, withdraw_from};
 use crate::source::Source;
 use fr_buffers::queue::ReceiveQueue;
 use fr_buffers::receive::RxBuffer;
 use fr_buffers::transmit::TxBuffer;
 use fr_frame::frame::{Bytes, Frame};
 use fr_frame::payload::Payload;
-use fr_journal::entry::{Arrival, Entry, Origin};
+use fr_journal::entry::{Arrival, Entry, Offered, Origin};
 use fr_journal::fate::Tally;
 use fr_journal::journal::Journal;
 use fr_slots::channel::Channel;
@@ -58,7 +57,7 @@ pub struct Receipt {
 #[derive(Drop)]
 pub struct Interface {
     params: Params,
-    plan: NodePlan,
+    plan: IndexedPlan,
     journal: Journal,
     opening: Opening,
     transmit: Vec<TxBuffer>,
@@ -85,8 +84,10 @@ impl Interface {
     ghost use Rattle.fr_journal.specs.declared.entry.Entry.TheVariants as entries;
     ghost use Rattle.fr_journal.specs.Counts.{counters_of};
     ghost use Rattle.fr_journal.specs.Held.{frame_named, frame_of, origin_of, IsReceivable};
-    ghost use Rattle.fr_journal.specs.Offers.{frame_offered, IsHandedOut, bytes_of};
+    ghost use Rattle.fr_journal.specs.Entries.{IsOffered};
+    ghost use Rattle.fr_journal.specs.Offers.{offered, frame_offered, IsHandedOut, bytes_of};
     ghost use Rattle.fr_interface.specs.Handing.{bytes_handed};
+    ghost use Rattle.fr_interface.specs.Sending.{outgoing_in};
     ghost use Rattle.fr_interface.specs.State.{with_entry, withdraw_entry, read_entry, pop_entry, fetch_entry};
     ghost use Rattle.fr_interface.specs.State.{withdraw_refusal};
     ghost use Rattle.fr_journal.specs.Fate.{pending_commit};
@@ -107,9 +108,10 @@ impl Interface {
         let transmit = transmit_buffers(alloc, plan.buffers())?;
         let receive = receive_buffers(alloc, plan.buffers())?;
         let queue = receive_queue(alloc, plan.queue())?;
+        let indexed = IndexedPlan::new(alloc, plan)?;
         Ok(Interface {
             params: params.duplicate(),
-            plan: plan.duplicate(),
+            plan: indexed,
             journal,
             opening: Opening::NONE,
             transmit,
@@ -265,6 +267,63 @@ impl Interface {
         ensures accepted { OnOk result (self.new ≡ with_entry self.old (fetch_entry self.old window.now)) }
         ensures refused { OnErr result (self.new ≡ self.old) }
     {
+        let mut offer = Offer { a: None, b: None };
+        self.fetch_into(window, &mut offer)?;
+        Ok(offer)
+    }
+
+    /// Opens a window, and hands out what the node sends in it, as `fetch` does. The bytes are written over the offer
+    /// that is there, so that no room for frames has to be moved (own profile).
+    ///
+    /// Refused as `fetch` is, with `NotObserved`, `BadWindow`, `WindowOrder` and `SlotFull` in this order; the offer
+    /// is then left as it was.
+    pub fn fetch_into(&mut self, window: &Window, offer: &mut Offer) -> Result<(), SlotError>
+        ensures refusal { result_err result ≡ fetch_refusal self.old window.now }
+        ensures offer_a { OnOk result (IsHandedOut Channel.A
+            (frame_offered self.old.params self.old.plan self.old.entries window.now Channel.A) offer.new.a) }
+        ensures offer_b { OnOk result (IsHandedOut Channel.B
+            (frame_offered self.old.params self.old.plan self.old.entries window.now Channel.B) offer.new.b) }
+        ensures bytes_a { OnOk result (offer.new.a ≡ bytes_of Channel.A
+            (frame_offered self.old.params self.old.plan self.old.entries window.now Channel.A)) }
+        ensures bytes_b { OnOk result (offer.new.b ≡ bytes_of Channel.B
+            (frame_offered self.old.params self.old.plan self.old.entries window.now Channel.B)) }
+        ensures accepted { OnOk result (self.new ≡ with_entry self.old (fetch_entry self.old window.now)) }
+        ensures refused { OnErr result (self.new ≡ self.old) }
+        ensures kept { OnErr result (offer.new ≡ offer.old) }
+    {
+        self.check_fetch(window)?;
+        let on_a = self.outgoing_on(window, Channel::A);
+        let on_b = self.outgoing_on(window, Channel::B);
+        self.hand_out(window, Channel::A, &on_a, &mut offer.a);
+        self.hand_out(window, Channel::B, &on_b, &mut offer.b);
+        self.push_fetch(window, &on_a, &on_b);
+        Ok(())
+    }
+
+    /// Opens a window as `fetch` does, and answers what the node offers on channel A and on channel B, as the entry has
+    /// it. No frame is spelled, so this is the call for an audit, which has no bus (own profile).
+    ///
+    /// Refused as `fetch` is, with `NotObserved`, `BadWindow`, `WindowOrder` and `SlotFull` in this order.
+    pub fn fetch_offered(&mut self, window: &Window) -> Result<(Offered, Offered), SlotError>
+        ensures refusal { result_err result ≡ fetch_refusal self.old window.now }
+        ensures offered_a { IfOk result (λ o.
+            o.0 ≡ offered self.old.plan self.old.entries window.now Channel.A) }
+        ensures offered_b { IfOk result (λ o.
+            o.1 ≡ offered self.old.plan self.old.entries window.now Channel.B) }
+        ensures accepted { OnOk result (self.new ≡ with_entry self.old (fetch_entry self.old window.now)) }
+        ensures refused { OnErr result (self.new ≡ self.old) }
+    {
+        self.check_fetch(window)?;
+        let a = self.outgoing_on(window, Channel::A);
+        let b = self.outgoing_on(window, Channel::B);
+        self.push_fetch(window, &a, &b);
+        Ok((a.offered, b.offered))
+    }
+
+    /// Refuses the window where `fetch` does.
+    fn check_fetch(&self, window: &Window) -> Result<(), SlotError>
+        ensures { result_err result ≡ fetch_refusal self.now window.now }
+    {
         if self.opening.window.is_some() {
             return Err(SlotError::NotObserved);
         }
@@ -277,24 +336,67 @@ impl Interface {
         if self.journal.slot_room() < 2 {
             return Err(SlotError::SlotFull);
         }
-        let (params, plan, buffers) = (&self.params, &self.plan, self.transmit.as_slice());
-        let from_a = sender_on(plan, buffers, window, Channel::A);
-        let from_b = sender_on(plan, buffers, window, Channel::B);
-        let offer = Offer {
-            a: handed_out(params, plan, buffers, window, Channel::A, from_a),
-            b: handed_out(params, plan, buffers, window, Channel::B, from_b),
-        };
-        let a = offered_by(plan, window, Channel::A, from_a);
-        let b = offered_by(plan, window, Channel::B, from_b);
-        send_from(&mut self.transmit, from_a);
-        send_from(&mut self.transmit, from_b);
+        Ok(())
+    }
+
+    /// What goes out on the channel, once the window is fetched.
+    fn outgoing_on(&self, window: &Window, channel: Channel) -> Outgoing
+        ensures value { result ≡ outgoing_in self.now window.now channel }
+        ensures offered { result.offered ≡ offered self.now.plan self.now.entries window.now channel }
+        ensures fits { IsOffered result.offered }
+    {
+        outgoing_on(&self.plan, self.transmit.as_slice(), window, channel)
+    }
+
+    /// Puts the bytes that go out on the channel in the place of those that were there.
+    fn hand_out(
+        &self,
+        window: &Window,
+        channel: Channel,
+        outgoing: &Outgoing,
+        bytes: &mut Option<Bytes>,
+    )
+        requires { outgoing.now ≡ outgoing_in self.now window.now channel }
+        ensures spelled { IsHandedOut channel
+            (frame_offered self.now.params self.now.plan self.now.entries window.now channel) bytes.new }
+        ensures bytes { bytes.new ≡ bytes_of channel
+            (frame_offered self.now.params self.now.plan self.now.entries window.now channel) }
+    {
+        match outgoing.offered {
+            Offered::Nothing => {
+                // Most windows hand nothing out, and nothing needn't be written over nothing.
+                if bytes.is_some() {
+                    *bytes = None;
+                }
+            }
+            Offered::Null | Offered::Data(_) => {
+                let (params, buffers) = (&self.params, self.transmit.as_slice());
+                *bytes = spelled_by(params, &self.plan, buffers, window, channel, outgoing);
+            }
+        }
+    }
+
+    /// Appends the fetch of a window that isn't refused, in which this goes out on channels A and B.
+    fn push_fetch(&mut self, window: &Window, a: &Outgoing, b: &Outgoing)
+        requires accepted { fetch_refusal self.old window.now ≡ None }
+        requires outgoing_a { a.now ≡ outgoing_in self.old window.now Channel.A }
+        requires outgoing_b { b.now ≡ outgoing_in self.old window.now Channel.B }
+        requires fits_a { IsOffered a.now.offered }
+        requires fits_b { IsOffered b.now.offered }
+        ensures { self.new ≡ with_entry self.old (fetch_entry self.old window.now) }
+    {
+        send_from(&mut self.transmit, a.sender);
+        send_from(&mut self.transmit, b.sender);
         let window = kept_window(window);
         self.opening = Opening {
             window: Some(window),
             last: Some(window.number),
         };
-        self.journal.push_slot(Entry::Fetch { window, a, b });
-        Ok(offer)
+        self.journal.push_slot(Entry::Fetch {
+            window,
+            a: a.offered,
+            b: b.offered,
+        });
     }
 
     /// Closes the window of this number, in which this was seen on channels A and B (chapter 9). It always finds room.
@@ -317,16 +419,9 @@ impl Interface {
         count_seen(&mut self.counters, Channel::A, told_a.status);
         count_seen(&mut self.counters, Channel::B, told_b.status);
         let (frame_a, frame_b) = (&told_a.frame, &told_b.frame);
-        let lines = self.plan.buffers();
-        store_all(&mut self.receive, lines, entry, &window, frame_a, frame_b);
-        arrive_all(
-            &mut self.queue,
-            &self.plan,
-            entry,
-            &window,
-            frame_a,
-            frame_b,
-        );
+        let plan = &self.plan;
+        store_all(&mut self.receive, plan, entry, &window, frame_a, frame_b);
+        arrive_all(&mut self.queue, plan, entry, &window, frame_a, frame_b);
         self.opening = Opening {
             window: None,
             last: self.opening.last,
@@ -456,7 +551,7 @@ impl Interface {
         ensures value { result.now ≡ self.now.plan }
         ensures legal { IsLegalInterface self.now }
     {
-        &self.plan
+        self.plan.as_plan()
     }
 }
 

@@ -15,6 +15,7 @@
 
 pub mod errors;
 mod handing;
+mod index;
 pub mod interface;
 mod naming;
 mod observed;

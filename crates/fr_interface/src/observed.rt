@@ -5,18 +5,20 @@ ghost use Rattle.std.specs.List.{list_any};
 ghost use Rattle.std.specs.Option.{option_and_then, option_or, ForSome};
 ghost use Rattle.fr_interface.specs.Known.{frame_on, taken_by, stored_all, queued_on, with_arrival, with_arrivals};
 ghost use Rattle.fr_interface.specs.Known.{with_seen};
+ghost use Rattle.fr_interface.specs.Ranges.{IsTakingRange};
 ghost use Rattle.fr_interface.specs.Seeing.{status_seen};
 ghost use Rattle.fr_journal.specs.Arrivals.{takes_window, is_for_queue};
 ghost use Rattle.fr_journal.specs.Held.{data_frame_seen, with_data};
 ghost use Rattle.fr_status.specs.Counting.{HasRoom};
 
+use crate::index::{IndexedPlan, LineRange};
 use fr_buffers::queue::ReceiveQueue;
 use fr_buffers::receive::RxBuffer;
 use fr_frame::frame::Frame;
 use fr_frame::lent::LentFrame;
 use fr_slots::channel::Channel;
 use fr_slots::params::Params;
-use fr_slots::plan::{Buffer, NodePlan, Queue};
+use fr_slots::plan::{Buffer, Queue};
 use fr_slots::window::Window;
 use fr_status::counters::Counters;
 use fr_status::seen::Seen;
@@ -107,19 +109,38 @@ fn store_in(
     }
 }
 
+/// A range outside which no buffer takes this data frame of the channel.
+fn taking_range(
+    plan: &IndexedPlan,
+    window: &Window,
+    channel: Channel,
+    frame: &Option<LentFrame<'_>>,
+) -> LineRange
+    ensures { IsTakingRange plan.now.buffers window.now channel frame.now result }
+{
+    match window.slot(channel) {
+        Some(slot) if frame.is_some() => plan.buffer_range(slot),
+        _ => LineRange::EMPTY,
+    }
+}
+
 /// Stores what each receive buffer takes of a window in which these data frames came.
 pub(crate) fn store_all(
     buffers: &mut [RxBuffer],
-    lines: &[Buffer],
+    plan: &IndexedPlan,
     number: u32,
     window: &Window,
     a: &Option<LentFrame<'_>>,
     b: &Option<LentFrame<'_>>,
 )
-    requires { length buffers.old ≡ length lines.now }
-    ensures { buffers.new ≡ stored_all number window.now a.now b.now lines.now buffers.old }
+    requires { length buffers.old ≡ length plan.now.buffers }
+    ensures { buffers.new ≡ stored_all number window.now a.now b.now plan.now.buffers buffers.old }
 {
-    for place in 0..lines.len() {
+    let range_a = taking_range(plan, window, Channel::A, a);
+    let range_b = taking_range(plan, window, Channel::B, b);
+    let range = range_a.joined(range_b);
+    let lines = plan.as_plan().buffers();
+    for place in usize::from(range.first)..usize::from(range.end) {
         let buffer = &mut buffers[place];
         store_in(buffer, &lines[place], number, window, a, b);
     }
@@ -140,20 +161,20 @@ fn is_taken(buffers: &[Buffer], window: &Window, channel: Channel) -> bool
 }
 
 /// Whether the queue, and no receive buffer, takes what comes in the window on the channel.
-fn is_for_queue(plan: &NodePlan, queue: &Queue, window: &Window, channel: Channel) -> bool
+fn is_for_queue(plan: &IndexedPlan, queue: &Queue, window: &Window, channel: Channel) -> bool
     ensures { result ≡ is_for_queue plan.now queue.now window.now channel }
 {
-    match window.slot(channel) {
-        Some(slot) => queue.admits(window.cycle, slot, channel)
-            && !is_taken(plan.buffers(), window, channel),
-        None => false,
-    }
+    let Some(slot) = window.slot(channel) else {
+        return false;
+    };
+    let buffers = plan.buffer_range(slot).of(plan.as_plan().buffers());
+    queue.admits(window.cycle, slot, channel) && !is_taken(buffers, window, channel)
 }
 
 /// Appends the data frame of the channel to the queue, if one came and the queue takes it.
 pub(crate) fn arrive(
     waiting: &mut ReceiveQueue,
-    plan: &NodePlan,
+    plan: &IndexedPlan,
     queue: &Queue,
     number: u32,
     window: &Window,
@@ -174,7 +195,7 @@ pub(crate) fn arrive(
 /// Appends the data frames of a window that the queue takes, channel A's before B's. A plan without a queue takes none.
 pub(crate) fn arrive_all(
     queue: &mut Option<ReceiveQueue>,
-    plan: &NodePlan,
+    plan: &IndexedPlan,
     number: u32,
     window: &Window,
     a: &Option<LentFrame<'_>>,

@@ -4,11 +4,13 @@ ghost use Rattle.std.specs.Prelude.{◌≡◌, ◌<◌, length, IfSome};
 ghost use Rattle.std.specs.List.{position};
 ghost use Rattle.fr_journal.specs.Entries.{IsOffered};
 ghost use Rattle.fr_slots.specs.Faults.{claims};
-ghost use Rattle.fr_interface.specs.Sending.{offered_by, data_frame_with, data_frame_by, frame_by};
-ghost use Rattle.fr_journal.specs.Offers.{is_admitting, transmitter, may_begin, ownership, line_of, owns, sync_of};
-ghost use Rattle.fr_journal.specs.Offers.{startup_of, preamble_in, null_frame, IsHandedOut, bytes_of};
+ghost use Rattle.fr_interface.specs.Sending.{owner_on, outgoing_on, offered_by, null_frame_with, data_frame_with};
+ghost use Rattle.fr_interface.specs.Sending.{data_frame_by, frame_by};
+ghost use Rattle.fr_journal.specs.Offers.{is_admitting, transmitter, may_begin, ownership, line_of, sync_of};
+ghost use Rattle.fr_journal.specs.Offers.{startup_of, preamble_in, IsHandedOut, bytes_of};
 
-use crate::sending::{Sender, payload_at};
+use crate::index::IndexedPlan;
+use crate::sending::{Sender, payload_at, sender_on};
 use fr_buffers::transmit::TxBuffer;
 use fr_frame::encode::encode;
 use fr_frame::frame::{Bytes, Frame};
@@ -17,7 +19,7 @@ use fr_journal::entry::Offered;
 use fr_slots::channel::Channel;
 use fr_slots::numbers::{Cycle, SlotId};
 use fr_slots::params::Params;
-use fr_slots::plan::{Buffer, NodePlan, Own};
+use fr_slots::plan::{Buffer, Own};
 use fr_slots::window::Window;
 
 /// Whether this is a transmit buffer that admits the window on the channel.
@@ -25,6 +27,17 @@ fn is_admitting(window: &Window, channel: Channel, buffer: &Buffer) -> bool
     ensures { result ≡ is_admitting window.now channel buffer.now }
 {
     buffer.transmits() && buffer.filter.admits_window(window, channel)
+}
+
+/// What goes out of a node in a window on a channel.
+#[derive(Clone, Copy)]
+pub(crate) struct Outgoing {
+    /// The transmit buffer that offers a commit, and that commit.
+    pub sender: Option<Sender>,
+    /// The ownership line for the slot in the window's cycle.
+    pub own: Option<Own>,
+    /// What the node offers.
+    pub offered: Offered,
 }
 
 /// The place of the first transmit buffer that admits the window on the channel.
@@ -38,18 +51,21 @@ fn first_admitting(buffers: &[Buffer], window: &Window, channel: Channel) -> Opt
 }
 
 /// The number of the transmit buffer that admits the window on the channel.
-pub(crate) fn transmitter(plan: &NodePlan, window: &Window, channel: Channel) -> Option<u8>
+pub(crate) fn transmitter(plan: &IndexedPlan, window: &Window, channel: Channel) -> Option<u8>
     ensures { result ≡ transmitter plan.now window.now channel }
 {
-    let place = first_admitting(plan.buffers(), window, channel)?;
-    Some(place as u8)
+    let slot = window.slot(channel)?;
+    let range = plan.buffer_range(slot);
+    let buffers = range.of(plan.as_plan().buffers());
+    let place = first_admitting(buffers, window, channel)?;
+    Some(range.first + place as u8)
 }
 
 /// Whether the node may begin to transmit in the window on the channel.
-pub(crate) fn may_begin(plan: &NodePlan, window: &Window, channel: Channel) -> bool
+pub(crate) fn may_begin(plan: &IndexedPlan, window: &Window, channel: Channel) -> bool
     ensures { result ≡ may_begin plan.now window.now channel }
 {
-    window.is_static() || window.minislot <= plan.latest(channel)
+    window.is_static() || window.minislot <= plan.as_plan().latest(channel)
 }
 
 /// The place of the first line for the slot on the channel in the cycle.
@@ -70,45 +86,65 @@ fn ownership(owned: &[Own], cycle: Cycle, slot: SlotId, channel: Channel) -> Opt
 }
 
 /// The ownership line for the slot of a static window on the channel in the window's cycle.
-fn line_of(plan: &NodePlan, window: &Window, channel: Channel, slot: SlotId) -> Option<Own>
+pub(crate) fn line_of(
+    plan: &IndexedPlan,
+    window: &Window,
+    channel: Channel,
+    slot: SlotId,
+) -> Option<Own>
     ensures { result ≡ line_of plan.now window.now channel slot }
 {
-    if window.is_static() {
-        ownership(plan.owned(), window.cycle, slot, channel)
-    } else {
-        None
+    if !window.is_static() {
+        return None;
+    }
+    let owned = plan.own_range(slot).of(plan.as_plan().owned());
+    ownership(owned, window.cycle, slot, channel)
+}
+
+/// The ownership line for the slot that the window has on the channel.
+fn owner_on(plan: &IndexedPlan, window: &Window, channel: Channel) -> Option<Own>
+    ensures { result ≡ owner_on plan.now window.now channel }
+{
+    let slot = window.slot(channel)?;
+    line_of(plan, window, channel, slot)
+}
+
+/// What the node offers in the window on the channel, where this line is the slot's and this offers a commit.
+fn offered_by(
+    window: &Window,
+    channel: Channel,
+    own: &Option<Own>,
+    sender: Option<Sender>,
+) -> Offered
+    ensures value { result ≡ offered_by window.now channel own.now sender }
+    ensures fits { IsOffered result }
+{
+    if window.slot(channel).is_none() {
+        return Offered::Nothing;
+    }
+    match sender {
+        Some(sender) => Offered::Data(sender.commit),
+        None if own.is_some() => Offered::Null,
+        None => Offered::Nothing,
     }
 }
 
-/// Whether the window is static and the node owns the slot on the channel in the window's cycle.
-fn owns(plan: &NodePlan, window: &Window, channel: Channel, slot: SlotId) -> bool
-    ensures { result ≡ owns plan.now window.now channel slot }
-{
-    line_of(plan, window, channel, slot).is_some()
-}
-
-/// What the node offers in the window on the channel, where this offers a commit.
-pub(crate) fn offered_by(
-    plan: &NodePlan,
+/// What goes out in the window on the channel, where the transmit buffers are these.
+pub(crate) fn outgoing_on(
+    plan: &IndexedPlan,
+    buffers: &[TxBuffer],
     window: &Window,
     channel: Channel,
-    sender: Option<Sender>,
-) -> Offered
-    ensures value { result ≡ offered_by plan.now window.now channel sender }
-    ensures fits { IsOffered result }
+) -> Outgoing
+    ensures value { result ≡ outgoing_on plan.now buffers.now window.now channel }
+    ensures fits { IsOffered result.offered }
 {
-    let Some(slot) = window.slot(channel) else {
-        return Offered::Nothing;
-    };
-    match sender {
-        Some(sender) => Offered::Data(sender.commit),
-        None => {
-            if owns(plan, window, channel, slot) {
-                Offered::Null
-            } else {
-                Offered::Nothing
-            }
-        }
+    let sender = sender_on(plan, buffers, window, channel);
+    let own = owner_on(plan, window, channel);
+    Outgoing {
+        sender,
+        own,
+        offered: offered_by(window, channel, &own, sender),
     }
 }
 
@@ -133,7 +169,7 @@ fn startup_of(line: &Option<Own>) -> bool
 }
 
 /// Whether frames of the buffer that admits the window on the channel have the preamble indicator.
-fn preamble_in(plan: &NodePlan, window: &Window, channel: Channel) -> bool
+fn preamble_in(plan: &IndexedPlan, window: &Window, channel: Channel) -> bool
     ensures { result ≡ preamble_in plan.now window.now channel }
 {
     let Some(number) = transmitter(plan, window, channel) else {
@@ -145,44 +181,42 @@ fn preamble_in(plan: &NodePlan, window: &Window, channel: Channel) -> bool
     }
 }
 
-/// The null frame of a slot that the node owns in the window's cycle.
-pub(crate) fn null_frame(
+/// The null frame of a slot that the node owns in the window's cycle by this line.
+pub(crate) fn null_frame_with(
     params: &Params,
-    plan: &NodePlan,
     window: &Window,
-    channel: Channel,
     slot: SlotId,
+    own: &Option<Own>,
 ) -> Frame
-    ensures { result ≡ null_frame params.now plan.now window.now channel slot }
+    ensures { result ≡ null_frame_with params.now window.now slot own.now }
 {
-    let line = line_of(plan, window, channel, slot);
     Frame {
         preamble: false,
         has_data: false,
-        sync: sync_of(&line),
-        startup: startup_of(&line),
+        sync: sync_of(own),
+        startup: startup_of(own),
         id: slot.number(),
         payload: Payload::zeros(params.static_words),
         cycle: window.cycle,
     }
 }
 
-/// The data frame with this payload.
+/// The data frame with this payload, in a slot that has this ownership line in the window's cycle.
 pub(crate) fn data_frame_with(
-    plan: &NodePlan,
+    plan: &IndexedPlan,
     window: &Window,
     channel: Channel,
     slot: SlotId,
+    own: &Option<Own>,
     payload: Payload,
 ) -> Frame
-    ensures { result ≡ data_frame_with plan.now window.now channel slot payload }
+    ensures { result ≡ data_frame_with plan.now window.now channel slot own.now payload }
 {
-    let line = line_of(plan, window, channel, slot);
     Frame {
         preamble: preamble_in(plan, window, channel),
         has_data: true,
-        sync: sync_of(&line),
-        startup: startup_of(&line),
+        sync: sync_of(own),
+        startup: startup_of(own),
         id: slot.number(),
         payload,
         cycle: window.cycle,
@@ -191,76 +225,58 @@ pub(crate) fn data_frame_with(
 
 /// The data frame of the commit that this offers.
 fn data_frame_by(
-    plan: &NodePlan,
+    plan: &IndexedPlan,
     buffers: &[TxBuffer],
     window: &Window,
     channel: Channel,
     slot: SlotId,
+    own: &Option<Own>,
     sender: Sender,
 ) -> Frame
-    ensures { result ≡ data_frame_by plan.now buffers.now window.now channel slot sender }
+    ensures { result ≡ data_frame_by plan.now buffers.now window.now channel slot own.now sender }
 {
     let payload = payload_at(buffers, sender.buffer);
-    data_frame_with(plan, window, channel, slot, payload)
+    data_frame_with(plan, window, channel, slot, own, payload)
 }
 
-/// The frame that goes out in the window on the channel, where this offers a commit.
+/// The frame that goes out in the window on the channel.
 fn frame_by(
     params: &Params,
-    plan: &NodePlan,
+    plan: &IndexedPlan,
     buffers: &[TxBuffer],
     window: &Window,
     channel: Channel,
-    sender: Option<Sender>,
+    outgoing: &Outgoing,
 ) -> Option<Frame>
-    ensures { result ≡ frame_by params.now plan.now buffers.now window.now channel sender }
+    ensures { result ≡ frame_by params.now plan.now buffers.now window.now channel outgoing.now }
 {
     let slot = window.slot(channel)?;
-    match sender {
-        Some(sender) => Some(data_frame_by(plan, buffers, window, channel, slot, sender)),
-        None => {
-            if owns(plan, window, channel, slot) {
-                Some(null_frame(params, plan, window, channel, slot))
-            } else {
-                None
-            }
-        }
+    let own = &outgoing.own;
+    match outgoing.sender {
+        Some(sender) => { Some(data_frame_by(plan, buffers, window, channel, slot, own, sender)) }
+        None if own.is_some() => Some(null_frame_with(params, window, slot, own)),
+        None => None,
     }
 }
 
-/// The bytes that go out in the window on the channel, where this offers a commit.
-pub(crate) fn handed_out(
-    params: &Params,
-    plan: &NodePlan,
-    buffers: &[TxBuffer],
-    window: &Window,
-    channel: Channel,
-    sender: Option<Sender>,
-) -> Option<Bytes>
-    ensures spelled { IsHandedOut channel (frame_by params.now plan.now buffers.now window.now channel sender) result }
-    ensures bytes { result ≡ bytes_of channel (frame_by params.now plan.now buffers.now window.now channel sender) }
-{
-    let slot = window.slot(channel)?;
-    if sender.is_none() && !owns(plan, window, channel, slot) {
-        return None;
-    }
-    spelled_by(params, plan, buffers, window, channel, sender)
-}
-
-/// The same. It isn't inlined, so that a window in which nothing goes out doesn't pay for the room of a frame.
+/// The bytes that go out in the window on the channel.
+///
+/// It isn't inlined, so that a window in which nothing goes out doesn't pay for the room of a frame.
 #[inline(never)]
-fn spelled_by(
+pub(crate) fn spelled_by(
     params: &Params,
-    plan: &NodePlan,
+    plan: &IndexedPlan,
     buffers: &[TxBuffer],
     window: &Window,
     channel: Channel,
-    sender: Option<Sender>,
+    outgoing: &Outgoing,
 ) -> Option<Bytes>
-    ensures spelled { IsHandedOut channel (frame_by params.now plan.now buffers.now window.now channel sender) result }
-    ensures bytes { result ≡ bytes_of channel (frame_by params.now plan.now buffers.now window.now channel sender) }
+    ensures spelled { IsHandedOut channel (frame_by params.now plan.now buffers.now window.now channel outgoing.now)
+        result }
+    ensures bytes { result ≡ bytes_of channel (frame_by params.now plan.now buffers.now window.now channel
+        outgoing.now) }
 {
-    match frame_by(params, plan, buffers, window, channel, sender) {
+    match frame_by(params, plan, buffers, window, channel, outgoing) {
         Some(frame) => Some(encode(&frame, channel)),
         None => None,
     }

@@ -7,13 +7,14 @@ ghost use Rattle.fr_interface.specs.Known.{change_at};
 ghost use Rattle.fr_interface.specs.Sending.{ready_at, sender_on, held_payload, payload_at, send_offered, after_sender};
 ghost use Rattle.fr_interface.specs.Sending.{pending_at};
 
+use crate::index::IndexedPlan;
 use crate::offers::{may_begin, transmitter};
 use crate::source::Source;
 use fr_buffers::transmit::TxBuffer;
 use fr_frame::payload::Payload;
 use fr_journal::fate::Tally;
 use fr_slots::channel::Channel;
-use fr_slots::plan::{Buffer, NodePlan};
+use fr_slots::plan::Buffer;
 use fr_slots::window::Window;
 use std::alloc::{AllocError, Global};
 
@@ -63,7 +64,7 @@ fn ready_at(buffers: &[TxBuffer], number: u8) -> Option<u32>
 
 /// What offers a commit in the window on the channel.
 pub(crate) fn sender_on(
-    plan: &NodePlan,
+    plan: &IndexedPlan,
     buffers: &[TxBuffer],
     window: &Window,
     channel: Channel,

@@ -3,6 +3,7 @@
 use crate::parts::{interface, own, payload, plan_of, sender, slot_two};
 use fr_frame::frame::Bytes;
 use fr_interface::interface::{Interface, Offer};
+use fr_journal::entry::Offered;
 use fr_slots::channel::Channels;
 use fr_slots::filter::CycleFilter;
 use fr_status::seen::Seen;
@@ -61,5 +62,25 @@ fn a_null_frame_is_that_of_the_line_of_its_cycle(rt: HostRuntime) -> Result<(), 
     assert!(rt; null.a == some_bytes(&NULL_ON_A)? && null.b.is_none());
     let nothing = offer_in(&mut interface, 2)?;
     assert!(rt; nothing.a.is_none() && nothing.b.is_none());
+    Ok(())
+}
+
+#[test]
+fn bytes_are_written_over_those_of_the_window_before(rt: HostRuntime) -> Result<(), Fail> {
+    let mut interface = committed(rt.alloc())?;
+    let mut offer = Offer { a: None, b: None };
+    interface.fetch_into(&slot_two(0)?, &mut offer)?;
+    assert!(rt; offer.a == some_bytes(&DATA_ON_A)? && offer.b == some_bytes(&DATA_ON_B)?);
+    interface.observe(0, &Seen::Own, &Seen::Own)?;
+    interface.fetch_into(&slot_two(1)?, &mut offer)?;
+    assert!(rt; offer.a == some_bytes(&NULL_ON_A)?);
+    Ok(())
+}
+
+#[test]
+fn what_is_offered_is_answered_without_bytes(rt: HostRuntime) -> Result<(), Fail> {
+    let mut interface = committed(rt.alloc())?;
+    let (a, b) = interface.fetch_offered(&slot_two(0)?)?;
+    assert!(rt; a == Offered::Data(0) && b == Offered::Data(0));
     Ok(())
 }

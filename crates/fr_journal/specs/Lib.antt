@@ -6,6 +6,7 @@ pub mod Held
 pub mod JournalFields
 pub mod Kept
 pub mod Legal
+pub mod Lent
 pub mod Offers
 pub mod OpenWindow
 pub mod Shortened

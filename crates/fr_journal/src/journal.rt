@@ -1,13 +1,17 @@
 //! A journal, which takes all its memory when it is made.
 
-ghost use Rattle.std.specs.Prelude.{◌≡◌, ◌<◌, ◌≤◌, ◌∷◌, [], ◌++◌, IfOk, IsTrue, ◌↔◌, false, length, slice_get};
+ghost use Rattle.std.specs.Prelude.{◌≡◌, ◌<◌, ◌≤◌, ◌∷◌, [], ◌++◌, IfOk, IfSome, IsTrue, ◌↔◌, false, length, option_map};
+ghost use Rattle.std.specs.Prelude.{slice_get};
 ghost use Rattle.fr_journal.specs.Entries.{is_host};
 ghost use Rattle.fr_journal.specs.Kept.{host_room, slot_room};
+ghost use Rattle.fr_journal.specs.Lent.{whole, HasPayload};
 ghost use Rattle.fr_slots.specs.Numbers.{most_host_entries, most_slot_entries, most_entries};
 
 use crate::entry::Entry;
+use crate::lent::LentEntry;
 use crate::short::{
-    ShortEntry, shortened_commit, shortened_host, shortened_observe, shortened_slot, whole_entry,
+    ShortEntry, lent_entry, shortened_commit, shortened_host, shortened_observe, shortened_slot,
+    whole_entry,
 };
 use fr_frame::frame::FRAME_BYTES;
 use fr_frame::payload::{PAYLOAD_BYTES, Payload};
@@ -146,5 +150,13 @@ impl Journal {
     {
         let short = self.shorts.as_slice().get(number as usize)?;
         Some(whole_entry(self.pool.as_slice(), *short))
+    }
+    /// The same, whose bytes stay in the journal.
+    pub fn lent(&self, number: u32) -> Option<LentEntry<'_>>
+        ensures entry { option_map whole result ≡ slice_get self.now.entries number }
+        ensures payload { IfSome result HasPayload }
+    {
+        let short = self.shorts.as_slice().get(number as usize)?;
+        Some(lent_entry(self.pool.as_slice(), *short))
     }
 }

@@ -18,4 +18,5 @@
 pub mod entry;
 pub mod fate;
 pub mod journal;
+pub mod lent;
 mod short;

@@ -1,18 +1,21 @@
 //! Entries in short form: the numbers of an entry, and where its bytes stand in a pool.
 
 ghost use Rattle.std.specs.Prelude.{◌≡◌, ◌+◌, ◌<◌, ◌≤◌, ◌^◌, ◌++◌, length, vec_capacity, IsTrue, false};
-ghost use Rattle.fr_frame.specs.Payload.{IsPayload, most_payload_bytes, most_frame_bytes};
+ghost use Rattle.fr_frame.specs.Payload.{most_payload_bytes, most_frame_bytes};
 ghost use Rattle.fr_journal.specs.Entries.{is_host};
+ghost use Rattle.fr_journal.specs.Lent.{whole, HasPayload};
 ghost use Rattle.fr_journal.specs.Shortened.{bytes_at, restored_seen, restored, bytes_in_seen, most_seen_bytes};
 ghost use Rattle.fr_journal.specs.Shortened.{IsShortSeen, IsShort, IsShortened};
 ghost use Rattle.fr_journal.specs.declared.entry.Entry.TheVariants as entries;
+ghost use Rattle.fr_status.specs.Lent.{whole_seen};
 
 use crate::entry::{Entry, Offered, Origin};
+use crate::lent::{LentEntry, payload_of};
 use fr_frame::frame::Bytes;
 use fr_frame::payload::Payload;
 use fr_slots::numbers::TaskId;
 use fr_slots::window::Window;
-use fr_status::seen::Seen;
+use fr_status::seen::{LentSeen, Seen};
 
 /// Where bytes stand in a pool.
 #[derive(Clone, Copy)]
@@ -230,14 +233,46 @@ fn frame_bytes(bytes: &[u8]) -> Bytes
     copy
 }
 
-/// The payload of bytes that are one.
-fn payload(bytes: &[u8]) -> Payload
-    requires { IsPayload bytes.now }
-    ensures { result ≡ bytes.now }
+/// What was seen, with its bytes in the pool.
+fn lent_seen(pool: &[u8], seen: ShortSeen) -> LentSeen<'_>
+    requires { IsShortSeen (length pool.now) seen }
+    ensures { whole_seen result ≡ restored_seen pool.now seen }
 {
-    match Payload::from_slice(bytes) {
-        Ok(payload) => payload,
-        Err(_) => unreachable!(),
+    match seen {
+        ShortSeen::Silence => LentSeen::Silence,
+        ShortSeen::Own => LentSeen::Own,
+        ShortSeen::Conflict => LentSeen::Conflict,
+        ShortSeen::Noise => LentSeen::Noise,
+        ShortSeen::Overrun => LentSeen::Overrun,
+        ShortSeen::Bytes(stretch) => LentSeen::Bytes(bytes_at(pool, stretch)),
+    }
+}
+
+/// The entry, with its bytes in the pool.
+pub(crate) fn lent_entry(pool: &[u8], entry: ShortEntry) -> LentEntry<'_>
+    requires { IsShort (length pool.now) entry }
+    ensures entry { whole result ≡ restored pool.now entry }
+    ensures payload { HasPayload result }
+{
+    match entry {
+        ShortEntry::Commit {
+            task,
+            buffer,
+            payload,
+        } => LentEntry::Commit {
+            task,
+            buffer,
+            payload: bytes_at(pool, payload),
+        },
+        ShortEntry::Withdraw { task, buffer, of } => LentEntry::Withdraw { task, buffer, of },
+        ShortEntry::Read { task, buffer, from } => LentEntry::Read { task, buffer, from },
+        ShortEntry::Pop { task, from } => LentEntry::Pop { task, from },
+        ShortEntry::Fetch { window, a, b } => LentEntry::Fetch { window, a, b },
+        ShortEntry::Observe { window, a, b } => LentEntry::Observe {
+            window,
+            a: lent_seen(pool, a),
+            b: lent_seen(pool, b),
+        },
     }
 }
 
@@ -254,7 +289,7 @@ pub(crate) fn whole_entry(pool: &[u8], entry: ShortEntry) -> Entry
         } => Entry::Commit {
             task,
             buffer,
-            payload: payload(bytes_at(pool, stretch)),
+            payload: payload_of(bytes_at(pool, stretch)),
         },
         ShortEntry::Withdraw { task, buffer, of } => Entry::Withdraw { task, buffer, of },
         ShortEntry::Read { task, buffer, from } => Entry::Read { task, buffer, from },

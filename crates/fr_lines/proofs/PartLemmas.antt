@@ -14,7 +14,7 @@ use Rattle.fr_journal.specs.declared.entry.Offered.{Offered}
 use Rattle.fr_journal.specs.declared.entry.Offered.TheVariants as offered
 use Rattle.fr_journal.specs.declared.entry.Origin.{Origin}
 use Rattle.fr_journal.specs.Entries.{IsOrigin, IsOffered, IsSeen}
-use Rattle.fr_lines.specs.PartReading.{slot_in, optional_slot_in, channels_in, cycles_in, channel_in, origin_in}
+use Rattle.fr_lines.specs.PartReading.{slot_in, optional_slot_in, channels_in, cycles_in, marked_channel_in, origin_in}
 use Rattle.fr_lines.specs.PartReading.{taken_back_in, from_in, offered_in, seen_bytes_in, seen_in}
 use Rattle.fr_lines.specs.Parts.{absent, optional_number, channels_word, channel_mark, origin_word, from_word}
 use Rattle.fr_lines.specs.Parts.{offered_word, seen_word}
@@ -178,8 +178,8 @@ taken_back_again (Some n) fits =
 
 -- ---- where a frame comes from
 
-channel_takes : (mark : List ℕ) (c : Channel) → channel_in mark ≡ Some c → mark ≡ channel_mark c
-unfolding channel_in
+channel_takes : (mark : List ℕ) (c : Channel) → marked_channel_in mark ≡ Some c → mark ≡ channel_mark c
+unfolding marked_channel_in
 channel_takes mark c h =
     elim (word_or mark (codes ":A") _ _ c h) [
       | inl same ↦ let is : channel.A ≡ c = cc same.1 in same.0 ∙ ap channel_mark is
@@ -190,8 +190,8 @@ channel_takes mark c h =
           ]
     ]
 
-channel_again : (c : Channel) → channel_in (channel_mark c) ≡ Some c
-unfolding channel_in
+channel_again : (c : Channel) → marked_channel_in (channel_mark c) ≡ Some c
+unfolding marked_channel_in
 channel_again channel.A = refl
 channel_again channel.B = refl
 
@@ -203,7 +203,7 @@ pub origin_takes : (word : List ℕ) (o : Origin) → origin_in word ≡ Some o 
 unfolding origin_in
 origin_takes word o h =
     let at = length word - 2 in
-    let (c, hc, h1) = bind_some (channel_in (drop at word)) _ o h in
+    let (c, hc, h1) = bind_some (marked_channel_in (drop at word)) _ o h in
     let (n, hn, h2) = bind_some (number_in (2 ^ 32) (take at word)) _ o h1 in
     let is : record { entry = n; channel = c } ≡ o = cc h2 in
     let number = number_takes (2 ^ 32) (take at word) n hn in

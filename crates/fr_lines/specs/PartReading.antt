@@ -37,6 +37,13 @@ optional_slot_in word = if bytes_eq word absent then Some None else do
 
 -- ---- channels and cycles
 
+-- one channel
+unfoldable pub channel_in : List ℕ → Option Channel
+channel_in word =
+    if bytes_eq word (codes "A") then Some channel.A
+    else if bytes_eq word (codes "B") then Some channel.B
+    else None
+
 unfoldable pub channels_in : List ℕ → Option Channels
 channels_in word =
     if bytes_eq word (codes "A") then Some channels.A
@@ -96,8 +103,8 @@ taken_back_in word = if bytes_eq word absent then Some None else do
 
 -- ---- where a frame comes from
 
-unfoldable pub channel_in : List ℕ → Option Channel
-channel_in mark =
+unfoldable pub marked_channel_in : List ℕ → Option Channel
+marked_channel_in mark =
     if bytes_eq mark (codes ":A") then Some channel.A
     else if bytes_eq mark (codes ":B") then Some channel.B
     else None
@@ -105,7 +112,7 @@ channel_in mark =
 -- the mark of the channel is the last two bytes
 unfoldable pub origin_in : List ℕ → Option Origin
 origin_in word = do
-  channel ← channel_in (drop (length word - 2) word)
+  channel ← marked_channel_in (drop (length word - 2) word)
   entry ← number_in (2 ^ 32) (take (length word - 2) word)
   Some (record { entry = entry; channel = channel })
 

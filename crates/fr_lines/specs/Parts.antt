@@ -1,6 +1,7 @@
 -- How the parts of a line are spelled. A number is spelled as std's `decimal` says.
-use Rattle.std.specs.Prelude.{ℕ, ◌++◌, Bool, true, false, List, codes, Option, Some, None}
+use Rattle.std.specs.Prelude.{ℕ, ◌++◌, Bool, true, false, not, List, codes, Option, Some, None, if◌then◌else◌}
 use Rattle.std.specs.Fmt.{decimal}
+use Rattle.fr_frame.specs.Fields.{Fields}
 use Rattle.fr_journal.specs.declared.entry.Offered.{Offered}
 use Rattle.fr_journal.specs.declared.entry.Offered.TheVariants as offered
 use Rattle.fr_journal.specs.declared.entry.Origin.{Origin}
@@ -57,3 +58,15 @@ seen_word seen.Conflict = codes "conflict"
 seen_word seen.Noise = codes "noise"
 seen_word seen.Overrun = codes "overrun"
 seen_word (seen.Bytes bytes) = hex_text bytes.items
+
+-- ---- frames
+
+-- a letter for what is so, and a dash for what isn't
+abbrev pub mark : List ℕ → Bool → List ℕ
+mark letter is_so = if is_so then letter else codes "-"
+
+-- payload preamble, null frame, sync frame, startup frame
+unfoldable pub indicators : Fields → List ℕ
+indicators f =
+    mark (codes "p") f.preamble ++ mark (codes "n") (not f.has_data) ++ mark (codes "s") f.sync
+    ++ mark (codes "u") f.startup

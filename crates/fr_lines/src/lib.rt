@@ -20,10 +20,11 @@
 pub mod bare;
 pub mod buffers;
 pub mod entries;
+pub mod frames;
 pub mod nodes;
 pub mod owned;
 pub mod parameters;
-mod parts;
+pub mod parts;
 pub mod plan_lines;
 pub mod queues;
 pub mod versions;

@@ -3,7 +3,7 @@ ghost use Rattle.std.specs.Prelude.{◌≡◌, ◌<◌, ◌^◌};
 ghost use Rattle.fr_text.specs.Reading.{number_in, read_as};
 ghost use Rattle.fr_lines.specs.PartReading.{slot_in, optional_slot_in, channels_in, cycles_in, filter_in, flag_in};
 ghost use Rattle.fr_lines.specs.PartReading.{mode_in, size_in, payload_in, taken_back_in, channel_in};
-ghost use Rattle.fr_lines.specs.PartReading.{origin_in, from_in};
+ghost use Rattle.fr_lines.specs.PartReading.{marked_channel_in, origin_in, from_in};
 ghost use Rattle.fr_lines.specs.PartReading.{offered_in, seen_bytes_in, seen_in, same_slot, window_of, window_in};
 
 use arrayvec::ArrayVec;
@@ -12,19 +12,47 @@ use fr_frame::payload::{PAYLOAD_BYTES, Payload};
 use fr_journal::entry::{Offered, Origin};
 use fr_slots::channel::{Channel, Channels};
 use fr_slots::filter::{CycleFilter, Filter};
-use fr_slots::numbers::{Cycle, SlotId, TaskId};
+use fr_slots::numbers::{Cycle, NodeId, SlotId, TaskId};
 use fr_slots::plan::Mode;
 use fr_slots::window::Window;
 use fr_status::seen::Seen;
-use fr_text::hexes::bytes_into;
+use fr_text::hexes::{bytes_into, bytes_of};
 use fr_text::numbers::number_of;
 
-/// The task that the word spells, 0 to 7.
-pub(crate) fn task_of(word: &[u8]) -> Option<TaskId>
+/// The node that the word spells, 0 to 15 (own profile). `None` where it spells none.
+pub fn node_of(word: &[u8]) -> Option<NodeId>
+    ensures { result ≡ number_in 16 word.now }
+{
+    let number = number_of(word, 16)?;
+    NodeId::new(number as u8)
+}
+
+/// The task that the word spells, 0 to 7 (own profile). `None` where it spells none.
+pub fn task_of(word: &[u8]) -> Option<TaskId>
     ensures { result ≡ number_in 8 word.now }
 {
     let number = number_of(word, 8)?;
     TaskId::new(number as u8)
+}
+
+/// The number of a buffer that the word spells, 0 to 63 (own profile). `None` where it spells none.
+pub fn buffer_of(word: &[u8]) -> Option<u8>
+    ensures { result ≡ number_in 64 word.now }
+{
+    let number = number_of(word, 64)?;
+    Some(number as u8)
+}
+
+/// The one channel that the word spells, `A` or `B` (own profile). `None` where it spells none.
+#[tactic(auto, unfolding(crate::specs::PartReading::channel_in))]
+pub fn channel_of(word: &[u8]) -> Option<Channel>
+    ensures { result ≡ channel_in word.now }
+{
+    match word {
+        b"A" => Some(Channel::A),
+        b"B" => Some(Channel::B),
+        _ => None,
+    }
 }
 
 /// The slot that the word spells, 1 to 2047.
@@ -134,6 +162,16 @@ pub(crate) fn size_of(word: &[u8]) -> Option<Option<u8>>
     }
 }
 
+/// The payload that the word spells: whole words of two bytes, at most 254 bytes (own profile). `None` where it spells
+/// none.
+#[tactic(auto, unfolding(crate::specs::PartReading::payload_in))]
+pub fn payload_of(word: &[u8]) -> Option<Payload>
+    ensures { result ≡ payload_in word.now }
+{
+    let bytes = bytes_of::<PAYLOAD_BYTES>(word)?;
+    Payload::from_slice(bytes.as_slice()).ok()
+}
+
 /// Reads the payload that the word spells in place of what the payload was. Says whether it could.
 #[tactic(auto, unfolding(crate::specs::PartReading::payload_in))]
 pub(crate) fn payload_into(word: &[u8], payload: &mut Payload) -> bool
@@ -161,9 +199,9 @@ pub(crate) fn taken_back_of(word: &[u8]) -> Option<Option<u32>>
 }
 
 /// The channel that stands after the number of an entry.
-#[tactic(auto, unfolding(crate::specs::PartReading::channel_in))]
-fn channel_of(mark: &[u8]) -> Option<Channel>
-    ensures { result ≡ channel_in mark.now }
+#[tactic(auto, unfolding(crate::specs::PartReading::marked_channel_in))]
+fn marked_channel_of(mark: &[u8]) -> Option<Channel>
+    ensures { result ≡ marked_channel_in mark.now }
 {
     match mark {
         b":A" => Some(Channel::A),
@@ -178,7 +216,7 @@ fn origin_of(word: &[u8]) -> Option<Origin>
     ensures { result ≡ origin_in word.now }
 {
     let (entry, mark) = word.split_at(word.len().saturating_sub(2));
-    let channel = channel_of(mark)?;
+    let channel = marked_channel_of(mark)?;
     let entry = number_of(entry, 1 << 32)?;
     Some(Origin {
         entry: entry as u32,

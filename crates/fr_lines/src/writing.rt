@@ -41,7 +41,7 @@ fn flag_word(flag: bool) -> &'static str
 }
 
 /// Writes a space, and the word of a slot or of none.
-fn write_slot<W: Write>(writer: &mut W, slot: Option<SlotId>) -> io::Result<()>
+pub fn write_slot<W: Write>(writer: &mut W, slot: Option<SlotId>) -> io::Result<()>
     ensures { Writes W.contents writer.old writer.new result (32 ∷ optional_number slot) }
 {
     match slot {

@@ -10,13 +10,14 @@ use Rattle.clap.specs.Words.{subcommand_of}
 use Rattle.clap.specs.declared.error.Error.{Error}
 use Rattle.clap.proofs.OnLiterals.{clap_on_literals}
 use Rattle.fr_orders.specs.declared.command.Order.{Order}
-use Rattle.fr_orders.specs.declared.command.OrderError.{OrderError}
-use Rattle.fr_orders.specs.declared.command.OrderError.TheVariants as refusal
-use Rattle.fr_orders.specs.Orders.{HasFile, IsAnswer, IsNamed, IsOrder, IsRunBy, IsWhole, cycles_in, file_in}
+use Rattle.fr_words.specs.declared.error.OrderError.{OrderError}
+use Rattle.fr_words.specs.declared.error.OrderError.TheVariants as refusal
+use Rattle.fr_orders.specs.Orders.{HasFile, IsAnswer, IsOrder, IsRunBy, IsWhole, file_in}
 use Rattle.fr_orders.specs.Orders.{has_run_by}
-use Rattle.fr_orders.specs.Orders.{is_true, name_in, order_error_of, the_commands, word_in}
+use Rattle.fr_orders.specs.Orders.{is_true, the_commands}
 use Rattle.fr_orders.specs.declared.command.Order.TheVariants as the_order
 use Rattle.fr_orders.proofs.WholeLemmas.{whole}
+use Rattle.fr_words.specs.Commands.{IsNamed, cycles_in, name_in, order_error_of, word_in}
 
 pub are_simple : is_simple the_commands ≡ true
 unfolding clap_on_literals
@@ -60,12 +61,6 @@ run_has_all entered named (inl (inr e)) = let bad : 114 ≡ 109 = one_name (code
 run_has_all entered named (inr (inl (inl e, h))) = let bad : 114 ≡ 99 = one_name (codes "run") (codes "check") (name_in entered) named e in absurd (omega (arith, bad))
 run_has_all entered named (inr (inl (inr e, h))) = let bad : 114 ≡ 112 = one_name (codes "run") (codes "plan") (name_in entered) named e in absurd (omega (arith, bad))
 run_has_all entered named (inr (inr h)) = h.1
-
--- where the rows of the entered command are known, so are its words
-pub word_of_rows : (entered : Option (Text × List Row)) (rows : List Row) (id : Text)
-    → option_map (λ p. p.1) entered ≡ Some rows → word_in entered id ≡ first_of id rows
-word_of_rows None rows id are = cc are
-word_of_rows (Some (name, entered)) rows id are = let is : entered ≡ rows = cc are in rw is refl
 
 -- what is asked for by words is asked for by the same words
 pub has_run_alike : (f g : Text → Option Text) → ((id : Text) → f id ≡ g id) → has_run_by f ≡ has_run_by g

@@ -23,7 +23,8 @@ use Rattle.clap.specs.Takes.{is_given}
 use Rattle.clap.specs.Faults.{level_fault, check_fault, entered_fault}
 use Rattle.clap.specs.Kinds.{Kinds, or_else, check_kinds}
 use Rattle.clap.specs.declared.parser.matches.ValueSource.{ValueSource}
-use Rattle.fr_orders.specs.Orders.{IsNamed, IsWhole, LacksRun, has_run_by, the_commands, the_file, word_in}
+use Rattle.fr_orders.specs.Orders.{IsWhole, LacksRun, has_run_by, the_commands}
+use Rattle.fr_words.specs.Commands.{IsNamed, the_file, word_in}
 
 -- ---- rows with values
 

@@ -10,36 +10,13 @@ use Rattle.clap.specs.declared.error.kind.ErrorKind.{ErrorKind}
 use Rattle.clap.specs.declared.error.kind.ErrorKind.TheVariants as kind
 use Rattle.fr_orders.specs.declared.command.Order.{Order}
 use Rattle.fr_orders.specs.declared.command.Order.TheVariants as the_order
-use Rattle.fr_orders.specs.declared.command.OrderError.{OrderError}
-use Rattle.fr_orders.specs.declared.command.OrderError.TheVariants as refusal
-
--- a command with nothing but its name
-abbrev pub named : Text → Shape
-named name = (new_app name).top
-
--- the program without a command: a command is required, the words begin with it, and help is none
-abbrev pub bare : App
-bare = record {
-  top = record (named (codes "fr_bench")) {
-    no_binary_name = true;
-    subcommand_required = true;
-    disable_help_flag = true;
-    disable_help_subcommand = true;
-  };
-  subs = [];
-}
-
--- the argument FILE, which has to be there
-abbrev pub the_file : Rule
-the_file = record (new_rule (codes "FILE")) { required = true }
-
--- a command of this name, with its file
-abbrev pub with_file : Text → App
-with_file name = with_rule (new_app name) the_file
+use Rattle.fr_words.specs.declared.error.OrderError.{OrderError}
+use Rattle.fr_words.specs.declared.error.OrderError.TheVariants as refusal
+use Rattle.fr_words.specs.Commands.{IsNamed, bare, cycles_in, named, the_cycles, with_file, word_in}
 
 -- the program with the commands `audit` and `check`, and then with `plan` too
 abbrev pub two_commands : App
-two_commands = with_subcommand (with_subcommand bare (named (codes "audit"))) (with_file (codes "check")).top
+two_commands = with_subcommand (with_subcommand (bare (codes "fr_bench")) (named (codes "audit"))) (with_file (codes "check")).top
 
 abbrev pub three_commands : App
 three_commands = with_subcommand two_commands (with_file (codes "plan")).top
@@ -47,12 +24,9 @@ three_commands = with_subcommand two_commands (with_file (codes "plan")).top
 abbrev pub four_commands : App
 four_commands = with_subcommand three_commands (named (codes "midpoint"))
 
--- the scenario and the number of cycles have to be there, and the flag may be
+-- the scenario has to be there, and the flag may be
 abbrev pub the_scenario : Rule
 the_scenario = record (new_rule (codes "SCENARIO")) { required = true }
-
-abbrev pub the_cycles : Rule
-the_cycles = record (new_rule (codes "cycles")) { long = Some (codes "cycles"); required = true }
 
 abbrev pub the_flag : Rule
 the_flag = record (new_rule (codes "free")) { long = Some (codes "free"); action = Some SetTrue }
@@ -72,19 +46,11 @@ abbrev pub is_true : Option Text → Bool
 is_true None = false
 is_true (Some word) = bytes_eq word (codes "true")
 
--- the name of the command that words enter
-abbrev pub name_in : Option (Text × List Row) → Option Text
-name_in = option_map (λ entered. entered.0)
-
 -- the word for FILE
 abbrev pub file_in : Option (Text × List Row) → Option Text
 file_in = option_and_then (λ entered. first_of (codes "FILE") entered.1)
 
 -- ---- a run
-
--- the number of cycles that a word is
-abbrev pub cycles_in : Text → Option ℕ
-cycles_in word = option_and_then (λ n. if n == 0 then None else Some n) (number_in 1025 word)
 
 -- whether the first words of these arguments ask for a run
 abbrev pub has_run_by : (Text → Option Text) → Bool
@@ -104,14 +70,7 @@ IsRunBy first_word (the_order.Run cluster scenario cycles free) =
     × (option_and_then cycles_in (first_word (codes "cycles")) ≡ Some cycles)
     × (free ≡ is_true (first_word (codes "free")))
 
--- the first word of an argument of the command that words enter
-abbrev pub word_in : Option (Text × List Row) → Text → Option Text
-word_in entered id = option_and_then (λ e. first_of id e.1) entered
-
 -- one of the commands was entered, with its file where it has one, and a run with all that it needs
-abbrev pub IsNamed : Text → Option (Text × List Row) → Type 0
-IsNamed name entered = name_in entered ≡ Some name
-
 abbrev pub HasFile : Option (Text × List Row) → Type 0
 HasFile entered = is_some (file_in entered) ≡ true
 
@@ -142,8 +101,3 @@ IsAnswer words (Ok order) = (fault_of the_commands words ≡ []) × IsOrder (sub
 IsAnswer words (Err refusal.Usage) =
     (0 < length (fault_of the_commands words)) ⊎ LacksRun (subcommand_of the_commands words)
 IsAnswer words (Err refusal.Memory) = Unit {0}
-
--- want of memory alone is no fault of the words
-abbrev pub order_error_of : ErrorKind → OrderError
-order_error_of kind.OutOfMemory = refusal.Memory
-order_error_of _ = refusal.Usage

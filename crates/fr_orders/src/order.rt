@@ -2,22 +2,13 @@
 ghost use Rattle.std.specs.Prelude.{◌≡◌, IfOk, IfSome, IsSome, true, false, map};
 ghost use Rattle.clap.specs.Words.{app_of, first_value, found_of, subcommand_rows_of};
 ghost use Rattle.clap.specs.declared.builder.command.Command.TheViews.{out-Command};
-ghost use Rattle.fr_orders.specs.Orders.{IsAnswer, IsOrder, IsRunBy, IsWhole, bare, cycles_in, has_run_by, run_command};
-ghost use Rattle.fr_orders.specs.Orders.{with_file, the_commands};
+ghost use Rattle.fr_orders.specs.Orders.{IsAnswer, IsOrder, IsRunBy, IsWhole, has_run_by, run_command, the_commands};
 
-use crate::command::{Order, OrderError};
+use crate::command::Order;
 use clap::{Arg, ArgAction, ArgMatches, Command};
-use fr_text::numbers::number_of;
+use fr_words::commands::{cycles_of, of_file, program};
+use fr_words::error::OrderError;
 use std::alloc::{AllocError, Global};
-
-/// A command of this name with a file.
-fn of_file<'a>(alloc: Global, name: &'a str) -> Result<Command<'a>, AllocError>
-    ensures app { IfOk result (λ c. app_of c ≡ with_file name.now) }
-    ensures local { IfOk result (λ c. (out-Command c).has_globals ≡ false) }
-{
-    let file = Arg::new(alloc, "FILE").required(true);
-    Command::new(alloc, name).arg(file)
-}
 
 /// The command `run`, with its two files, the number of cycles and the flag.
 fn run_command<'a>(alloc: Global) -> Result<Command<'a>, AllocError>
@@ -33,36 +24,15 @@ fn run_command<'a>(alloc: Global) -> Result<Command<'a>, AllocError>
     files.arg(cycles)?.arg(free)
 }
 
-/// The program, with no command yet.
-fn program<'a>(alloc: Global) -> Command<'a>
-    ensures { app_of result ≡ bare }
-{
-    Command::new(alloc, "fr_bench")
-        .no_binary_name(true)
-        .subcommand_required(true)
-        .disable_help_flag(true)
-        .disable_help_subcommand(true)
-}
-
 /// The commands, as `clap` is told of them.
 fn commands<'a>(alloc: Global) -> Result<Command<'a>, AllocError>
     ensures { IfOk result (λ c. app_of c ≡ the_commands) }
 {
-    let first = program(alloc).subcommand(Command::new(alloc, "audit"))?;
+    let first = program(alloc, "fr_bench").subcommand(Command::new(alloc, "audit"))?;
     let second = first.subcommand(of_file(alloc, "check")?)?;
     let third = second.subcommand(of_file(alloc, "plan")?)?;
     let fourth = third.subcommand(Command::new(alloc, "midpoint"))?;
     fourth.subcommand(run_command(alloc)?)
-}
-
-/// The number of cycles that a word is: 1 to 1024, without a leading zero.
-fn cycles_of(word: &str) -> Option<u16>
-    ensures { result ≡ cycles_in word.now }
-{
-    match number_of(word.as_bytes(), 1025) {
-        Some(0) | None => None,
-        Some(cycles) => Some(cycles as u16),
-    }
 }
 
 /// The run that the arguments of its command ask for.

@@ -12,7 +12,7 @@ use Rattle.fr_core.specs.declared.script.Line.{Line}
 use Rattle.fr_lines.proofs.PartLemmas.{word_or}
 use Rattle.fr_lines.proofs.PlanPartLemmas.{payload_takes, payload_again}
 use Rattle.fr_lines.proofs.WordLemmas.{IsWord, number_word, payload_word}
-use Rattle.fr_lines.specs.PartReading.{payload_in}
+use Rattle.fr_lines.specs.PartReading.{channel_in, payload_in}
 use Rattle.fr_lines.specs.Spelling.{end_line}
 use Rattle.fr_runs.specs.declared.fault_line.FaultCycles.{FaultCycles}
 use Rattle.fr_runs.specs.declared.fault_line.FaultPlace.{FaultPlace}
@@ -27,7 +27,7 @@ use Rattle.fr_scenario.specs.LineReading.{host_line, fault_line, commit_in, with
 use Rattle.fr_scenario.specs.LineReading.{babble_in, mute_in}
 use Rattle.fr_scenario.specs.LineReading.{corrupt_in}
 use Rattle.fr_scenario.specs.LineReading.{line_in}
-use Rattle.fr_scenario.specs.PartReading.{channel_in, run_cycle_in, cycles_in, place_in}
+use Rattle.fr_scenario.specs.PartReading.{run_cycle_in, cycles_in, place_in}
 use Rattle.fr_scenario.specs.Parts.{channel_word, cycles_word, place_word}
 use Rattle.fr_scenario.specs.Spelled.{IsRunCycle, IsSpelledAction, IsSpelledHost, IsSpelledFault, AreSpelledCycles}
 use Rattle.fr_scenario.specs.Spelled.{IsSpelledPlace}

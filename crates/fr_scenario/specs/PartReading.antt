@@ -1,17 +1,12 @@
 -- The parts of a scenario's line that words spell. Each has one spelling.
-use Rattle.std.specs.Prelude.{ℕ, ◌==◌, List, [], ◌∷◌, codes, Option, Some, None, if◌then◌else◌}
+use Rattle.std.specs.Prelude.{ℕ, ◌==◌, List, [], ◌∷◌, Option, Some, None, if◌then◌else◌}
 use Rattle.std.specs.Str.{bytes_eq}
 use Rattle.fr_runs.specs.declared.fault_line.FaultCycles.{FaultCycles}
 use Rattle.fr_runs.specs.declared.fault_line.FaultCycles.TheVariants.{Every, Only}
 use Rattle.fr_runs.specs.declared.fault_line.FaultPlace.{FaultPlace}
 use Rattle.fr_runs.specs.declared.fault_line.FaultPlace.TheVariants.{EverySlot, Slot, Minislot}
 use Rattle.fr_scenario.specs.Parts.{star}
-use Rattle.fr_slots.specs.declared.channel.Channel.{Channel}
-use Rattle.fr_slots.specs.declared.channel.Channel.TheVariants.{A, B}
 use Rattle.fr_text.specs.Reading.{◌>>=◌, number_in}
-
-unfoldable pub channel_in : List ℕ → Option Channel
-channel_in word = if bytes_eq word (codes "A") then Some A else if bytes_eq word (codes "B") then Some B else None
 
 -- ---- cycles of a run
 

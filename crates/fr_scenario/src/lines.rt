@@ -4,14 +4,13 @@ ghost use Rattle.fr_text.specs.Spaces.{words_of};
 ghost use Rattle.fr_scenario.specs.LineReading.{commit_in, withdraw_in, read_in, pop_in, babble_in, mute_in};
 ghost use Rattle.fr_scenario.specs.LineReading.{corrupt_in, host_line, line_in};
 
-use crate::parts::{
-    buffer_of, channel_of, cycles_of, node_of, payload_of, place_of, run_cycle_of, task_of,
-};
+use crate::parts::{cycles_of, place_of, run_cycle_of};
 use crate::spelled::SpelledLine;
 use crate::version::Version;
 use fr_bus::fault::Fault;
 use fr_core::script::{Action, Line};
 use fr_frame::frame::FRAME_BYTES;
+use fr_lines::parts::{buffer_of, channel_of, node_of, payload_of, task_of};
 use fr_runs::fault_line::FaultLine;
 use fr_slots::numbers::{NodeId, TaskId};
 use fr_text::hexes::bytes_of;

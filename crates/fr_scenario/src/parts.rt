@@ -1,40 +1,9 @@
-//! The parts of which lines are made.
+//! The parts of a scenario's line that the lines of other texts don't have.
 ghost use Rattle.std.specs.Prelude.{◌≡◌};
-ghost use Rattle.fr_lines.specs.PartReading.{payload_in};
-ghost use Rattle.fr_text.specs.Reading.{number_in};
-ghost use Rattle.fr_scenario.specs.PartReading.{channel_in, run_cycle_in, cycles_in, counted_in, slots_in, minislot_in};
-ghost use Rattle.fr_scenario.specs.PartReading.{place_in};
+ghost use Rattle.fr_scenario.specs.PartReading.{run_cycle_in, cycles_in, counted_in, slots_in, minislot_in, place_in};
 
-use fr_frame::payload::{PAYLOAD_BYTES, Payload};
 use fr_runs::fault_line::{FaultCycles, FaultPlace};
-use fr_slots::channel::Channel;
-use fr_slots::numbers::{NodeId, TaskId};
-use fr_text::hexes::bytes_of;
 use fr_text::numbers::number_of;
-
-/// The node that the word spells, 0 to 15.
-pub(crate) fn node_of(word: &[u8]) -> Option<NodeId>
-    ensures { result ≡ number_in 16 word.now }
-{
-    let number = number_of(word, 16)?;
-    NodeId::new(number as u8)
-}
-
-/// The task that the word spells, 0 to 7.
-pub(crate) fn task_of(word: &[u8]) -> Option<TaskId>
-    ensures { result ≡ number_in 8 word.now }
-{
-    let number = number_of(word, 8)?;
-    TaskId::new(number as u8)
-}
-
-/// The number of a buffer that the word spells, 0 to 63.
-pub(crate) fn buffer_of(word: &[u8]) -> Option<u8>
-    ensures { result ≡ number_in 64 word.now }
-{
-    let number = number_of(word, 64)?;
-    Some(number as u8)
-}
 
 /// The cycle of a run that the word spells, 0 to 1023.
 #[tactic(auto, unfolding(crate::specs::PartReading::run_cycle_in))]
@@ -43,27 +12,6 @@ pub(crate) fn run_cycle_of(word: &[u8]) -> Option<u16>
 {
     let number = number_of(word, 1024)?;
     Some(number as u16)
-}
-
-/// The payload that the word spells.
-#[tactic(auto, unfolding(fr_lines::specs::PartReading::payload_in))]
-pub(crate) fn payload_of(word: &[u8]) -> Option<Payload>
-    ensures { result ≡ payload_in word.now }
-{
-    let bytes = bytes_of::<PAYLOAD_BYTES>(word)?;
-    Payload::from_slice(bytes.as_slice()).ok()
-}
-
-/// The channel that the word spells.
-#[tactic(auto, unfolding(crate::specs::PartReading::channel_in))]
-pub(crate) fn channel_of(word: &[u8]) -> Option<Channel>
-    ensures { result ≡ channel_in word.now }
-{
-    match word {
-        b"A" => Some(Channel::A),
-        b"B" => Some(Channel::B),
-        _ => None,
-    }
 }
 
 /// The cycles that the word spells: one, or each of the run for `*`.

@@ -11,5 +11,6 @@ pub mod TwoLemmas
 pub mod ClusterLemmas
 pub mod FitLemmas
 pub mod FileLemmas
+pub mod CycleRowLemmas
 pub mod DenseLemmas
 pub mod DenseSenderLemmas

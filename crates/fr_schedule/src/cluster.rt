@@ -19,6 +19,7 @@ use fr_slots::params::Params;
 use fr_slots::plan::NodePlan;
 use std::alloc::Global;
 use std::marker::Model;
+use std::mem;
 use toml::Table;
 
 /// A cluster of 1 to 16 nodes whose plans have no fault, by themselves and among each other.
@@ -94,6 +95,18 @@ impl Cluster {
     {
         let root = table_of(alloc, text)?;
         cluster_of(alloc, &root)
+    }
+
+    /// The same, for a program that reads one cluster file and ends: the memory of the parsed table isn't given back, since
+    /// taking the table apart takes a tenth of the time of reading it.
+    pub fn from_text_leaking(alloc: Global, text: &str) -> Result<Cluster, ConfigError>
+        ensures told { ¬ (result ≡ Err error.Memory) → result ≡ described text.now }
+        ensures lawful { IfOk result IsCluster }
+    {
+        let root = table_of(alloc, text)?;
+        let cluster = cluster_of(alloc, &root);
+        mem::forget(root);
+        cluster
     }
 
     /// The node that sends in the slot on the channel in the cycle, or None where there is none: the owner of a static

@@ -1,12 +1,12 @@
 //! The sender table: which node sends in a slot, on a channel and in a cycle.
 
-ghost use Rattle.std.specs.Prelude.{◌≡◌, ◌+◌, ◌*◌, ◌<◌, ◌≤◌, length, None, Some, IfOk, IfErr};
+ghost use Rattle.std.specs.Prelude.{◌≡◌, ◌+◌, ◌*◌, ◌<◌, ◌≤◌, ◌==◌, not, length, None, Some, IfOk, IfErr};
 ghost use Rattle.fr_slots.specs.Faults.{cycles};
 ghost use Rattle.fr_slots.specs.Numbers.{IsSlot, cycle_count};
 ghost use Rattle.fr_slots.specs.Plans.{Each};
 ghost use Rattle.fr_slots.specs.Sharing.{place_of, IsFirst, is_shared, admits_at};
 ghost use Rattle.fr_schedule.specs.Claims.{IsClaim, filters_of};
-ghost use Rattle.fr_schedule.specs.DenseTable.{occasions, is_taken_in, first_taken_in, IsRowEntered, is_retaken_on};
+ghost use Rattle.fr_schedule.specs.DenseTable.{occasions, nobody, at_place, first_taken_in, IsRowEntered, is_retaken_on};
 ghost use Rattle.fr_schedule.specs.DenseTable.{is_retaken};
 ghost use Rattle.fr_schedule.specs.DenseTable.{IsEntered, AreEntered, IsFree, is_admitted_on, free, HasClaims};
 ghost use Rattle.fr_schedule.specs.declared.error.ConfigError.TheVariants as error;
@@ -55,26 +55,28 @@ pub(crate) fn place_of(slot: SlotId, channel: Channel, cycle: Cycle) -> usize
     start_of(slot, channel) + usize::from(cycle.number())
 }
 
+/// Whether a node stands at the place.
+fn is_taken_at(nodes: &[u8], place: usize) -> bool
+    requires { place < length nodes.now }
+    ensures { result ≡ not (at_place nodes.now place == nobody) }
+{
+    nodes[place] != NOBODY
+}
+
 /// The first of the cycles at which a node stands in the row that starts there.
 fn first_taken_in(nodes: &[u8], start: usize, cycles: CycleFilter) -> Option<Cycle>
     requires { start + cycle_count ≤ length nodes.now }
     ensures { result ≡ first_taken_in nodes.now start cycles }
 {
-    for number in 0..CYCLES {
-        let cycle = Cycle::from_bits(number);
-        if is_taken_in(nodes, start, cycles, cycle) {
-            return Some(cycle);
+    let step = usize::from(cycles.repetition());
+    let first = usize::from(cycles.base());
+    for turn in 0..ROW / step {
+        let cycle = turn * step + first;
+        if is_taken_at(nodes, start + cycle) {
+            return Some(Cycle::from_bits(cycle as u8));
         }
     }
     None
-}
-
-/// Whether the cycle is one of these, and a node stands there in the row that starts there.
-fn is_taken_in(nodes: &[u8], start: usize, cycles: CycleFilter, cycle: Cycle) -> bool
-    requires { start + cycle_count ≤ length nodes.now }
-    ensures { result ≡ is_taken_in nodes.now start cycles cycle }
-{
-    cycles.admits(cycle) && nodes[start + usize::from(cycle.number())] != NOBODY
 }
 
 /// Enters the node at the cycles in the row that starts there.
@@ -82,10 +84,10 @@ fn enter_row(nodes: &mut [u8], start: usize, cycles: CycleFilter, node: u8)
     requires { start + cycle_count ≤ length nodes.old }
     ensures { IsRowEntered cycle_count start cycles node nodes.old nodes.new }
 {
-    for number in 0..CYCLES {
-        if cycles.admits(Cycle::from_bits(number)) {
-            nodes[start + usize::from(number)] = node;
-        }
+    let step = usize::from(cycles.repetition());
+    let first = start + usize::from(cycles.base());
+    for turn in 0..ROW / step {
+        nodes[first + turn * step] = node;
     }
 }
 

@@ -1,3 +1,4 @@
+pub mod CycleLemmas
 pub mod FaultLemmas
 pub mod FaultlessLemmas
 pub mod HistoryLemmas

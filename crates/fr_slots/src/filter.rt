@@ -91,7 +91,8 @@ impl CycleFilter {
     pub fn admits(self, cycle: Cycle) -> bool
         ensures { result ≡ cycle_admitted self cycle }
     {
-        cycle.number() % self.repetition == self.base
+        // The repetition is a power of two, so the rest stands in the bits below it.
+        cycle.number() & (self.repetition - 1) == self.base
     }
 
     /// Whether every cycle is one of these.

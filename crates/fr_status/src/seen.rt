@@ -36,3 +36,20 @@ impl Seen {
         }
     }
 }
+
+/// What a node sees, whose bytes stay where they lie, so that none are moved where it is looked at and let go.
+#[derive(Clone, Copy)]
+pub enum LentSeen<'a> {
+    /// No transmission came through, or the channel has no slot.
+    Silence,
+    /// The node's own transmission came through, and no other.
+    Own,
+    /// Several came through, the node's own among them.
+    Conflict,
+    /// Several came through, none of them the node's own.
+    Noise,
+    /// One of another node came through, too long for its slot or for the rest of the dynamic segment.
+    Overrun,
+    /// One of another node came through, with these bytes. They needn't be a frame.
+    Bytes(&'a [u8]),
+}

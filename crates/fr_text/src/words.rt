@@ -87,6 +87,7 @@ impl<'a> Words<'a> {
     /// The two words that are left, from left to right. `None` where they are more or fewer.
     pub fn two(&mut self) -> Option<(&'a [u8], &'a [u8])>
         ensures found { IfSome result (λ words. self.old ≡ words.0.now ∷ words.1.now ∷ []) }
+        ensures left { IfSome result (λ _. self.new ≡ []) }
         ensures other { IfNone result (length self.old ≢ 2) }
     {
         let first = self.next_word()?;
@@ -98,6 +99,7 @@ impl<'a> Words<'a> {
     /// The three words that are left, from left to right. `None` where they are more or fewer.
     pub fn three(&mut self) -> Option<(&'a [u8], &'a [u8], &'a [u8])>
         ensures found { IfSome result (λ words. self.old ≡ words.0.now ∷ words.1.now ∷ words.2.now ∷ []) }
+        ensures left { IfSome result (λ _. self.new ≡ []) }
         ensures other { IfNone result (length self.old ≢ 3) }
     {
         let first = self.next_word()?;
@@ -110,6 +112,7 @@ impl<'a> Words<'a> {
     /// The four words that are left, from left to right. `None` where they are more or fewer.
     pub fn four(&mut self) -> Option<(&'a [u8], &'a [u8], &'a [u8], &'a [u8])>
         ensures found { IfSome result (λ words. self.old ≡ words.0.now ∷ words.1.now ∷ words.2.now ∷ words.3.now ∷ []) }
+        ensures left { IfSome result (λ _. self.new ≡ []) }
         ensures other { IfNone result (length self.old ≢ 4) }
     {
         let words = self.next_four()?;
@@ -121,6 +124,7 @@ impl<'a> Words<'a> {
     pub fn five(&mut self) -> Option<(&'a [u8], &'a [u8], &'a [u8], &'a [u8], &'a [u8])>
         ensures found { IfSome result (λ words.
             self.old ≡ words.0.now ∷ words.1.now ∷ words.2.now ∷ words.3.now ∷ words.4.now ∷ []) }
+        ensures left { IfSome result (λ _. self.new ≡ []) }
         ensures other { IfNone result (length self.old ≢ 5) }
     {
         let words = self.next_five()?;

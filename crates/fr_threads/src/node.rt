@@ -12,10 +12,11 @@ use fr_core::event::Reply;
 use fr_core::script::Script;
 use fr_desks::desk::{Desk, TaskPass};
 use fr_desks::gate::Gate;
-use fr_interface::interface::Interface;
+use fr_interface::interface::{Interface, Offer};
 use fr_ledger::books::{Share, gather};
 use fr_schedule::cluster::Cluster;
 use fr_slots::numbers::NodeId;
+use fr_status::seen::Seen;
 use std::alloc::{AllocError, Global};
 use std::marker::Brand;
 use std::sync::Wait;
@@ -64,6 +65,9 @@ fn control<L: Ledger, R: Wait + Clock, G: Gate>(
     gate: &G,
 ) -> Result<(), Failure> {
     let mut begun = 0u16;
+    let mut offer = Offer { a: None, b: None };
+    let mut a = Seen::Silence;
+    let mut b = Seen::Silence;
     for _ in rt.forever() {
         let Some(window) = shared.wire.next(rt, node)? else {
             return Ok(());
@@ -73,11 +77,10 @@ fn control<L: Ledger, R: Wait + Clock, G: Gate>(
             begun = begun.saturating_add(1);
         }
         let number = window.number;
-        let offer = desk
-            .fetch(rt, gate, &window)
+        desk.fetch_into(rt, gate, &window, &mut offer)
             .map_err(|error| Failure::Slot(error))?;
         shared.wire.put(rt, node, number, &offer)?;
-        let (a, b) = shared.wire.take(rt, node, number)?;
+        shared.wire.take_into(rt, node, number, &mut a, &mut b)?;
         desk.observe(rt, gate, number, &a, &b)
             .map_err(|error| Failure::Slot(error))?;
     }

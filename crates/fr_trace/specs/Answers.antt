@@ -67,14 +67,23 @@ same_answer (Fetch window made_a made_b) (Fetch w told_a told_b) = same_offered 
     && same_offered made_b told_b
 same_answer made told = true
 
--- the entry of a call, if there is one, has the answers that the trace tells
-abbrev pub entry_answers : Option Entry → Entry → Bool
-entry_answers None told = false
-entry_answers (Some made) told = same_answer made told
+-- where the frame comes from that a read or a pop answered, if it was one
+abbrev pub origin_in : Option Entry → Option Origin
+origin_in None = None
+origin_in (Some (Commit task buffer payload)) = None
+origin_in (Some (Withdraw task buffer of)) = None
+origin_in (Some (Read task buffer from)) = from
+origin_in (Some (Pop task from)) = from
+origin_in (Some (Fetch window a b)) = None
+origin_in (Some (Observe window a b)) = None
 
 -- the answers that the trace tells are those of the call
 abbrev pub is_answered : State → Entry → Bool
 is_answered s e = same_answer (made_by s e) e
+
+-- nothing where the call is refused, and else whether its answers are those that the trace tells
+abbrev pub answer_of : State → Entry → Option Bool
+answer_of s e = if is_refused s e then None else Some (is_answered s e)
 
 -- why an entry can't stand on the line of this number
 abbrev pub fault_of : ℕ → State → Entry → Option TraceError

@@ -1,4 +1,4 @@
-use Rattle.std.proofs.Common.{◌≡◌, length, sym, subst, ◌∙◌, arith}
+use Rattle.std.proofs.Common.{◌≡◌, ap, length, option_map, sym, subst, ◌∙◌, arith}
 use Rattle.fr_bus.specs.Record.{Recorded}
 use Rattle.fr_core.proofs.ScriptLemmas.{courses_first, whole_at, task_found}
 use Rattle.fr_core.proofs.WalkLemmas.{none_past, fetches_first, fetches_on, observes_first, observes_on, finds_rest}
@@ -7,6 +7,7 @@ use Rattle.fr_core.specs.Agreeing.{handed_at, sight_at, offers_of, sights_of}
 use Rattle.fr_core.specs.Scripts.{deeds_of}
 use Rattle.fr_core.specs.Settling.{fetches_at, observes_at}
 use Rattle.fr_core.specs.Walks.{AreCourses}
+use Rattle.fr_journal.specs.Lent.{whole}
 use Rattle.fr_core.proofs.walk.walk.Goals as goal
 
 pub loop-number-init : goal.loop-number-init
@@ -20,16 +21,16 @@ loop-number-init c = record {
 pub unreachable-requires : goal.unreachable-requires
 unreachable-requires c =
     none_past c.args.interface.now.entries c.loop-number.number (omega (arith, c.loop-number-test.true, c.entries_of-number-end.ensures.value))
-    (sym c.entry_at.ensures ∙ c.in_default.is)
+    (sym c.entry_at.ensures.entry ∙ ap (option_map whole) c.in_default.is)
 
 pub loop-number-preserved : goal.loop-number-preserved
 loop-number-preserved c =
-    let at = sym c.entry_at.ensures ∙ c.in-Some.is in
+    let at = sym c.entry_at.ensures.entry ∙ ap (option_map whole) c.in-Some.is in
     record {
       fetches = fetches_on c.args.interface.now c.args.node c.args.recorded.now c.loop-number.number c.loop-number.fetches c.loop-number.invariant.fetches
-          c.in-Some.entry c.fetches_past-fetches.result at c.fetches_past-fetches.ensures;
+          (whole c.in-Some.entry) c.fetches_past-fetches.result at c.fetches_past-fetches.ensures;
       observes = observes_on c.args.params.now c.args.interface.now c.args.node c.args.recorded.now c.loop-number.number c.loop-number.observes
-          c.in-Some.entry c.observes_past-observes.result c.loop-number.invariant.observes at c.observes_past-observes.ensures;
+          (whole c.in-Some.entry) c.observes_past-observes.result c.loop-number.invariant.observes at c.observes_past-observes.ensures;
       courses = c.courses_past.ensures;
     }
 

@@ -1,13 +1,14 @@
 use Rattle.std.proofs.Common.{rules, ap, ap₂, codes, ◌≡◌, ◌∙◌}
 use Rattle.std.proofs.lemmas.Result.{IfOk-weaker}
 use Rattle.clap.specs.Words.{App, app_of, with_subcommand}
-use Rattle.fr_orders.specs.Orders.{bare, four_commands, named, run_command, with_file, two_commands, three_commands}
+use Rattle.fr_orders.specs.Orders.{four_commands, run_command, two_commands, three_commands}
 use Rattle.fr_orders.proofs.order.commands.Goals as goal
+use Rattle.fr_words.specs.Commands.{bare, named, with_file}
 
 pub returns : goal.returns
 returns c =
     let top = λ (a : App). a.top in
-    let first : app_of c.in_ok-first.first ≡ with_subcommand bare (named (codes "audit")) =
+    let first : app_of c.in_ok-first.first ≡ with_subcommand (bare (codes "fr_bench")) (named (codes "audit")) =
     c.in_ok-first.ensures.shape (search rules) ∙ ap₂ with_subcommand c.program.ensures (ap top c.new.ensures.app) in
     let check_is : app_of c.in_ok-of_file.field-0 ≡ with_file (codes "check") = search rules in
     let second : app_of c.in_ok-second.second ≡ two_commands =

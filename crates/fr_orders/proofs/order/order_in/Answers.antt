@@ -1,10 +1,12 @@
 use Rattle.std.proofs.Common.{rules, sym, codes, ◌≡◌, ◌∙◌, Some, None}
 use Rattle.clap.proofs.WalkLemmas.{first_value-rows}
 use Rattle.clap.specs.Words.{Text, first_of, first_value, found_of, rows_of, subcommand_rows_of}
-use Rattle.fr_orders.specs.Orders.{IsNamed, file_in, word_in}
+use Rattle.fr_orders.specs.Orders.{file_in}
 use Rattle.fr_orders.proofs.OrderLemmas.{check_has_file, file_of_rows, has_run_alike, none_has_none, plan_has_file}
-use Rattle.fr_orders.proofs.OrderLemmas.{run_has_all, run_told, word_of_rows}
+use Rattle.fr_orders.proofs.OrderLemmas.{run_has_all, run_told}
+use Rattle.fr_words.proofs.CommandLemmas.{word_of_rows}
 use Rattle.fr_orders.proofs.order.order_in.Goals as goal
+use Rattle.fr_words.specs.Commands.{IsNamed, word_in}
 
 pub returns-in_ok-get_str-in-check-clause-told : goal.returns-in_ok-get_str-in-check-clause-told
 returns-in_ok-get_str-in-check-clause-told c =

@@ -3,8 +3,9 @@ use Rattle.std.proofs.lemmas.Result.{IfOk-weaker}
 use Rattle.clap.specs.Walk.{rule_of}
 use Rattle.clap.specs.Words.{app_of, with_rule}
 use Rattle.clap.specs.declared.builder.command.Command.TheViews.{out-Command}
-use Rattle.fr_orders.specs.Orders.{run_command, run_files, the_cycles, the_flag, the_scenario, with_file}
+use Rattle.fr_orders.specs.Orders.{run_command, run_files, the_flag, the_scenario}
 use Rattle.fr_orders.proofs.order.run_command.Goals as goal
+use Rattle.fr_words.specs.Commands.{the_cycles, with_file}
 
 pub returns : goal.returns
 returns c =

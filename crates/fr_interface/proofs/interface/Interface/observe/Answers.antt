@@ -46,7 +46,6 @@ invariant_of-self c =
     let frame_b : c.of-told_b.result.frame ≡ data_frame_seen params window B c.seen_within-2.result.now = c.of-told_b.ensures.frame ∙ ap (data_frame_seen params window B) seen_b in
     let status_a : c.of-told_a.result.status ≡ status_seen params window A c.seen_within.result.now = c.of-told_a.ensures.status ∙ ap (status_seen params window A) seen_a in
     let status_b : c.of-told_b.result.status ≡ status_seen params window B c.seen_within-2.result.now = c.of-told_b.ensures.status ∙ ap (status_seen params window B) seen_b in
-    let lines : c.buffers-lines.result.now ≡ plan.buffers = c.buffers-lines.ensures.value in
     let held_before : c.deref_mut.result.now ≡ map (held_in params entries) plan.buffers = c.deref_mut.ensures.value ∙ c.self.invariant.receive_is in
     let counted_a : c.count_seen.new.counters ≡ with_seen (counters_of params entries) A (status_seen params window A c.seen_within.result.now) =
     c.count_seen.ensures ∙ (λ i. with_seen (c.self.invariant.counters_are i) A (status_a i)) in
@@ -65,7 +64,7 @@ invariant_of-self c =
       receive_is =
           written c.self.inside.receive.len c.store_all.new.buffers _ (omega (arith, c.deref_mut.ensures.len, c.store_all.auto.buffers))
           ∙ c.store_all.ensures
-          ∙ (λ i. stored_all (number i) window (frame_a i) (frame_b i) (lines i) (held_before i))
+          ∙ (λ i. stored_all (number i) window (frame_a i) (frame_b i) plan.buffers (held_before i))
           ∙ held-observe params entries c.args.number c.seen_within.result.now c.seen_within-2.result.now window opened plan.buffers;
       queue_is =
           c.arrive_all.ensures

@@ -1,0 +1,26 @@
+-- How many of a list pass a test where none does, and where all do.
+use Rattle.std.proofs.Common.{◌≡◌, ℕ, suc, ◌+◌, ◌*◌, ◌≤◌, Bool, true, false, cond, List, [], ◌∷◌, length, replicate, refl, sym, ap, ◌∙◌, arith}
+use Rattle.std.specs.Prelude.{◌&&◌, ◌==◌}
+use Rattle.std.specs.List.{count_by, list_all}
+use Rattle.std.proofs.lemmas.List.Folds.{sum_by-replicate}
+use Rattle.std.proofs.lemmas.List.Sums.{count_by-le-length, sum_by-cons}
+use Rattle.std.proofs.lemmas.Grind.{common_steps}
+
+pub count_none : {X : Type 0} (p : X → Bool) (n : ℕ) (x : X) → p x ≡ false → count_by p (replicate n x) ≡ 0
+count_none p n x fails =
+    let each : n * cond (p x) 1 0 ≡ n * 0 = ap (λ b. n * cond b 1 0) fails in
+    omega (arith, sum_by-replicate (λ y. cond (p y) 1 0) n x, each)
+
+all_step : (b rest : Bool) (c n : ℕ) → rest ≡ (c == n) → c ≤ n → (b && rest) ≡ ((cond b 1 0 + c) == suc n)
+all_step true rest c n e few = grind (arith, common_steps)
+all_step false rest c n e few = grind (arith, common_steps)
+
+count_all : {X : Type 0} (p : X → Bool) (xs : List X) → list_all p xs ≡ (count_by p xs == length xs)
+count_all p [] = refl
+count_all p (x ∷ xs) =
+    all_step (p x) (list_all p xs) (count_by p xs) (length xs) (count_all p xs) (count_by-le-length p xs)
+    ∙ ap (λ n. n == suc (length xs)) (sym (sum_by-cons (λ y. cond (p y) 1 0) x xs))
+
+-- all pass where as many pass as there are
+pub all_counted : {X : Type 0} (p : X → Bool) (xs : List X) (count n : ℕ) → count ≡ count_by p xs → n ≡ length xs → (count == n) ≡ list_all p xs
+all_counted p xs count n counted many = (λ i. counted i == many i) ∙ sym (count_all p xs)

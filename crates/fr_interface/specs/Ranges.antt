@@ -1,0 +1,56 @@
+-- For each slot a range of places, outside which no line of a list is of the slot. The code looks at the lines of the
+-- range alone; what is found there is said by the whole list.
+use Rattle.std.specs.Prelude.{◌≡◌, ℕ, ◌+◌, ◌<◌, ◌≤◌, ◌==◌, true, List, length, map, slice_get, Option, Some, is_some}
+use Rattle.std.specs.Prelude.{if◌then◌else◌, min, max}
+use Rattle.fr_frame.specs.Fields.{Fields}
+use Rattle.fr_interface.specs.declared.index.LineRange.{LineRange}
+use Rattle.fr_interface.specs.Known.{frame_on}
+use Rattle.fr_slots.specs.declared.channel.Channel.{Channel}
+use Rattle.fr_slots.specs.declared.plan.Buffer.{Buffer}
+use Rattle.fr_slots.specs.declared.plan.Own.{Own}
+use Rattle.fr_slots.specs.Numbers.{last_slot}
+use Rattle.fr_slots.specs.Windows.{Opportunity}
+
+-- how many slot numbers there are, 0 among them
+abbrev pub slot_count : ℕ
+slot_count = last_slot + 1
+
+-- the slots of the lines of a plan
+abbrev pub buffer_slots : List Buffer → List ℕ
+buffer_slots buffers = map (λ b. b.filter.slot) buffers
+
+abbrev pub own_slots : List Own → List ℕ
+own_slots owned = map (λ o. o.slot) owned
+
+abbrev pub IsWithin : ℕ → LineRange → Type 0
+IsWithin place range = (range.first ≤ place) × (place < range.end)
+
+-- the slot stands at no place outside the range
+pub record IsRangeOf (slot : ℕ) (slots : List ℕ) (range : LineRange) : Type 0 where
+  pub ordered : range.first ≤ range.end
+  pub ends : range.end ≤ length slots
+  pub covers : (place : ℕ) → slice_get slots place ≡ Some slot → IsWithin place range
+
+-- one such range for each slot
+pub record AreRanges (slots : List ℕ) (ranges : List LineRange) : Type 0 where
+  pub all : length ranges ≡ slot_count
+  pub each : (slot : ℕ) (range : LineRange) → slice_get ranges slot ≡ Some range → IsRangeOf slot slots range
+
+-- the range and a place behind it
+abbrev pub widened : LineRange → ℕ → LineRange
+widened range place = record { first = if range.first == range.end then place else range.first; end = place + 1 }
+
+-- both ranges, with what lies between
+abbrev pub joined : LineRange → LineRange → LineRange
+joined one other =
+    if one.first == one.end then other
+    else if other.first == other.end then one
+    else record { first = min one.first other.first; end = max one.end other.end }
+
+-- no buffer outside the range takes this data frame, if it is one, of the window on the channel
+pub record IsTakingRange (buffers : List Buffer) (window : Opportunity) (channel : Channel) (frame : Option Fields)
+    (range : LineRange) : Type 0 where
+  pub ordered : range.first ≤ range.end
+  pub ends : range.end ≤ length buffers
+  pub covers : (number place : ℕ) (b : Buffer) → slice_get buffers place ≡ Some b
+      → is_some (frame_on number window channel frame b) ≡ true → IsWithin place range

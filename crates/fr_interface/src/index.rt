@@ -1,0 +1,192 @@
+//! A plan with an index of its lines, so that no call goes through all of them.
+
+ghost use Rattle.std.specs.Prelude.{◌≡◌, ◌+◌, ◌<◌, ◌≤◌, [], ◌∷◌, ◌++◌, List, ℕ, length, slice_range, IfOk};
+ghost use Rattle.fr_interface.specs.Ranges.{AreRanges, buffer_slots, own_slots, slot_count, widened, joined};
+ghost use Rattle.fr_slots.specs.Numbers.{most_lines};
+
+use fr_slots::numbers::{LAST_SLOT, SlotId};
+use fr_slots::plan::{Buffer, NodePlan, Own, Queue};
+use std::alloc::{AllocError, Global};
+use std::marker::Model;
+
+/// How many slot numbers there are, 0 among them, which is no slot.
+const SLOT_NUMBERS: usize = LAST_SLOT as usize + 1;
+
+/// Places in a list of lines.
+#[derive(Clone, Copy, PartialEq, Eq)]
+pub(crate) struct LineRange {
+    /// The first place.
+    pub first: u8,
+    /// The place after the last.
+    pub end: u8,
+}
+
+impl LineRange {
+    /// No place.
+    pub(crate) const EMPTY: LineRange = LineRange { first: 0, end: 0 };
+
+    /// The range and a place behind it, with all that lies between.
+    fn widened(self, place: u8) -> LineRange
+        requires { place < most_lines }
+        ensures { result ≡ widened self place }
+    {
+        let first = if self.first == self.end {
+            place
+        } else {
+            self.first
+        };
+        LineRange {
+            first,
+            end: place + 1,
+        }
+    }
+
+    /// Both ranges, with all that lies between.
+    pub(crate) fn joined(self, other: LineRange) -> LineRange
+        ensures { result ≡ joined self other }
+    {
+        if self.first == self.end {
+            other
+        } else if other.first == other.end {
+            self
+        } else {
+            LineRange {
+                first: self.first.min(other.first),
+                end: self.end.max(other.end),
+            }
+        }
+    }
+
+    /// The lines of the range.
+    pub(crate) fn of<T>(self, lines: &[T]) -> &[T]
+        requires ordered { self.first ≤ self.end }
+        requires within { self.end ≤ length lines.now }
+        ensures { result.now ≡ slice_range lines.now self.first self.end }
+    {
+        &lines[usize::from(self.first)..usize::from(self.end)]
+    }
+}
+
+/// An empty range for each slot.
+fn empty_ranges(alloc: Global) -> Result<Vec<LineRange>, AllocError>
+    ensures { IfOk result (λ ranges. AreRanges [] ranges.items) }
+{
+    Ok(vec![in alloc; LineRange::EMPTY; SLOT_NUMBERS]?)
+}
+
+/// A further line, at this place behind the others, is of the slot.
+fn widen(ranges: &mut Vec<LineRange>, slot: SlotId, place: u8)
+    requires all { length ranges.old.items ≡ slot_count }
+    requires few { place < most_lines }
+    ensures { (slots : List ℕ) → length slots ≡ place → AreRanges slots ranges.old.items
+        → AreRanges (slots ++ slot ∷ []) ranges.new.items }
+{
+    let number = usize::from(slot.number());
+    ranges[number] = ranges[number].widened(place);
+}
+
+/// For each slot the range of its buffers.
+fn buffer_ranges(alloc: Global, buffers: &[Buffer]) -> Result<Vec<LineRange>, AllocError>
+    requires { length buffers.now ≤ most_lines }
+    ensures { IfOk result (λ ranges. AreRanges (buffer_slots buffers.now) ranges.items) }
+{
+    let mut ranges = empty_ranges(alloc)?;
+    for (place, buffer) in buffers.iter().enumerate() {
+        widen(&mut ranges, buffer.filter.slot, place as u8);
+    }
+    Ok(ranges)
+}
+
+/// For each slot the range of its ownership lines.
+fn own_ranges(alloc: Global, owned: &[Own]) -> Result<Vec<LineRange>, AllocError>
+    requires { length owned.now ≤ most_lines }
+    ensures { IfOk result (λ ranges. AreRanges (own_slots owned.now) ranges.items) }
+{
+    let mut ranges = empty_ranges(alloc)?;
+    for (place, own) in owned.iter().enumerate() {
+        widen(&mut ranges, own.slot, place as u8);
+    }
+    Ok(ranges)
+}
+
+/// A plan, and for each slot the range of places outside which no line is of the slot.
+#[derive(Drop)]
+pub(crate) struct IndexedPlan {
+    plan: NodePlan,
+    buffer_ranges: Vec<LineRange>,
+    own_ranges: Vec<LineRange>,
+}
+
+impl Model for IndexedPlan {
+    ghost use Rattle.fr_slots.specs.Plans.{Plan};
+
+    ghost Value = { Plan };
+
+    ghost use Rattle.fr_interface.specs.IndexFields.{IsIndexed};
+
+    ghost view = { λ i. i.plan };
+
+    ghost invariant = { IsIndexed };
+}
+
+impl IndexedPlan {
+    ghost use Rattle.fr_interface.specs.Ranges.{IsRangeOf};
+    ghost use Rattle.fr_slots.specs.Plans.{IsPlan, buffer_at};
+
+    /// The plan, of which the index takes two rooms of 4096 bytes.
+    pub(crate) fn new(alloc: Global, plan: &NodePlan) -> Result<IndexedPlan, AllocError>
+        ensures { IfOk result (λ indexed. indexed ≡ plan.now) }
+    {
+        let buffer_ranges = buffer_ranges(alloc, plan.buffers())?;
+        let own_ranges = own_ranges(alloc, plan.owned())?;
+        Ok(IndexedPlan {
+            plan: plan.duplicate(),
+            buffer_ranges,
+            own_ranges,
+        })
+    }
+
+    /// The plan itself.
+    pub(crate) fn as_plan(&self) -> &NodePlan
+        ensures { result.now ≡ self.now }
+    {
+        &self.plan
+    }
+
+    /// The number of host tasks.
+    pub(crate) fn tasks(&self) -> u8
+        ensures value { result ≡ self.now.tasks }
+        ensures lawful { IsPlan self.now }
+    {
+        self.plan.tasks()
+    }
+
+    /// The buffer of this number, where the plan has it.
+    pub(crate) fn buffer(&self, number: u8) -> Option<Buffer>
+        ensures { result ≡ buffer_at self.now number }
+    {
+        self.plan.buffer(number)
+    }
+
+    /// The receive queue, where the node has one.
+    pub(crate) fn queue(&self) -> Option<Queue>
+        ensures value { result ≡ self.now.queue }
+        ensures lawful { IsPlan self.now }
+    {
+        self.plan.queue()
+    }
+
+    /// A range outside which no buffer is of the slot.
+    pub(crate) fn buffer_range(&self, slot: SlotId) -> LineRange
+        ensures { IsRangeOf slot (buffer_slots self.now.buffers) result }
+    {
+        self.buffer_ranges[usize::from(slot.number())]
+    }
+
+    /// A range outside which no ownership line is of the slot.
+    pub(crate) fn own_range(&self, slot: SlotId) -> LineRange
+        ensures { IsRangeOf slot (own_slots self.now.owned) result }
+    {
+        self.own_ranges[usize::from(slot.number())]
+    }
+}
