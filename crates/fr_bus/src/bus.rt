@@ -222,6 +222,15 @@ impl Bus {
         self.record.as_slice()
     }
 
+    /// How many cycles began with a window that was sealed, 0 to 1024. While the bus collects in the first window of a
+    /// cycle this is the number of its run cycle, counted from 0 and not wrapped at 64; in any other window, and once
+    /// it is sealed, it is one more.
+    pub fn cycles_begun(&self) -> u16
+        ensures { result ≡ cycles_begun self.now.sealed }
+    {
+        self.course.begun()
+    }
+
     /// What every bus keeps: its record is that of a run, no static slot of a guarded channel carries two senders, and
     /// a run that is over had all its cycles. It does nothing but tell so.
     pub fn known(&self)

@@ -4,10 +4,11 @@
 
 ghost use Rattle.std.specs.Prelude.{◌≡◌, ◌<◌, ◌≤◌, ◌%◌, Some, None, true, if◌then◌else◌};
 ghost use Rattle.fr_bus.specs.Courses.{ended};
-ghost use Rattle.fr_bus.specs.Windows.{opens_cycle, has_row, least_of};
+ghost use Rattle.fr_bus.specs.Windows.{has_row, least_of};
 ghost use Rattle.fr_minislot.specs.Lanes.{close_refusal};
 ghost use Rattle.fr_slots.specs.Windows.{is_static};
 
+use crate::windows::opens_cycle;
 use fr_minislot::lane::Lane;
 use fr_slots::channel::Channel;
 use fr_slots::numbers::{Cycle, SlotId};
@@ -75,13 +76,6 @@ fn slot_of(number: u16) -> SlotId
     }
 }
 
-/// Whether a cycle begins with the window.
-fn opens_cycle(window: &Window) -> bool
-    ensures { result ≡ opens_cycle window.now }
-{
-    window.is_static() && window.a.is_some_and(|slot| slot.number() == 1)
-}
-
 /// 1 for a static window, and 0 for a dynamic one.
 fn static_count(window: &Window) -> u16
     ensures { result ≡ if is_static window.now then 1 else 0 }
@@ -119,7 +113,8 @@ impl Course {
         requires { cycles ≤ 1024 }
         ensures { result ≡ course_of params.now cycles [] }
     {
-        let params = params.duplicate();
+        // Field by field, since what holds of parameters is told where one of them is read.
+        let params = Params { ..*params };
         Course {
             params,
             cycles,
@@ -136,6 +131,13 @@ impl Course {
         ensures { result.now ≡ self.now.params }
     {
         &self.params
+    }
+
+    /// How many cycles began, with the windows gone past.
+    pub(crate) fn begun(&self) -> u16
+        ensures { result ≡ self.now.begun }
+    {
+        self.begun
     }
 
     /// What every course keeps.

@@ -19,3 +19,4 @@ pub mod error;
 pub mod fault;
 pub mod outcome;
 mod station;
+pub mod windows;

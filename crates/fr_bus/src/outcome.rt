@@ -263,7 +263,6 @@ fn overruns(params: &Params, window: &Window, bytes: usize) -> bool
     requires { bytes ≤ 262 }
     ensures { result ≡ overruns params.now window.now bytes }
 {
-    let params = params.duplicate();
     if window.is_static() {
         bytes > 8 + 2 * usize::from(params.static_words)
     } else {

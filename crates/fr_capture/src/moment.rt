@@ -48,15 +48,14 @@ pub fn start_of_window(params: &Params, window: &Window) -> u32
     ensures layout { (macrotick : ℕ) → IsAt params.now macrotick (place_of window.now) → result ≡ macrotick }
     ensures below { result < 20000 }
 {
-    let params = params.duplicate();
-    start_of(&params, place_of(window)).unwrap_or(0)
+    start_of(params, place_of(window)).unwrap_or(0)
 }
 
 /// How far a window's first macrotick is from the start of its round of 64 cycles.
 fn place_in_round(params: &Params, window: &Window) -> u32
     ensures { result ≡ place_in_round params.now window.now }
 {
-    let cycle_mt = u32::from(params.duplicate().cycle_mt);
+    let cycle_mt = u32::from(params.cycle_mt);
     u32::from(window.cycle.number()) * cycle_mt + start_of_window(params, window)
 }
 
@@ -101,7 +100,7 @@ impl Moment {
         ensures value { result ≡ time_at params.now self.now }
         ensures few { result < 2 ^ 32 * 1000000 }
     {
-        let cycle_mt = u64::from(params.duplicate().cycle_mt);
+        let cycle_mt = u64::from(params.cycle_mt);
         let place = self.place;
         u64::from(self.rounds) * (u64::from(CYCLES) * cycle_mt) + u64::from(place)
     }

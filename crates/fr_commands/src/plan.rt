@@ -160,7 +160,7 @@ fn write_slots<W: Write>(writer: &mut W, cluster: &Cluster, cycles: u8) -> io::R
     requires few { cycles ≤ cycle_count }
     ensures { OnOk result (Appends (W.contents writer.old) (W.contents writer.new) (static_text cluster.now)) }
 {
-    let params = cluster.params().duplicate();
+    let params = cluster.params();
     for earlier in 0..params.static_slots {
         if let Some(slot) = SlotId::new(earlier + 1) {
             write_slot(writer, cluster, slot, cycles)?;

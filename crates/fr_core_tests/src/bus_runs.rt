@@ -1,60 +1,24 @@
-//! The windows of a run, and the refusals of a bus in their order.
+//! The refusals of a bus in their order.
 
-use crate::steps::{
-    Call, Harm, SMALL_CYCLE, THREE_NODES, bus_at, bus_of, nothing, offer_of, open_window, refusal,
-    window_with,
-};
+use crate::steps::{Call, Harm, THREE_NODES, bus_at, bus_of, refusal};
 use fr_bus::bus::Bus;
 use fr_bus::error::{BusError, Phase};
 use fr_schedule::cluster::Cluster;
 use fr_slots::channel::Channel;
 use std::test::Fail;
 
-/// The numbers of the slots on both channels of the open window, with its minislot.
-fn slots_of(bus: &Bus) -> Result<(u16, Option<u16>, Option<u16>), Fail> {
-    let window = open_window(bus)?;
-    let [a, b] = [window.a, window.b].map(|slot| slot.map(|slot| slot.number()));
-    Ok((window.minislot, a, b))
-}
-
 #[test]
-fn a_long_slot_leaves_the_other_channel_alone(rt: HostRuntime) -> Result<(), Fail> {
-    let mut bus = bus_at(rt.alloc(), SMALL_CYCLE, 0)?;
-    for slot in 1..4 {
-        assert_eq!(rt; slots_of(&bus)?, (0, Some(slot), Some(slot)));
-        window_with(&mut bus, &nothing())?;
-    }
-    // Four words on channel B take its first four minislots.
-    assert_eq!(rt; slots_of(&bus)?, (1, Some(4), Some(4)));
-    window_with(&mut bus, &offer_of(&[], &[0; 16])?)?;
-    for minislot in 2..11 {
-        let on_b = (minislot > 3).then_some(minislot + 1);
-        assert_eq!(rt; slots_of(&bus)?, (minislot, Some(minislot + 3), on_b));
-        window_with(&mut bus, &nothing())?;
-    }
-    assert!(rt; bus.phase() == Phase::Finished);
-    Ok(())
-}
-
-#[test]
-fn a_run_goes_through_its_cycles_and_ends(rt: HostRuntime) -> Result<(), Fail> {
-    let mut bus = bus_of(rt.alloc(), THREE_NODES, 66)?;
-    for number in 0..462 {
-        let window = open_window(&bus)?;
-        let told = (window.number, u32::from(window.cycle.number()));
-        assert_eq!(rt; told, (number, number / 7 % 64));
-        assert_eq!(rt; slots_of(&bus)?.2.map(u32::from), Some(number % 7 + 1));
-        window_with(&mut bus, &nothing())?;
-    }
-    assert!(rt; bus.record().len() == 462 && bus.phase() == Phase::Finished);
+fn calls_of_a_run_that_is_over_are_refused(rt: HostRuntime) -> Result<(), Fail> {
+    let mut bus = bus_at(rt.alloc(), THREE_NODES, 7)?;
+    assert!(rt; bus.record().len() == 7 && bus.phase() == Phase::Finished);
     let rows = [
-        (Call::Put(0, 461), BusError::NotCollecting),
+        (Call::Put(0, 6), BusError::NotCollecting),
         (
             Call::Inject(Harm::Mute(0, Channel::A)),
             BusError::NotCollecting,
         ),
         (Call::Seal, BusError::NotCollecting),
-        (Call::Take(0, 461), BusError::NotSealed),
+        (Call::Take(0, 6), BusError::NotSealed),
         (Call::Advance, BusError::NotSealed),
     ];
     for (call, error) in rows {

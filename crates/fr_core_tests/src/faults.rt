@@ -1,4 +1,4 @@
-//! Faults in a guarded static slot, and two lists of events that differ by what a faulty node does.
+//! Two lists of events that differ by what a faulty node does.
 
 use crate::steps::{Harm, fault_of};
 use crate::worlds::{commit, interface, payload_read, push_window, step_all, three_nodes};
@@ -11,15 +11,8 @@ use fr_testing::frame_bytes;
 use std::alloc::Global;
 use std::test::Fail;
 
-/// A data frame of slot 1 in cycle 0 with payload `9999`, on channel A.
-const BABBLED: [u8; 10] = [0x20, 0x01, 0x03, 0x46, 0x80, 0x99, 0x99, 0xe9, 0x37, 0xd0];
-
 /// A word of payload.
 type Word = Option<[u8; 2]>;
-
-/// What comes of a commit of node 0: what node 1 holds of channel A and of B, node 1's counters of A, and how many
-/// commits of node 0 were sent.
-type Left = (Word, Word, [u32; 5], u32);
 
 /// The word in node 1's receive buffer, if any.
 fn word(world: &mut World, buffer: u8) -> Result<Word, Fail> {
@@ -28,55 +21,6 @@ fn word(world: &mut World, buffer: u8) -> Result<Word, Fail> {
         [high, low] => Some([*high, *low]),
         _ => None,
     }))
-}
-
-/// What is left where node 0 committed `0a0b`, once the window of its slot has passed with these faults.
-fn left_by(alloc: Global, harms: &[Harm]) -> Result<Left, Fail> {
-    let mut world = three_nodes(alloc)?;
-    let mut events = Vec::new(alloc);
-    events.push(commit(0, &[0x0a, 0x0b])?)?;
-    for harm in harms {
-        events.push(Event::Inject(fault_of(*harm)?))?;
-    }
-    push_window(&mut events)?;
-    step_all(&mut world, events.as_slice())?;
-    let (on_a, on_b) = (word(&mut world, 0)?, word(&mut world, 1)?);
-    let counted = interface(&world, 1)?.counters().a;
-    let tally = interface(&world, 0)?.tally(0).ok_or("no tally")?;
-    Ok((on_a, on_b, counted, tally.sent))
-}
-
-#[test]
-fn what_comes_of_faults_in_a_guarded_slot(rt: HostRuntime) -> Result<(), Fail> {
-    let sent = Some([0x0a, 0x0b]);
-    let babbled = Some([0x99, 0x99]);
-    let rows: [(&[Harm], Left); 4] = [
-        // A muted owner that babbles is received.
-        (
-            &[
-                Harm::Mute(0, Channel::A),
-                Harm::Babble(0, Channel::A, &BABBLED),
-            ],
-            (babbled, sent, [1, 0, 0, 0, 0], 1),
-        ),
-        // A bit that is turned in the frame is a syntax error, and one after its end turns nothing.
-        (
-            &[Harm::Corrupt(Channel::A, 40)],
-            (None, sent, [0, 1, 0, 0, 0], 1),
-        ),
-        (
-            &[Harm::Corrupt(Channel::A, 999)],
-            (sent, sent, [1, 0, 0, 0, 0], 1),
-        ),
-        (
-            &[Harm::Babble(2, Channel::A, &BABBLED)],
-            (sent, sent, [1, 0, 0, 0, 0], 1),
-        ),
-    ];
-    for (harms, left) in rows {
-        assert_eq!(rt; left_by(rt.alloc(), harms)?, left);
-    }
-    Ok(())
 }
 
 /// The faults of node 2 in the window of this number of the first cycle: it babbles in each static slot, and at the

@@ -1,5 +1,5 @@
 //! The tests of frames, lanes and macroticks, of the sender table and of guardians, of the bus, of the world over
-//! events, and of runs that no scenario can ask for. What a command of the program can show is tried by
+//! events, and of runs that no scenario can ask for. What a command or a session can show is tried by
 //! `scripts/commands`. They stand apart from what they test, since a crate with tests is proved twice.
 #![tactic(auto)]
 
@@ -23,8 +23,6 @@ mod settling;
 mod steps;
 #[cfg(test)]
 mod timing;
-#[cfg(test)]
-mod turns;
 #[cfg(test)]
 mod withdrawing;
 #[cfg(test)]

@@ -33,23 +33,6 @@ own = [{slot = 2, channels = \"AB\"}]
 [[node]]
 ";
 
-/// Three static slots, then ten minislots of four words, of which one stays idle after a transmission, and two nodes.
-pub(crate) const SMALL_CYCLE: &str = "guard = \"AB\"
-[params]
-static_slots = 3
-minislots = 10
-static_words = 1
-static_mt = 20
-minislot_mt = 5
-symbol_mt = 4
-nit_mt = 6
-cycle_mt = 120
-idle = 1
-words_per_minislot = 4
-[[node]]
-[[node]]
-";
-
 /// The bus of a cluster.
 pub(crate) fn bus_of(alloc: Global, text: &str, cycles: u16) -> Result<Bus, Fail> {
     let cluster = Cluster::from_text(alloc, text)?;

@@ -2,7 +2,6 @@
 //!
 //! A test that makes its calls through these is proved in little time, since each contract is met here once.
 
-use fr_core::error::StepError;
 use fr_core::event::{Event, Reply};
 use fr_core::world::World;
 use fr_frame::payload::Payload;
@@ -76,11 +75,6 @@ pub(crate) fn push_window(events: &mut Vec<Event>) -> Result<(), Fail> {
         events.push(Event::Observe(node(number)?))?;
     }
     Ok(())
-}
-
-/// Why the event is refused, or nothing where it is accepted.
-pub(crate) fn refusal(world: &mut World, event: &Event) -> Option<StepError> {
-    world.step(event).err()
 }
 
 /// Does the events in order. One that is refused fails the test and says why.

@@ -58,7 +58,7 @@ impl Guardian {
     {
         let posts = posts_of(alloc, cluster)?;
         Ok(Guardian {
-            params: cluster.params().duplicate(),
+            params: *cluster.params(),
             guard: guard_of(cluster),
             posts,
         })

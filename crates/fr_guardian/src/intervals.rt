@@ -82,7 +82,6 @@ pub fn open_intervals(
     ensures { IfOk result
         (λ intervals. AreMaximalIntervals (IsOpenTo params.now guarded owned.now cycle channel) intervals.items) }
 {
-    let params = params.duplicate();
     let static_mt = u32::from(params.static_mt);
     let slots = owned_slots(owned, cycle, channel);
     let mut intervals = Vec::new(alloc);
@@ -95,6 +94,6 @@ pub fn open_intervals(
             since = start + static_mt;
         }
     }
-    add(&mut intervals, since, segments_of(&params).symbol)?;
+    add(&mut intervals, since, segments_of(params).symbol)?;
     Ok(intervals)
 }

@@ -109,8 +109,10 @@ impl Interface {
         let receive = receive_buffers(alloc, plan.buffers())?;
         let queue = receive_queue(alloc, plan.queue())?;
         let indexed = IndexedPlan::new(alloc, plan)?;
+        // Field by field, since what holds of parameters is told where one of them is read.
+        let params = Params { ..*params };
         Ok(Interface {
-            params: params.duplicate(),
+            params,
             plan: indexed,
             journal,
             opening: Opening::NONE,

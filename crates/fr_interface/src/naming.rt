@@ -1,9 +1,10 @@
 //! The frame that an origin names.
 
-ghost use Rattle.std.specs.Prelude.{◌≡◌, ◌≤◌, [], length, take};
+ghost use Rattle.std.specs.Prelude.{◌≡◌, ◌≤◌, [], length, take, option_map};
 ghost use Rattle.std.specs.Option.{option_and_then};
 ghost use Rattle.fr_journal.specs.Counts.{seen_on};
 ghost use Rattle.fr_journal.specs.Held.{frame_in_entry, frame_named};
+ghost use Rattle.fr_journal.specs.Lent.{whole};
 ghost use Rattle.fr_journal.specs.OpenWindow.{open_window, window_mark};
 
 use crate::observed::Told;
@@ -11,6 +12,7 @@ use fr_frame::frame::Frame;
 use fr_frame::lent::LentFrame;
 use fr_journal::entry::{Entry, Origin};
 use fr_journal::journal::Journal;
+use fr_journal::lent::LentEntry;
 use fr_slots::channel::Channel;
 use fr_slots::params::Params;
 use fr_slots::window::Window;
@@ -63,22 +65,27 @@ fn seen_on<'a>(channel: Channel, a: &'a Seen, b: &'a Seen) -> &'a Seen
 }
 
 /// What the entry says of the open window, if it says something: a fetch opens one, and an observe closes it.
-fn window_mark(entry: &Entry) -> Option<Option<Window>>
-    ensures { result ≡ window_mark [] entry.now }
+fn window_mark(entry: &LentEntry<'_>) -> Option<Option<Window>>
+    ensures { result ≡ window_mark [] (whole entry.now) }
 {
     match entry {
-        Entry::Fetch { window, .. } => Some(Some(*window)),
-        Entry::Observe { .. } => Some(None),
-        Entry::Commit { .. } | Entry::Withdraw { .. } | Entry::Read { .. } | Entry::Pop { .. } =>
-            None,
+        LentEntry::Fetch { window, .. } => Some(Some(*window)),
+        LentEntry::Observe { .. } => Some(None),
+        LentEntry::Commit { .. }
+        | LentEntry::Withdraw { .. }
+        | LentEntry::Read { .. }
+        | LentEntry::Pop { .. } => None,
     }
 }
 
 /// What the entry says of the open window, if there is an entry and it says something.
-fn window_said(entry: &Option<Entry>) -> Option<Option<Window>>
-    ensures { result ≡ option_and_then (window_mark []) entry.now }
+fn window_said(entry: &Option<LentEntry<'_>>) -> Option<Option<Window>>
+    ensures { result ≡ option_and_then (window_mark []) (option_map whole entry.now) }
 {
-    window_mark(entry.as_ref()?)
+    match entry {
+        Some(entry) => window_mark(entry),
+        None => None,
+    }
 }
 
 /// The window that is open before the entry of this number: the last one that says something decides, and it is near.
@@ -87,7 +94,7 @@ fn window_open_at(journal: &Journal, number: u32) -> Option<Window>
     ensures { result ≡ open_window (take number journal.now.entries) }
 {
     for place in (0..number).rev() {
-        if let Some(window) = window_said(&journal.get(place)) {
+        if let Some(window) = window_said(&journal.lent(place)) {
             return window;
         }
     }

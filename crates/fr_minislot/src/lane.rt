@@ -67,7 +67,6 @@ fn row_length(params: &Params, bytes: u16) -> u16
     ensures value { result ≡ row_length params.now bytes }
     ensures fits { result ≤ 300 }
 {
-    let params = params.duplicate();
     if bytes == 0 {
         return 1;
     }
@@ -84,10 +83,10 @@ impl Lane {
     pub fn new(params: &Params) -> Lane
         ensures { result ≡ standing_after params.now [] }
     {
-        let params = params.duplicate();
+        let slot = params.static_slots + 1;
         Lane {
-            params,
-            slot: params.static_slots + 1,
+            params: *params,
+            slot,
             begins: 1,
         }
     }

@@ -1,7 +1,7 @@
 //! Reading the table `params`.
 
 ghost use Rattle.std.specs.Prelude.{◌≡◌, option_map, IfOk};
-ghost use Rattle.fr_slots.specs.Parameters.{name_of, admits, IsWithin, AreFirst, AreLast, assembled};
+ghost use Rattle.fr_slots.specs.Parameters.{name_of, admits, IsWithin, AreFirst, AreLast, IsParameters, assembled};
 ghost use Rattle.fr_params.specs.Table.{number_at, first_five, last_five, summed, parameters_in};
 ghost use Rattle.toml.specs.Data.{get_member};
 ghost use Rattle.toml.specs.View.{view, table_view};
@@ -18,7 +18,8 @@ use toml::{Table, Value};
 /// `static_slots * static_mt + minislots * minislot_mt + symbol_mt + nit_mt` isn't `cycle_mt`.
 #[tactic(auto, unfolding(crate::specs::Table::parameters_in))]
 pub fn from_table(table: &Table) -> Result<Params, ParamError>
-    ensures { result ≡ parameters_in (table_view table.now) }
+    ensures value { result ≡ parameters_in (table_view table.now) }
+    ensures lawful { IfOk result IsParameters }
 {
     let first = first_five(table)?;
     let last = last_five(table)?;
@@ -29,7 +30,8 @@ pub fn from_table(table: &Table) -> Result<Params, ParamError>
 fn params_of(first: Five, last: Five) -> Result<Params, ParamError>
     requires first_within { AreFirst first }
     requires last_within { AreLast last }
-    ensures { result ≡ summed (assembled first last) }
+    ensures value { result ≡ summed (assembled first last) }
+    ensures lawful { IfOk result IsParameters }
 {
     // Each number is in its range, so that only the sum is refused.
     match Params::assemble(first, last) {

@@ -64,8 +64,7 @@ fn write_stripes<W: Write>(writer: &mut W) -> io::Result<()> {
 
 /// Writes how far boxes stand apart: less where static slots are short, so that these are seen.
 fn write_gaps<W: Write>(writer: &mut W, params: &Params) -> io::Result<()> {
-    let params = params.duplicate();
-    let gap = (extent(&params, 0, u32::from(params.static_mt)) / 12).min(6);
+    let gap = (extent(params, 0, u32::from(params.static_mt)) / 12).min(6);
     writer.write_all(b"<style>rect{stroke-width:")?;
     write!(writer, "{gap}px")?;
     writer.write_all(b"}</style>\n")
@@ -95,11 +94,7 @@ pub(crate) fn write_head<W: Write>(
     )?;
     write!(writer, "<g class='head'><title>cycle {cycle}</title>")?;
     write!(writer, "<text x='{LEFT}' y='260'>Cycle {cycle}, ")?;
-    write!(
-        writer,
-        "{} macroticks, ",
-        cluster.params().duplicate().cycle_mt
-    )?;
+    write!(writer, "{} macroticks, ", cluster.params().cycle_mt)?;
     let name = if cluster.nodes() == 1 {
         "node"
     } else {

@@ -18,7 +18,6 @@ use std::io::Write;
 fn start_of(params: &Params, slot: SlotId) -> u32
     ensures { result ≡ start_of params.now slot }
 {
-    let params = params.duplicate();
     u32::from(slot.number() - 1) * u32::from(params.static_mt)
 }
 
@@ -26,7 +25,6 @@ fn start_of(params: &Params, slot: SlotId) -> u32
 fn end_of(params: &Params, slot: SlotId) -> u32
     ensures { result ≡ end_of params.now slot }
 {
-    let params = params.duplicate();
     u32::from(slot.number()) * u32::from(params.static_mt)
 }
 
@@ -152,7 +150,7 @@ pub fn write_owners<W: Write>(writer: &mut W, cluster: &Cluster, cycle: Cycle) -
         (W.contents writer.old)
         (W.contents writer.new)) }
 {
-    let params = cluster.params().duplicate();
+    let params = cluster.params();
     for earlier in 0..params.static_slots {
         if let Some(slot) = SlotId::new(earlier + 1) {
             write_owner(writer, cluster, cycle, slot, Channel::A)?;

@@ -23,7 +23,6 @@ pub const NUMBER_LENGTH: u64 = 150;
 pub fn across(params: &Params, macrotick: u32) -> u64
     ensures { result ≡ across params.now macrotick }
 {
-    let params = params.duplicate();
     LEFT + u64::from(macrotick) * LENGTH / u64::from(params.cycle_mt)
 }
 

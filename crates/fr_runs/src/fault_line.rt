@@ -1,7 +1,6 @@
 //! Faults of a run.
 
 ghost use Rattle.std.specs.Prelude.{◌≡◌};
-ghost use Rattle.fr_bus.specs.Windows.{opens_cycle};
 ghost use Rattle.fr_runs.specs.Striking.{opens};
 
 use fr_bus::fault::Fault;
@@ -38,13 +37,6 @@ pub struct FaultLine {
     pub cycles: FaultCycles,
     /// In which windows of such a cycle.
     pub place: FaultPlace,
-}
-
-/// Whether the window is the first of its cycle: its static slot 1.
-pub fn opens_cycle(window: &Window) -> bool
-    ensures { result ≡ opens_cycle window.now }
-{
-    window.is_static() && window.a.is_some_and(|slot| slot.number() == 1)
 }
 
 /// Whether the channel opens the slot of this number.

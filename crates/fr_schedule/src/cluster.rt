@@ -68,7 +68,7 @@ fn cluster_of(alloc: Global, root: &Table) -> Result<Cluster, ConfigError>
     let plans = plans_of(alloc, &params, values)?;
     let senders = senders_of(alloc, &params, plans.as_slice())?;
     Ok(Cluster {
-        params: params.duplicate(),
+        params,
         guard,
         plans,
         senders,

@@ -7,6 +7,7 @@ ghost use Rattle.fr_schedule.specs.declared.error.ConfigError.TheVariants as err
 ghost use Rattle.fr_schedule.specs.Files.{params_table, params_in, guard_named, guard_in, nodes_in, each_of};
 ghost use Rattle.fr_schedule.specs.Files.{buffer_read, with_buffers_of, plan_of};
 ghost use Rattle.fr_slots.specs.Numbers.{most_lines};
+ghost use Rattle.fr_slots.specs.Parameters.{IsParameters};
 ghost use Rattle.fr_slots.specs.Plans.{buffer_fits, IsPlan, Each};
 ghost use Rattle.toml.specs.View.{view, table_view};
 
@@ -37,7 +38,8 @@ fn params_table(root: &Table) -> Option<&Table>
 /// The parameters. Where there is no table `params` no key is there.
 #[tactic(auto, unfolding(crate::specs::Files::params_in))]
 pub(crate) fn params_in(alloc: Global, root: &Table) -> Result<Params, ConfigError>
-    ensures { result ≡ params_in (table_view root.now) }
+    ensures value { result ≡ params_in (table_view root.now) }
+    ensures lawful { IfOk result IsParameters }
 {
     let outcome = match params_table(root) {
         Some(table) => from_table(table),

@@ -7,10 +7,10 @@ ghost use Rattle.fr_session.specs.Moving.{observe_events, offer_events, see_even
 ghost use Rattle.fr_session.specs.Moving.{window_events, DoesAll, MovesOn, is_at_cycle, EndsCycle, RunsCycles};
 
 use fr_bus::bus::Bus;
+use fr_bus::windows::opens_cycle;
 use fr_core::error::StepError;
 use fr_core::event::{Event, Reply};
 use fr_core::world::World;
-use fr_runs::fault_line::opens_cycle;
 use fr_slots::numbers::NodeId;
 use std::alloc::{AllocError, Global};
 

@@ -249,15 +249,6 @@ impl Params {
         })
     }
 
-    /// A copy of the parameters.
-    pub fn duplicate(&self) -> Params
-        ensures value { result ≡ self.now }
-        ensures lawful { IsParameters self.now }
-    {
-        let _ = &self.static_slots;
-        *self
-    }
-
     /// Whether the slot is a static one (chapter 5).
     pub fn is_static(&self, slot: SlotId) -> bool
         ensures { result ≡ is_static_slot self.now slot }

@@ -33,6 +33,7 @@ pub fn start_of(params: &Params, place: Place) -> Option<u32>
     ensures only { (macrotick : ℕ) → IsAt params.now macrotick place → result ≡ Some macrotick }
     ensures inverse { IfSome result
         (λ macrotick. (other : Place) → IsAt params.now macrotick other → other ≡ place) }
+    ensures lawful { IsParameters params.now }
 {
     start_at(params, place)
 }
@@ -87,7 +88,8 @@ fn start_in_row(first: u32, count: u16, length: u16, number: u16, offset: u32) -
 /// The macrotick of a place, by multiplication.
 #[tactic(auto, unfolding(crate::specs::Division::start_at))]
 fn start_at(params: &Params, place: Place) -> Option<u32>
-    ensures { result ≡ start_at params.now place }
+    ensures value { result ≡ start_at params.now place }
+    ensures lawful { IsParameters params.now }
 {
     let segments = segments_of(params);
     match place {

@@ -27,7 +27,6 @@ pub fn segments_of(params: &Params) -> Segments
     ensures end { result.end ≡ cycle_end params.now }
     ensures lawful { IsParameters params.now }
 {
-    let params = params.duplicate();
     let dynamic = u32::from(params.static_slots) * u32::from(params.static_mt);
     let symbol = dynamic + u32::from(params.minislots) * u32::from(params.minislot_mt);
     let idle = symbol + u32::from(params.symbol_mt);

@@ -21,7 +21,7 @@ loop-earlier-preserved g c =
     let earlier = c.loop-earlier.earlier in
     let start = g.W.Write.contents c.args.writer.now in
     let before = g.W.Write.contents c.loop-earlier.writer in
-    let few = c.duplicate-params.ensures.lawful.static_slots_fit in
+    let few = c.params.invariant.static_slots_fit in
     elim c.match-new.branch [
       | in-Some+in_ok-write_slot w ↦
           let after = g.W.Write.contents w.write_slot.new.writer in

@@ -1,6 +1,5 @@
 use Rattle.std.proofs.Common.{◌≡◌, ◌+◌, ◌*◌, ◌<◌, subst, sym, ap, ◌∙◌, arith, List, ◌++◌, Vec, Global}
-use Rattle.fr_slots.specs.Parameters.{Parameters}
-use Rattle.fr_timing.specs.Segments.{symbol_start}
+use Rattle.fr_slots.specs.Parameters.{Parameters, IsParameters}
 use Rattle.fr_guardian.specs.Guarding.{IsOpenTo}
 use Rattle.fr_guardian.specs.Intervals.{Span, AreMaximalIntervals, run}
 use Rattle.fr_guardian.proofs.OpenLemmas.{IsFound, step_open, step_closed, step_last, same_found, open_by_slots}
@@ -10,8 +9,8 @@ use Rattle.fr_guardian.proofs.intervals.open_intervals.Goals.{then-not-is_open_s
 pub loop-earlier-preserved : goal.loop-earlier-preserved
 loop-earlier-preserved c =
     let p = c.args.params.now in
-    let lawful = c.duplicate-params.ensures.lawful in
-    let same = c.params.view_is ∙ c.duplicate-params.ensures.value in
+    let lawful = subst IsParameters c.params.view_is c.params.invariant in
+    let same = c.params.view_is in
     let size : c.from-static_mt.result ≡ p.static_mt = c.from-static_mt.ensures ∙ ap (λ (x : Parameters). x.static_mt) same in
     let slots = ap (λ (x : Parameters). x.static_slots) same in
     let below : c.loop-earlier.earlier < p.static_slots = omega arith in
@@ -33,12 +32,12 @@ loop-earlier-preserved c =
 pub returns : goal.returns
 returns c =
     let p = c.args.params.now in
-    let lawful = c.duplicate-params.ensures.lawful in
-    let same = c.params.view_is ∙ c.duplicate-params.ensures.value in
+    let lawful = subst IsParameters c.params.view_is c.params.invariant in
+    let same = c.params.view_is in
     let size = c.from-static_mt.ensures ∙ ap (λ (x : Parameters). x.static_mt) same in
     let slots = ap (λ (x : Parameters). x.static_slots) same in
     let all : c.loop-earlier.earlier ≡ c.params.inside.static_slots = omega arith in
     let found = subst (λ n. IsFound p c.args.guarded c.args.owned.now c.args.cycle c.args.channel c.loop-earlier.since (n * c.from-static_mt.result) c.loop-earlier.intervals.items) all c.loop-earlier.invariant in
-    let end = c.segments_of.ensures.symbol ∙ ap symbol_start c.duplicate-params.ensures.value in
+    let end = c.segments_of.ensures.symbol in
     subst (λ (xs : List Span). AreMaximalIntervals (IsOpenTo p c.args.guarded c.args.owned.now c.args.cycle c.args.channel) xs) (sym c.in_ok-add-2.ensures)
     (step_last p lawful c.args.guarded c.args.owned.now c.args.cycle c.args.channel c.from-static_mt.result c.params.inside.static_slots c.loop-earlier.since _ c.loop-earlier.intervals.items size slots end found)

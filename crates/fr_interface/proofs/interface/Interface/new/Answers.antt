@@ -17,9 +17,9 @@ pub invariant_of-result : goal.invariant_of-result
 unfolding AllAfter
 invariant_of-result c =
     let params = c.args.params.now in
+    let params_is = c.params.view_is in
     let plan = c.args.plan.now in
     let none : c.in_ok-journal.journal.entries ≡ [] = ap (λ (k : Kept). k.entries) c.in_ok-journal.ensures in
-    let params_is : c.duplicate.result ≡ params = c.duplicate.ensures.value in
     let plan_is : c.in_ok-indexed.indexed ≡ plan = c.in_ok-indexed.ensures in
     let transmit : c.in_ok-transmit.transmit.items ≡ map (λ (b : Buffer). new_transmitter b.mode) plan.buffers =
     c.in_ok-transmit.ensures ∙ ap (map (λ (b : Buffer). new_transmitter b.mode)) c.buffers.ensures.value in
