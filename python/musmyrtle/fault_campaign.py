@@ -2,7 +2,7 @@
 from collections.abc import Callable, Iterator
 from dataclasses import dataclass
 
-from musmyrtle.cluster import Cluster
+from musmyrtle.cluster import Cluster, Queue
 from musmyrtle.fault_costs import Difference, Ended, differences, ended
 from musmyrtle.fault_hosts import Hosts, answers
 from musmyrtle.fault_list import Listing, Selection, SingleFault
@@ -39,7 +39,6 @@ class Campaign:
         self.cluster, self.scenario, self.folder, self.means = cluster, scenario, folder, means
         self.player = Player(means.world, folder.cluster, cluster, scenario, folder.cycles)
         self.recorded = self.player.play(is_recorded=cluster.parameters.minislots > 0)
-        self.pops = {node for (node, _), lines in scenario.scripts.items() if any(it.kind == "pop" for it in lines)}
         self.reference = self.read_reference()
 
     def read_reference(self) -> Ended:
@@ -69,15 +68,13 @@ class Campaign:
         return differences(self.reference, ended(self.scenario, outcome, played))
 
     def is_played(self, fault: SingleFault) -> bool:
-        """Whether the outcome alone doesn't tell all: windows may have moved, or tasks have popped other frames."""
-        return fault.is_dynamic or any(self.may_reach_queue(fault, node) for node in self.pops)
+        """Whether the outcome alone doesn't tell all: windows may have moved, or other frames have come to a queue."""
+        return fault.is_dynamic or any(self.may_reach(fault, node.queue) for node in self.cluster.nodes if node.queue)
 
-    def may_reach_queue(self, fault: SingleFault, node: int) -> bool:
-        queue = self.cluster.nodes[node].queue
-        if queue is None or fault.channel not in queue.channels:
-            return False
-        return queue.first <= self.cluster.parameters.static_slots if fault.slot is None \
-            else queue.first <= fault.slot <= queue.last
+    def may_reach(self, fault: SingleFault, queue: Queue) -> bool:
+        last = min(queue.last, self.cluster.parameters.static_slots)
+        is_in_range = queue.first <= last if fault.slot is None else queue.first <= fault.slot <= last
+        return is_in_range and fault.channel in queue.channels
 
     def run(self, faults: list[SingleFault], log: Log, tell: Callable[[int, int], None]) -> Done:
         """All faults in the order of the list, whatever order they are done in. TELL is told how many are done."""

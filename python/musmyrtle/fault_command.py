@@ -14,12 +14,13 @@ from musmyrtle.fault_campaign import Campaign, Means, NoReference
 from musmyrtle.fault_costs import FAILED
 from musmyrtle.fault_hosts import Hosts, NoParallel
 from musmyrtle.fault_list import ALL, ALL_STATIC, KINDS, Selection, SingleFault
-from musmyrtle.fault_page import page
+from musmyrtle.fault_page import Subject, page
 from musmyrtle.fault_runs import OUTCOME, Folder, Log, outcome_words
 from musmyrtle.fault_table import BadTable, Done, Ranks, has_effect, read_ranks, summary, table, worse
 from musmyrtle.fault_table import told as told_difference
 from musmyrtle.findings import counted
 from musmyrtle.lint import Task, lint
+from musmyrtle.names import Names
 from musmyrtle.program import ask, itself, usual_program
 from musmyrtle.refusals import SessionOver
 from musmyrtle.scenario import Reading as ScenarioReading
@@ -228,7 +229,8 @@ def concluded(given: argparse.Namespace, done: Done, before: Ranks | None, clust
     say("".join(summary(done, cluster, given.cycles, left_out)))
     if given.html:
         try:
-            Path(given.html).write_text(page(given, done, cluster, left_out), encoding="utf-8")
+            subject = Subject(given.cluster, given.scenario, given.cycles, names_of(given.cluster, cluster))
+            Path(given.html).write_text(page(subject, done, cluster, left_out), encoding="utf-8")
         except OSError as error:
             raise Stop(USAGE, f"--html {given.html}: {error.strerror}") from None
     found = [] if before is None else worse(done, before)
@@ -240,6 +242,12 @@ def concluded(given: argparse.Namespace, done: Done, before: Ranks | None, clust
         return UNDONE
     is_found = has_effect(done, given.fail_on) or bool(found and "worse" in given.fail_on)
     return FOUND if is_found else FINE
+
+
+def names_of(file: str, cluster: Cluster) -> list[str]:
+    """Each node's number, and after it its key `name` where it has one."""
+    named = {number: name for name, number in Names.read(file).nodes.items()}
+    return [" ".join(filter(None, (f"node {it.number}", named.get(it.number)))) for it in cluster.nodes]
 
 
 def worse_line(fault: SingleFault, found) -> str:

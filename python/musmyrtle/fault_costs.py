@@ -1,5 +1,6 @@
 """What a fault costs: the end of a run that has it, held against the end of the run without it."""
 from bisect import bisect_right
+from collections import Counter
 from collections.abc import Iterator
 from dataclasses import dataclass
 
@@ -80,15 +81,16 @@ class Calendar:
 
 @dataclass(frozen=True)
 class Ended:
-    """How a run ended: its outcome, the cycles of its entries, and what its tasks popped."""
+    """How a run ended: its outcome, the cycles of its entries, and what came to its queues."""
 
     outcome: Outcome
     calendar: Calendar
-    popped: dict[int, list[str]]
+    came: dict[int, list[str]]
+    """The frames that came to the queue of a node and weren't lost there, where that is known."""
 
 
 def ended(scenario: Scenario, outcome: Outcome, played: Played) -> Ended:
-    return Ended(outcome, Calendar(scenario, played.starts), played.popped)
+    return Ended(outcome, Calendar(scenario, played.starts), played.came)
 
 
 def differences(without: Ended, having: Ended) -> list[Difference]:
@@ -159,18 +161,22 @@ def spelled_sent(it: TransmitBuffer) -> str:
 
 
 def queued_otherwise(node: int, without: Ended, having: Ended) -> Iterator[Difference]:
-    """A frame that came is still there, was lost to a later one, or was popped. So fewer that came are frames that
-    the queue never got, and more that were lost are frames that it had."""
+    """What the tasks popped or can still pop. A frame that isn't among it any more was lost to a later one, or never
+    came. Where only counts are known, fewer frames are lost ones and more are others."""
     one, other = without.outcome.nodes[node].queue, having.outcome.nodes[node].queue
-    popped, popped_then = without.popped.get(node, []), having.popped.get(node, [])
-    if one == other and popped == popped_then:
+    came, came_then = without.came.get(node), having.came.get(node)
+    if one == other and came == came_then:
         return
-    came = one.waiting + one.lost + len(popped)
-    came_then = other.waiting + other.lost + len(popped_then)
-    lost = max(0, came - came_then) + max(0, other.lost - one.lost)
-    texts = (f"{it.waiting} {it.lost} {len(frames)}" for it, frames in ((one, popped), (other, popped_then)))
-    effect, amount = ("lost", lost) if lost else ("changed", max(1, came_then - came))
-    yield Difference(node, "queue", effect, amount, *texts)
+    if came is None or came_then is None:
+        change = other.waiting - one.waiting
+        lost, others = max(0, -change, other.lost - one.lost), max(0, change)
+    else:
+        lost, others = (Counter(came) - Counter(came_then)).total(), (Counter(came_then) - Counter(came)).total()
+    texts = [f"{it.waiting} {it.lost}" for it in (one, other)]
+    if lost:
+        yield Difference(node, "queue", "lost", lost, *texts)
+    if others or not lost:
+        yield Difference(node, "queue", "changed", max(1, others), *texts)
 
 
 def counted_otherwise(node: int, before: NodeOutcome, after: NodeOutcome) -> Iterator[Difference]:

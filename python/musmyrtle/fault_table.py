@@ -38,7 +38,8 @@ def read_ranks(text: str) -> Ranks:
         words = line.split("\t")
         if len(words) != len(COLUMNS) or words[7] not in EFFECTS or not words[8].isdecimal():
             raise BadTable(f"has no fault in line {number}")
-        ranks[tuple(words[:7])] = (RANKS[words[7]], int(words[8]))
+        key = tuple(words[:7])
+        ranks[key] = max(ranks.get(key, (-1, 0)), (RANKS[words[7]], int(words[8])))
     return ranks
 
 
@@ -63,7 +64,7 @@ def told(it: Difference, nodes: list[str] | None = None) -> str:
     more = {
         "lost": counted(it.amount, "frame") + " lost" if it.thing == "queue" else "lost",
         "older": f"older by {counted(it.amount, 'cycle')}",
-        "changed": "other frames" if it.thing == "queue" else "another payload",
+        "changed": counted(it.amount, "other frame") if it.thing == "queue" else "another payload",
         "pending": f"{counted(it.amount, 'commit')} more pending",
         "unsent": f"{counted(it.amount, 'commit')} fewer sent",
         "newer": f"newer by {counted(it.amount, 'cycle')}",
@@ -109,15 +110,21 @@ def stopped(done: Done, cluster: Cluster, cycles: int) -> Iterator[str]:
                f"{costing or 'none'} made any difference to anybody\n")
 
 
-def hurting(done: Done) -> list[tuple[SingleFault, list[Difference]]]:
-    """The faults that cost something, those first that cost the most: by what is lost, then older, then changed, and
-    of each by how many things, with how much of it."""
-    def weight(found: list[Difference]) -> tuple:
-        of_each = ([it.amount for it in found if it.effect == cost] for cost in COSTS)
-        return tuple((len(amounts), sum(amounts)) for amounts in of_each)
+def hurting(done: Done) -> list[tuple[list[SingleFault], list[Difference]]]:
+    """The faults that cost something, together where they cost the same, and those first that cost the most: by what is
+    lost, then older, then changed, and of each by how many things, with how much of it."""
+    alike: dict[tuple, tuple[list[SingleFault], list[Difference]]] = {}
+    for fault, found in done:
+        costs = [it for it in found if it.is_cost]
+        if costs:
+            key = tuple((it.node, it.thing, it.effect, it.amount) for it in costs)
+            alike.setdefault(key, ([], costs))[0].append(fault)
+    return sorted(alike.values(), key=lambda it: weight(it[1]), reverse=True)
 
-    costly = [(fault, found) for fault, found in done if any(it.is_cost for it in found)]
-    return sorted(costly, key=lambda it: weight(it[1]), reverse=True)
+
+def weight(found: list[Difference]) -> tuple:
+    of_each = ([it.amount for it in found if it.effect == cost] for cost in COSTS)
+    return tuple((len(amounts), sum(amounts)) for amounts in of_each)
 
 
 def has_effect(done: Done, effects: Iterable[str]) -> bool:

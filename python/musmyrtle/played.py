@@ -1,8 +1,8 @@
 """A scenario's run done by requests to its world, for what the run's outcome doesn't say.
 
-An outcome names the entry of a journal that a frame came by, and not the cycle; it doesn't say which frames the tasks
-popped; and where in the dynamic segment nodes send follows only from what is sent before. A session with `fr_world`
-tells all three.
+An outcome names the entry of a journal that a frame came by, and not the cycle; it doesn't say which frames came to a
+queue; and where in the dynamic segment nodes send follows only from what is sent before. A session with `fr_world` tells
+all three.
 """
 from collections.abc import Iterable
 from dataclasses import dataclass, field
@@ -36,8 +36,9 @@ class Played:
 
     starts: list[int] = field(default_factory=list)
     """The number of the first window of each cycle."""
-    popped: dict[int, list[str]] = field(default_factory=dict)
-    """The frames that the tasks of each node popped, as the world has them."""
+    came: dict[int, list[str]] = field(default_factory=dict)
+    """The frames that the tasks of each node popped, and then those that were still in its queue, as the world tells
+    them. A node whose task can't pop what is left isn't there."""
     begun: list[Begun] = field(default_factory=list)
     """What was begun in the dynamic segment, if that was asked for."""
     opened: dict[tuple[str, int, int], int] = field(default_factory=dict)
@@ -77,7 +78,21 @@ class Play:
             self.played.starts.append(window.number)
             self.call(cycle)
             window = self.dynamic(cycle, self.static(cycle))
+        for node in self.player.cluster.nodes:
+            if node.queue:
+                self.empty(node.number)
         return self.played
+
+    def empty(self, node: int) -> None:
+        """Pops what is left in the queue of a node, now that its run is over."""
+        reply = self.world.send([f"pop {node} 0"])[0]
+        while reply.startswith("frame ") and reply != "frame -":
+            self.played.came.setdefault(node, []).append(reply)
+            reply = self.world.send([f"pop {node} 0"])[0]
+        if reply == "frame -":
+            self.played.came.setdefault(node, [])
+        else:
+            self.played.came.pop(node, None)
 
     def call(self, cycle: int) -> None:
         """Does the lines of the tasks, as a scenario orders them."""
@@ -85,7 +100,7 @@ class Play:
             words = [line.kind, *line.words[1:3], *line.words[4:]]
             reply = self.world.send([" ".join(words)])[0]
             if line.kind == "pop" and reply != "frame -":
-                self.played.popped.setdefault(line.value("NODE"), []).append(reply)
+                self.played.came.setdefault(line.value("NODE"), []).append(reply)
 
     def static(self, cycle: int) -> Window | None:
         """Does the static windows of the cycle. Answers the window after them."""
