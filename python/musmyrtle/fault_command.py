@@ -35,8 +35,9 @@ ABOUT = """Tells what each single fault of a network costs: a run for each, held
 
 The table goes to standard output: a line for each fault and each thing that a node has otherwise by it. The summary
 goes to standard error. docs/FAULTS.md says what faults there are and what the words mean."""
-STATUSES = """status: 0 where nothing else is to be said, 1 where the cluster or the scenario is refused, 2 where the words
-are no command or a file can't be used, 3 where --fail-on has found something, 4 where a run was refused or killed"""
+STATUSES = """status: 0 where nothing else is to be said, 1 where the cluster or the scenario is refused, 2 where the
+words are no command or a file can't be used, 3 where --fail-on has found something, 4 where a run was refused or
+killed, 130 where it was broken off"""
 
 
 def numbers_of(word: str) -> frozenset[int]:

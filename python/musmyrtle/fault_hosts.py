@@ -71,7 +71,10 @@ def command(folder: Path, hosts: Hosts) -> list[str]:
             str(folder), *(["--cleanup"] if hosts.words else []), "--colsep", " ", "sh script {1} {2}"]
 
 
-def answers(folder: Folder, program: str, faults: list[SingleFault], hosts: Hosts) -> Iterator[tuple[SingleFault, Answer]]:
+Told = Iterator[tuple[SingleFault, Answer]]
+
+
+def answers(folder: Folder, program: str, faults: list[SingleFault], hosts: Hosts) -> Told:
     """Each fault with the answer of its run, as they come. A fault whose run nobody has answered isn't among them."""
     arguments = prepare(folder, program, faults)
     (folder.path / "arguments").write_text("".join(f"{it}\n" for it in arguments))

@@ -19,7 +19,8 @@ th, td { border: 1px solid #bbb; padding: .25em .5em; text-align: left; vertical
 .matrix td { padding: 0; text-align: center; min-width: 4em; }
 .matrix td a, .matrix td span { display: block; padding: .3em; color: inherit; text-decoration: none; }
 .matrix td a:hover, .matrix td a:focus { outline: 2px solid #222; }
-.lost, .failed { background: #b3261e; color: #fff; } .older { background: #f2a33a; } .changed { background: #7a3e9d; color: #fff; }
+.lost, .failed { background: #b3261e; color: #fff; } .older { background: #f2a33a; }
+.changed { background: #7a3e9d; color: #fff; }
 .pending, .unsent { background: #f7e08a; } .harmless { background: #dcefe0; } .nothing { color: #888; }
 .key span { padding: .1em .5em; margin-right: .5em; }
 section.cell { display: none; border-left: 4px solid #555; padding-left: 1em; } section.cell:target { display: block; }
@@ -82,8 +83,8 @@ def page(subject: Subject, done: Done, cluster: Cluster, left_out: int) -> str:
 
 
 def key() -> Iterator[str]:
-    yield ("<p>The worst that any fault of a row does to the node of a column, and how many faults do that. A cell opens "
-           "its faults.</p>")
+    yield ("<p>The worst that any fault of a row does to the node of a column, and how many faults do that. A cell "
+           "opens its faults.</p>")
     told_of = "".join(f'<span class="{name}">{name}</span>{escape(what)}. ' for name, what in KEY.items())
     yield f'<p class="key">{told_of}</p>'
 
@@ -110,7 +111,8 @@ def cell(found: list | None, row: int, column: int) -> str:
 
 def sections(cells: Cells, heads: list[str], names: list[str]) -> Iterator[str]:
     for (row, column), found in sorted(cells.items()):
-        yield f'<section class="cell" id="c{row}-{column}"><h3>{escape(heads[row])}: what it does to {escape(names[column])}</h3>'
+        head = escape(f"{heads[row]}: what it does to {names[column]}")
+        yield f'<section class="cell" id="c{row}-{column}"><h3>{head}</h3>'
         costly = [(fault, differences) for fault, differences in found if any(it.is_cost for it in differences)]
         if costly:
             yield "<table><tr><th>fault</th><th>cost</th><th>without it</th><th>with it</th></tr>"
@@ -125,7 +127,8 @@ def sections(cells: Cells, heads: list[str], names: list[str]) -> Iterator[str]:
 
 def line(fault: SingleFault, it: Difference, names: list[str]) -> str:
     what = f'<td>{escape(str(fault))}</td><td class="{it.effect}">{escape(told(it, names))}</td>'
-    return f"<tr>{what}<td><code>{escape(cut(it.without))}</code></td><td><code>{escape(cut(it.having))}</code></td></tr>"
+    states = "".join(f"<td><code>{escape(cut(state))}</code></td>" for state in (it.without, it.having))
+    return f"<tr>{what}{states}</tr>"
 
 
 def cut(text: str) -> str:
@@ -146,7 +149,7 @@ def most(done: Done, names: list[str]) -> Iterator[str]:
         yield "<p>None costs anybody anything.</p>"
         return
     count = sum(len(faults) for faults, _ in alike)
-    yield f"<p>Of {counted(count, 'fault')} that cost something these cost most; those that cost the same stand together.</p>"
+    yield f"<p>{counted(count, 'fault')} cost something, and these most. Those that cost the same stand together.</p>"
     yield "<ol>"
     for faults, found in alike[:MOST_HURTING]:
         shown = [f"<b>{escape(str(it))}</b>" for it in faults[:MOST_ALIKE]]
@@ -165,7 +168,8 @@ def kinds(done: Done, left_out: int) -> Iterator[str]:
             yield f"<tr><td>{kind}</td><td>{escape(what)}</td>{numbers}</tr>"
     yield "</table>"
     if left_out:
-        yield f"<p>{counted(left_out, 'fault')} left out, since the scenario has one of the kind in each of their windows.</p>"
+        yield (f"<p>{counted(left_out, 'fault')} left out, since the scenario has one of the kind in each of their "
+               "windows.</p>")
 
 
 def failures(done: Done) -> Iterator[str]:

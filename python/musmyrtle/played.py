@@ -1,8 +1,8 @@
 """A scenario's run done by requests to its world, for what the run's outcome doesn't say.
 
 An outcome names the entry of a journal that a frame came by, and not the cycle; it doesn't say which frames came to a
-queue; and where in the dynamic segment nodes send follows only from what is sent before. A session with `fr_world` tells
-all three.
+queue; and where in the dynamic segment nodes send follows only from what is sent before. A session with `fr_world`
+tells all three.
 """
 from collections.abc import Iterable
 from dataclasses import dataclass, field

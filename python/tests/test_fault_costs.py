@@ -40,10 +40,12 @@ class TestOutcomes(unittest.TestCase):
         self.assertEqual(found.nodes[1].counters["B"].valid, 2)
 
     def test_what_is_no_outcome(self):
-        for old, new in (("node 0", "node 1"), ("tx 0 2 2", "tx 0 2 1"), ("tx 0 2", "tx 1 2"), ("rx 1", "rx  1"), ("x1111", "x111"),
-                         ("x1111", "x11"), ("x1111", "X1111"), ("9:A", "09:A"), ("9:A", "9:C"), ("9:A x1111", "- x1111"),
+        for old, new in (("node 0", "node 1"), ("tx 0 2 2", "tx 0 2 1"), ("tx 0 2", "tx 1 2"), ("rx 1", "rx  1"),
+                         ("x1111", "x111"), ("x1111", "x11"), ("x1111", "X1111"), ("9:A", "09:A"), ("9:A", "9:C"),
+                         ("9:A x1111", "- x1111"),
                          ("rx 2 - -\n", ""), ("rx 2 - -", "queue 0 0\nrx 2 - -"), ("A 2 0 0 0 0", "A 2 0 0 0"),
-                         ("A 2 0", "A 2 00"), ("A 2 0", "A 2 -1"), ("windows 4\n", ""), ("settled\n", ""), ("settled\n", "settled"),
+                         ("A 2 0", "A 2 00"), ("A 2 0", "A 2 -1"), ("windows 4\n", ""), ("settled\n", ""),
+                         ("settled\n", "settled"),
                          ("settled\n", "settled\n\n"), ("node 1", "node 1\n"), ("\n", "\r\n")):
             with self.assertRaises(BadOutcome, msg=(old, new)):
                 read_outcome(OUTCOME.replace(old, new, 1), cluster_of(TWO_NODES))
@@ -125,21 +127,23 @@ def slot_2_lost(counts: str) -> list[tuple]:
 FORGED_HELD = (0, "rx 2", "changed", 1, "-", "1:B xa55a")
 OWN_CONFLICT_1 = [heard(0, TWICE, "2 0 0 0 2", "A"), *by_other_channel("0 2 0 0 0")]
 OWN_CONFLICT_2 = [*slot_2_lost("0 2 0 0 0"), heard(1, TWICE, "2 0 0 0 2", "A")]
-TURNED_1, TURNED_2, TURNED_B = by_other_channel("0 2 0 0 0"), slot_2_lost("0 2 0 0 0"), [heard(1, TWICE, "0 2 0 0 0", "B")]
+TURNED_1, TURNED_2 = by_other_channel("0 2 0 0 0"), slot_2_lost("0 2 0 0 0")
+TURNED_B = [heard(1, TWICE, "0 2 0 0 0", "B")]
+SLOT_1_GONE = (("mute", "s1"), ("mute", "s*"), ("lost", "all"))
+SLOT_2_GONE = (("mute", "s2"), ("mute", "s*"), ("lost", "all"))
 BY_HAND = {
     # Lost frames: of slot 1 there is another one on the other channel, of slot 2 there isn't.
-    **{f"{kind} 0 A * {place}": by_other_channel(QUIET) for kind, place in (("mute", "s1"), ("mute", "s*"), ("lost", "all"))},
-    **{f"{kind} 0 B * {place}": [heard(1, TWICE, QUIET, "B")]
-       for kind, place in (("mute", "s1"), ("mute", "s*"), ("lost", "all"))},
-    **{f"{kind} 1 A * {place}": slot_2_lost(QUIET) for kind, place in (("mute", "s2"), ("mute", "s*"), ("lost", "all"))},
+    **{f"{kind} 0 A * {place}": by_other_channel(QUIET) for kind, place in SLOT_1_GONE},
+    **{f"{kind} 0 B * {place}": [heard(1, TWICE, QUIET, "B")] for kind, place in SLOT_1_GONE},
+    **{f"{kind} 1 A * {place}": slot_2_lost(QUIET) for kind, place in SLOT_2_GONE},
     # Babbles on the guarded channel: only in the node's own slot, where its frame and its babble collide.
     **{f"{kind} 0 A * {place}": found for kind in ("noise", "forged")
        for place, found in (("s1", OWN_CONFLICT_1), ("s2", []), ("s*", OWN_CONFLICT_1))},
     **{f"{kind} 1 A * {place}": found for kind in ("noise", "forged")
        for place, found in (("s1", []), ("s2", OWN_CONFLICT_2), ("s*", OWN_CONFLICT_2))},
     # Babbles on the other one, where slot 1 has a frame and slot 2 has none.
-    **{f"{kind} 0 B * s1": [heard(0, QUIET, "0 0 0 0 2", "B"), heard(1, TWICE, "0 2 0 0 0", "B")] for kind in ("noise", "forged")},
-    **{f"{kind} 1 B * s1": [heard(0, QUIET, "0 0 0 0 2", "B"), heard(1, TWICE, "0 0 0 0 2", "B")] for kind in ("noise", "forged")},
+    **{f"{kind} {node} B * s1": [heard(0, QUIET, "0 0 0 0 2", "B"), heard(1, TWICE, counts, "B")]
+       for kind in ("noise", "forged") for node, counts in ((0, "0 2 0 0 0"), (1, "0 0 0 0 2"))},
     "noise 0 B * s2": [heard(1, TWICE, "2 2 0 0 0", "B")],
     "noise 0 B * s*": [heard(0, QUIET, "0 0 0 0 2", "B"), heard(1, TWICE, "0 4 0 0 0", "B")],
     "noise 1 B * s2": [heard(0, QUIET, "0 2 0 0 0", "B")],
@@ -190,7 +194,8 @@ class TestRuns(unittest.TestCase):
     def test_the_dynamic_segment_of_three_nodes(self):
         """Node 2 sends three frames in slot 4, which opens at minislot 1, and all of them come to the queue of node 0,
         which has popped one: a noise there costs these three, and so does the loss of node 2."""
-        found = self.found(self.campaign(CLUSTER, SCENARIO, 4), Selection(frozenset(["noise", "lost"]), None, frozenset(["m1", "all"])))
+        narrowed = Selection(frozenset(["noise", "lost"]), None, frozenset(["m1", "all"]))
+        found = self.found(self.campaign(CLUSTER, SCENARIO, 4), narrowed)
         for name in ("lost 2 A * all", "noise 0 A * m1", "noise 1 A * m1", "noise 2 A * m1"):
             got = [(it.node, it.effect, it.amount, it.without, it.having) for it in found[name] if it.thing == "queue"]
             self.assertEqual(got, [(0, "lost", 3, "2 0", "0 0")], name)

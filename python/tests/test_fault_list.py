@@ -55,7 +55,8 @@ class TestList(unittest.TestCase):
                          [["0", "s1"], ["0", "s2"], ["1", "s1"], ["1", "s2"]])
 
     def test_narrowed(self):
-        self.assertEqual(self.names(TWO_NODES, 2, only("mute", nodes=frozenset([1]))), ["mute 1 A * s2", "mute 1 A * s*"])
+        self.assertEqual(self.names(TWO_NODES, 2, only("mute", nodes=frozenset([1]))),
+                         ["mute 1 A * s2", "mute 1 A * s*"])
         self.assertEqual(self.names(TWO_NODES, 2, only("noise", places=places_of("2"), nodes=frozenset([0]))),
                          ["noise 0 A * s2", "noise 0 B * s2"])
         self.assertEqual(self.names(TWO_NODES, 2, only("header", nodes=frozenset([1]))), ["header - A * s2"])
@@ -87,8 +88,8 @@ class TestList(unittest.TestCase):
         self.assertEqual([it.place for it in found if it.channel == "A" and it.is_dynamic], places)
         found = faults_of(CLUSTER, 2, only("forged", nodes=frozenset([0])), commit, recorded)[0]
         lines = [it.lines for it in found if it.channel == "A" and it.place in places]
-        self.assertEqual(lines[0], tuple(f"babble 0 A {cycle} m1 x{data_frame(4, cycle, bytes.fromhex('a55a'), 'A').hex()}"
-                                         for cycle in (0, 1)))
+        frames = [data_frame(4, cycle, bytes.fromhex("a55a"), "A").hex() for cycle in (0, 1)]
+        self.assertEqual(lines[0], (f"babble 0 A 0 m1 x{frames[0]}", f"babble 0 A 1 m1 x{frames[1]}"))
         self.assertEqual([it[:15] for it in lines[1]], ["babble 0 A 1 m2"])
 
     def test_who_is_stopped(self):

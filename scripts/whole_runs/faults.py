@@ -1,4 +1,4 @@
-"""Runs of `fr_faults` whole: its words, its statuses, its table, and runs that are broken off or go to other machines."""
+"""Runs of `fr_faults` whole: its words, its statuses, its table, and runs that are broken off or given to `parallel`."""
 import re
 import shutil
 import signal
@@ -42,7 +42,7 @@ class Faults:
         self.runs.compare("the order of the lines", (order, listed[1:]), (sorted(order), ("", 0)))
         for cores in ("1", "3"):
             self.runs.compare(f"the table by {cores} cores", self.ask(*THREE_NODES, "--cores", cores), (table, told, 0))
-        stopped = "of the babbles in guarded static slots that aren't the node's own, 8, none made any difference to anybody\n"
+        stopped = "in guarded static slots that aren't the node's own, 8, none made any difference to anybody\n"
         count = re.search(r"^all +(\d+)", told, re.MULTILINE)
         self.runs.compare("what guardians stop", (stopped in told, count and int(count[1])), (True, len(places)))
         return table
@@ -54,8 +54,10 @@ class Faults:
         earlier = self.folder / "earlier"
         earlier.write_text(table)
         told, status = self.ask(*THREE_NODES, "--against", earlier, "--fail-on", "worse")[1:]
-        self.runs.compare("the same table again", (told.splitlines()[-1], status), (f"no things worse than in {earlier}", 0))
-        earlier.write_text("".join(line for line in table.splitlines(True) if not line.startswith("mute\t1\tA\t*\ts2\t2\trx")))
+        wanted = f"no things worse than in {earlier}", 0
+        self.runs.compare("the same table again", (told.splitlines()[-1], status), wanted)
+        kept = [line for line in table.splitlines(True) if not line.startswith("mute\t1\tA\t*\ts2\t2\trx")]
+        earlier.write_text("".join(kept))
         told, status = self.ask(*THREE_NODES, "--against", earlier, "--fail-on", "worse")[1:]
         wanted = [f"1 thing worse than in {earlier}", "  mute 1 A * s2: node 2 rx 1: lost"]
         self.runs.compare("one thing that is worse", (told.splitlines()[-2:], status), (wanted, 3))
@@ -69,10 +71,10 @@ class Faults:
                       ["missing", *THREE_NODES[1:]], [THREE_NODES[0], "missing", "--cycles", "4"]):
             lint = run([sys.executable, "-B", TOP / "fr_lint", "--program", self.runs.program, *words])
             self.runs.compare(f"what is refused of {words[:2]}", self.ask(*words), ("", lint[0].decode(), 1))
-        for words in ([], THREE_NODES[:2], [*THREE_NODES, "--kinds", "mutes"], [*THREE_NODES, "--nodes", "x"], [*THREE_NODES, "--in-cycle", "4"],
-                      [*THREE_NODES, "--resume"], [*THREE_NODES, "--fail-on", "worse"], [*THREE_NODES, "--sshlogin", "a"],
-                      [*THREE_NODES, "--against", "missing"], [*THREE_NODES, "--against", EXAMPLES / "three-nodes/plan"],
-                      [*THREE_NODES, "--program", "missing"]):
+        no_words = (["--kinds", "mutes"], ["--nodes", "x"], ["--in-cycle", "4"], ["--resume"], ["--fail-on", "worse"],
+                    ["--sshlogin", "a"], ["--against", "missing"], ["--against", EXAMPLES / "three-nodes/plan"],
+                    ["--program", "missing"])
+        for words in ([], THREE_NODES[:2], *([*THREE_NODES, *it] for it in no_words)):
             output, _, status = self.ask(*words)
             self.runs.compare(f"the words {words}", (output, status), ("", 2))
 
@@ -84,7 +86,8 @@ class Faults:
         got, told, status = self.ask(*THREE_NODES, "--program", program)
         self.runs.compare("the status where runs failed", status, 4)
         lines = [line for line in got.splitlines() if re.search("\t(killed|refused|unreadable)\t", line)]
-        wanted = [("mute\t0\tA\t*\ts1\t-\t-\tkilled\t1\t-\tsignal 9"), ("mute\t0\tB\t*\ts1\t-\t-\trefused\t1\t-\tMemory"),
+        wanted = ["mute\t0\tA\t*\ts1\t-\t-\tkilled\t1\t-\tsignal 9",
+                  "mute\t0\tB\t*\ts1\t-\t-\trefused\t1\t-\tMemory",
                   ("mute\t1\tA\t*\ts2\t-\t-\tunreadable\t1\t-\tline 1 is `nothing`, and `node 0..` was due")]
         self.runs.compare("runs that failed", lines, wanted)
         fronts = tuple(line.split("\t-\t")[0] for line in wanted)
@@ -120,7 +123,8 @@ class Faults:
         got = self.ask(*THREE_NODES, "--html", page)
         text = page.read_text()
         self.runs.compare("the table beside the page", got[::2], (table, 0))
-        self.runs.compare("nothing comes from outside", re.findall(r"https?:|<script|<link|@import|url\(|src=", text), [])
+        outside = re.findall(r"https?:|<script|<link|@import|url\(|src=", text)
+        self.runs.compare("nothing comes from outside", outside, [])
         opened, sections = re.findall('href="#(c[^"]*)"', text), re.findall('id="(c[^"]*)"', text)
         self.runs.compare("each cell opens its faults", sorted(opened), sorted(sections))
         self.runs.compare("the cells of the matrix", len(re.findall('<td class="[a-z]*">(?:<a|<span)', text)), 5 * 3)
