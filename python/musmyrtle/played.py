@@ -123,10 +123,11 @@ class Play:
         return found
 
     def dynamic(self, cycle: int, window: Window | None) -> Window | None:
-        """Does the dynamic windows of the cycle, one by one where something of them matters."""
-        is_stepped = self.is_recorded or any(not it.is_static and it.cycle in (None, cycle) for it in self.faults)
+        """Does the dynamic windows of the cycle: one by one as long as something of them matters, and then the rest."""
+        places = [it.place for it in self.faults if not it.is_static and it.cycle in (None, cycle)]
+        last = max(places, default=0)
         while window and not window.opens_cycle:
-            if not is_stepped:
+            if not self.is_recorded and window.minislot > last:
                 return moved(self.world.ask("cycle"))
             requests = self.strikes(cycle, False, window.minislot)
             requests += [f"mute {self.lost[0]} {self.lost[1]}"] if self.lost else []
