@@ -1,4 +1,4 @@
-"""What is round the bench: host programs in a proved world, scenarios made by a program, and the command `fr_lint`.
+"""What is round the bench: host programs in a proved world, scenarios made by a program, `fr_lint` and `fr_faults`.
 
     from musmyrtle import World
 

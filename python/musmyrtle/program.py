@@ -1,4 +1,5 @@
-"""The program `fr_bench`, which decides: which one it is, and what it answers."""
+"""The program `fr_bench`, which decides, and those beside it: which one it is, and what it answers."""
+import os
 import shutil
 import subprocess
 import sys
@@ -16,13 +17,27 @@ class Answer:
     refusal: str | None
 
 
-def usual_program() -> str | None:
+def usual_program(name: str = "fr_bench") -> str | None:
     """The launcher of the checkout that this package is in, or its program, or else the one on the path of commands."""
     is_checkout = (CHECKOUT / "python/musmyrtle/program.py").is_file()
-    for file in (CHECKOUT / "fr_bench", CHECKOUT / "dist/fr_bench"):
+    for file in (CHECKOUT / name, CHECKOUT / "dist" / name):
         if is_checkout and file.is_file():
             return str(file)
-    return shutil.which("fr_bench")
+    return shutil.which(name)
+
+
+def itself(program: str) -> str:
+    """The program that a launcher of the checkout has just run, or else the one that is named.
+
+    A launcher looks first whether the program is still that of the sources, which is to be done once and not for each
+    of many runs.
+    """
+    launcher = Path(program).resolve()
+    noted = CHECKOUT / "out" / f"{launcher.name}.found"
+    if launcher.parent != CHECKOUT or not noted.is_file():
+        return program
+    found = CHECKOUT / noted.read_text().split("\n", 1)[0]
+    return str(found) if found.name == launcher.name and os.access(found, os.X_OK) else program
 
 
 def ask(program: str, words: list[str]) -> Answer:

@@ -1,0 +1,89 @@
+"""What a run prints, read strictly: exactly the lines that the cluster's nodes have, and no other spelling."""
+import re
+from dataclasses import dataclass
+
+from musmyrtle.cluster import Cluster, Node
+from musmyrtle.replies import Counters, Queue, ReceiveBuffer, TransmitBuffer
+
+NUMBER = r"(0|[1-9][0-9]*)"
+HELD = re.compile(rf"(?:- -|{NUMBER}:([AB]) x((?:[0-9a-f]{{4}})*))")
+
+
+class BadOutcome(ValueError):
+    """The text isn't what a run of this cluster prints. The message says in which line."""
+
+
+@dataclass(frozen=True)
+class NodeOutcome:
+    """What one node has at the end: its buffers by number, its queue if it has one, and its counters by channel."""
+
+    buffers: tuple[TransmitBuffer | ReceiveBuffer, ...]
+    queue: Queue | None
+    counters: dict[str, Counters]
+
+
+@dataclass(frozen=True)
+class Outcome:
+    """What all nodes have at the end, and how many windows the run had."""
+
+    nodes: tuple[NodeOutcome, ...]
+    windows: int
+
+
+class Lines:
+    """The lines of a text, taken one by one."""
+
+    def __init__(self, text: str):
+        if not text.endswith("\n"):
+            raise BadOutcome("the last line has no line feed")
+        self.lines, self.at = text[:-1].split("\n"), 0
+
+    def take(self, front: str, form: str | re.Pattern) -> re.Match:
+        """The next line, which has to begin so and then to have this form whole."""
+        line = self.lines[self.at] if self.at < len(self.lines) else None
+        found = re.fullmatch(form, line[len(front):]) if line is not None and line.startswith(front) else None
+        if found is None:
+            what = "nothing" if line is None else f"`{line[:60]}`"
+            raise BadOutcome(f"line {self.at + 1} is {what}, and `{front}..` was due")
+        self.at += 1
+        return found
+
+    def numbers(self, front: str, count: int) -> list[int]:
+        return [int(it) for it in self.take(front, " ".join([NUMBER] * count)).groups()]
+
+    def end(self) -> None:
+        if self.at < len(self.lines):
+            raise BadOutcome(f"after `settled`, line {self.at + 1} goes on")
+
+
+def read_outcome(text: str, cluster: Cluster) -> Outcome:
+    """The outcome of a run of this cluster. Raises `BadOutcome` for a text that is none."""
+    lines = Lines(text)
+    nodes = tuple(read_node(lines, node) for node in cluster.nodes)
+    windows = lines.numbers("windows ", 1)[0]
+    lines.take("settled", "")
+    lines.end()
+    return Outcome(nodes, windows)
+
+
+def read_node(lines: Lines, node: Node) -> NodeOutcome:
+    lines.take(f"node {node.number}", "")
+    buffers = tuple(read_sent(lines, it.number) if it.transmits else read_held(lines, it.number) for it in node.buffers)
+    queue = None
+    if node.queue:
+        queue = Queue(*lines.numbers("queue ", 2))
+        if queue.waiting > node.queue.capacity:
+            raise BadOutcome(f"line {lines.at} has more frames than the queue holds")
+    return NodeOutcome(buffers, queue, {channel: Counters(*lines.numbers(f"{channel} ", 5)) for channel in "AB"})
+
+
+def read_sent(lines: Lines, number: int) -> TransmitBuffer:
+    found = TransmitBuffer(*lines.numbers(f"tx {number} ", 5))
+    if found.committed != found.sent + found.overwritten + found.pending + found.withdrawn:
+        raise BadOutcome(f"line {lines.at} doesn't account for each commit")
+    return found
+
+
+def read_held(lines: Lines, number: int) -> ReceiveBuffer:
+    entry, channel, data = lines.take(f"rx {number} ", HELD).groups()
+    return ReceiveBuffer(None, None, None) if entry is None else ReceiveBuffer(int(entry), channel, bytes.fromhex(data))

@@ -1,0 +1,144 @@
+"""Runs of `fr_faults` whole: its words, its statuses, its table, and runs that are broken off or given to `parallel`."""
+import re
+import shutil
+import signal
+import subprocess
+import sys
+import time
+from pathlib import Path
+
+from .runner import EXAMPLES, SECONDS, run
+
+TOP = EXAMPLES.parent
+THREE_NODES = ["three-nodes/cluster.toml", "three-nodes/scenario", "--cycles", "4"]
+HEADING = "kind\tnode\tchannel\tcycles\tplace\treceiver\tthing\teffect\tamount\twithout\twith\n"
+KILLED_AT = "#!/bin/sh\nfor last; do :; done\nif grep -q 'mute 0 A \\* s1$' \"$last\"; then kill -9 $$; fi\n" \
+    "if grep -q 'mute 0 B \\* s1$' \"$last\"; then echo 'refused Memory' >&2; exit 1; fi\n" \
+    "if grep -q 'mute 1 A \\* s2$' \"$last\"; then echo nothing; exit; fi\nexec '{}' \"$@\"\n"
+"""A program that is killed by one fault, refuses another, and prints something else by a third."""
+
+
+class Faults:
+    """Runs of the tool over the built programs: the one that prints outcomes, and the one for sessions."""
+
+    def __init__(self, runs, world, folder):
+        self.runs, self.folder = runs, folder
+        self.front = [sys.executable, "-B", TOP / "fr_faults", "--program", runs.program, "--world", world]
+
+    def ask(self, *words):
+        """Output, standard error and status."""
+        output, told, status = run([*self.front, *words])
+        return output.decode(), told.decode(), status
+
+    def whole(self):
+        """A table has a heading, and lines that stand in the order of the list; it doesn't depend on cores."""
+        table, told, status = self.ask(*THREE_NODES)
+        lines = table.splitlines()
+        self.runs.compare("the status of a whole list", (status, table[:len(HEADING)]), (0, HEADING))
+        self.runs.compare("the words of each line", {line.count("\t") for line in lines}, {10})
+        listed = self.ask(*THREE_NODES, "--list")
+        places = {line: number for number, line in enumerate(listed[0].splitlines())}
+        order = [places["\t".join(line.split("\t")[:5])] for line in lines[1:]]
+        self.runs.compare("the order of the lines", (order, listed[1:]), (sorted(order), ("", 0)))
+        for cores in ("1", "3"):
+            self.runs.compare(f"the table by {cores} cores", self.ask(*THREE_NODES, "--cores", cores), (table, told, 0))
+        stopped = "in guarded static slots that aren't the node's own, 8, none made any difference to anybody\n"
+        count = re.search(r"^all +(\d+)", told, re.MULTILINE)
+        self.runs.compare("what guardians stop", (stopped in told, count and int(count[1])), (True, len(places)))
+        return table
+
+    def statuses(self, table):
+        some = [*THREE_NODES, "--kinds", "mute"]
+        for word, status in (("lost", 3), ("older", 0), ("changed", 0), ("older,changed", 0), ("older,lost", 3)):
+            self.runs.compare(f"fail on {word}", self.ask(*some, "--fail-on", word)[2], status)
+        earlier = self.folder / "earlier"
+        earlier.write_text(table)
+        told, status = self.ask(*THREE_NODES, "--against", earlier, "--fail-on", "worse")[1:]
+        wanted = f"no things worse than in {earlier}", 0
+        self.runs.compare("the same table again", (told.splitlines()[-1], status), wanted)
+        kept = [line for line in table.splitlines(True) if not line.startswith("mute\t1\tA\t*\ts2\t2\trx")]
+        earlier.write_text("".join(kept))
+        told, status = self.ask(*THREE_NODES, "--against", earlier, "--fail-on", "worse")[1:]
+        wanted = [f"1 thing worse than in {earlier}", "  mute 1 A * s2: node 2 rx 1: lost"]
+        self.runs.compare("one thing that is worse", (told.splitlines()[-2:], status), (wanted, 3))
+
+    def refused(self):
+        """What is refused is told once, as the other tool tells it, and nothing is printed."""
+        bad = self.folder / "bad"
+        text = (EXAMPLES / "three-nodes/scenario").read_text()
+        bad.write_text(text.replace("commit 1 0 0 0", "commit 1 0 9 0"))
+        for words in (["three-nodes/scenario", *THREE_NODES[1:]], [THREE_NODES[0], bad, *THREE_NODES[2:]],
+                      ["missing", *THREE_NODES[1:]], [THREE_NODES[0], "missing", "--cycles", "4"]):
+            lint = run([sys.executable, "-B", TOP / "fr_lint", "--program", self.runs.program, *words])
+            self.runs.compare(f"what is refused of {words[:2]}", self.ask(*words), ("", lint[0].decode(), 1))
+        no_words = (["--kinds", "mutes"], ["--nodes", "x"], ["--in-cycle", "4"], ["--resume"], ["--fail-on", "worse"],
+                    ["--sshlogin", "a"], ["--against", "missing"], ["--against", EXAMPLES / "three-nodes/plan"],
+                    ["--program", "missing"])
+        for words in ([], THREE_NODES[:2], *([*THREE_NODES, *it] for it in no_words)):
+            output, _, status = self.ask(*words)
+            self.runs.compare(f"the words {words}", (output, status), ("", 2))
+
+    def failing(self, table):
+        """A run that is killed or refused stands in the table as such, and all others as ever."""
+        program = self.folder / "killed"
+        program.write_text(KILLED_AT.format(self.runs.program))
+        program.chmod(0o755)
+        got, told, status = self.ask(*THREE_NODES, "--program", program)
+        self.runs.compare("the status where runs failed", status, 4)
+        lines = [line for line in got.splitlines() if re.search("\t(killed|refused|unreadable)\t", line)]
+        wanted = ["mute\t0\tA\t*\ts1\t-\t-\tkilled\t1\t-\tsignal 9",
+                  "mute\t0\tB\t*\ts1\t-\t-\trefused\t1\t-\tMemory",
+                  ("mute\t1\tA\t*\ts2\t-\t-\tunreadable\t1\t-\tline 1 is `nothing`, and `node 0..` was due")]
+        self.runs.compare("runs that failed", lines, wanted)
+        fronts = tuple(line.split("\t-\t")[0] for line in wanted)
+        others = [line for line in table.splitlines() if not line.startswith(tuple(f"{it}\t" for it in fronts))]
+        self.runs.compare("all other runs", [line for line in got.splitlines() if line not in lines], others)
+
+    def resumed(self, table):
+        """Broken off after a while, or with a log that ends within a line, it goes on and comes to the same table."""
+        log = self.folder / "log"
+        words = [*THREE_NODES, "--joblog", str(log)]
+        running = subprocess.Popen([*self.front, *words, "--cores", "1"], cwd=EXAMPLES, stdout=subprocess.PIPE,
+                                   stderr=subprocess.PIPE)
+        for _ in range(SECONDS * 100):
+            if log.exists() and log.read_bytes().count(b"\n") > 5:
+                break
+            time.sleep(0.01)
+        running.send_signal(signal.SIGINT)
+        output, told = running.communicate(timeout=SECONDS)
+        is_told = f"--joblog {log} --resume goes on".encode() in told
+        self.runs.compare("a run that is broken off", (output, is_told, running.returncode), (b"", True, 130))
+        done = log.read_text().splitlines(True)
+        self.runs.compare("what is done by then", 5 < len(done) < 69, True)
+        log.write_text("".join(done)[:-20])
+        self.runs.compare("it goes on", self.ask(*words, "--resume")[::2], (table, 0))
+        self.runs.compare("each fault is noted once", len(log.read_text().splitlines()), 70)
+        self.runs.compare("nothing is left to do", self.ask(*words, "--resume")[::2], (table, 0))
+        other = [*THREE_NODES[:3], "5", "--joblog", str(log), "--resume"]
+        self.runs.compare("a log of another run", self.ask(*other)[::2], ("", 2))
+
+    def paged(self, table):
+        """The page stands by itself, and has a cell for each node that may have a fault and each that may be hurt."""
+        page = self.folder / "page.html"
+        got = self.ask(*THREE_NODES, "--html", page)
+        text = page.read_text()
+        self.runs.compare("the table beside the page", got[::2], (table, 0))
+        outside = re.findall(r"https?:|<script|<link|@import|url\(|src=", text)
+        self.runs.compare("nothing comes from outside", outside, [])
+        opened, sections = re.findall('href="#(c[^"]*)"', text), re.findall('id="(c[^"]*)"', text)
+        self.runs.compare("each cell opens its faults", sorted(opened), sorted(sections))
+        self.runs.compare("the cells of the matrix", len(re.findall('<td class="[a-z]*">(?:<a|<span)', text)), 5 * 3)
+
+    def parallel(self, table):
+        """By GNU parallel on this machine, where it is there."""
+        if shutil.which("parallel"):
+            self.runs.compare("the table by parallel", self.ask(*THREE_NODES, "--parallel")[::2], (table, 0))
+
+    def all(self):
+        table = self.whole()
+        self.statuses(table)
+        self.refused()
+        self.failing(table)
+        self.resumed(table)
+        self.paged(table)
+        self.parallel(table)
