@@ -152,7 +152,7 @@ class Scenario:
     # ---- the text
 
     def text(self) -> str:
-        """The scenario, as `fr_bench run` takes it: the lines of each task in the order of their cycles, then faults."""
+        """The scenario, as `fr_bench run` takes it: lines of each task in the order of their cycles, then faults."""
         lines = ["frscenario 2"]
         for (node, task), calls in sorted(self.scripts.items()):
             for cycle, (kind, *words) in sorted(calls, key=lambda call: call[0]):

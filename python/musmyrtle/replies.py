@@ -79,7 +79,7 @@ class TransmitBuffer:
 
 @dataclass(frozen=True, slots=True)
 class ReceiveBuffer:
-    """What a receive buffer holds: the entry of the journal that brought it, its channel and its payload, or nothing."""
+    """What a receive buffer holds: the journal's entry that brought it, its channel and its payload, or nothing."""
 
     entry: int | None
     channel: Channel | None
@@ -107,7 +107,7 @@ class Counters:
 
 @dataclass(frozen=True, slots=True)
 class Report:
-    """What became of a node's commits, what it holds, and what it saw. `text` is the report as `fr_bench run` has it."""
+    """What became of a node's commits, what it holds, and what it saw. `text` is the report as `fr_bench` has it."""
 
     buffers: tuple[TransmitBuffer | ReceiveBuffer, ...]
     queue: Queue | None

@@ -26,7 +26,7 @@ def usual_world() -> str:
 
 
 class Session:
-    """Requests, a line each, and their replies. What was asked is kept, so that it can be asked again without Python."""
+    """Requests, a line each, and their replies. What was asked is kept, to be asked again without Python."""
 
     def __init__(self, program: FileName, cluster: FileName, cycles: int) -> None:
         command = [os.fspath(program), os.fspath(cluster), "--cycles", str(cycles)]
