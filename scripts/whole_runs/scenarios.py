@@ -198,6 +198,11 @@ def withdraws(scenes):
                "node 2", "tx 0 3 2 0 0 1", "rx 1 33:A x1111", "A 8 0 0 0 0", "B 8 0 0 0 0", "windows 28", "settled"]
     scenario, wanted = ("".join(f"{line}\n" for line in text) for text in (["frscenario 2", *lines, "end"], outcome))
     scenes.check("run with withdraws", (wanted.encode(), b"", 0), scenario=scenario)
+    sends, receives = '{kind = "event", slot = 1, channels = "AB"},', '{kind = "receive", slot = 2, channels = "A"},'
+    cluster = scenes.cluster.replace(f"{sends}\n  {receives}", f"{receives}\n  {sends}")
+    lines = ["commit 0 0 0 1 x0a0b", "withdraw 0 0 0 1", "commit 0 0 2 1 x0c0d", "commit 1 0 1 0 x1111"]
+    told = [(0, "rx 0 48:A x1111"), (0, "tx 1 2 1 0 0 1"), (1, "rx 1 30:A x0c0d"), (1, "rx 2 30:B x0c0d")]
+    scenes.told("run with a withdraw of the second buffer", told, cluster, "\n".join(["frscenario 2", *lines, "end\n"]))
 
 
 def faults(scenes):
@@ -229,6 +234,12 @@ def long_runs(scenes):
              (1, "A 65 1 0 0 0"), (1, "B 65 0 0 0 0"), (2, "A 130 2 0 0 0"), (2, "B 131 0 0 0 0"), (2, "windows 462")]
     words = scenes.words(scenes.cluster, scenario, 66)
     scenes.compare_lines("run of 66 cycles", words, lines, lambda told, line: told == line)
+    # The last cycle before the number of a cycle is 0 again, and the first one after it.
+    scenario = "frscenario 1\ncorrupt A 63 s1 40\nmute 1 B 63 s2\ncorrupt A 64 s2 40\nmute 0 B 64 s1\nend\n"
+    lines = [(node, line) for node in (0, 1) for line in ("A 65 1 0 0 0", "B 65 0 0 0 0")]
+    lines += [(2, "A 130 2 0 0 0"), (2, "B 130 0 0 0 0"), (2, "windows 462")]
+    words = scenes.words(scenes.cluster, scenario, 66)
+    scenes.compare_lines("run with faults of cycles 63 and 64", words, lines, lambda told, line: told == line)
 
 
 def free_runs(scenes):
