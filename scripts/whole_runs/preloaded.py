@@ -87,10 +87,14 @@ def commands():
 
 def views():
     """The same of fr_view."""
+    run = [CLUSTER, str(FOLDER / "scenario"), "--cycles", "4"]
     return {
         "schedule": (["schedule", CLUSTER], b""),
         "capture": (["capture"], trace()),
         "frames": (["frames"], trace()),
+        "outcome": (["outcome", *run], b""),
+        "answers": (["answers", *run], b""),
+        "trace": (["trace", "0", *run], b""),
     }
 
 

@@ -42,15 +42,15 @@ steps_append old (e ∷ events) [] mid events' answers' new first second = absur
 steps_append old (e ∷ events) (a ∷ answers) mid events' answers' new first second =
     (first.0, first.1, steps_append first.0 events answers mid events' answers' new first.2 second)
 
-led_same : (old new : WorldState) → new ≡ old → IsLed old new
+pub led_same : (old new : WorldState) → new ≡ old → IsLed old new
 unfolding StepsAll
 led_same old new is = ([], [], is)
 
-led_step : (old : WorldState) (event : Event) (answer : Answer) (new : WorldState) → Steps old event answer new → IsLed old new
+pub led_step : (old : WorldState) (event : Event) (answer : Answer) (new : WorldState) → Steps old event answer new → IsLed old new
 unfolding StepsAll
 led_step old event answer new step = (event ∷ [], answer ∷ [], (new, step, refl))
 
-led_on : (old mid new : WorldState) → IsLed old mid → IsLed mid new → IsLed old new
+pub led_on : (old mid new : WorldState) → IsLed old mid → IsLed mid new → IsLed old new
 led_on old mid new first second =
     let (events, answers, steps) = first in
     let (events', answers', steps') = second in

@@ -33,7 +33,7 @@ does_more old events found between event answer new so_far step =
       ap (λ f. first_refusal f answer) is ∙ sym (fold-append first_refusal None answers (answer ∷ [])),
     )
 
-range-more : (first count : ℕ) → range_with_len first (count + 1) ≡ range_with_len first count ++ (first + count) ∷ []
+pub range-more : (first count : ℕ) → range_with_len first (count + 1) ≡ range_with_len first count ++ (first + count) ∷ []
 range-more first zero = ap (λ (n : ℕ). n ∷ []) (omega arith)
 range-more first (suc count) =
     let next : suc count + 1 ≡ suc (count + 1) = omega arith in

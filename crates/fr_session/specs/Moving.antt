@@ -27,10 +27,13 @@ see_events n = Take n ∷ Observe n ∷ []
 abbrev pub for_nodes : (ℕ → List Event) → ℕ → List Event
 for_nodes events nodes = flat_map events (range_with_len 0 nodes)
 
+-- what is due before the bus moves on, in a window in which nothing has been done
+abbrev pub whole_window : ℕ → List Event
+whole_window nodes = for_nodes offer_events nodes ++ Seal ∷ for_nodes see_events nodes
+
 -- All that can be due before the bus moves on. What isn't due is refused, and changes nothing.
 abbrev pub window_events : ℕ → List Event
-window_events nodes =
-    for_nodes observe_events nodes ++ for_nodes offer_events nodes ++ Seal ∷ for_nodes see_events nodes
+window_events nodes = for_nodes observe_events nodes ++ whole_window nodes
 
 -- ---- what hinders
 

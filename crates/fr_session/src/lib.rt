@@ -15,7 +15,7 @@
 pub mod error;
 pub mod laws;
 mod lines;
-mod moving;
+pub mod moving;
 mod queries;
 mod reading;
 mod replies;

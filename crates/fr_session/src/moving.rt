@@ -4,7 +4,8 @@ ghost use Rattle.std.specs.List.{flat_map, range_with_len};
 ghost use Rattle.fr_core.specs.Runs.{Answer, StepsAll};
 ghost use Rattle.fr_session.specs.Moving.{first_refusal, hindrance};
 ghost use Rattle.fr_session.specs.Moving.{observe_events, offer_events, see_events, for_nodes};
-ghost use Rattle.fr_session.specs.Moving.{window_events, DoesAll, MovesOn, is_at_cycle, EndsCycle, RunsCycles};
+ghost use Rattle.fr_session.specs.Moving.{whole_window, window_events, DoesAll, MovesOn, is_at_cycle, EndsCycle};
+ghost use Rattle.fr_session.specs.Moving.{RunsCycles};
 
 use fr_bus::bus::Bus;
 use fr_bus::windows::opens_cycle;
@@ -76,6 +77,29 @@ fn push_sights(events: &mut Vec<Event>, nodes: u8) -> Result<(), AllocError>
     Ok(())
 }
 
+/// Appends what is due in a window of so many nodes in which nothing has been done, but for the advance.
+fn push_whole(events: &mut Vec<Event>, nodes: u8) -> Result<(), AllocError>
+    requires { nodes ≤ 16 }
+    ensures { OnOk result (events.new.items ≡ events.old.items ++ whole_window nodes) }
+{
+    push_offers(events, nodes)?;
+    events.push(Event::Seal)?;
+    push_sights(events, nodes)
+}
+
+/// What is due in a window of so many nodes, 16 at most, in which nothing has been done, but for the bus's advance:
+/// the look, the fetch and the put of each node, the seal, and the take and the observe of each (own profile).
+///
+/// Refused where memory is.
+pub fn whole_window(alloc: Global, nodes: u8) -> Result<Vec<Event>, AllocError>
+    requires { nodes ≤ 16 }
+    ensures { IfOk result (λ events. events.items ≡ whole_window nodes) }
+{
+    let mut events = Vec::new(alloc);
+    push_whole(&mut events, nodes)?;
+    Ok(events)
+}
+
 /// All that can be due in a window of so many nodes, but for the advance.
 pub(crate) fn window_events(alloc: Global, nodes: u8) -> Result<Vec<Event>, AllocError>
     requires { nodes ≤ 16 }
@@ -83,9 +107,7 @@ pub(crate) fn window_events(alloc: Global, nodes: u8) -> Result<Vec<Event>, Allo
 {
     let mut events = Vec::new(alloc);
     push_observes(&mut events, nodes)?;
-    push_offers(&mut events, nodes)?;
-    events.push(Event::Seal)?;
-    push_sights(&mut events, nodes)?;
+    push_whole(&mut events, nodes)?;
     Ok(events)
 }
 
@@ -111,8 +133,8 @@ pub(crate) fn finish_window(world: &mut World, events: &[Event]) -> Option<StepE
     hindrance(found, &last)
 }
 
-/// Whether the open window is the first of its cycle, or the run is over.
-fn is_at_cycle(bus: &Bus) -> bool
+/// Whether the open window is the first of its cycle, or the run is over (own profile).
+pub fn is_at_cycle(bus: &Bus) -> bool
     ensures { result ≡ is_at_cycle bus.now.opened }
 {
     match bus.window() {

@@ -1,38 +1,47 @@
--- What is read of a scenario, that what is written is the outcome of a run with it, and that a
--- run is refused as that with its contents.
-use Rattle.std.proofs.Common.{◌≡◌, ◌⊎◌, ℕ, List, Option, Some, None, Result, Ok, Err, refl, subst, inl, inr}
+-- That what is written is the outcome of a run with the scenario of a file, and that a run is refused as that with its
+-- contents.
+use Rattle.std.proofs.Common.{◌≡◌, ℕ, List, Option, Some, None, Ok, Err, refl}
 use Rattle.std.specs.Prelude.{IfSome}
 use Rattle.std.specs.Io.KnownBytes.{Appends}
-use Rattle.std.specs.Str.{IsUtf8}
-use Rattle.fr_threads.specs.declared.outcome_error.OutcomeError.{OutcomeError}
-use Rattle.fr_threads.specs.declared.outcome_error.OutcomeError.TheVariants as refusal
-use Rattle.fr_threads.specs.Outcomes.{IsRefused, IsShort, IsScenarioIn, IsScenarioOf, Adds, RunIsRefused}
-use Rattle.fr_threads.specs.OutcomeText.{outcome_text}
+use Rattle.fr_commands.specs.declared.error.BenchError.TheVariants as bench
+use Rattle.fr_outcome.specs.declared.file_error.FileError.{FileError}
+use Rattle.fr_outcome.specs.declared.file_error.FileError.TheVariants as file
+use Rattle.fr_outcome.specs.OutcomeText.{outcome_text}
+use Rattle.fr_outcome.specs.ScenarioFiles.{IsScenarioOf, RunIsRefused}
+use Rattle.fr_threads.specs.Outcomes.{Adds, Answers, Prints, file_failure}
 use Rattle.fr_runs.specs.declared.check.RunRefusal.{RunRefusal}
 use Rattle.fr_runs.specs.Refusing.{Refuses}
 use Rattle.fr_scenario.specs.Contents.{Contents}
-use Rattle.fr_scenario.specs.declared.error.ScenarioError.{ScenarioError}
-use Rattle.fr_scenario.specs.declared.error.ScenarioError.TheVariants as scenario
-use Rattle.fr_scenario.specs.Reading.{first_fault}
 use Rattle.fr_schedule.specs.Descriptions.{Description}
 use Rattle.fr_threads.specs.declared.run.Run.{Run}
 use Rattle.fr_threads.specs.Running.{IsRunOf}
 
-pub refused_as : (text : List ℕ) (e : ScenarioError) → IsUtf8 text → (e ≡ scenario.Memory) ⊎ (first_fault text ≡ Some e) → IsRefused text e
-refused_as text e utf8 (inl memory) = inl memory
-refused_as text e utf8 (inr first) = inr (inl (utf8, first))
+-- a file that is refused is refused by the command
+not_read : (d : Description) (cycles : ℕ) (text : List ℕ) (e : FileError) → IsScenarioOf text (Err e) → Answers d cycles text (Err (file_failure e))
+not_read d cycles text (file.Scenario e) is = is
+not_read d cycles text (file.Text bench.TooLong) is = is
+not_read d cycles text (file.Text bench.Read) is = tt
+not_read d cycles text (file.Text bench.Memory) is = tt
+not_read d cycles text (file.Text bench.Write) is = absurd is
+not_read d cycles text (file.Text bench.BadNumber) is = absurd is
+not_read d cycles text (file.Text (bench.Config e)) is = absurd is
+not_read d cycles text (file.Text (bench.Midpoint e)) is = absurd is
 
-short_in : (text : List ℕ) (r : Result Contents OutcomeError) → IsShort text → IsScenarioIn text r → IsScenarioOf text r
-short_in text (Ok contents) short is = (short, is)
-short_in text (Err (refusal.Scenario e)) short is = (short, is)
-short_in text (Err (refusal.Text e)) short is = absurd is
-short_in text (Err (refusal.Run e)) short is = absurd is
+pub not_read_of : (d : Description) (cycles : ℕ) (text : Option (List ℕ)) (e : FileError) → IfSome text (λ t. IsScenarioOf t (Err e))
+    → IfSome text (λ t. Answers d cycles t (Err (file_failure e)))
+not_read_of d cycles None e is = tt
+not_read_of d cycles (Some t) e is = not_read d cycles t e is
 
--- the scenario in the bytes that were read is that of the text
-pub read_in : (text : Option (List ℕ)) (bytes : List ℕ) (r : Result Contents OutcomeError)
-    → IfSome text (λ t. (bytes ≡ t) × IsShort t) → IsScenarioIn bytes r → IfSome text (λ t. IsScenarioOf t r)
-read_in None bytes r read is = tt
-read_in (Some t) bytes r read is = short_in t r read.1 (subst (λ (b : List ℕ). IsScenarioIn b r) read.0 is)
+pub unwritten : (d : Description) (cycles : ℕ) (text old new : Option (List ℕ)) (e : FileError) → new ≡ old
+    → Prints d cycles text old new (Err (file_failure e))
+unwritten d cycles text old new (file.Scenario e) same = same
+unwritten d cycles text old new (file.Text bench.TooLong) same = same
+unwritten d cycles text old new (file.Text bench.Read) same = same
+unwritten d cycles text old new (file.Text bench.Memory) same = same
+unwritten d cycles text old new (file.Text bench.Write) same = tt
+unwritten d cycles text old new (file.Text bench.BadNumber) same = same
+unwritten d cycles text old new (file.Text (bench.Config e)) same = same
+unwritten d cycles text old new (file.Text (bench.Midpoint e)) same = same
 
 -- what was written is the outcome of a run with the scenario that the text is
 pub printed : (d : Description) (cycles : ℕ) (text old new : Option (List ℕ)) (contents : Contents) (run : Run)

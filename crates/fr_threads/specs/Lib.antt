@@ -1,3 +1,2 @@
-pub mod OutcomeText
 pub mod Outcomes
 pub mod Running

@@ -1,50 +1,27 @@
 -- What `run` does with the text of a scenario (own profile).
-use Rattle.std.specs.Prelude.{⊤, ◌≡◌, ◌<◌, ◌≤◌, ◌⊎◌, ℕ, List, length, Option, Some, None, IfSome, Result, Ok, Err}
+use Rattle.std.specs.Prelude.{⊤, ◌≡◌, ◌<◌, ℕ, List, length, Option, None, IfSome, Result, Ok, Err}
 use Rattle.std.specs.Io.KnownBytes.{Appends}
-use Rattle.std.specs.Str.{IsUtf8}
 use Rattle.fr_commands.specs.ClusterFiles.{IsClusterOf}
 use Rattle.fr_commands.specs.declared.error.BenchError.{BenchError}
 use Rattle.fr_commands.specs.declared.error.BenchError.TheVariants as bench
+use Rattle.fr_outcome.specs.declared.file_error.FileError.{FileError}
+use Rattle.fr_outcome.specs.declared.file_error.FileError.TheVariants as file
+use Rattle.fr_outcome.specs.OutcomeText.{outcome_text}
+use Rattle.fr_outcome.specs.ScenarioFiles.{IsShort, IsRefused, RunIsRefused}
 use Rattle.fr_threads.specs.declared.outcome_error.OutcomeError.{OutcomeError}
 use Rattle.fr_threads.specs.declared.outcome_error.OutcomeError.TheVariants as refusal
-use Rattle.fr_threads.specs.OutcomeText.{outcome_text}
-use Rattle.fr_runs.specs.declared.check.RunRefusal.{RunRefusal}
-use Rattle.fr_runs.specs.Refusing.{Refuses}
 use Rattle.fr_scenario.specs.Contents.{Contents}
-use Rattle.fr_scenario.specs.declared.error.ScenarioError.{ScenarioError}
-use Rattle.fr_scenario.specs.declared.error.ScenarioError.TheVariants as scenario
-use Rattle.fr_scenario.specs.Reading.{first_fault}
 use Rattle.fr_scenario.specs.ScenarioText.{IsScenarioText}
 use Rattle.fr_schedule.specs.Descriptions.{Description}
 use Rattle.fr_threads.specs.declared.run.Run.{Run}
 use Rattle.fr_threads.specs.Running.{IsRunOf, refusal_of}
 
--- ---- the scenario of a text
+-- ---- the file of a scenario
 
--- a text that isn't too long
-abbrev pub IsShort : List ℕ → Type 0
-IsShort text = length text ≤ 1048576
-
--- The text is refused so: by its first fault, and as another version where it isn't UTF-8; or memory is refused.
-abbrev pub IsRefused : List ℕ → ScenarioError → Type 0
-IsRefused text e =
-    (e ≡ scenario.Memory)
-    ⊎ ((IsUtf8 text × (first_fault text ≡ Some e)) ⊎ ((IsUtf8 text → ⊥) × (e ≡ scenario.BadMagic)))
-
--- the scenario that the bytes are, or their first fault
-abbrev pub IsScenarioIn : List ℕ → Result Contents OutcomeError → Type 0
-IsScenarioIn text (Ok contents) = IsScenarioText text contents
-IsScenarioIn text (Err (refusal.Scenario e)) = IsRefused text e
-IsScenarioIn text (Err e) = ⊥
-
--- The scenario that the text is, or its first fault. Of a failing reader and of want of memory nothing is said.
-abbrev pub IsScenarioOf : List ℕ → Result Contents OutcomeError → Type 0
-IsScenarioOf text (Ok contents) = IsShort text × IsScenarioText text contents
-IsScenarioOf text (Err (refusal.Scenario e)) = IsShort text × IsRefused text e
-IsScenarioOf text (Err (refusal.Text bench.TooLong)) = 1048576 < length text
-IsScenarioOf text (Err (refusal.Text bench.Read)) = ⊤
-IsScenarioOf text (Err (refusal.Text bench.Memory)) = ⊤
-IsScenarioOf text (Err e) = ⊥
+-- an error of a scenario file as one of the command
+abbrev pub file_failure : FileError → OutcomeError
+file_failure (file.Text e) = refusal.Text e
+file_failure (file.Scenario e) = refusal.Scenario e
 
 -- ---- the outcome
 
@@ -70,12 +47,6 @@ Prints d cycles text old new (Err (refusal.Text bench.Write)) = ⊤
 Prints d cycles text old new (Err e) = new ≡ old
 
 -- ---- why nothing was written
-
--- the text is that of a scenario, and the cluster's run with it is refused so, or can be had
-abbrev pub RunIsRefused : Description → ℕ → List ℕ → Option RunRefusal → Type 0
-RunIsRefused d cycles text refused =
-    IsShort text
-    × ((contents : Contents) × IsScenarioText text contents × Refuses d contents.scripts contents.faults cycles refused)
 
 -- The text of the scenario is refused so, or the run with it, or neither is. Of a failing reader and of want of memory
 -- nothing is said, nor of a failure that threads met in a run that can be had.

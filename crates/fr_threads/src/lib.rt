@@ -20,7 +20,6 @@ mod mover;
 mod node;
 pub mod outcome;
 pub mod outcome_error;
-pub mod outcome_text;
 mod pace;
 pub mod run;
 mod shared;

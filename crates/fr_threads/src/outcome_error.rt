@@ -1,9 +1,11 @@
 //! Why the outcome of a run isn't printed.
 ghost use Rattle.std.specs.Prelude.{◌≡◌};
 ghost use Rattle.fr_threads.specs.declared.outcome_error.OutcomeError.TheVariants as refusal;
+ghost use Rattle.fr_threads.specs.Outcomes.{file_failure};
 
 use crate::error::RunError;
 use fr_commands::error::BenchError;
+use fr_outcome::file_error::FileError;
 use fr_scenario::error::ScenarioError;
 use thiserror::Error;
 
@@ -30,11 +32,14 @@ impl From<BenchError> for OutcomeError {
     }
 }
 
-impl From<ScenarioError> for OutcomeError {
-    ghost from_gives = { λ error given. given ≡ refusal.Scenario error };
+impl From<FileError> for OutcomeError {
+    ghost from_gives = { λ error given. given ≡ file_failure error };
 
-    fn from(error: ScenarioError) -> OutcomeError {
-        OutcomeError::Scenario(error)
+    fn from(error: FileError) -> OutcomeError {
+        match error {
+            FileError::Text(error) => OutcomeError::Text(error),
+            FileError::Scenario(error) => OutcomeError::Scenario(error),
+        }
     }
 }
 

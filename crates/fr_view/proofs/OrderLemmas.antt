@@ -1,8 +1,9 @@
 -- The commands are of the kind of which `clap` tells all faults, and so the answer is the one that is due.
 use Rattle.std.proofs.Common.{◌≡◌, [], ◌∷◌, List, Option, Some, None, Err, refl, ap, ap₂, sym, subst, ◌∙◌, arith, inl}
 use Rattle.std.proofs.Common.{inr, true, false}
-use Rattle.std.proofs.Common.{◌&&◌, codes, is_some, option_map}
-use Rattle.std.specs.Prelude.{IfSome, IfNone}
+use Rattle.std.proofs.Common.{◌&&◌, ◌||◌, codes, is_some, option_map}
+use Rattle.std.specs.Prelude.{IfSome, IfNone, option_and_then, if◌then◌else◌}
+use Rattle.std.specs.Str.{bytes_eq}
 use Rattle.std.specs.Option.{ok_or}
 use Rattle.clap.specs.Values.{kind_of}
 use Rattle.clap.specs.Words.{HasKind, IsAmong, Kinds, Row, Text, fault_of, first_of, is_simple, is_simple_and_free}
@@ -13,9 +14,10 @@ use Rattle.fr_view.specs.declared.command.Order.{Order}
 use Rattle.fr_view.specs.declared.command.Order.TheVariants as the_order
 use Rattle.fr_words.specs.declared.error.OrderError.{OrderError}
 use Rattle.fr_words.specs.declared.error.OrderError.TheVariants as refusal
-use Rattle.fr_view.specs.Orders.{IsAnswerTo, IsOrder, IsScheduleBy, asks, cycle_asked, has_schedule_by}
-use Rattle.fr_view.specs.Orders.{the_commands}
-use Rattle.fr_words.specs.Commands.{IsNamed, order_error_of, word_in}
+use Rattle.fr_playing.specs.declared.shown.Shown.TheVariants.{Outcome, Answers, Trace}
+use Rattle.fr_view.specs.Orders.{IsAnswerTo, IsOrder, IsScheduleBy, IsShowBy, asks, cycle_asked, has_run_by}
+use Rattle.fr_view.specs.Orders.{has_schedule_by, has_show_by, node_asked, shown_by, the_commands}
+use Rattle.fr_words.specs.Commands.{IsNamed, cycles_in, order_error_of, word_in}
 
 pub are_simple : is_simple the_commands ≡ true
 unfolding clap_on_literals
@@ -52,6 +54,7 @@ schedule_alike : (f g : Text → Option Text) → ((id : Text) → f id ≡ g id
 schedule_alike f g same the_order.Capture is = is
 schedule_alike f g same the_order.Frames is = is
 schedule_alike f g same the_order.Help is = is
+schedule_alike f g same (the_order.Show shown run) is = is
 schedule_alike f g same (the_order.Schedule file cycle) is =
     (sym (same (codes "FILE")) ∙ is.0, ap cycle_asked (sym (same (codes "cycle"))) ∙ is.1)
 
@@ -64,6 +67,7 @@ schedule_told entered look (Some o) named same told = by o (schedule_alike look 
     by the_order.Capture is = absurd is
     by the_order.Frames is = absurd is
     by the_order.Help is = absurd is
+    by (the_order.Show shown run) is = absurd is
     by (the_order.Schedule file cycle) is = (named, is)
 
 asks_nothing : (entered : Option (Text × List Row)) → IsNamed (codes "schedule") entered → has_schedule_by (word_in entered) ≡ false → asks entered ≡ false
@@ -76,3 +80,62 @@ pub schedule_lacks : (entered : Option (Text × List Row)) (look : Text → Opti
     → ((id : Text) → look id ≡ word_in entered id) → IfNone found (has_schedule_by look ≡ false) → IfNone found (asks entered ≡ false)
 schedule_lacks entered look (Some o) named same lacks = tt
 schedule_lacks entered look None named same lacks = asks_nothing entered named (sym (has_alike look (word_in entered) same) ∙ lacks)
+
+-- ---- what is shown of a run
+
+shown_alike : (name : Text) (f g : Text → Option Text) → ((id : Text) → f id ≡ g id) → shown_by name f ≡ shown_by name g
+shown_alike name f g same =
+    ap (λ w. if bytes_eq name (codes "outcome") then Some Outcome else if bytes_eq name (codes "answers") then Some Answers
+    else if bytes_eq name (codes "trace") then option_map Trace (node_asked w) else None) (same (codes "NODE"))
+
+run_alike : (f g : Text → Option Text) → ((id : Text) → f id ≡ g id) → has_run_by f ≡ has_run_by g
+run_alike f g same =
+    ap₂ (λ a b. a && b)
+    (ap₂ (λ a b. is_some a && is_some b) (same (codes "FILE")) (same (codes "SCENARIO")))
+    (ap (λ w. is_some (option_and_then cycles_in w)) (same (codes "cycles")))
+
+show_alike : (name : Text) (f g : Text → Option Text) → ((id : Text) → f id ≡ g id) → (o : Order) → IsShowBy name f o → IsShowBy name g o
+show_alike name f g same the_order.Capture is = is
+show_alike name f g same the_order.Frames is = is
+show_alike name f g same the_order.Help is = is
+show_alike name f g same (the_order.Schedule file cycle) is = is
+show_alike name f g same (the_order.Show shown run) is = (
+  sym (shown_alike name f g same) ∙ is.0,
+  (
+    sym (same (codes "FILE")) ∙ is.1.0,
+    sym (same (codes "SCENARIO")) ∙ is.1.1,
+    ap (λ w. option_and_then cycles_in w) (sym (same (codes "cycles"))) ∙ is.1.2,
+  ),
+)
+
+pub show_told : (entered : Option (Text × List Row)) (name : Text) (look : Text → Option Text) (found : Option Order) → IsNamed name entered
+    → ((id : Text) → look id ≡ word_in entered id) → IfSome found (IsShowBy name look) → IfSome found (IsOrder entered)
+show_told entered name look None named same told = tt
+show_told None name look (Some o) named same told = cc named
+show_told (Some (entered, rows)) name look (Some o) named same told =
+    by o (show_alike entered look (λ id. first_of id rows) same o (subst (λ (n : Text). IsShowBy n look o) (sym is) told))
+  where
+    is : entered ≡ name
+    is = cc named
+
+    by : (o : Order) → IsShowBy entered (λ id. first_of id rows) o → IsOrder (Some (entered, rows)) o
+    by the_order.Capture is = absurd is
+    by the_order.Frames is = absurd is
+    by the_order.Help is = absurd is
+    by (the_order.Schedule file cycle) is = absurd is
+    by (the_order.Show shown run) is = is
+
+pub show_lacks : (entered : Option (Text × List Row)) (name : Text) (look : Text → Option Text) (found : Option Order) → IsNamed name entered
+    → bytes_eq name (codes "capture") ≡ false → bytes_eq name (codes "frames") ≡ false → bytes_eq name (codes "schedule") ≡ false
+    → ((id : Text) → look id ≡ word_in entered id) → IfNone found (has_show_by name look ≡ false) → IfNone found (asks entered ≡ false)
+show_lacks entered name look (Some o) named capture frames schedule same lacks = tt
+show_lacks None name look None named capture frames schedule same lacks = cc named
+show_lacks (Some (entered, rows)) name look None named capture frames schedule same lacks =
+    let is : entered ≡ name = cc named in
+    let words = λ (id : Text). first_of id rows in
+    let alike : has_show_by name look ≡ has_show_by name words =
+    ap₂ (λ a b. is_some a && b) (shown_alike name look words same) (run_alike look words same) in
+    subst (λ (n : Text). asks (Some (n, rows)) ≡ false) (sym is)
+    (ap₂ (λ a b. a || b)
+    (ap₂ (λ a b. a || b) (ap₂ (λ a b. a || b) (sym alike ∙ lacks) capture) frames)
+    (ap (λ b. b && has_schedule_by (word_in (Some (name, rows)))) schedule))

@@ -4,6 +4,7 @@ ghost use Rattle.fr_view.specs.Failures.{failure_of, status_of};
 ghost use Rattle.fr_view.specs.declared.failure.Failure.TheVariants as failure;
 
 use fr_commands::error::BenchError;
+use fr_playing::error::PlayError;
 use fr_trace::error::TraceError;
 use fr_words::error::OrderError;
 use thiserror::Error;
@@ -26,6 +27,9 @@ pub enum Failure {
     /// The trace was refused, or couldn't be read, or what it shows couldn't be written.
     #[error("refused {0}")]
     Trace(#[from] TraceError),
+    /// A run was refused, or what is to be shown of it couldn't be written.
+    #[error("refused {0}")]
+    Play(#[from] PlayError),
 }
 
 impl Failure {
@@ -35,7 +39,11 @@ impl Failure {
     {
         match self {
             Failure::Usage => 2,
-            Failure::Memory | Failure::Write | Failure::Text(_) | Failure::Trace(_) => 1,
+            Failure::Memory
+            | Failure::Write
+            | Failure::Text(_)
+            | Failure::Trace(_)
+            | Failure::Play(_) => 1,
         }
     }
 }

@@ -3,13 +3,16 @@ ghost use Rattle.std.specs.Prelude.{◌≡◌, IfNone, IfOk, IfSome, false, map}
 ghost use Rattle.clap.specs.Words.{app_of, first_value, found_of, subcommand_rows_of};
 ghost use Rattle.clap.specs.declared.builder.command.Command.TheViews.{out-Command};
 ghost use Rattle.fr_text.specs.Reading.{number_in};
-ghost use Rattle.fr_view.specs.Orders.{IsAnswer, IsOrder, IsScheduleBy, asks, has_schedule_by, is_help};
-ghost use Rattle.fr_view.specs.Orders.{schedule_command, the_commands};
+ghost use Rattle.fr_view.specs.Orders.{IsAnswer, IsOrder, IsRunBy, IsScheduleBy, IsShowBy, asks, has_run_by};
+ghost use Rattle.fr_view.specs.Orders.{has_schedule_by, has_show_by, is_help, schedule_command, shown_by};
+ghost use Rattle.fr_view.specs.Orders.{the_commands, three_commands, trace_command, with_run};
 
-use crate::command::Order;
+use crate::command::{Order, Run};
 use clap::{Arg, ArgMatches, Command};
+use fr_playing::shown::Shown;
+use fr_slots::numbers::NodeId;
 use fr_text::numbers::number_of;
-use fr_words::commands::{of_file, program};
+use fr_words::commands::{cycles_of, of_file, program};
 use fr_words::error::OrderError;
 use std::alloc::{AllocError, Global};
 
@@ -22,13 +25,46 @@ fn schedule_command<'a>(alloc: Global) -> Result<Command<'a>, AllocError>
     of_file(alloc, "schedule")?.arg(cycle)
 }
 
-/// The commands, as `clap` is told of them.
-fn commands<'a>(alloc: Global) -> Result<Command<'a>, AllocError>
-    ensures { IfOk result (λ c. app_of c ≡ the_commands) }
+/// The command, with the two files of a run and the number of its cycles.
+fn of_run<'a>(alloc: Global, command: Command<'a>) -> Result<Command<'a>, AllocError>
+    requires { (out-Command command).has_globals ≡ false }
+    ensures app { IfOk result (λ c. app_of c ≡ with_run (app_of command)) }
+    ensures local { IfOk result (λ c. (out-Command c).has_globals ≡ false) }
+{
+    let file = Arg::new(alloc, "FILE").required(true);
+    let scenario = Arg::new(alloc, "SCENARIO").required(true);
+    let cycles = Arg::new(alloc, "cycles").long("cycles").required(true);
+    command.arg(file)?.arg(scenario)?.arg(cycles)
+}
+
+/// The command `trace`, with its node and the run.
+fn trace_command<'a>(alloc: Global) -> Result<Command<'a>, AllocError>
+    ensures app { IfOk result (λ c. app_of c ≡ trace_command) }
+    ensures local { IfOk result (λ c. (out-Command c).has_globals ≡ false) }
+{
+    let node = Arg::new(alloc, "NODE").required(true);
+    of_run(alloc, Command::new(alloc, "trace").arg(node)?)
+}
+
+/// The commands that read one file, as `clap` is told of them.
+fn file_commands<'a>(alloc: Global) -> Result<Command<'a>, AllocError>
+    ensures { IfOk result (λ c. app_of c ≡ three_commands) }
 {
     let first = program(alloc, "fr_view").subcommand(Command::new(alloc, "capture"))?;
     let second = first.subcommand(Command::new(alloc, "frames"))?;
     second.subcommand(schedule_command(alloc)?)
+}
+
+/// The commands, as `clap` is told of them.
+fn commands<'a>(alloc: Global) -> Result<Command<'a>, AllocError>
+    ensures { IfOk result (λ c. app_of c ≡ the_commands) }
+{
+    let third = file_commands(alloc)?;
+    let outcome = of_run(alloc, Command::new(alloc, "outcome"))?;
+    let answers = of_run(alloc, Command::new(alloc, "answers"))?;
+    let fourth = third.subcommand(outcome)?;
+    let fifth = fourth.subcommand(answers)?;
+    fifth.subcommand(trace_command(alloc)?)
 }
 
 /// The cycle that a word is: 0 to 63, without a leading zero.
@@ -54,6 +90,50 @@ fn schedule_in<'a>(arguments: &ArgMatches<'a>) -> Option<Order<'a>>
     Some(Order::Schedule { file, cycle })
 }
 
+/// The node that a word is: 0 to 15, without a leading zero.
+fn node_of(word: &str) -> Option<NodeId>
+    ensures { result ≡ number_in 16 word.now }
+{
+    match number_of(word.as_bytes(), 16) {
+        Some(number) => Some(NodeId::from_number(number as u8)),
+        None => None,
+    }
+}
+
+/// What a command of this name shows of a run, if it is one of those.
+fn shown_in(name: &str, arguments: &ArgMatches<'_>) -> Option<Shown>
+    ensures { result ≡ shown_by name.now (first_value (found_of arguments.now)) }
+{
+    match name {
+        "outcome" => Some(Shown::Outcome),
+        "answers" => Some(Shown::Answers),
+        "trace" => Some(Shown::Trace(node_of(arguments.get_str("NODE")?)?)),
+        _ => None,
+    }
+}
+
+/// The run that the arguments of a command name.
+fn run_in<'a>(arguments: &ArgMatches<'a>) -> Option<Run<'a>>
+    ensures told { IfSome result (IsRunBy (first_value (found_of arguments.now))) }
+    ensures nothing { IfNone result (has_run_by (first_value (found_of arguments.now)) ≡ false) }
+{
+    Some(Run {
+        cluster: arguments.get_str("FILE")?,
+        scenario: arguments.get_str("SCENARIO")?,
+        cycles: cycles_of(arguments.get_str("cycles")?)?,
+    })
+}
+
+/// What the command of this name shows of the run that its arguments name.
+fn show_in<'a>(name: &str, arguments: &ArgMatches<'a>) -> Option<Order<'a>>
+    ensures told { IfSome result (IsShowBy name.now (first_value (found_of arguments.now))) }
+    ensures nothing { IfNone result (has_show_by name.now (first_value (found_of arguments.now)) ≡ false) }
+{
+    let shown = shown_in(name, arguments)?;
+    let run = run_in(arguments)?;
+    Some(Order::Show { shown, run })
+}
+
 /// The order that the command's name and arguments stand for.
 fn order_in<'a>(matches: &ArgMatches<'a>) -> Option<Order<'a>>
     ensures told { IfSome result (IsOrder (subcommand_rows_of matches.now)) }
@@ -64,7 +144,7 @@ fn order_in<'a>(matches: &ArgMatches<'a>) -> Option<Order<'a>>
         "schedule" => schedule_in(arguments),
         "capture" => Some(Order::Capture),
         "frames" => Some(Order::Frames),
-        _ => None,
+        name => show_in(name, arguments),
     }
 }
 
@@ -81,7 +161,8 @@ fn is_help(words: &[&str]) -> bool
 /// The order that the words after the program's name give (own profile).
 ///
 /// Refused with `Memory` where memory for the parse was refused, and else with `Usage` for all words that are no
-/// command. A call for help is the word `--help` alone. A cycle is 0 to 63, without a leading zero.
+/// command. A call for help is the word `--help` alone. A cycle is 0 to 63, a node 0 to 15 and a number of cycles 1 to
+/// 1024, without a leading zero.
 pub fn order<'a>(alloc: Global, words: &'a [&'a str]) -> Result<Order<'a>, OrderError>
     ensures { IsAnswer (map (λ word. word.now) words.now) result }
 {

@@ -1,7 +1,7 @@
 use Rattle.std.proofs.Common.{rules, None}
 use Rattle.std.specs.Io.KnownBytes.{Appends}
 use Rattle.fr_threads.proofs.OutcomeLemmas.{printed, run_refused}
-use Rattle.fr_threads.specs.OutcomeText.{outcome_text}
+use Rattle.fr_outcome.specs.OutcomeText.{outcome_text}
 use Rattle.fr_threads.proofs.outcome.run_cluster.Goals as goal
 
 pub returns-in-Ok-clause-written : goal.returns-in-Ok-clause-written

@@ -1,7 +1,7 @@
 //! The text of the outcome of a run.
 ghost use Rattle.std.specs.Prelude.{OnOk};
 ghost use Rattle.std.specs.Io.KnownBytes.{Appends};
-ghost use Rattle.fr_threads.specs.OutcomeText.{node_text, nodes_text, settled_text, outcome_text};
+ghost use Rattle.fr_outcome.specs.OutcomeText.{node_text, nodes_text, settled_text, outcome_text};
 
 use fr_interface::interface::Interface;
 use fr_trace::report::write_report;
@@ -29,7 +29,7 @@ fn write_nodes<W: Write>(writer: &mut W, interfaces: &[Interface]) -> io::Result
 }
 
 /// Writes that all agrees, in so many windows.
-fn write_settled<W: Write>(writer: &mut W, windows: u32) -> io::Result<()>
+fn write_settled<W: Write>(writer: &mut W, windows: usize) -> io::Result<()>
     ensures { OnOk result (Appends (W.contents writer.old) (W.contents writer.new) (settled_text windows)) }
 {
     writeln!(writer, "windows {windows}")?;
@@ -42,7 +42,7 @@ fn write_settled<W: Write>(writer: &mut W, windows: u32) -> io::Result<()>
 pub fn write_outcome<W: Write>(
     writer: &mut W,
     interfaces: &[Interface],
-    windows: u32,
+    windows: usize,
 ) -> io::Result<()>
     ensures { OnOk result
         (Appends (W.contents writer.old) (W.contents writer.new) (outcome_text interfaces.now windows)) }

@@ -1,6 +1,6 @@
 use Rattle.fr_commands.proofs.PlanTextLemmas.{AreNodes}
-use Rattle.fr_threads.specs.OutcomeText.{node_text}
-use Rattle.fr_threads.proofs.outcome_text.write_nodes.Given as goal
+use Rattle.fr_outcome.specs.OutcomeText.{node_text}
+use Rattle.fr_outcome.proofs.outcome_text.write_nodes.Given as goal
 
 abbrev pub invariant-loop-node : goal.invariant-loop-node
 invariant-loop-node g l = AreNodes node_text l.interfaces l.node (g.W.Write.contents l.fn.writer) (g.W.Write.contents l.writer)

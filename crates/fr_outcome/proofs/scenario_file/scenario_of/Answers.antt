@@ -1,7 +1,7 @@
 use Rattle.std.proofs.Common.{List, ℕ, subst}
-use Rattle.fr_threads.proofs.OutcomeLemmas.{read_in}
-use Rattle.fr_threads.specs.Outcomes.{IsScenarioIn}
-use Rattle.fr_threads.proofs.outcome.scenario_of.Goals as goal
+use Rattle.fr_outcome.proofs.FileLemmas.{read_in}
+use Rattle.fr_outcome.specs.ScenarioFiles.{IsScenarioIn}
+use Rattle.fr_outcome.proofs.scenario_file.scenario_of.Goals as goal
 
 pub returns : goal.returns
 returns g c =

@@ -1,8 +1,8 @@
 use Rattle.std.proofs.Common.{refl}
 use Rattle.std.proofs.lemmas.Option.{slice_get_read}
 use Rattle.fr_commands.proofs.PlanTextLemmas.{no_node, one_node}
-use Rattle.fr_threads.specs.OutcomeText.{node_text}
-use Rattle.fr_threads.proofs.outcome_text.write_nodes.Goals as goal
+use Rattle.fr_outcome.specs.OutcomeText.{node_text}
+use Rattle.fr_outcome.proofs.outcome_text.write_nodes.Goals as goal
 
 pub loop-node-init : goal.loop-node-init
 loop-node-init g c = no_node node_text c.args.interfaces.now (g.W.Write.contents c.args.writer.now)

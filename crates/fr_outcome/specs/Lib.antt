@@ -1,0 +1,2 @@
+pub mod OutcomeText
+pub mod ScenarioFiles

@@ -1,0 +1,14 @@
+//! What all programs share that run a cluster: the file of a scenario, and the text of the outcome of a run (own
+//! profile).
+//!
+//! ```text
+//! let scenario = scenario_of(alloc, &mut file)?;
+//! write_outcome(&mut output, interfaces, windows)?; // node 0, its report, node 1 and so on
+//! ```
+//!
+//! *(own profile)* marks a rule of this project's own, which says nothing of the standard.
+#![tactic(auto)]
+
+pub mod file_error;
+pub mod outcome_text;
+pub mod scenario_file;

@@ -1,0 +1,40 @@
+//! A scenario file, read as a scenario.
+ghost use Rattle.std.specs.Prelude.{IfSome};
+ghost use Rattle.fr_outcome.specs.ScenarioFiles.{IsScenarioIn, IsScenarioOf};
+
+use crate::file_error::FileError;
+use fr_commands::input::read_up_to;
+use fr_scenario::error::ScenarioError;
+use fr_scenario::scenario::Scenario;
+use std::alloc::Global;
+use std::io::Read;
+use std::str;
+
+/// The most bytes that a scenario file may have.
+const MOST_BYTES: u64 = 1_048_576;
+
+/// The scenario that the bytes of a scenario file spell.
+#[tactic(auto, using(crate::proofs::FileLemmas::refused_as))]
+fn scenario_in(alloc: Global, bytes: &[u8]) -> Result<Scenario, FileError>
+    ensures { IsScenarioIn bytes.now result }
+{
+    let Ok(text) = str::from_utf8(bytes) else {
+        return Err(FileError::Scenario(ScenarioError::BadMagic));
+    };
+    match Scenario::from_text(alloc, text) {
+        Ok(scenario) => Ok(scenario),
+        Err(error) => Err(FileError::Scenario(error)),
+    }
+}
+
+/// Reads a scenario file to its end (own profile).
+///
+/// Refused with `TooLong` for more than 1,048,576 bytes, then as a text that is no scenario: with `BadMagic` also where
+/// it isn't UTF-8. `Read` and `Memory` come where the reader fails and where memory is refused.
+#[tactic(auto, using(crate::proofs::FileLemmas::read_in))]
+pub fn scenario_of<R: Read>(alloc: Global, reader: &mut R) -> Result<Scenario, FileError>
+    ensures { IfSome (R.remaining reader.old) (λ text. IsScenarioOf text result) }
+{
+    let bytes = read_up_to(alloc, reader, MOST_BYTES)?;
+    scenario_in(alloc, bytes.as_slice())
+}

@@ -1,0 +1,3 @@
+pub mod LawLemmas
+pub mod PlayLemmas
+pub mod ShowLemmas

@@ -1,0 +1,74 @@
+-- The lines of the scripts of a run, each with its answer (own profile).
+use Rattle.std.specs.Prelude.{ℕ, List, [], ◌∷◌, codes, slice_get, Option, Some, None, option_map}
+use Rattle.std.specs.Fmt.{decimal}
+use Rattle.std.specs.Option.{option_and_then}
+use Rattle.fr_core.specs.declared.event.Reply.{Reply}
+use Rattle.fr_core.specs.declared.event.Reply.TheVariants.{Committed, Withdrawn, Frame, Window, Done}
+use Rattle.fr_core.specs.declared.script.Action.{Action}
+use Rattle.fr_core.specs.declared.script.Action.TheVariants as action
+use Rattle.fr_core.specs.Worlds.{WorldState}
+use Rattle.fr_frame.specs.Fields.{Fields}
+use Rattle.fr_interface.specs.State.{State}
+use Rattle.fr_journal.specs.declared.entry.Entry.{Entry}
+use Rattle.fr_journal.specs.declared.entry.Entry.TheVariants as entry
+use Rattle.fr_journal.specs.declared.entry.Origin.{Origin}
+use Rattle.fr_lines.specs.Parts.{absent}
+use Rattle.fr_lines.specs.Spelling.{line_text}
+use Rattle.fr_playing.specs.declared.call.Call.{Call}
+use Rattle.fr_slots.specs.Admission.{letter_of}
+use Rattle.fr_slots.specs.declared.channel.Channel.{Channel}
+use Rattle.fr_text.specs.Spaces.{line_of}
+use Rattle.fr_text.specs.Spelling.{hex_text}
+
+-- ---- where a frame came from
+
+-- where the frame of a read or a pop came from, by the entry that tells of it
+abbrev pub origin_of : Entry → Option Origin
+origin_of (entry.Commit task buffer payload) = None
+origin_of (entry.Withdraw task buffer of) = None
+origin_of (entry.Read task buffer from) = from
+origin_of (entry.Pop task from) = from
+origin_of (entry.Fetch window a b) = None
+origin_of (entry.Observe window a b) = None
+
+abbrev pub channel_at : Option Entry → Option Channel
+channel_at e = option_map (λ (origin : Origin). origin.channel) (option_and_then origin_of e)
+
+-- the channel of the frame of which the entry of this number tells
+abbrev pub channel_in : Option State → ℕ → Option Channel
+channel_in None number = None
+channel_in (Some s) number = channel_at (slice_get s.entries number)
+
+-- ---- words
+
+-- what a task did, in the words of a scenario
+abbrev pub action_words : Action → List (List ℕ)
+action_words (action.Commit buffer payload) = codes "commit" ∷ decimal buffer ∷ hex_text payload ∷ []
+action_words (action.Withdraw buffer) = codes "withdraw" ∷ decimal buffer ∷ []
+action_words (action.Read buffer) = codes "read" ∷ decimal buffer ∷ []
+action_words action.Pop = codes "pop" ∷ []
+
+abbrev pub channel_word : Option Channel → List ℕ
+channel_word None = absent
+channel_word (Some channel) = letter_of channel
+
+-- a frame: its cycle count, its slot, its channel and its payload
+abbrev pub frame_words : Option Channel → Fields → List (List ℕ)
+frame_words channel f = decimal f.cycle ∷ decimal f.id ∷ channel_word channel ∷ hex_text f.payload ∷ []
+
+abbrev pub answer_words : Option Channel → Reply → List (List ℕ)
+answer_words channel (Committed receipt) = decimal receipt.entry ∷ []
+answer_words channel (Withdrawn None) = absent ∷ []
+answer_words channel (Withdrawn (Some commit)) = decimal commit ∷ []
+answer_words channel (Frame None) = absent ∷ []
+answer_words channel (Frame (Some f)) = frame_words channel f
+answer_words channel (Window window) = absent ∷ []
+answer_words channel Done = absent ∷ []
+
+-- ---- a line
+
+-- the node, the task, the cycle of the run, what was done, and how that was answered
+abbrev pub answer_line : WorldState → Call → List ℕ
+answer_line w call =
+    line_text (decimal call.node ∷ decimal call.task ∷ decimal call.cycle ∷ line_of (action_words call.action)
+    ∷ codes "=" ∷ line_of (answer_words (channel_in (slice_get w.interfaces call.node) call.entry) call.reply) ∷ [])

@@ -1,0 +1,115 @@
+//! The lines of the scripts of a run, each with its answer.
+ghost use Rattle.std.specs.Prelude.{◌≡◌, slice_get};
+ghost use Rattle.std.specs.List.{flat_map};
+ghost use Rattle.fr_text.specs.Spaces.{line_of};
+ghost use Rattle.fr_text.specs.Writing.{Writes};
+ghost use Rattle.fr_playing.specs.AnswerText.{action_words, answer_words, channel_word, answer_line, origin_of};
+ghost use Rattle.fr_playing.specs.AnswerText.{channel_in, frame_words};
+
+use crate::call::Call;
+use crate::nodes::interface_of;
+use fr_core::event::Reply;
+use fr_core::script::Action;
+use fr_core::world::World;
+use fr_frame::frame::Frame;
+use fr_journal::entry::{Entry, Origin};
+use fr_slots::channel::Channel;
+use fr_slots::numbers::NodeId;
+use fr_text::hexes::write_hex;
+use std::io;
+use std::io::Write;
+
+/// Where the frame of a read or a pop came from.
+fn origin_of(entry: &Entry) -> Option<Origin>
+    ensures { result ≡ origin_of entry.now }
+{
+    match entry {
+        Entry::Read { from, .. } | Entry::Pop { from, .. } => *from,
+        _ => None,
+    }
+}
+
+/// The channel from which the frame came that the entry of this number tells of.
+fn channel_of(world: &World, node: NodeId, number: u32) -> Option<Channel>
+    ensures { result ≡ channel_in (slice_get world.now.interfaces node) number }
+{
+    let interface = interface_of(world, node)?;
+    let entry = interface.journal().get(number)?;
+    let origin = origin_of(&entry)?;
+    Some(origin.channel)
+}
+
+/// Writes what a task did.
+fn write_action<W: Write>(writer: &mut W, action: &Action) -> io::Result<()>
+    ensures { Writes W.contents writer.old writer.new result (line_of (action_words action.now)) }
+{
+    match action {
+        Action::Commit { buffer, payload } => {
+            write!(writer, "commit {buffer} ")?;
+            write_hex(writer, payload.as_slice())
+        }
+        Action::Withdraw { buffer } => write!(writer, "withdraw {buffer}"),
+        Action::Read { buffer } => write!(writer, "read {buffer}"),
+        Action::Pop => write!(writer, "pop"),
+    }
+}
+
+/// The word of a channel or of none.
+fn channel_word(channel: Option<Channel>) -> &'static str
+    ensures { result.now ≡ channel_word channel }
+{
+    match channel {
+        Some(Channel::A) => "A",
+        Some(Channel::B) => "B",
+        None => "-",
+    }
+}
+
+/// Writes a frame that was read or popped.
+fn write_frame<W: Write>(writer: &mut W, channel: Option<Channel>, frame: &Frame) -> io::Result<()>
+    ensures { Writes W.contents writer.old writer.new result (line_of (frame_words channel frame.now)) }
+{
+    let (cycle, word) = (frame.cycle.number(), channel_word(channel));
+    write!(writer, "{cycle} {} {word} ", frame.id)?;
+    write_hex(writer, frame.payload.as_slice())
+}
+
+/// Writes the answer, with the channel from which a frame came.
+fn write_answer<W: Write>(writer: &mut W, channel: Option<Channel>, reply: &Reply) -> io::Result<()>
+    ensures { Writes W.contents writer.old writer.new result (line_of (answer_words channel reply.now)) }
+{
+    match reply {
+        Reply::Committed(receipt) => write!(writer, "{}", receipt.entry),
+        Reply::Withdrawn(Some(commit)) => write!(writer, "{commit}"),
+        Reply::Frame(Some(frame)) => write_frame(writer, channel, frame),
+        _ => write!(writer, "-"),
+    }
+}
+
+/// Writes the line of a call: what was done, and how it was answered.
+fn write_call<W: Write>(writer: &mut W, world: &World, call: &Call) -> io::Result<()>
+    ensures { Writes W.contents writer.old writer.new result (answer_line world.now call.now) }
+{
+    let (node, task) = (call.node.number(), call.task.number());
+    write!(writer, "{node} {task} {} ", call.cycle)?;
+    write_action(writer, &call.action)?;
+    write!(writer, " = ")?;
+    let channel = channel_of(world, call.node, call.entry);
+    write_answer(writer, channel, &call.reply)?;
+    writeln!(writer)
+}
+
+/// Writes a line for each of the calls, in their order (own profile): the node, the task, the cycle of the run, what
+/// the task did in the words of a scenario, `=`, and the answer. That is the number of the entry of a commit, and of
+/// the commit that a withdraw took back; of a read or a pop the cycle count, the slot, the channel and the payload of
+/// the frame; and `-` for none.
+///
+/// Fails where the writer fails, and then a part of the text may have gone out.
+pub fn write_answers<W: Write>(writer: &mut W, world: &World, calls: &[Call]) -> io::Result<()>
+    ensures { Writes W.contents writer.old writer.new result (flat_map (answer_line world.now) calls.now) }
+{
+    for call in calls {
+        write_call(writer, world, call)?;
+    }
+    Ok(())
+}

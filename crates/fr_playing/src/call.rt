@@ -1,0 +1,155 @@
+//! What the lines of scripts do in the world.
+ghost use Rattle.std.specs.Prelude.{◌≡◌, slice_get, IfOk, OnOk};
+ghost use Rattle.fr_playing.specs.Calls.{event_of, entries_in, asked_in_line, asked_in_script, asked_in, AddsCalls};
+ghost use Rattle.fr_playing.specs.Calls.{DoesCall};
+
+use crate::hindrance::Hindrance;
+use crate::nodes::interface_of;
+use fr_core::event::{Event, Reply};
+use fr_core::script::{Action, Line, Script};
+use fr_core::world::World;
+use fr_slots::numbers::{NodeId, TaskId};
+
+/// What a line of a script did, and how that was answered (own profile).
+#[derive(Drop, PartialEq, Eq)]
+pub struct Call {
+    /// The node.
+    pub node: NodeId,
+    /// The task of that node.
+    pub task: TaskId,
+    /// The cycle of the run, from 0.
+    pub cycle: u16,
+    /// What the task did.
+    pub action: Action,
+    /// The entry of the node's journal that tells of it, from 0.
+    pub entry: u32,
+    /// How it was answered.
+    pub reply: Reply,
+}
+
+/// The same action.
+fn duplicate_action(action: &Action) -> Action
+    ensures { result ≡ action.now }
+{
+    match action {
+        Action::Commit { buffer, payload } => Action::Commit {
+            buffer: *buffer,
+            payload: payload.duplicate(),
+        },
+        Action::Withdraw { buffer } => Action::Withdraw { buffer: *buffer },
+        Action::Read { buffer } => Action::Read { buffer: *buffer },
+        Action::Pop => Action::Pop,
+    }
+}
+
+/// The action of the node's task as an event.
+fn event_of(node: NodeId, task: TaskId, action: &Action) -> Event
+    ensures { result ≡ event_of node task action.now }
+{
+    match action {
+        Action::Commit { buffer, payload } => Event::Commit {
+            node,
+            task,
+            buffer: *buffer,
+            payload: payload.duplicate(),
+        },
+        Action::Withdraw { buffer } => Event::Withdraw {
+            node,
+            task,
+            buffer: *buffer,
+        },
+        Action::Read { buffer } => Event::Read {
+            node,
+            task,
+            buffer: *buffer,
+        },
+        Action::Pop => Event::Pop { node, task },
+    }
+}
+
+/// How many entries the node's journal has, and 0 where the cluster doesn't have the node.
+fn entries_of(world: &World, node: NodeId) -> u32
+    ensures { result ≡ entries_in (slice_get world.now.interfaces node) }
+{
+    match interface_of(world, node) {
+        Some(interface) => interface.journal().len(),
+        None => 0,
+    }
+}
+
+/// Does the action of the node's task.
+fn do_action(
+    world: &mut World,
+    node: NodeId,
+    task: TaskId,
+    cycle: u16,
+    action: &Action,
+) -> Result<Call, Hindrance>
+    ensures does { IfOk result (λ call. DoesCall world.old call world.new) }
+    ensures is { IfOk result (λ call. (call.node ≡ node) × (call.task ≡ task) × (call.cycle ≡ cycle)
+        × (call.action ≡ action.now)) }
+{
+    let entry = entries_of(world, node);
+    let reply = world.step(&event_of(node, task, action))?;
+    Ok(Call {
+        node,
+        task,
+        cycle,
+        action: duplicate_action(action),
+        entry,
+        reply,
+    })
+}
+
+/// Does the line of the node's task, if it is one of this cycle.
+fn do_line(
+    world: &mut World,
+    cycle: u16,
+    node: NodeId,
+    task: TaskId,
+    line: &Line,
+    calls: &mut Vec<Call>,
+) -> Result<(), Hindrance>
+    ensures { OnOk result
+        (AddsCalls calls.old.items calls.new.items world.old (asked_in_line cycle node task line.now) world.new) }
+{
+    if line.cycle != cycle {
+        return Ok(());
+    }
+    let call = do_action(world, node, task, cycle, &line.action)?;
+    calls.push(call)?;
+    Ok(())
+}
+
+/// Does the script's lines of this cycle, in their order.
+fn do_script(
+    world: &mut World,
+    cycle: u16,
+    script: &Script,
+    calls: &mut Vec<Call>,
+) -> Result<(), Hindrance>
+    ensures { OnOk result
+        (AddsCalls calls.old.items calls.new.items world.old (asked_in_script cycle script.now) world.new) }
+{
+    let lines = script.lines.as_slice();
+    for line in lines {
+        do_line(world, cycle, script.node, script.task, line, calls)?;
+    }
+    Ok(())
+}
+
+/// Does the lines of this cycle, in the order of the scripts and of the lines of each.
+pub(crate) fn do_lines(
+    world: &mut World,
+    cycle: u16,
+    scripts: &[Script],
+    calls: &mut Vec<Call>,
+) -> Result<(), Hindrance>
+    ensures { OnOk result
+        (AddsCalls calls.old.items calls.new.items world.old (asked_in cycle scripts.now) world.new) }
+{
+    for script in scripts {
+        do_script(world, cycle, script, calls)?;
+    }
+    Ok(())
+}

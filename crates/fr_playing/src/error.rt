@@ -1,0 +1,55 @@
+//! Why a run isn't played, or not shown.
+ghost use Rattle.std.specs.Prelude.{◌≡◌};
+ghost use Rattle.fr_playing.specs.declared.error.PlayError.TheVariants as refusal;
+ghost use Rattle.fr_playing.specs.Refusals.{failure_of_file};
+
+use fr_commands::error::BenchError;
+use fr_core::error::StepError;
+use fr_outcome::file_error::FileError;
+use fr_runs::check::RunRefusal;
+use fr_scenario::error::ScenarioError;
+use thiserror::Error;
+
+/// Why a run isn't played, or not shown (own profile). Printed, it is the error's name, and for an error of a crate
+/// below the names and values of that error.
+#[derive(Clone, Copy, Debug, Drop, PartialEq, Eq, Error)]
+pub enum PlayError {
+    /// The cluster file is refused, an input couldn't be read or was too long, the output couldn't be written, or
+    /// memory was refused.
+    #[error("{0}")]
+    Text(BenchError),
+    /// The scenario file is refused.
+    #[error("{0}")]
+    Scenario(ScenarioError),
+    /// The run can't be had.
+    #[error("{0}")]
+    Run(RunRefusal),
+    /// The world refused an event of the run, for another cause than want of memory.
+    #[error("{0}")]
+    Step(StepError),
+    /// The bus didn't come to its end.
+    #[error("Unfinished")]
+    Unfinished,
+    /// The cluster doesn't have the node that is to be shown.
+    #[error("UnknownNode")]
+    UnknownNode,
+}
+
+impl From<BenchError> for PlayError {
+    ghost from_gives = { λ error given. given ≡ refusal.Text error };
+
+    fn from(error: BenchError) -> PlayError {
+        PlayError::Text(error)
+    }
+}
+
+impl From<FileError> for PlayError {
+    ghost from_gives = { λ error given. given ≡ failure_of_file error };
+
+    fn from(error: FileError) -> PlayError {
+        match error {
+            FileError::Text(error) => PlayError::Text(error),
+            FileError::Scenario(error) => PlayError::Scenario(error),
+        }
+    }
+}

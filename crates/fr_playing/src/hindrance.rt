@@ -1,0 +1,59 @@
+//! What ends a play before the run is over.
+ghost use Rattle.std.specs.Prelude.{◌≡◌, None};
+ghost use Rattle.fr_playing.specs.Refusals.{refusal_of, IsOfRun};
+
+use crate::error::PlayError;
+use fr_bus::error::BusError;
+use fr_commands::error::BenchError;
+use fr_core::error::StepError;
+use std::alloc::{AllocError, AllocFailed};
+
+/// What ends a play before the run is over. Of a run that can be had only want of memory is known to come.
+#[derive(Clone, Copy, PartialEq, Eq)]
+pub(crate) enum Hindrance {
+    /// The world refused an event.
+    Step(StepError),
+    /// The bus didn't come to its end.
+    Unfinished,
+    /// Memory was refused.
+    Memory,
+}
+
+/// The hindrance as an error.
+pub(crate) fn error_of(hindrance: Hindrance) -> PlayError
+    ensures told { refusal_of result ≡ None }
+    ensures kind { IsOfRun result }
+{
+    match hindrance {
+        Hindrance::Step(error) => PlayError::Step(error),
+        Hindrance::Unfinished => PlayError::Unfinished,
+        Hindrance::Memory => PlayError::Text(BenchError::Memory),
+    }
+}
+
+impl From<StepError> for Hindrance {
+    fn from(error: StepError) -> Hindrance {
+        match error {
+            StepError::Bus(BusError::Memory) => Hindrance::Memory,
+            _ => Hindrance::Step(error),
+        }
+    }
+}
+
+impl From<BusError> for Hindrance {
+    fn from(error: BusError) -> Hindrance {
+        Hindrance::from(StepError::Bus(error))
+    }
+}
+
+impl From<AllocError> for Hindrance {
+    fn from(_error: AllocError) -> Hindrance {
+        Hindrance::Memory
+    }
+}
+
+impl<T: Drop> From<AllocFailed<T>> for Hindrance {
+    fn from(_error: AllocFailed<T>) -> Hindrance {
+        Hindrance::Memory
+    }
+}

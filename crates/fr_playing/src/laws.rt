@@ -1,0 +1,15 @@
+//! What holds of every run that is played.
+ghost use Rattle.std.specs.Prelude.{ℕ, List};
+ghost use Rattle.fr_core.specs.Scripts.{Scripted};
+ghost use Rattle.fr_core.specs.Worlds.{opening_world};
+ghost use Rattle.fr_playing.specs.declared.play.Played.{Played};
+ghost use Rattle.fr_playing.specs.Playing.{IsPlayed};
+ghost use Rattle.fr_runs.specs.declared.fault_line.FaultLine.{FaultLine};
+ghost use Rattle.fr_schedule.specs.Descriptions.{Description};
+ghost use Rattle.fr_session.specs.Laws.{IsLed};
+
+/// What a run leads to, a list of events leads to from the opening world (own profile). It does nothing but tell so.
+pub fn led_by_events()
+    ensures { (d : Description) (scripts : List Scripted) (faults : List FaultLine) (cycles : ℕ) (played : Played)
+        → IsPlayed d scripts faults cycles played → IsLed (opening_world d cycles) played.world }
+{}

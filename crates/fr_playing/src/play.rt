@@ -1,0 +1,123 @@
+//! A whole run, one event after another.
+ghost use Rattle.std.specs.Prelude.{◌≡◌, [], IfOk, IfErr, OnOk};
+ghost use Rattle.fr_core.specs.Headline.{Headline};
+ghost use Rattle.fr_runs.specs.Refusing.{Refuses};
+ghost use Rattle.fr_playing.specs.Playing.{AddsCycle, PlaysCycles, IsPlayed};
+ghost use Rattle.fr_playing.specs.Refusals.{refusal_told, IsOfRun};
+
+use crate::call::{Call, do_lines};
+use crate::error::PlayError;
+use crate::hindrance::{Hindrance, error_of};
+use crate::windows::play_windows;
+use fr_core::event::Event;
+use fr_core::script::Script;
+use fr_core::world::World;
+use fr_runs::check::check_run;
+use fr_runs::fault_line::FaultLine;
+use fr_schedule::cluster::Cluster;
+use fr_session::moving::whole_window;
+use std::alloc::Global;
+
+/// What a run leaves (own profile).
+#[derive(Drop)]
+pub struct Played {
+    /// The world at its end.
+    pub world: World,
+    /// What the lines of the scripts did, in the order in which they were done.
+    pub calls: Vec<Call>,
+}
+
+/// Does a cycle: its lines, and then its windows.
+fn play_cycle(
+    world: &mut World,
+    cycle: u16,
+    scripts: &[Script],
+    faults: &[FaultLine],
+    due: &[Event],
+    calls: &mut Vec<Call>,
+) -> Result<(), Hindrance>
+    ensures { OnOk result (AddsCycle cycle scripts.now faults.now due.now calls.old.items calls.new.items
+        world.old world.new) }
+{
+    do_lines(world, cycle, scripts, calls)?;
+    play_windows(world, cycle, faults, due)
+}
+
+/// Does so many cycles.
+fn play_cycles(
+    world: &mut World,
+    scripts: &[Script],
+    faults: &[FaultLine],
+    due: &[Event],
+    cycles: u16,
+    calls: &mut Vec<Call>,
+) -> Result<(), Hindrance>
+    requires { calls.old.items ≡ [] }
+    ensures { OnOk result (PlaysCycles scripts.now faults.now due.now cycles world.old calls.new.items world.new) }
+{
+    for cycle in 0..cycles {
+        play_cycle(world, cycle, scripts, faults, due, calls)?;
+    }
+    Ok(())
+}
+
+/// Plays a run that can be had.
+fn play_all(
+    alloc: Global,
+    cluster: &Cluster,
+    scripts: &[Script],
+    faults: &[FaultLine],
+    cycles: u16,
+) -> Result<Played, Hindrance>
+    ensures { IfOk result (IsPlayed cluster.now scripts.now faults.now cycles) }
+{
+    let due = whole_window(alloc, cluster.nodes())?;
+    let mut world = World::new(alloc, cluster, cycles)?;
+    let mut calls = Vec::new(alloc);
+    play_cycles(
+        &mut world,
+        scripts,
+        faults,
+        due.as_slice(),
+        cycles,
+        &mut calls,
+    )?;
+    match world.bus().window() {
+        Some(_) => Err(Hindrance::Unfinished),
+        None => Ok(Played { world, calls }),
+    }
+}
+
+/// Plays a run of the cluster for so many cycles in one thread, one event of its world after another (own profile).
+///
+/// Cycle after cycle, first the lines of the cycle are done, in the order of the scripts and of the lines of each. Then
+/// comes window after window: the faults that come in it, in the order of their lines; the look, the fetch and the put
+/// of each node; the seal; the take and the observe of each node; the bus's advance. Where no two tasks touch one
+/// buffer or one queue in a cycle, this is what a stepped run in threads leads to.
+///
+/// Refused with `Run` exactly as `check_run` refuses, and then with `Memory` where memory is refused. `Step` and
+/// `Unfinished` would say that the world refused an event, or wasn't over after so many cycles. Of a run that can be
+/// had neither is known to come; that they don't is tested.
+pub fn play(
+    alloc: Global,
+    cluster: &Cluster,
+    scripts: &[Script],
+    faults: &[FaultLine],
+    cycles: u16,
+) -> Result<Played, PlayError>
+    ensures refused { Refuses cluster.now scripts.now faults.now cycles (refusal_told result) }
+    ensures kind { IfErr result IsOfRun }
+    ensures played { IfOk result (IsPlayed cluster.now scripts.now faults.now cycles) }
+    ensures headline { IfOk result (λ played. Headline played.world) }
+{
+    if let Err(refusal) = check_run(cluster, scripts, faults, cycles) {
+        return Err(PlayError::Run(refusal));
+    }
+    match play_all(alloc, cluster, scripts, faults, cycles) {
+        Ok(played) => {
+            played.world.known();
+            Ok(played)
+        }
+        Err(hindrance) => Err(error_of(hindrance)),
+    }
+}

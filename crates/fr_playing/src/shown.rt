@@ -1,0 +1,92 @@
+//! What can be shown of a run, as texts.
+ghost use Rattle.std.specs.Prelude.{◌≡◌, ◌⊎◌, Some, None, IfOk, IfErr, length};
+ghost use Rattle.std.specs.List.{flat_map};
+ghost use Rattle.fr_commands.specs.declared.error.BenchError.TheVariants as bench;
+ghost use Rattle.fr_lines.specs.declared.versions.Version.TheVariants.{Three};
+ghost use Rattle.fr_outcome.specs.OutcomeText.{outcome_text};
+ghost use Rattle.fr_playing.specs.AnswerText.{answer_line};
+ghost use Rattle.fr_playing.specs.declared.error.PlayError.TheVariants as refusal;
+ghost use Rattle.fr_playing.specs.Shows.{shown_text};
+ghost use Rattle.fr_trace.specs.TraceText.{trace_text};
+
+use crate::answers::write_answers;
+use crate::error::PlayError;
+use crate::nodes::interface_of;
+use crate::play::Played;
+use fr_commands::error::BenchError;
+use fr_core::world::World;
+use fr_interface::interface::Interface;
+use fr_outcome::outcome_text::write_outcome;
+use fr_slots::numbers::NodeId;
+use fr_trace::trace::write_trace;
+use std::alloc::Global;
+
+/// What is to be shown of a run (own profile).
+#[derive(Clone, Copy, PartialEq, Eq)]
+pub enum Shown {
+    /// Each node's report, the number of windows and that all agrees, as a run in threads prints it.
+    Outcome,
+    /// A line for each line of a script, with its answer.
+    Answers,
+    /// The trace of this node, in version 3.
+    Trace(NodeId),
+}
+
+/// The outcome of a run that led to this world.
+fn outcome_in(alloc: Global, world: &World) -> Result<Vec<u8>, PlayError>
+    ensures text { IfOk result (λ text. text.items
+        ≡ outcome_text world.now.interfaces (length world.now.bus.sealed)) }
+    ensures refused { IfErr result (λ e. e ≡ refusal.Text bench.Memory) }
+{
+    let mut text = Vec::new(alloc);
+    let windows = world.bus().record().len();
+    match write_outcome(&mut text, world.interfaces(), windows) {
+        Ok(()) => Ok(text),
+        // A list of bytes fails to take more for want of memory alone, here and below.
+        Err(_) => Err(PlayError::Text(BenchError::Memory)),
+    }
+}
+
+/// The answers of a run.
+fn answers_in(alloc: Global, played: &Played) -> Result<Vec<u8>, PlayError>
+    ensures text { IfOk result (λ text. text.items
+        ≡ flat_map (answer_line played.now.world) played.now.calls.items) }
+    ensures refused { IfErr result (λ e. e ≡ refusal.Text bench.Memory) }
+{
+    let mut text = Vec::new(alloc);
+    match write_answers(&mut text, &played.world, played.calls.as_slice()) {
+        Ok(()) => Ok(text),
+        Err(_) => Err(PlayError::Text(BenchError::Memory)),
+    }
+}
+
+/// The trace of an interface.
+fn trace_in(alloc: Global, interface: &Interface) -> Result<Vec<u8>, PlayError>
+    ensures text { IfOk result (λ text. text.items ≡ trace_text Three interface.now) }
+    ensures refused { IfErr result (λ e. e ≡ refusal.Text bench.Memory) }
+{
+    let mut text = Vec::new(alloc);
+    match write_trace(interface, &mut text) {
+        Ok(()) => Ok(text),
+        Err(_) => Err(PlayError::Text(BenchError::Memory)),
+    }
+}
+
+/// What is to be shown of the run (own profile).
+///
+/// Refused with `UnknownNode` where the cluster doesn't have the node that is to be shown, and with `Memory` where
+/// memory is refused.
+pub fn text_of(alloc: Global, shown: Shown, played: &Played) -> Result<Vec<u8>, PlayError>
+    ensures text { IfOk result (λ text. shown_text shown played.now ≡ Some text.items) }
+    ensures refused { IfErr result (λ e. (e ≡ refusal.Text bench.Memory)
+        ⊎ ((e ≡ refusal.UnknownNode) × (shown_text shown played.now ≡ None))) }
+{
+    match shown {
+        Shown::Outcome => outcome_in(alloc, &played.world),
+        Shown::Answers => answers_in(alloc, played),
+        Shown::Trace(node) => match interface_of(&played.world, node) {
+            Some(interface) => trace_in(alloc, interface),
+            None => Err(PlayError::UnknownNode),
+        },
+    }
+}

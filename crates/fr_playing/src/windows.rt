@@ -1,0 +1,91 @@
+//! The windows of a cycle, in the world.
+ghost use Rattle.std.specs.Prelude.{◌∷◌, [], OnOk};
+ghost use Rattle.std.specs.List.{flat_map};
+ghost use Rattle.fr_playing.specs.Windows.{strike_events, Passes, PlaysWindow, PlaysWindows};
+
+use crate::hindrance::Hindrance;
+use fr_core::event::Event;
+use fr_core::world::World;
+use fr_runs::fault_line::FaultLine;
+use fr_session::moving::is_at_cycle;
+use fr_slots::window::Window;
+
+/// Does an event, which has to be accepted.
+fn pass(world: &mut World, event: &Event) -> Result<(), Hindrance>
+    ensures { OnOk result (Passes world.old (event.now ∷ []) world.new) }
+{
+    let _reply = world.step(event)?;
+    Ok(())
+}
+
+/// Does the events, each of which has to be accepted.
+fn pass_all(world: &mut World, events: &[Event]) -> Result<(), Hindrance>
+    ensures { OnOk result (Passes world.old events.now world.new) }
+{
+    for event in events {
+        pass(world, event)?;
+    }
+    Ok(())
+}
+
+/// Brings the line's fault into the open window, if it comes there.
+fn strike(world: &mut World, cycle: u16, window: &Window, line: &FaultLine) -> Result<(), Hindrance>
+    ensures { OnOk result (Passes world.old (strike_events cycle window.now line.now) world.new) }
+{
+    if line.strikes(cycle, window) {
+        pass(world, &Event::Inject(line.fault.duplicate()))
+    } else {
+        Ok(())
+    }
+}
+
+/// Brings into the open window the faults that come there, in the order of their lines.
+fn strike_all(
+    world: &mut World,
+    cycle: u16,
+    window: &Window,
+    faults: &[FaultLine],
+) -> Result<(), Hindrance>
+    ensures { OnOk result (Passes world.old (flat_map (strike_events cycle window.now) faults.now) world.new) }
+{
+    for line in faults {
+        strike(world, cycle, window, line)?;
+    }
+    Ok(())
+}
+
+/// Does the open window: its faults, then what is due in it, and then the bus's advance.
+fn play_window(
+    world: &mut World,
+    cycle: u16,
+    faults: &[FaultLine],
+    due: &[Event],
+) -> Result<(), Hindrance>
+    ensures { OnOk result (PlaysWindow cycle faults.now due.now world.old world.new) }
+{
+    let Some(window) = world.bus().window() else {
+        return Err(Hindrance::Unfinished);
+    };
+    strike_all(world, cycle, &window, faults)?;
+    pass_all(world, due)?;
+    pass(world, &Event::Advance)
+}
+
+/// Does windows until the first one of a cycle is open, or the run is over.
+pub(crate) fn play_windows(
+    world: &mut World,
+    cycle: u16,
+    faults: &[FaultLine],
+    due: &[Event],
+) -> Result<(), Hindrance>
+    ensures { OnOk result (PlaysWindows cycle faults.now due.now world.old world.new) }
+{
+    // A cycle has at most 1023 static slots and 8000 minislots.
+    for count in 0..9023u32 {
+        play_window(world, cycle, faults, due)?;
+        if is_at_cycle(world.bus()) {
+            return Ok(());
+        }
+    }
+    Err(Hindrance::Unfinished)
+}
