@@ -1,3 +1,5 @@
 pub mod OrderLemmas
 pub mod ApartLemmas
 pub mod WorkedLemmas
+pub mod FaultedLemmas
+pub mod SteppingLemmas

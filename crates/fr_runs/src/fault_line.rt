@@ -1,11 +1,13 @@
 //! Faults of a run.
 
-ghost use Rattle.std.specs.Prelude.{◌≡◌};
+ghost use Rattle.std.specs.Prelude.{◌≡◌, OnOk};
+ghost use Rattle.fr_runs.specs.Faulted.{lines_of_cycle};
 ghost use Rattle.fr_runs.specs.Striking.{opens};
 
 use fr_bus::fault::Fault;
 use fr_slots::numbers::SlotId;
 use fr_slots::window::Window;
+use std::alloc::AllocError;
 
 /// The cycles of a run in which a fault comes (own profile).
 #[derive(Clone, Copy, PartialEq, Eq)]
@@ -39,6 +41,26 @@ pub struct FaultLine {
     pub place: FaultPlace,
 }
 
+/// Puts copies of the lines that name the cycle of this number of the run, in their order, in the place of those that are
+/// kept (own profile). No other line strikes a window of that cycle.
+///
+/// Where memory is refused some of them are kept.
+pub fn keep_lines_of(
+    lines: &[FaultLine],
+    cycle: u16,
+    kept: &mut Vec<FaultLine>,
+) -> Result<(), AllocError>
+    ensures { OnOk result (kept.new.items ≡ lines_of_cycle cycle lines.now) }
+{
+    kept.clear();
+    for line in lines {
+        if line.cycles.names(cycle) {
+            kept.push(line.duplicate())?;
+        }
+    }
+    Ok(())
+}
+
 /// Whether the channel opens the slot of this number.
 fn opens(number: u16, slot: Option<SlotId>) -> bool
     ensures { result ≡ opens number slot }
@@ -54,7 +76,7 @@ impl FaultCycles {
     ghost use Rattle.fr_runs.specs.Striking.{names_cycle};
 
     /// Whether the cycle of this number of the run is one of these.
-    fn names(self, cycle: u16) -> bool
+    pub(crate) fn names(self, cycle: u16) -> bool
         ensures { result ≡ names_cycle self cycle }
     {
         match self {
@@ -83,6 +105,17 @@ impl FaultPlace {
 impl FaultLine {
     ghost use Rattle.std.specs.Prelude.{◌≡◌};
     ghost use Rattle.fr_runs.specs.Striking.{strikes};
+
+    /// A copy of the line.
+    fn duplicate(&self) -> FaultLine
+        ensures { result ≡ self.now }
+    {
+        FaultLine {
+            fault: self.fault.duplicate(),
+            cycles: self.cycles,
+            place: self.place,
+        }
+    }
 
     /// Whether the fault comes in this window (own profile). `cycle` is the number of the window's cycle in the run,
     /// counted from 0 and going on after 63.

@@ -4,6 +4,8 @@
 //! ```text
 //! check_run(&cluster, &scripts, &faults, cycles)?; // whether such a run can be had
 //! if fault_line.strikes(run_cycle, &window) {} // whether the fault comes in this window
+//! have_faults(&faults, bus.record()); // whether a run had these faults, and no others
+//! are_stepped(&interfaces, bus.record(), &scripts); // whether each line was done in its cycle
 //! ```
 //!
 //! A chapter in parentheses is one of the FlexRay Protocol Specification 2.1, revision A, whose rule it is.
@@ -12,5 +14,7 @@
 
 pub mod check;
 pub mod fault_line;
+pub mod faulted;
 mod faults;
 mod scripts;
+pub mod stepping;

@@ -1,2 +1,3 @@
 pub mod OutcomeLemmas
+pub mod PaceLemmas
 mod RunLemmas

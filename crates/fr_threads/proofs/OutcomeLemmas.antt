@@ -1,7 +1,7 @@
 -- That what is written is the outcome of a run with the scenario of a file, and that a run is refused as that with its
 -- contents.
-use Rattle.std.proofs.Common.{◌≡◌, ℕ, List, Option, Some, None, Ok, Err, refl}
-use Rattle.std.specs.Prelude.{IfSome}
+use Rattle.std.proofs.Common.{◌≡◌, ℕ, Bool, List, Option, Some, None, Ok, Err, refl}
+use Rattle.std.specs.Prelude.{IfSome, not}
 use Rattle.std.specs.Io.KnownBytes.{Appends}
 use Rattle.fr_commands.specs.declared.error.BenchError.TheVariants as bench
 use Rattle.fr_outcome.specs.declared.file_error.FileError.{FileError}
@@ -32,23 +32,23 @@ pub not_read_of : (d : Description) (cycles : ℕ) (text : Option (List ℕ)) (e
 not_read_of d cycles None e is = tt
 not_read_of d cycles (Some t) e is = not_read d cycles t e is
 
-pub unwritten : (d : Description) (cycles : ℕ) (text old new : Option (List ℕ)) (e : FileError) → new ≡ old
-    → Prints d cycles text old new (Err (file_failure e))
-unwritten d cycles text old new (file.Scenario e) same = same
-unwritten d cycles text old new (file.Text bench.TooLong) same = same
-unwritten d cycles text old new (file.Text bench.Read) same = same
-unwritten d cycles text old new (file.Text bench.Memory) same = same
-unwritten d cycles text old new (file.Text bench.Write) same = tt
-unwritten d cycles text old new (file.Text bench.BadNumber) same = same
-unwritten d cycles text old new (file.Text (bench.Config e)) same = same
-unwritten d cycles text old new (file.Text (bench.Midpoint e)) same = same
+pub unwritten : (d : Description) (cycles : ℕ) (free : Bool) (text old new : Option (List ℕ)) (e : FileError) → new ≡ old
+    → Prints d cycles free text old new (Err (file_failure e))
+unwritten d cycles free text old new (file.Scenario e) same = same
+unwritten d cycles free text old new (file.Text bench.TooLong) same = same
+unwritten d cycles free text old new (file.Text bench.Read) same = same
+unwritten d cycles free text old new (file.Text bench.Memory) same = same
+unwritten d cycles free text old new (file.Text bench.Write) same = tt
+unwritten d cycles free text old new (file.Text bench.BadNumber) same = same
+unwritten d cycles free text old new (file.Text (bench.Config e)) same = same
+unwritten d cycles free text old new (file.Text (bench.Midpoint e)) same = same
 
 -- what was written is the outcome of a run with the scenario that the text is
-pub printed : (d : Description) (cycles : ℕ) (text old new : Option (List ℕ)) (contents : Contents) (run : Run)
-    → IfSome text (λ t. IsScenarioOf t (Ok contents)) → IsRunOf d contents.scripts cycles run
-    → Appends old new (outcome_text run.interfaces.items run.settled.windows) → IfSome text (Adds d cycles old new)
-printed d cycles None old new contents run of_text is_run written = tt
-printed d cycles (Some t) old new contents run of_text is_run written = (
+pub printed : (d : Description) (cycles : ℕ) (free : Bool) (text old new : Option (List ℕ)) (contents : Contents) (run : Run)
+    → IfSome text (λ t. IsScenarioOf t (Ok contents)) → IsRunOf d contents.scripts contents.faults cycles (not free) run
+    → Appends old new (outcome_text run.interfaces.items run.settled.windows) → IfSome text (Adds d cycles free old new)
+printed d cycles free None old new contents run of_text is_run written = tt
+printed d cycles free (Some t) old new contents run of_text is_run written = (
   outcome_text run.interfaces.items run.settled.windows,
   record { contents = contents; spelled = of_text.1; run = run; is_run = is_run; outcome_is = refl },
   written,

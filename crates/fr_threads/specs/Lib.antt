@@ -1,2 +1,4 @@
 pub mod Outcomes
 pub mod Running
+pub mod Failures
+pub mod Pacing

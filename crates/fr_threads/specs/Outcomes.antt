@@ -1,5 +1,5 @@
 -- What `run` does with the text of a scenario (own profile).
-use Rattle.std.specs.Prelude.{⊤, ◌≡◌, ◌<◌, ℕ, List, length, Option, None, IfSome, Result, Ok, Err}
+use Rattle.std.specs.Prelude.{⊤, ◌≡◌, ◌<◌, ℕ, Bool, not, List, length, Option, None, IfSome, Result, Ok, Err}
 use Rattle.std.specs.Io.KnownBytes.{Appends}
 use Rattle.fr_commands.specs.ClusterFiles.{IsClusterOf}
 use Rattle.fr_commands.specs.declared.error.BenchError.{BenchError}
@@ -25,26 +25,27 @@ file_failure (file.Scenario e) = refusal.Scenario e
 
 -- ---- the outcome
 
--- this is the outcome of a run of the cluster for so many cycles, with the scenario that the text is
-pub record IsOutcome (d : Description) (cycles : ℕ) (text outcome : List ℕ) : Type 0 where
+-- This is the outcome of a run of the cluster for so many cycles, free or stepped, with the scenario that the text is:
+-- with its scripts, and with its faults and no others.
+pub record IsOutcome (d : Description) (cycles : ℕ) (free : Bool) (text outcome : List ℕ) : Type 0 where
   pub contents : Contents
   pub spelled : IsScenarioText text contents
   pub run : Run
-  pub is_run : IsRunOf d contents.scripts cycles run
+  pub is_run : IsRunOf d contents.scripts contents.faults cycles (not free) run
   pub outcome_is : outcome ≡ outcome_text run.interfaces.items run.settled.windows
 
 -- such an outcome was written, and nothing else
-abbrev pub Adds : Description → ℕ → Option (List ℕ) → Option (List ℕ) → List ℕ → Type 0
-Adds d cycles old new text = (outcome : List ℕ) × IsOutcome d cycles text outcome × Appends old new outcome
+abbrev pub Adds : Description → ℕ → Bool → Option (List ℕ) → Option (List ℕ) → List ℕ → Type 0
+Adds d cycles free old new text = (outcome : List ℕ) × IsOutcome d cycles free text outcome × Appends old new outcome
 
 -- Where the text of the scenario is known, it was the outcome of a run with it that was written. A refusal but `Write`
 -- leaves the writer as it was.
-abbrev pub Prints : Description → ℕ → Option (List ℕ) → Option (List ℕ) → Option (List ℕ)
+abbrev pub Prints : Description → ℕ → Bool → Option (List ℕ) → Option (List ℕ) → Option (List ℕ)
     → Result (Unit {0}) OutcomeError
     → Type 0
-Prints d cycles text old new (Ok done) = IfSome text (Adds d cycles old new)
-Prints d cycles text old new (Err (refusal.Text bench.Write)) = ⊤
-Prints d cycles text old new (Err e) = new ≡ old
+Prints d cycles free text old new (Ok done) = IfSome text (Adds d cycles free old new)
+Prints d cycles free text old new (Err (refusal.Text bench.Write)) = ⊤
+Prints d cycles free text old new (Err e) = new ≡ old
 
 -- ---- why nothing was written
 
@@ -72,10 +73,10 @@ pub record IsFileRefused (file text rest old new : Option (List ℕ))
   pub unwritten : new ≡ old
 
 -- The cluster file describes a cluster, with which this is what `run` does.
-pub record IsFileRun (file : Option (List ℕ)) (cycles : ℕ) (text old new : Option (List ℕ))
+pub record IsFileRun (file : Option (List ℕ)) (cycles : ℕ) (free : Bool) (text old new : Option (List ℕ))
     (answer : Result (Unit {0}) OutcomeError)
     : Type 0 where
   pub cluster : Description
   pub described : IfSome file (λ bytes. IsClusterOf bytes (Ok cluster))
-  pub printed : Prints cluster cycles text old new answer
+  pub printed : Prints cluster cycles free text old new answer
   pub answered : IfSome text (λ bytes. Answers cluster cycles bytes answer)

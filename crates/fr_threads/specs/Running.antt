@@ -1,10 +1,14 @@
 -- What a run in threads answers (own profile).
-use Rattle.std.specs.Prelude.{◌≡◌, ℕ, List, length, map, Option, Some, None, IsSome, Result, Ok, Err}
+use Rattle.std.specs.Prelude.{◌≡◌, ℕ, Bool, true, List, length, map, Option, Some, None, IsSome, Result, Ok, Err, option_map}
+use Rattle.std.specs.Prelude.{slice_get}
 use Rattle.std.specs.List.{All}
+use Rattle.std.specs.Option.{option_and_then}
+use Rattle.std.specs.Prelude.{Vec}
 use Rattle.fr_bus.specs.declared.error.Phase.TheVariants.{Finished}
 use Rattle.fr_bus.specs.States.{OneSenderEach}
 use Rattle.fr_bus.specs.Windows.{cycles_begun}
 use Rattle.fr_interface.specs.Commits.{commits_of}
+use Rattle.fr_core.specs.declared.event.Reply.{Reply}
 use Rattle.fr_core.specs.declared.script.Line.{Line}
 use Rattle.fr_core.specs.Receivers.{Receivers}
 use Rattle.fr_core.specs.Scripts.{Scripted}
@@ -12,7 +16,9 @@ use Rattle.fr_core.specs.Settling.{Agrees}
 use Rattle.fr_runs.specs.declared.check.RunRefusal.{RunRefusal}
 use Rattle.fr_runs.specs.declared.check.RunRefusal.TheVariants as refusal
 use Rattle.fr_runs.specs.declared.fault_line.FaultLine.{FaultLine}
+use Rattle.fr_runs.specs.Faulted.{HaveFaults}
 use Rattle.fr_runs.specs.Refusing.{Refuses}
+use Rattle.fr_runs.specs.Stepping.{AreStepped}
 use Rattle.fr_schedule.specs.Descriptions.{Description}
 use Rattle.fr_threads.specs.declared.error.RunError.{RunError}
 use Rattle.fr_threads.specs.declared.error.RunError.TheVariants.{BadCycles, BadScript, BadFault, NoRoom, Host, Slot}
@@ -36,6 +42,12 @@ IsAnswered line = IsSome line.answer
 pub record AreAnswered (given scripts : List Scripted) : Type 0 where
   pub same_lines : map bare_script scripts ≡ map bare_script given
   pub answered : All (λ (s : Scripted). All IsAnswered s.lines) scripts
+
+-- the answers that a task of a node got, where these are those of all tasks of all nodes
+abbrev pub replies_at : List (Vec (Vec Reply)) → ℕ → ℕ → Option (List Reply)
+replies_at answers node task =
+    option_map (λ (replies : Vec Reply). replies.items)
+    (option_and_then (λ (tasks : Vec (Vec Reply)). slice_get tasks.items task) (slice_get answers node))
 
 -- ---- refusals
 
@@ -62,8 +74,9 @@ RefusesRun d scripts faults cycles answer = Refuses d scripts faults cycles (ref
 
 -- ---- a run
 
--- This is what a run of the cluster with these scripts and so many cycles leaves.
-pub record IsRunOf (d : Description) (given : List Scripted) (cycles : ℕ) (run : Run) : Type 0 where
+-- This is what a run of the cluster with these scripts, these fault lines and so many cycles leaves, stepped or free.
+pub record IsRunOf (d : Description) (given : List Scripted) (lines : List FaultLine) (cycles : ℕ) (is_stepped : Bool)
+    (run : Run) : Type 0 where
   -- the interfaces are those of the cluster's nodes, and their journals and the scripts agree with the record
   pub agrees : Agrees d run.interfaces.items run.bus.sealed run.scripts.items
   -- all windows of the record were settled
@@ -80,3 +93,7 @@ pub record IsRunOf (d : Description) (given : List Scripted) (cycles : ℕ) (run
   pub cycles_done : cycles_begun run.bus.sealed ≡ cycles
   -- the scripts are the given ones, and every line has an answer
   pub scripts : AreAnswered given run.scripts.items
+  -- each window of the record has the faults of the lines that strike there, and no others
+  pub faults : HaveFaults lines run.bus.sealed
+  -- in a stepped run each line of the scripts was done in its cycle, between all windows before it and its first
+  pub stepped : is_stepped ≡ true → AreStepped run.bus.sealed given run.interfaces.items

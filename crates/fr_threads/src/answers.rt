@@ -1,8 +1,8 @@
 //! The given scripts, with the answers that the tasks got.
 
-ghost use Rattle.std.specs.Prelude.{◌≡◌, IfOk, IsSome, map};
+ghost use Rattle.std.specs.Prelude.{◌≡◌, IfOk, IsSome, map, option_map};
 ghost use Rattle.std.specs.List.{All};
-ghost use Rattle.fr_threads.specs.Running.{bare, bare_script, IsAnswered, AreAnswered};
+ghost use Rattle.fr_threads.specs.Running.{bare, bare_script, IsAnswered, AreAnswered, replies_at};
 
 use crate::failure::Failure;
 use fr_core::event::Reply;
@@ -66,8 +66,10 @@ fn answered_lines(alloc: Global, lines: &[Line], replies: &[Reply]) -> Result<Ve
     Ok(list)
 }
 
-/// The answers that the script's task got.
-fn replies_to<'a>(script: &Script, answers: &'a [Vec<Vec<Reply>>]) -> Option<&'a [Reply]> {
+/// The answers that the script's task got, where these are those of all tasks of all nodes.
+fn replies_to<'a>(script: &Script, answers: &'a [Vec<Vec<Reply>>]) -> Option<&'a [Reply]>
+    ensures { option_map (λ replies. replies.now) result ≡ replies_at answers.now script.now.node script.now.task }
+{
     let tasks = answers.get(usize::from(script.node.number()))?;
     let replies = tasks.get(usize::from(script.task.number()))?;
     Some(replies.as_slice())

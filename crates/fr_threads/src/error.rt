@@ -1,6 +1,7 @@
 //! Why a run is refused, or fails.
 
 ghost use Rattle.std.specs.Prelude.{◌≡◌, Some, None};
+ghost use Rattle.fr_threads.specs.Failures.{error_of, IsMemoryTold};
 ghost use Rattle.fr_threads.specs.Running.{refusal_of};
 
 use crate::failure::Failure;
@@ -48,7 +49,8 @@ pub enum RunError {
 
 /// The refusal as an error.
 pub(crate) fn error_of_refusal(refusal: RunRefusal) -> RunError
-    ensures { refusal_of result ≡ Some refusal }
+    ensures refusal { refusal_of result ≡ Some refusal }
+    ensures memory { IsMemoryTold result }
 {
     match refusal {
         RunRefusal::BadCycles => RunError::BadCycles,
@@ -60,13 +62,17 @@ pub(crate) fn error_of_refusal(refusal: RunRefusal) -> RunError
 
 /// The failure as an error. A run in which every thread was stopped has none that failed, and didn't come to its end.
 pub(crate) fn error_of_failure(failure: Failure) -> RunError
-    ensures { refusal_of result ≡ None }
+    ensures error { result ≡ error_of failure }
+    ensures no_refusal { refusal_of result ≡ None }
+    ensures memory { IsMemoryTold result }
 {
     match failure {
         Failure::Host(error) => RunError::Host(error),
         Failure::Slot(error) => RunError::Slot(error),
+        Failure::Bus(BusError::Memory) => RunError::Memory,
         Failure::Bus(error) => RunError::Bus(error),
         Failure::Thread | Failure::Stopped => RunError::Thread,
+        Failure::Settle(SettleError::Memory) => RunError::Memory,
         Failure::Settle(error) => RunError::Settle(error),
         Failure::Memory => RunError::Memory,
     }

@@ -1,6 +1,10 @@
 //! Why threads of a run end before it is over.
 
-ghost use Rattle.std.specs.Prelude.{IfNone, IsOk};
+ghost use Rattle.std.specs.Prelude.{◌≡◌, IfNone, IsOk};
+ghost use Rattle.std.specs.Result.{result_err};
+ghost use Rattle.fr_threads.specs.declared.failure.Failure.TheVariants as failure;
+ghost use Rattle.fr_threads.specs.Failures.{rank, least_of, told_after, failure_of_bus, failure_of_wire};
+ghost use Rattle.fr_threads.specs.Failures.{failure_of_settling};
 
 use fr_bus::error::BusError;
 use fr_core::settle::SettleError;
@@ -28,7 +32,9 @@ pub(crate) enum Failure {
 }
 
 /// Its rank among several: that of the least number is told.
-fn rank(failure: &Failure) -> u8 {
+fn rank(failure: &Failure) -> u8
+    ensures { result ≡ rank failure.now }
+{
     match failure {
         Failure::Host(_) => 0,
         Failure::Slot(_) => 1,
@@ -40,8 +46,10 @@ fn rank(failure: &Failure) -> u8 {
     }
 }
 
-/// Of a failure and those before it the one that is to be told.
-pub(crate) fn told_of(earlier: Option<Failure>, failure: Failure) -> Failure {
+/// Of a failure and the one before it the one that is to be told.
+pub(crate) fn least_of(earlier: Option<Failure>, failure: Failure) -> Failure
+    ensures { result ≡ least_of earlier failure }
+{
     match earlier {
         None => failure,
         Some(first) => {
@@ -56,21 +64,36 @@ pub(crate) fn told_of(earlier: Option<Failure>, failure: Failure) -> Failure {
 
 /// Of a thread's answer and a failure before it the failure that is to be told.
 pub(crate) fn told_with(earlier: Option<Failure>, answer: Result<(), Failure>) -> Option<Failure>
-    ensures { IfNone result (IsOk answer) }
+    ensures told { result ≡ told_after earlier (result_err answer) }
+    ensures none { IfNone result (IsOk answer) }
 {
     match answer {
         Ok(()) => earlier,
-        Err(failure) => Some(told_of(earlier, failure)),
+        Err(failure) => Some(least_of(earlier, failure)),
+    }
+}
+
+/// The failure that a refusal of the bus is.
+fn failure_of_bus(error: BusError) -> Failure
+    ensures { result ≡ failure_of_bus error }
+{
+    match error {
+        BusError::Memory => Failure::Memory,
+        error => Failure::Bus(error),
     }
 }
 
 impl From<AllocError> for Failure {
+    ghost from_gives = { λ _ given. given ≡ failure.Memory };
+
     fn from(_error: AllocError) -> Failure {
         Failure::Memory
     }
 }
 
 impl From<InterfaceError> for Failure {
+    ghost from_gives = { λ _ given. given ≡ failure.Memory };
+
     fn from(error: InterfaceError) -> Failure {
         match error {
             InterfaceError::Memory => Failure::Memory,
@@ -78,12 +101,48 @@ impl From<InterfaceError> for Failure {
     }
 }
 
+impl From<HostError> for Failure {
+    ghost from_gives = { λ error given. given ≡ failure.Host error };
+
+    fn from(error: HostError) -> Failure {
+        Failure::Host(error)
+    }
+}
+
+impl From<SlotError> for Failure {
+    ghost from_gives = { λ error given. given ≡ failure.Slot error };
+
+    fn from(error: SlotError) -> Failure {
+        Failure::Slot(error)
+    }
+}
+
+impl From<BusError> for Failure {
+    ghost from_gives = { λ error given. given ≡ failure_of_bus error };
+
+    fn from(error: BusError) -> Failure {
+        failure_of_bus(error)
+    }
+}
+
 impl From<WireError> for Failure {
+    ghost from_gives = { λ error given. given ≡ failure_of_wire error };
+
     fn from(error: WireError) -> Failure {
         match error {
-            WireError::Bus(BusError::Memory) => Failure::Memory,
-            WireError::Bus(error) => Failure::Bus(error),
+            WireError::Bus(error) => failure_of_bus(error),
             WireError::Stopped => Failure::Stopped,
+        }
+    }
+}
+
+impl From<SettleError> for Failure {
+    ghost from_gives = { λ error given. given ≡ failure_of_settling error };
+
+    fn from(error: SettleError) -> Failure {
+        match error {
+            SettleError::Memory => Failure::Memory,
+            error => Failure::Settle(error),
         }
     }
 }

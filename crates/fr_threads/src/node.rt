@@ -1,19 +1,23 @@
 //! The thread of a node: its controller, and its tasks in a scope of their own.
 
-ghost use Rattle.std.specs.Prelude.{◌≡◌, ◌+◌, ◌≤◌, [], IfOk, OnOk, vec_len};
+ghost use Rattle.std.specs.Prelude.{◌≡◌, ◌+◌, ◌≤◌, [], IfOk, OnOk, vec_len, map};
+ghost use Rattle.std.specs.Result.{result_err};
 ghost use Rattle.std.specs.Vec.{vec_capacity};
 ghost use Rattle.fr_interface.specs.Commits.{commits_of};
 ghost use Rattle.fr_ledger.specs.Posts.{parts_for};
+ghost use Rattle.fr_threads.specs.Failures.{told_after, told_of_all};
 
-use crate::failure::{Failure, told_of, told_with};
-use crate::shared::{Shared, opens_cycle};
-use crate::task::{TaskDone, lines_of, run_task};
+use crate::failure::{Failure, least_of, told_with};
+use crate::shared::Shared;
+use crate::task::{TaskDone, run_task};
+use fr_bus::windows::opens_cycle;
 use fr_core::event::Reply;
 use fr_core::script::Script;
 use fr_desks::desk::{Desk, TaskPass};
 use fr_desks::gate::Gate;
 use fr_interface::interface::{Interface, Offer};
 use fr_ledger::books::{Share, gather};
+use fr_runs::stepping::lines_given;
 use fr_schedule::cluster::Cluster;
 use fr_slots::numbers::NodeId;
 use fr_status::seen::Seen;
@@ -42,14 +46,22 @@ struct TasksDone<L: Ledger> {
     answers: Vec<Vec<Reply>>,
 }
 
-impl<L: Ledger> TasksDone<L> {
-    /// Room for what so many tasks leave.
-    fn with_room(alloc: Global, count: usize) -> Result<TasksDone<L>, AllocError>
-        ensures empty { IfOk result (λ done. vec_len done.shares ≡ 0) }
-        ensures shares { IfOk result (λ done. vec_len done.shares + count ≤ vec_capacity done.shares) }
-        ensures answers { IfOk result (λ done. vec_len done.answers + count ≤ vec_capacity done.answers) }
+/// What a node's tasks hand back, in their order.
+#[derive(Drop)]
+struct TasksJoined<L: Ledger> {
+    shares: Vec<Share<L>>,
+    answers: Vec<Result<Vec<Reply>, Failure>>,
+}
+
+impl<L: Ledger> TasksJoined<L> {
+    /// Room for what so many tasks hand back.
+    fn with_room(alloc: Global, count: usize) -> Result<TasksJoined<L>, AllocError>
+        ensures no_shares { IfOk result (λ joined. vec_len joined.shares ≡ 0) }
+        ensures no_answers { IfOk result (λ joined. vec_len joined.answers ≡ 0) }
+        ensures shares { IfOk result (λ joined. vec_len joined.shares + count ≤ vec_capacity joined.shares) }
+        ensures answers { IfOk result (λ joined. vec_len joined.answers + count ≤ vec_capacity joined.answers) }
     {
-        Ok(TasksDone {
+        Ok(TasksJoined {
             shares: Vec::with_capacity(alloc, count)?,
             answers: Vec::with_capacity(alloc, count)?,
         })
@@ -77,12 +89,10 @@ fn control<L: Ledger, R: Wait + Clock, G: Gate>(
             begun = begun.saturating_add(1);
         }
         let number = window.number;
-        desk.fetch_into(rt, gate, &window, &mut offer)
-            .map_err(|error| Failure::Slot(error))?;
+        desk.fetch_into(rt, gate, &window, &mut offer)?;
         shared.wire.put(rt, node, number, &offer)?;
         shared.wire.take_into(rt, node, number, &mut a, &mut b)?;
-        desk.observe(rt, gate, number, &a, &b)
-            .map_err(|error| Failure::Slot(error))?;
+        desk.observe(rt, gate, number, &a, &b)?;
     }
     unreachable!()
 }
@@ -105,7 +115,7 @@ fn start_tasks<'s, E, L: Ledger + Send + Sync, R: Wait + Sync, G: Gate + Sync>(
     ensures all { OnOk result (vec_len running.new ≡ vec_len running.old + vec_len passes) }
 {
     for pass in passes {
-        let lines = lines_of(scripts, node, pass.task());
+        let lines = lines_given(scripts, node, pass.task());
         match scope.spawn(move || run_task(rt, alloc, desk, shared, lines, gate, pass)) {
             Ok(handle) => running.push_reserved(handle),
             Err(_) => return Err(Failure::Thread),
@@ -114,26 +124,62 @@ fn start_tasks<'s, E, L: Ledger + Send + Sync, R: Wait + Sync, G: Gate + Sync>(
     Ok(())
 }
 
-/// Joins the tasks, and answers which failure of theirs is to be told. There is room for what they leave.
+/// Joins the tasks, in their order. There is room for what they hand back.
 fn join_tasks<L: Ledger, R: Threads>(
     rt: &R,
     running: Vec<JoinHandle<TaskDone<L>>>,
-    done: &mut TasksDone<L>,
-) -> Option<Failure>
-    requires shares { vec_len done.old.shares + vec_len running ≤ vec_capacity done.old.shares }
-    requires answers { vec_len done.old.answers + vec_len running ≤ vec_capacity done.old.answers }
-    ensures { vec_len done.new.shares ≡ vec_len done.old.shares + vec_len running }
+    joined: &mut TasksJoined<L>,
+)
+    requires shares { vec_len joined.old.shares + vec_len running ≤ vec_capacity joined.old.shares }
+    requires answers { vec_len joined.old.answers + vec_len running ≤ vec_capacity joined.old.answers }
+    ensures shares { vec_len joined.new.shares ≡ vec_len joined.old.shares + vec_len running }
+    ensures answers { vec_len joined.new.answers ≡ vec_len joined.old.answers + vec_len running }
 {
-    let mut told = None;
     for handle in running {
         let TaskDone { share, answers } = handle.join(rt);
-        done.shares.push_reserved(share);
-        match answers {
-            Ok(answers) => done.answers.push_reserved(answers),
-            Err(failure) => told = Some(told_of(told, failure)),
+        joined.shares.push_reserved(share);
+        joined.answers.push_reserved(answers);
+    }
+}
+
+/// Keeps the answers of those that didn't fail, and answers which failure of the others is to be told. There is room for
+/// all.
+fn keep_answers(
+    answers: Vec<Result<Vec<Reply>, Failure>>,
+    kept: &mut Vec<Vec<Reply>>,
+) -> Option<Failure>
+    requires { vec_len kept.old + vec_len answers ≤ vec_capacity kept.old }
+    ensures { result ≡ told_of_all (map result_err answers.items) }
+{
+    let mut told = None;
+    for answer in answers {
+        match answer {
+            Ok(replies) => kept.push_reserved(replies),
+            Err(failure) => told = Some(least_of(told, failure)),
         }
     }
     told
+}
+
+/// What the tasks leave, if neither they nor their controller failed, and else the failure that is to be told. There is
+/// room for their answers.
+fn all_answered<L: Ledger>(
+    joined: TasksJoined<L>,
+    ended: Result<(), Failure>,
+    mut kept: Vec<Vec<Reply>>,
+) -> Result<TasksDone<L>, Failure>
+    requires { vec_len kept + vec_len joined.answers ≤ vec_capacity kept }
+    ensures told { result_err result ≡ told_after (told_of_all (map result_err joined.answers.items)) (result_err ended) }
+    ensures shares { IfOk result (λ done. vec_len done.shares ≡ vec_len joined.shares) }
+{
+    let TasksJoined { shares, answers } = joined;
+    match told_with(keep_answers(answers, &mut kept), ended) {
+        Some(failure) => Err(failure),
+        None => Ok(TasksDone {
+            shares,
+            answers: kept,
+        }),
+    }
 }
 
 /// Runs the node's tasks and its controller, and joins them. Where one of them fails the run is stopped.
@@ -150,7 +196,8 @@ fn serve<'s, E, L: Ledger + Send + Sync, R: Threads + Wait + Clock + Sync, G: Ga
 ) -> Result<TasksDone<L>, Failure>
     ensures { IfOk result (λ done. vec_len done.shares ≡ vec_len passes) }
 {
-    let mut done = TasksDone::with_room(alloc, passes.len())?;
+    let mut joined = TasksJoined::with_room(alloc, passes.len())?;
+    let kept = Vec::with_capacity(alloc, passes.len())?;
     let mut running = Vec::with_capacity(alloc, passes.len())?;
     let ended = match start_tasks(
         scope,
@@ -170,10 +217,8 @@ fn serve<'s, E, L: Ledger + Send + Sync, R: Threads + Wait + Clock + Sync, G: Ga
     if ended.is_err() {
         shared.stop(rt);
     }
-    match told_with(join_tasks(rt, running, &mut done), ended) {
-        Some(failure) => Err(failure),
-        None => Ok(done),
-    }
+    join_tasks(rt, running, &mut joined);
+    all_answered(joined, ended, kept)
 }
 
 /// Runs the node's tasks and its controller in a scope.

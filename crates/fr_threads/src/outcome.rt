@@ -35,6 +35,7 @@ pub fn run_cluster<T: Threads + Wait + Clock + Sync, R: Read, W: Write>(
     ensures written { Prints
         cluster.now
         cycles
+        free
         (R.remaining reader.old)
         (W.contents writer.old)
         (W.contents writer.new)
@@ -78,6 +79,7 @@ pub fn run_text<T: Threads + Wait + Clock + Sync, F: Read, R: Read, W: Write>(
         ⊎ IsFileRun
         (F.remaining file.old)
         cycles
+        free
         (R.remaining reader.old)
         (W.contents writer.old)
         (W.contents writer.new)

@@ -1,5 +1,8 @@
 //! The pace of a stepped run: a cycle's script lines come between the cycle before and its first fetch.
 
+ghost use Rattle.std.specs.Prelude.{◌≡◌};
+ghost use Rattle.fr_threads.specs.Pacing.{is_due};
+
 use fr_core::script::{Line, Script};
 use std::alloc::{AllocError, Global};
 use std::sync::{Condvar, Mutex, Wait};
@@ -15,14 +18,75 @@ struct Turn {
 
 /// How far the run has come.
 #[derive(Drop)]
-struct Progress {
-    /// How many controllers wait for the cycle that they are to begin.
-    waiting: u8,
-    /// The lines of the cycles below this are due, or done.
-    due: u16,
-    /// How many tasks have lines of the cycle that came due last, and haven't done all of them.
-    busy: u16,
-    stopped: bool,
+pub(crate) struct Progress {
+    /// How many controllers are still to come for the cycle that they are to begin.
+    pub missing: u8,
+    /// The cycle whose lines came due last, if any did.
+    pub due: Option<u16>,
+    /// How many tasks have lines of that cycle, and haven't done all of them.
+    pub busy: u16,
+    pub stopped: bool,
+}
+
+/// Whether the lines of the cycle came due, where those of this one came due last.
+fn is_due(cycle: u16, due: Option<u16>) -> bool
+    ensures { result ≡ is_due cycle due }
+{
+    match due {
+        Some(last) => cycle <= last,
+        None => false,
+    }
+}
+
+impl Progress {
+    ghost use Rattle.std.specs.Prelude.{◌≡◌, ◌==◌};
+    ghost use Rattle.fr_threads.specs.Pacing.{awaits_due, awaits_done, is_last, arrived, task_done, halted};
+
+    /// Whether a task that has lines in the cycle waits for them to be due.
+    fn awaits_due(&self, cycle: u16) -> bool
+        ensures { result ≡ awaits_due cycle self.now }
+    {
+        !is_due(cycle, self.due) && !self.stopped
+    }
+
+    /// Whether a controller that is to begin the cycle waits for its lines to be done.
+    fn awaits_done(&self, cycle: u16) -> bool
+        ensures { result ≡ awaits_done cycle self.now }
+    {
+        (!is_due(cycle, self.due) || self.busy > 0) && !self.stopped
+    }
+
+    /// Counts a controller that is to begin the cycle, and answers whether it is the last, with which the lines are due.
+    fn arrive(&mut self, nodes: u8, cycle: u16, tasks: u16) -> bool
+        ensures last { result ≡ is_last self.old }
+        ensures after { self.new ≡ arrived nodes cycle tasks self.old }
+    {
+        if self.missing > 1 {
+            self.missing -= 1;
+            return false;
+        }
+        self.missing = nodes;
+        self.due = Some(cycle);
+        self.busy = tasks;
+        true
+    }
+
+    /// Counts a task that has done its lines of the cycle that came due last, and answers whether none is left that
+    /// hasn't.
+    fn finish_task(&mut self) -> bool
+        ensures none_left { result ≡ (self.new.busy == 0) }
+        ensures after { self.new ≡ task_done self.old }
+    {
+        self.busy = self.busy.saturating_sub(1);
+        self.busy == 0
+    }
+
+    /// From now on nobody waits.
+    fn stop(&mut self)
+        ensures { self.new ≡ halted self.old }
+    {
+        self.stopped = true;
+    }
 }
 
 /// When tasks may do the lines of a cycle, and controllers fetch in it. For a cycle in which no task has lines nobody
@@ -77,8 +141,8 @@ impl Pace {
             nodes,
             turns,
             progress: Mutex::new(Progress {
-                waiting: 0,
-                due: 0,
+                missing: nodes,
+                due: None,
                 busy: 0,
                 stopped: false,
             }),
@@ -92,7 +156,7 @@ impl Pace {
             return false;
         };
         let progress = turn.due.wait_while(rt, self.progress.lock(rt), |progress| {
-            progress.due <= cycle && !progress.stopped
+            progress.awaits_due(cycle)
         });
         !progress.stopped
     }
@@ -100,8 +164,7 @@ impl Pace {
     /// Tells that a task has done all its lines of the cycle that came due last.
     pub(crate) fn tell_done<R: Wait>(&self, rt: &R) {
         let mut progress = self.progress.lock(rt);
-        progress.busy = progress.busy.saturating_sub(1);
-        let all = progress.busy == 0;
+        let all = progress.finish_task();
         drop(progress);
         if all {
             self.done.notify_all();
@@ -121,7 +184,7 @@ impl Pace {
         let progress = self
             .done
             .wait_while(rt, self.progress.lock(rt), |progress| {
-                (progress.due <= cycle || progress.busy > 0) && !progress.stopped
+                progress.awaits_done(cycle)
             });
         !progress.stopped
     }
@@ -129,13 +192,7 @@ impl Pace {
     /// Counts a controller that is to begin the cycle. With the last the cycle's lines are due.
     fn arrive<R: Wait>(&self, rt: &R, cycle: u16, turn: &Turn) {
         let mut progress = self.progress.lock(rt);
-        progress.waiting = progress.waiting.saturating_add(1);
-        let all = progress.waiting >= self.nodes;
-        if all {
-            progress.waiting = 0;
-            progress.due = cycle.saturating_add(1);
-            progress.busy = turn.tasks;
-        }
+        let all = progress.arrive(self.nodes, cycle, turn.tasks);
         drop(progress);
         if all {
             turn.due.notify_all();
@@ -145,7 +202,7 @@ impl Pace {
     /// From now on nobody waits.
     pub(crate) fn stop<R: Wait>(&self, rt: &R) {
         let mut progress = self.progress.lock(rt);
-        progress.stopped = true;
+        progress.stop();
         drop(progress);
         self.done.notify_all();
         for turn in &self.turns {

@@ -1,29 +1,36 @@
 //! A whole run of a cluster.
 
-ghost use Rattle.std.specs.Prelude.{◌≡◌, ◌+◌, ◌≤◌, ◌<◌, IfOk, OnOk, vec_len, length, map};
+ghost use Rattle.std.specs.Prelude.{◌≡◌, ◌+◌, ◌≤◌, ◌<◌, IfOk, OnOk, IsTrue, vec_len, length, map};
+ghost use Rattle.std.specs.Result.{result_err};
 ghost use Rattle.std.specs.Vec.{vec_capacity};
+ghost use Rattle.fr_bus.specs.declared.error.Phase.TheVariants.{Finished};
 ghost use Rattle.fr_bus.specs.Windows.{cycles_begun};
 ghost use Rattle.fr_interface.specs.Commits.{commits_of};
+ghost use Rattle.fr_runs.specs.Faulted.{HaveFaults};
+ghost use Rattle.fr_threads.specs.Failures.{told_after, told_of_all, TellsMemory};
 ghost use Rattle.fr_threads.specs.Running.{IsRunOf, RefusesRun};
 
 use crate::answers::with_answers;
 use crate::error::{RunError, error_of_failure, error_of_refusal};
-use crate::failure::{Failure, told_of, told_with};
+use crate::failure::{Failure, least_of, told_with};
 use crate::mover::run_bus;
 use crate::node::{NodeDone, run_node};
 use crate::pace::Pace;
-use crate::shared::{Shared, opens_cycle};
+use crate::shared::Shared;
 use fr_bus::bus::Bus;
-use fr_bus::error::{BusError, Phase};
+use fr_bus::error::Phase;
 use fr_bus::outcome::Sealed;
+use fr_bus::windows::opens_cycle;
 use fr_core::event::Reply;
 use fr_core::script::Script;
-use fr_core::settle::{SettleError, Settled, settle};
+use fr_core::settle::{Settled, settle};
 use fr_desks::gate::Gate;
 use fr_desks::wire::Wire;
 use fr_interface::interface::Interface;
 use fr_runs::check::check_run;
 use fr_runs::fault_line::FaultLine;
+use fr_runs::faulted::have_faults;
+use fr_runs::stepping::are_stepped;
 use fr_schedule::cluster::Cluster;
 use std::alloc::{AllocError, Global};
 use std::sync::Wait;
@@ -119,26 +126,61 @@ fn start_nodes<'s, E, R: Threads + Wait + Clock + Sync, G: Gate + Sync>(
     Ok(())
 }
 
-/// Joins the nodes, and answers which failure of theirs is to be told. There is room for what they leave.
+/// Joins the nodes, in their order. There is room for what they answer.
 fn join_nodes<R: Threads>(
     rt: &R,
     running: Vec<JoinHandle<Result<NodeDone, Failure>>>,
-    nodes: &mut NodesDone,
-) -> Option<Failure>
-    requires interfaces { vec_len nodes.old.interfaces + vec_len running ≤ vec_capacity nodes.old.interfaces }
-    requires commits { vec_len nodes.old.commits + vec_len running ≤ vec_capacity nodes.old.commits }
-    requires answers { vec_len nodes.old.answers + vec_len running ≤ vec_capacity nodes.old.answers }
+    answers: &mut Vec<Result<NodeDone, Failure>>,
+)
+    requires { vec_len answers.old + vec_len running ≤ vec_capacity answers.old }
+    ensures { vec_len answers.new ≡ vec_len answers.old + vec_len running }
+{
+    for handle in running {
+        answers.push_reserved(handle.join(rt));
+    }
+}
+
+/// Adds what the nodes leave that didn't fail, and answers which failure of the others is to be told. There is room for
+/// what they leave.
+fn keep_nodes(answers: Vec<Result<NodeDone, Failure>>, nodes: &mut NodesDone) -> Option<Failure>
+    requires interfaces { vec_len nodes.old.interfaces + vec_len answers ≤ vec_capacity nodes.old.interfaces }
+    requires commits { vec_len nodes.old.commits + vec_len answers ≤ vec_capacity nodes.old.commits }
+    requires answers { vec_len nodes.old.answers + vec_len answers ≤ vec_capacity nodes.old.answers }
     requires counted { nodes.old.commits.items ≡ map commits_of nodes.old.interfaces.items }
+    ensures told { result ≡ told_of_all (map result_err answers.items) }
     ensures counted { nodes.new.commits.items ≡ map commits_of nodes.new.interfaces.items }
 {
     let mut told = None;
-    for handle in running {
-        match handle.join(rt) {
+    for answer in answers {
+        match answer {
             Ok(done) => nodes.add(done),
-            Err(failure) => told = Some(told_of(told, failure)),
+            Err(failure) => told = Some(least_of(told, failure)),
         }
     }
     told
+}
+
+/// What the nodes leave, if none of them failed, nor the bus, and all were started, and else the failure that is to be
+/// told. There is room for what they leave.
+fn all_done(
+    answers: Vec<Result<NodeDone, Failure>>,
+    bus: Result<(), Failure>,
+    started: Result<(), Failure>,
+    mut nodes: NodesDone,
+) -> Result<NodesDone, Failure>
+    requires interfaces { vec_len nodes.interfaces + vec_len answers ≤ vec_capacity nodes.interfaces }
+    requires commits { vec_len nodes.commits + vec_len answers ≤ vec_capacity nodes.commits }
+    requires answers { vec_len nodes.answers + vec_len answers ≤ vec_capacity nodes.answers }
+    requires counted { nodes.commits.items ≡ map commits_of nodes.interfaces.items }
+    ensures told { result_err result
+        ≡ told_after (told_after (told_of_all (map result_err answers.items)) (result_err bus)) (result_err started) }
+    ensures counted { IfOk result (λ nodes. nodes.commits.items ≡ map commits_of nodes.interfaces.items) }
+{
+    let told = told_with(keep_nodes(answers, &mut nodes), bus);
+    match told_with(told, started) {
+        Some(failure) => Err(failure),
+        None => Ok(nodes),
+    }
 }
 
 /// Runs the bus and the nodes, and joins them. Where one of them fails the run is stopped.
@@ -155,9 +197,10 @@ fn serve<'s, E, R: Threads + Wait + Clock + Sync, G: Gate + Sync>(
     ensures { IfOk result (λ nodes. nodes.commits.items ≡ map commits_of nodes.interfaces.items) }
 {
     let count = cluster.nodes();
-    let mut nodes = NodesDone::with_room(alloc, usize::from(count))?;
+    let nodes = NodesDone::with_room(alloc, usize::from(count))?;
+    let mut answers = Vec::with_capacity(alloc, usize::from(count))?;
     let mut running = Vec::with_capacity(alloc, usize::from(count))?;
-    let Ok(bus) = scope.spawn(move || run_bus(rt, shared, faults, gate)) else {
+    let Ok(bus) = scope.spawn(move || run_bus(rt, alloc, shared, faults, gate)) else {
         return Err(Failure::Thread);
     };
     let started = start_nodes(
@@ -174,11 +217,8 @@ fn serve<'s, E, R: Threads + Wait + Clock + Sync, G: Gate + Sync>(
     if started.is_err() {
         shared.stop(rt);
     }
-    let told = told_with(join_nodes(rt, running, &mut nodes), bus.join(rt));
-    match told_with(told, started) {
-        Some(failure) => Err(failure),
-        None => Ok(nodes),
-    }
+    join_nodes(rt, running, &mut answers);
+    all_done(answers, bus.join(rt), started, nodes)
 }
 
 /// Runs the bus and the nodes in a scope.
@@ -215,19 +255,34 @@ fn count_cycles(recorded: &[Sealed]) -> usize
     count
 }
 
-/// The run, if the bus came to its end, and what the nodes left agrees with it and the scripts.
+/// Whether the bus came to its end after so many cycles, and each window had the faults of these lines and no others.
+fn is_at_end(alloc: Global, bus: &Bus, faults: &[FaultLine], cycles: u16) -> Result<bool, Failure>
+    ensures finished { IfOk result (λ answer. IsTrue answer → bus.now.phase ≡ Finished) }
+    ensures cycles { IfOk result (λ answer. IsTrue answer → cycles_begun bus.now.sealed ≡ cycles) }
+    ensures faults { IfOk result (λ answer. IsTrue answer → HaveFaults faults.now bus.now.sealed) }
+{
+    let recorded = bus.record();
+    let is_faulted = have_faults(alloc, faults, recorded)?;
+    let has_cycles = count_cycles(recorded) == usize::from(cycles);
+    Ok(bus.phase() == Phase::Finished && has_cycles && is_faulted)
+}
+
+/// The run, if the bus came to its end with these faults, what the nodes left agrees with it and the scripts, and in a
+/// stepped run each line was done in its cycle.
 fn settled_run(
     alloc: Global,
     cluster: &Cluster,
-    scripts: &[Script],
+    given: &[Script],
+    faults: &[FaultLine],
     cycles: u16,
+    stepped: bool,
     nodes: NodesDone,
     bus: Bus,
 ) -> Result<Run, Failure>
     requires { nodes.commits.items ≡ map commits_of nodes.interfaces.items }
-    ensures { IfOk result (IsRunOf cluster.now scripts.now cycles) }
+    ensures { IfOk result (IsRunOf cluster.now given.now faults.now cycles stepped) }
 {
-    if bus.phase() != Phase::Finished || count_cycles(bus.record()) != usize::from(cycles) {
+    if !is_at_end(alloc, &bus, faults, cycles)? {
         return Err(Failure::Thread);
     }
     let NodesDone {
@@ -235,24 +290,25 @@ fn settled_run(
         commits,
         answers,
     } = nodes;
-    let scripts = with_answers(alloc, scripts, answers.as_slice())?;
-    match settle(
+    let scripts = with_answers(alloc, given, answers.as_slice())?;
+    let answer = settle(
         alloc,
         cluster,
         interfaces.as_slice(),
         &bus,
         scripts.as_slice(),
-    ) {
-        Ok(settled) => Ok(Run {
-            interfaces,
-            commits,
-            scripts,
-            bus,
-            settled,
-        }),
-        Err(SettleError::Memory) => Err(Failure::Memory),
-        Err(error) => Err(Failure::Settle(error)),
+    );
+    let settled = answer?;
+    if stepped && !are_stepped(interfaces.as_slice(), bus.record(), given) {
+        return Err(Failure::Thread);
     }
+    Ok(Run {
+        interfaces,
+        commits,
+        scripts,
+        bus,
+        settled,
+    })
 }
 
 /// The bus and the pace of a run.
@@ -263,11 +319,7 @@ fn shared_by_all(
     cycles: u16,
     stepped: bool,
 ) -> Result<Shared, Failure> {
-    let bus = match Bus::new(alloc, cluster, cycles) {
-        Ok(bus) => bus,
-        Err(BusError::Memory) => return Err(Failure::Memory),
-        Err(error) => return Err(Failure::Bus(error)),
-    };
+    let bus = Bus::new(alloc, cluster, cycles)?;
     let pace = if stepped {
         Some(Pace::new(alloc, cluster.nodes(), cycles, scripts)?)
     } else {
@@ -290,14 +342,14 @@ fn run_all<R: Threads + Wait + Clock + Sync, G: Gate + Sync>(
     stepped: bool,
     gate: &G,
 ) -> Result<Run, Failure>
-    ensures { IfOk result (IsRunOf cluster.now scripts.now cycles) }
+    ensures { IfOk result (IsRunOf cluster.now scripts.now faults.now cycles stepped) }
 {
     let shared = shared_by_all(alloc, cluster, scripts, cycles, stepped)?;
     let ended = run_in_scope(rt, alloc, &shared, cluster, scripts, faults, gate);
     let Shared { wire, pace: _ } = shared;
     let bus = wire.close();
     let nodes = ended?;
-    settled_run(alloc, cluster, scripts, cycles, nodes, bus)
+    settled_run(alloc, cluster, scripts, faults, cycles, stepped, nodes, bus)
 }
 
 /// Runs the cluster for so many cycles: a thread for each task does the lines of its script, one for each controller
@@ -309,7 +361,8 @@ fn run_all<R: Threads + Wait + Clock + Sync, G: Gate + Sync>(
 /// Refused with `BadCycles`, `BadScript`, `BadFault` and `NoRoom`, in this order and as `check_run` refuses, before any
 /// thread starts. Of several failures that threads meet the first of these is told: `Host`, `Slot`, `Bus`, `Thread` and
 /// `Memory`. Where they meet none, a bus that isn't at its end after so many cycles is `Thread`, and what doesn't agree
-/// by then is `Settle`. All threads are joined before it answers.
+/// by then is `Settle`. A record with other faults than those of the lines, or in a stepped run a line that wasn't done
+/// in its cycle, is `Thread` too. All threads are joined before it answers.
 pub fn run_threads<R: Threads + Wait + Clock + Sync, G: Gate + Sync>(
     rt: &R,
     alloc: Global,
@@ -321,7 +374,8 @@ pub fn run_threads<R: Threads + Wait + Clock + Sync, G: Gate + Sync>(
     gate: &G,
 ) -> Result<Run, RunError>
     ensures refused { RefusesRun cluster.now scripts.now faults.now cycles result }
-    ensures run { IfOk result (IsRunOf cluster.now scripts.now cycles) }
+    ensures memory { TellsMemory result }
+    ensures run { IfOk result (IsRunOf cluster.now scripts.now faults.now cycles stepped) }
 {
     if let Err(refusal) = check_run(cluster, scripts, faults, cycles) {
         return Err(error_of_refusal(refusal));

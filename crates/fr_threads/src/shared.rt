@@ -1,20 +1,9 @@
 //! What all threads of a run share.
 
-ghost use Rattle.std.specs.Prelude.{◌≡◌};
-ghost use Rattle.fr_bus.specs.Windows.{opens_cycle};
-
 use crate::failure::Failure;
 use crate::pace::Pace;
 use fr_desks::wire::Wire;
-use fr_slots::window::Window;
 use std::sync::Wait;
-
-/// Whether a cycle begins with the window.
-pub(crate) fn opens_cycle(window: &Window) -> bool
-    ensures { result ≡ opens_cycle window.now }
-{
-    window.is_static() && window.a.is_some_and(|slot| slot.number() == 1)
-}
 
 /// What all threads of a run share: the bus, and in a stepped run its pace.
 #[derive(Drop)]

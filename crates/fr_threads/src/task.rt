@@ -3,12 +3,11 @@
 use crate::failure::Failure;
 use crate::shared::Shared;
 use fr_core::event::Reply;
-use fr_core::script::{Action, Line, Script};
+use fr_core::script::{Action, Line};
 use fr_desks::desk::{Desk, TaskPass};
 use fr_desks::gate::Gate;
 use fr_interface::errors::HostError;
 use fr_ledger::books::Share;
-use fr_slots::numbers::{NodeId, TaskId};
 use std::alloc::Global;
 use std::sync::Wait;
 use std::sync::ledger::Ledger;
@@ -18,16 +17,6 @@ use std::sync::ledger::Ledger;
 pub(crate) struct TaskDone<L: Ledger> {
     pub share: Share<L>,
     pub answers: Result<Vec<Reply>, Failure>,
-}
-
-/// The lines of the task's script, if it has one.
-pub(crate) fn lines_of(scripts: &[Script], node: NodeId, task: TaskId) -> &[Line] {
-    for script in scripts {
-        if script.is_for(node, task) {
-            return script.lines.as_slice();
-        }
-    }
-    &[]
 }
 
 /// Does one line.
@@ -78,10 +67,7 @@ fn do_lines<L: Ledger, R: Wait, G: Gate>(
             shared.wait_due(rt, line.cycle)?;
             begun = Some(line.cycle);
         }
-        match do_line(rt, desk, gate, me, &line.action) {
-            Ok(reply) => answers.push_reserved(reply),
-            Err(error) => return Err(Failure::Host(error)),
-        }
+        answers.push_reserved(do_line(rt, desk, gate, me, &line.action)?);
     }
     if begun.is_some() {
         shared.tell_done(rt);

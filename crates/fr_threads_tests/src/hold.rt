@@ -1,4 +1,4 @@
-//! A gate that holds one actor until another has come far enough.
+//! Gates that hold one actor: until another has come far enough, or so long that another that doesn't wait for it goes on.
 
 use fr_desks::gate::{Actor, Gate, Point, Side};
 use fr_testing::{node, task};
@@ -60,6 +60,53 @@ impl Gate for Hold {
         if point == self.held && self.came.load(Ordering::SeqCst) == 0 {
             self.came.store(1, Ordering::SeqCst);
             wait_for(&self.passed);
+        }
+    }
+}
+
+/// For how many turns of other threads a late actor is held.
+const LATE: u32 = 10_000;
+
+/// A gate that holds an actor at its first pass of a point so long that another goes on that doesn't wait for it.
+#[derive(Drop)]
+pub(crate) struct Late {
+    held: Point,
+    other: Actor,
+    /// 1 once the other has passed a point.
+    passed: AtomicU64,
+    /// Once the actor was let go, 1 if the other hadn't passed any point before, and else 2.
+    let_go: AtomicU64,
+}
+
+impl Late {
+    /// A gate that holds whoever comes to the point, and looks whether the other goes on meanwhile.
+    pub(crate) fn new(held: Point, other: Actor) -> Late {
+        Late {
+            held,
+            other,
+            passed: AtomicU64::new(0),
+            let_go: AtomicU64::new(0),
+        }
+    }
+
+    /// Whether the actor was held, and the other didn't pass any point before it was let go.
+    pub(crate) fn was_awaited(&self) -> bool {
+        self.let_go.load(Ordering::SeqCst) == 1
+    }
+}
+
+impl Gate for Late {
+    fn pass(&self, point: Point) {
+        if point.actor == self.other {
+            self.passed.store(1, Ordering::SeqCst);
+        }
+        if point == self.held && self.let_go.load(Ordering::SeqCst) == 0 {
+            for _turn in 0..LATE {
+                thread::yield_now();
+            }
+            let before = self.passed.load(Ordering::SeqCst);
+            self.let_go
+                .store(if before == 0 { 1 } else { 2 }, Ordering::SeqCst);
         }
     }
 }

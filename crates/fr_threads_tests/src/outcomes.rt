@@ -4,7 +4,7 @@ use fr_threads::outcome::run_text;
 use std::test::Fail;
 
 /// A cluster of two static slots, whose one node owns the first.
-const ONE_NODE: &str = "guard = \"A\"
+pub(crate) const ONE_NODE: &str = "guard = \"A\"
 [params]
 static_slots = 2
 minislots = 0

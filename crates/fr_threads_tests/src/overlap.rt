@@ -1,9 +1,12 @@
 //! Whether threads really overlap: gates that hold one actor until another has come far enough, which only another
 //! thread can bring about.
 
-use crate::asked::{babbles, scripts, three_nodes};
-use crate::hold::{Hold, controller_point, task_point};
-use fr_desks::gate::Side;
+use crate::asked::{babbles, commits, scripts, three_nodes};
+use crate::hold::{Hold, Late, controller_point, task_point};
+use crate::outcomes::ONE_NODE;
+use fr_desks::gate::{Actor, Side};
+use fr_schedule::cluster::Cluster;
+use fr_testing::node;
 use fr_threads::run::run_threads;
 use std::alloc::Global;
 use std::sync::Wait;
@@ -89,5 +92,23 @@ fn two_controllers_really_overlap(rt: HostRuntime) -> Result<(), Fail> {
     for (held, other) in [(0, 1), (1, 0)] {
         assert!(rt; controllers_overlap(&rt, rt.alloc(), held, other)?);
     }
+    Ok(())
+}
+
+/// Whether the controller of a cluster's only node, in a stepped run, waits for a task's line.
+fn lone_controller_waits<R: Threads + Wait + Clock + Sync>(
+    rt: &R,
+    alloc: Global,
+) -> Result<bool, Fail> {
+    let cluster = Cluster::from_text(alloc, ONE_NODE)?;
+    let scripts = [commits(alloc, 0, 0, &[(0, [0x0a, 0x0b])])?];
+    let gate = Late::new(task_point(0, 0, Side::Before)?, Actor::Controller(node(0)?));
+    let run = run_threads(rt, alloc, &cluster, &scripts, &[], 1, true, &gate)?;
+    Ok(gate.was_awaited() && run.settled.windows == 2)
+}
+
+#[test]
+fn a_stepped_run_of_one_node_waits_for_its_task(rt: HostRuntime) -> Result<(), Fail> {
+    assert!(rt; lone_controller_waits(&rt, rt.alloc())?);
     Ok(())
 }

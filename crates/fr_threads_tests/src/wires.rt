@@ -102,6 +102,10 @@ fn desk_and_wire_do_answer(rt: HostRuntime) -> Result<(), Fail> {
     let entries = entries_of_two::<Brand, _>(&rt, alloc, blank, interface, &wire)?;
     let over = wire.next(&rt, node(0)?)?;
     assert!(rt; over.is_none());
+    // A wire whose run is over can be stopped too, and then says so.
+    wire.stop(&rt);
+    let stopped = wire.next(&rt, node(0)?).err();
+    assert_eq!(rt; stopped, Some(WireError::Stopped));
     assert_eq!(rt; (entries, wire.close().record().len()), (4, 2));
     Ok(())
 }

@@ -54,7 +54,7 @@ schedule_alike : (f g : Text → Option Text) → ((id : Text) → f id ≡ g id
 schedule_alike f g same the_order.Capture is = is
 schedule_alike f g same the_order.Frames is = is
 schedule_alike f g same the_order.Help is = is
-schedule_alike f g same (the_order.Show shown run) is = is
+schedule_alike f g same (the_order.Show shown cluster scenario cycles) is = is
 schedule_alike f g same (the_order.Schedule file cycle) is =
     (sym (same (codes "FILE")) ∙ is.0, ap cycle_asked (sym (same (codes "cycle"))) ∙ is.1)
 
@@ -67,7 +67,7 @@ schedule_told entered look (Some o) named same told = by o (schedule_alike look 
     by the_order.Capture is = absurd is
     by the_order.Frames is = absurd is
     by the_order.Help is = absurd is
-    by (the_order.Show shown run) is = absurd is
+    by (the_order.Show shown cluster scenario cycles) is = absurd is
     by (the_order.Schedule file cycle) is = (named, is)
 
 asks_nothing : (entered : Option (Text × List Row)) → IsNamed (codes "schedule") entered → has_schedule_by (word_in entered) ≡ false → asks entered ≡ false
@@ -99,13 +99,11 @@ show_alike name f g same the_order.Capture is = is
 show_alike name f g same the_order.Frames is = is
 show_alike name f g same the_order.Help is = is
 show_alike name f g same (the_order.Schedule file cycle) is = is
-show_alike name f g same (the_order.Show shown run) is = (
+show_alike name f g same (the_order.Show shown cluster scenario cycles) is = (
   sym (shown_alike name f g same) ∙ is.0,
-  (
-    sym (same (codes "FILE")) ∙ is.1.0,
-    sym (same (codes "SCENARIO")) ∙ is.1.1,
-    ap (λ w. option_and_then cycles_in w) (sym (same (codes "cycles"))) ∙ is.1.2,
-  ),
+  sym (same (codes "FILE")) ∙ is.1,
+  sym (same (codes "SCENARIO")) ∙ is.2,
+  ap (λ w. option_and_then cycles_in w) (sym (same (codes "cycles"))) ∙ is.3,
 )
 
 pub show_told : (entered : Option (Text × List Row)) (name : Text) (look : Text → Option Text) (found : Option Order) → IsNamed name entered
@@ -123,7 +121,7 @@ show_told (Some (entered, rows)) name look (Some o) named same told =
     by the_order.Frames is = absurd is
     by the_order.Help is = absurd is
     by (the_order.Schedule file cycle) is = absurd is
-    by (the_order.Show shown run) is = is
+    by (the_order.Show shown cluster scenario cycles) is = is
 
 pub show_lacks : (entered : Option (Text × List Row)) (name : Text) (look : Text → Option Text) (found : Option Order) → IsNamed name entered
     → bytes_eq name (codes "capture") ≡ false → bytes_eq name (codes "frames") ≡ false → bytes_eq name (codes "schedule") ≡ false

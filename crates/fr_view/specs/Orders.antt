@@ -12,7 +12,6 @@ use Rattle.fr_playing.specs.declared.shown.Shown.{Shown}
 use Rattle.fr_playing.specs.declared.shown.Shown.TheVariants.{Outcome, Answers, Trace}
 use Rattle.fr_view.specs.declared.command.Order.{Order}
 use Rattle.fr_view.specs.declared.command.Order.TheVariants as the_order
-use Rattle.fr_view.specs.declared.command.Run.{Run}
 use Rattle.fr_words.specs.declared.error.OrderError.{OrderError}
 use Rattle.fr_words.specs.declared.error.OrderError.TheVariants as refusal
 use Rattle.fr_words.specs.Commands.{IsNamed, bare, cycles_in, named, the_cycles, the_file, with_file, word_in}
@@ -77,7 +76,7 @@ abbrev pub IsScheduleBy : (Text → Option Text) → Order → Type 0
 IsScheduleBy first_word the_order.Capture = ⊥
 IsScheduleBy first_word the_order.Frames = ⊥
 IsScheduleBy first_word the_order.Help = ⊥
-IsScheduleBy first_word (the_order.Show shown run) = ⊥
+IsScheduleBy first_word (the_order.Show shown cluster scenario cycles) = ⊥
 IsScheduleBy first_word (the_order.Schedule file cycle) =
     (first_word (codes "FILE") ≡ Some file.now) × (cycle_asked (first_word (codes "cycle")) ≡ Some cycle)
 
@@ -101,13 +100,6 @@ has_run_by first_word =
     is_some (first_word (codes "FILE")) && is_some (first_word (codes "SCENARIO"))
     && is_some (option_and_then cycles_in (first_word (codes "cycles")))
 
--- the run is the one that they name
-abbrev pub IsRunBy : (Text → Option Text) → Run → Type 0
-IsRunBy first_word run =
-    (first_word (codes "FILE") ≡ Some run.cluster.now)
-    × (first_word (codes "SCENARIO") ≡ Some run.scenario.now)
-    × (option_and_then cycles_in (first_word (codes "cycles")) ≡ Some run.cycles)
-
 abbrev pub has_show_by : Text → (Text → Option Text) → Bool
 has_show_by name first_word = is_some (shown_by name first_word) && has_run_by first_word
 
@@ -117,7 +109,11 @@ IsShowBy name first_word the_order.Capture = ⊥
 IsShowBy name first_word the_order.Frames = ⊥
 IsShowBy name first_word the_order.Help = ⊥
 IsShowBy name first_word (the_order.Schedule file cycle) = ⊥
-IsShowBy name first_word (the_order.Show shown run) = (shown_by name first_word ≡ Some shown) × IsRunBy first_word run
+IsShowBy name first_word (the_order.Show shown cluster scenario cycles) =
+    (shown_by name first_word ≡ Some shown)
+    × (first_word (codes "FILE") ≡ Some cluster.now)
+    × (first_word (codes "SCENARIO") ≡ Some scenario.now)
+    × (option_and_then cycles_in (first_word (codes "cycles")) ≡ Some cycles)
 
 -- the same of the command that is entered
 abbrev pub has_show : Option (Text × List Row) → Bool
@@ -143,7 +139,7 @@ IsOrder entered the_order.Frames = IsNamed (codes "frames") entered
 IsOrder entered the_order.Help = ⊥
 IsOrder entered (the_order.Schedule file cycle) =
     IsNamed (codes "schedule") entered × IsScheduleBy (word_in entered) (the_order.Schedule file cycle)
-IsOrder entered (the_order.Show shown run) = IsShow entered (the_order.Show shown run)
+IsOrder entered (the_order.Show shown cluster scenario cycles) = IsShow entered (the_order.Show shown cluster scenario cycles)
 
 -- ---- the answer
 

@@ -2,17 +2,6 @@
 
 use fr_playing::shown::Shown;
 
-/// The run that a command is about (own profile).
-#[derive(Clone, Copy, PartialEq, Eq)]
-pub struct Run<'a> {
-    /// The name of the cluster file.
-    pub cluster: &'a str,
-    /// The name of the scenario file.
-    pub scenario: &'a str,
-    /// The number of cycles, 1 to 1024.
-    pub cycles: u16,
-}
-
 /// What the program is asked to do (own profile).
 #[derive(Clone, Copy, PartialEq, Eq)]
 pub enum Order<'a> {
@@ -27,12 +16,16 @@ pub enum Order<'a> {
     Capture,
     /// Read such a trace and print a table of what it saw.
     Frames,
-    /// Play a run and print what is to be shown of it.
+    /// Play a run of the cluster of the one file with the scenario of the other, and print what is to be shown of it.
     Show {
         /// What is to be shown.
         shown: Shown,
-        /// The run.
-        run: Run<'a>,
+        /// The name of the cluster file.
+        cluster: &'a str,
+        /// The name of the scenario file.
+        scenario: &'a str,
+        /// The number of cycles, 1 to 1024.
+        cycles: u16,
     },
     /// Print what the program can be asked to do.
     Help,

@@ -22,7 +22,7 @@ mod command;
 mod failure;
 mod order;
 
-use command::{Order, Run};
+use command::Order;
 use failure::Failure;
 use fr_capture::form::Form;
 use fr_capture::show::show_trace;
@@ -54,13 +54,15 @@ fr_view --help                               these lines
 fn show_files<R: Files + Print + AllocGlobal>(
     rt: &R,
     shown: Shown,
-    run: &Run<'_>,
+    cluster: &str,
+    scenario: &str,
+    cycles: u16,
 ) -> Result<(), Failure> {
     let alloc = rt.alloc();
-    let cluster = cluster_of(alloc, &mut file_named(rt, run.cluster)?)?;
-    let mut file = file_named(rt, run.scenario)?;
+    let cluster = cluster_of(alloc, &mut file_named(rt, cluster)?)?;
+    let mut file = file_named(rt, scenario)?;
     let mut output = io::writer(rt);
-    Ok(show_run(alloc, &cluster, &mut file, run.cycles, shown, &mut output)?)
+    Ok(show_run(alloc, &cluster, &mut file, cycles, shown, &mut output)?)
 }
 
 /// Does the order.
@@ -80,7 +82,12 @@ fn carry_out<R: Files + Input + Print + AllocGlobal>(
         }
         Order::Capture => Ok(show_trace(alloc, Form::Capture, &mut rt.reader(), &mut output)?),
         Order::Frames => Ok(show_trace(alloc, Form::Table, &mut rt.reader(), &mut output)?),
-        Order::Show { shown, run } => show_files(rt, shown, &run),
+        Order::Show {
+            shown,
+            cluster,
+            scenario,
+            cycles,
+        } => show_files(rt, shown, cluster, scenario, cycles),
         Order::Help => match io::Write::write_all(&mut output, HELP.as_bytes()) {
             Ok(()) => Ok(()),
             Err(_) => Err(Failure::Write),

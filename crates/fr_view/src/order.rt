@@ -3,11 +3,11 @@ ghost use Rattle.std.specs.Prelude.{◌≡◌, IfNone, IfOk, IfSome, false, map}
 ghost use Rattle.clap.specs.Words.{app_of, first_value, found_of, subcommand_rows_of};
 ghost use Rattle.clap.specs.declared.builder.command.Command.TheViews.{out-Command};
 ghost use Rattle.fr_text.specs.Reading.{number_in};
-ghost use Rattle.fr_view.specs.Orders.{IsAnswer, IsOrder, IsRunBy, IsScheduleBy, IsShowBy, asks, has_run_by};
+ghost use Rattle.fr_view.specs.Orders.{IsAnswer, IsOrder, IsScheduleBy, IsShowBy, asks};
 ghost use Rattle.fr_view.specs.Orders.{has_schedule_by, has_show_by, is_help, schedule_command, shown_by};
 ghost use Rattle.fr_view.specs.Orders.{the_commands, three_commands, trace_command, with_run};
 
-use crate::command::{Order, Run};
+use crate::command::Order;
 use clap::{Arg, ArgMatches, Command};
 use fr_playing::shown::Shown;
 use fr_slots::numbers::NodeId;
@@ -28,7 +28,7 @@ fn schedule_command<'a>(alloc: Global) -> Result<Command<'a>, AllocError>
 /// The command, with the two files of a run and the number of its cycles.
 fn of_run<'a>(alloc: Global, command: Command<'a>) -> Result<Command<'a>, AllocError>
     requires { (out-Command command).has_globals ≡ false }
-    ensures app { IfOk result (λ c. app_of c ≡ with_run (app_of command)) }
+    ensures app { IfOk result (λ c. app_of c ≡ with_run (app_of command.entry)) }
     ensures local { IfOk result (λ c. (out-Command c).has_globals ≡ false) }
 {
     let file = Arg::new(alloc, "FILE").required(true);
@@ -112,26 +112,18 @@ fn shown_in(name: &str, arguments: &ArgMatches<'_>) -> Option<Shown>
     }
 }
 
-/// The run that the arguments of a command name.
-fn run_in<'a>(arguments: &ArgMatches<'a>) -> Option<Run<'a>>
-    ensures told { IfSome result (IsRunBy (first_value (found_of arguments.now))) }
-    ensures nothing { IfNone result (has_run_by (first_value (found_of arguments.now)) ≡ false) }
-{
-    Some(Run {
-        cluster: arguments.get_str("FILE")?,
-        scenario: arguments.get_str("SCENARIO")?,
-        cycles: cycles_of(arguments.get_str("cycles")?)?,
-    })
-}
-
 /// What the command of this name shows of the run that its arguments name.
 fn show_in<'a>(name: &str, arguments: &ArgMatches<'a>) -> Option<Order<'a>>
     ensures told { IfSome result (IsShowBy name.now (first_value (found_of arguments.now))) }
     ensures nothing { IfNone result (has_show_by name.now (first_value (found_of arguments.now)) ≡ false) }
 {
     let shown = shown_in(name, arguments)?;
-    let run = run_in(arguments)?;
-    Some(Order::Show { shown, run })
+    Some(Order::Show {
+        shown,
+        cluster: arguments.get_str("FILE")?,
+        scenario: arguments.get_str("SCENARIO")?,
+        cycles: cycles_of(arguments.get_str("cycles")?)?,
+    })
 }
 
 /// The order that the command's name and arguments stand for.

@@ -1,14 +1,8 @@
-use Rattle.std.proofs.Common.{◌≡◌, ◌+◌, ◌≤◌, vec_len, length, map}
+use Rattle.std.proofs.Common.{◌≡◌, ◌+◌, vec_len, length}
 use Rattle.std.specs.Vec.{vec_capacity}
-use Rattle.fr_interface.specs.Commits.{commits_of}
 use Rattle.fr_threads.proofs.run.join_nodes.Given as goal
 
 abbrev pub invariant-loop-handle : goal.invariant-loop-handle
 invariant-loop-handle g l =
-    (vec_len l.nodes.interfaces ≤ vec_len l.initial.nodes.interfaces + length l.yielded)
-    × (vec_len l.nodes.commits ≤ vec_len l.initial.nodes.commits + length l.yielded)
-    × (vec_len l.nodes.answers ≤ vec_len l.initial.nodes.answers + length l.yielded)
-    × (vec_capacity l.nodes.interfaces ≡ vec_capacity l.initial.nodes.interfaces)
-    × (vec_capacity l.nodes.commits ≡ vec_capacity l.initial.nodes.commits)
-    × (vec_capacity l.nodes.answers ≡ vec_capacity l.initial.nodes.answers)
-    × (l.nodes.commits.items ≡ map commits_of l.nodes.interfaces.items)
+    (vec_len l.answers ≡ vec_len l.initial.answers + length l.yielded)
+    × (vec_capacity l.answers ≡ vec_capacity l.initial.answers)

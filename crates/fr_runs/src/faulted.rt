@@ -1,0 +1,364 @@
+//! Whether a record has the faults of a run.
+
+ghost use Rattle.std.specs.Prelude.{◌≡◌, ◌↔◌, IfOk, IsTrue, ℕ, Some, not, ◌&&◌, slice_get, option_map};
+ghost use Rattle.std.specs.Option.{option_copied};
+ghost use Rattle.fr_bus.specs.Record.{corrupt_on, recordable};
+ghost use Rattle.fr_runs.specs.Faulted.{bit_turned, bytes_babbled, loses, bit_by, bit_due, babble_by, babble_due};
+ghost use Rattle.fr_runs.specs.Faulted.{is_lost_by, is_loss_due, is_muted, is_babble_of, babble_in, HasFaults};
+ghost use Rattle.fr_runs.specs.Faulted.{HaveFaults, IsDue, IsDueAt, IsBabbled, IsBabbledBy, IsBabbledAt};
+ghost use Rattle.fr_slots.specs.Windows.{slot_of};
+
+use crate::fault_line::{FaultLine, keep_lines_of};
+use fr_bus::fault::Fault;
+use fr_bus::outcome::{Fate, Sealed, Sent};
+use fr_bus::windows::opens_cycle;
+use fr_frame::frame::Bytes;
+use fr_slots::channel::Channel;
+use fr_slots::numbers::{NodeId, SlotId};
+use fr_slots::window::Window;
+use std::alloc::{AllocError, Global};
+
+/// The bit that the fault turns on the channel, if it turns one.
+fn bit_turned(channel: Channel, fault: &Fault) -> Option<u16>
+    ensures { result ≡ bit_turned channel fault.now }
+{
+    match fault {
+        Fault::Corrupt { channel: on, bit } => if *on == channel { Some(*bit) } else { None },
+        Fault::Babble { .. } | Fault::Mute { .. } => None,
+    }
+}
+
+/// The bytes that the fault has the node send on the channel, if it babbles there.
+fn bytes_babbled(node: NodeId, channel: Channel, fault: &Fault) -> Option<&Bytes>
+    ensures { option_copied result ≡ bytes_babbled node channel fault.now }
+{
+    match fault {
+        Fault::Babble {
+            node: of,
+            channel: on,
+            bytes,
+        } => if *of == node && *on == channel {
+            Some(bytes)
+        } else {
+            None
+        },
+        Fault::Mute { .. } | Fault::Corrupt { .. } => None,
+    }
+}
+
+/// Whether the fault loses what the node offers on the channel.
+fn loses(node: NodeId, channel: Channel, fault: &Fault) -> bool
+    ensures { result ≡ loses node channel fault.now }
+{
+    match fault {
+        Fault::Mute {
+            node: of,
+            channel: on,
+        } => *of == node && *on == channel,
+        Fault::Babble { .. } | Fault::Corrupt { .. } => false,
+    }
+}
+
+/// The bit that the line turns on the channel of the window, if it strikes there.
+fn bit_by(line: &FaultLine, cycle: u16, window: &Window, channel: Channel) -> Option<u16>
+    ensures { result ≡ bit_by line.now cycle window.now channel }
+{
+    if line.strikes(cycle, window) {
+        bit_turned(channel, &line.fault)
+    } else {
+        None
+    }
+}
+
+/// The bit that the lines turn on the channel of the window.
+fn bit_due(lines: &[FaultLine], cycle: u16, window: &Window, channel: Channel) -> Option<u16>
+    ensures { result ≡ bit_due lines.now cycle window.now channel }
+{
+    for line in lines {
+        let bit = bit_by(line, cycle, window, channel);
+        if bit.is_some() {
+            return bit;
+        }
+    }
+    None
+}
+
+/// What the line has the node send on the channel of the window, if it strikes there.
+fn babble_by<'a>(
+    line: &'a FaultLine,
+    cycle: u16,
+    window: &Window,
+    node: NodeId,
+    channel: Channel,
+) -> Option<&'a Bytes>
+    ensures { option_copied result ≡ babble_by line.now cycle window.now node channel }
+{
+    if line.strikes(cycle, window) {
+        bytes_babbled(node, channel, &line.fault)
+    } else {
+        None
+    }
+}
+
+/// What the lines have the node send on the channel of the window.
+fn babble_due<'a>(
+    lines: &'a [FaultLine],
+    cycle: u16,
+    window: &Window,
+    node: NodeId,
+    channel: Channel,
+) -> Option<&'a Bytes>
+    ensures { option_copied result ≡ babble_due lines.now cycle window.now node channel }
+{
+    for line in lines {
+        if let Some(bytes) = babble_by(line, cycle, window, node, channel) {
+            return Some(bytes);
+        }
+    }
+    None
+}
+
+/// Whether the line loses what the node offers on the channel of the window.
+fn is_lost_by(cycle: u16, window: &Window, node: NodeId, channel: Channel, line: &FaultLine) -> bool
+    ensures { result ≡ is_lost_by cycle window.now node channel line.now }
+{
+    line.strikes(cycle, window) && loses(node, channel, &line.fault)
+}
+
+/// Whether a line loses what the node offers on the channel of the window.
+fn is_loss_due(
+    lines: &[FaultLine],
+    cycle: u16,
+    window: &Window,
+    node: NodeId,
+    channel: Channel,
+) -> bool
+    ensures { result ≡ is_loss_due lines.now cycle window.now node channel }
+{
+    lines
+        .iter()
+        .any(|line| is_lost_by(cycle, window, node, channel, line))
+}
+
+/// Whether a fault lost it.
+fn is_muted(fate: Fate) -> bool
+    ensures { result ≡ is_muted fate }
+{
+    match fate {
+        Fate::Muted => true,
+        Fate::Passed | Fate::Blocked => false,
+    }
+}
+
+/// Whether it is the node's babble on the channel.
+fn is_babble_of(channel: Channel, node: NodeId, sent: &Sent) -> bool
+    ensures { result ≡ is_babble_of channel node sent.now }
+{
+    sent.node == node && sent.channel == channel && sent.babble
+}
+
+/// The bytes of the node's babble on the channel, if it is among these.
+fn babble_in(channel: Channel, node: NodeId, sent: &[Sent]) -> Option<&Bytes>
+    ensures { option_copied result ≡ babble_in channel node sent.now }
+{
+    for t in sent {
+        if is_babble_of(channel, node, t) {
+            return Some(&t.bytes);
+        }
+    }
+    None
+}
+
+/// What is recorded of these bytes on a channel with or without a slot.
+fn recordable(slot: Option<SlotId>, bytes: Option<&Bytes>) -> Option<&Bytes>
+    ensures { option_copied result ≡ recordable slot (option_copied bytes.entry) }
+{
+    match (slot, bytes) {
+        (Some(_), Some(bytes)) => if bytes.len() == 0 { None } else { Some(bytes) },
+        _ => None,
+    }
+}
+
+/// Whether both are the same bytes, or neither is there.
+fn are_same(one: Option<&Bytes>, other: Option<&Bytes>) -> bool
+    ensures { IsTrue result ↔ (option_copied one.entry ≡ option_copied other.entry) }
+{
+    match (one, other) {
+        (Some(one), Some(other)) => one == other,
+        (None, None) => true,
+        _ => false,
+    }
+}
+
+/// Whether the babble is what the lines have its node send.
+fn is_babble_due(lines: &[FaultLine], cycle: u16, window: &Window, sent: &Sent) -> bool
+    ensures { IsTrue result
+        ↔ (recordable
+        (slot_of window.now sent.now.channel)
+        (babble_due lines.now cycle window.now sent.now.node sent.now.channel)
+        ≡ Some sent.now.bytes) }
+{
+    let due = babble_due(lines, cycle, window, sent.node, sent.channel);
+    let recorded = recordable(window.slot(sent.channel), due);
+    are_same(recorded, Some(&sent.bytes))
+}
+
+/// Whether the transmission is muted exactly where it is an offer that a line loses.
+fn is_loss_right(lines: &[FaultLine], cycle: u16, window: &Window, sent: &Sent) -> bool
+    ensures { IsTrue result
+        ↔ (is_muted sent.now.fate
+        ≡ (not sent.now.babble && is_loss_due lines.now cycle window.now sent.now.node sent.now.channel)) }
+{
+    let is_lost = !sent.babble && is_loss_due(lines, cycle, window, sent.node, sent.channel);
+    is_muted(sent.fate) == is_lost
+}
+
+/// Whether the transmission is due, as a babble of a line that strikes, or as an offer that such a line loses or not.
+fn is_due(lines: &[FaultLine], cycle: u16, window: &Window, sent: &Sent) -> bool
+    ensures { IsTrue result ↔ IsDue lines.now cycle window.now sent.now }
+{
+    (!sent.babble || is_babble_due(lines, cycle, window, sent))
+        && is_loss_right(lines, cycle, window, sent)
+}
+
+/// The transmission at this place.
+fn sent_at(sent: &[Sent], place: usize) -> Option<&Sent>
+    ensures { option_map (λ t. t.now) result ≡ slice_get sent.now place }
+{
+    sent.get(place)
+}
+
+/// The line at this place.
+fn line_at(lines: &[FaultLine], place: usize) -> Option<&FaultLine>
+    ensures { option_map (λ line. line.now) result ≡ slice_get lines.now place }
+{
+    lines.get(place)
+}
+
+/// Whether the transmission at this place of the window is due, if there is one.
+fn is_due_at(lines: &[FaultLine], cycle: u16, sealed: &Sealed, place: usize) -> bool
+    ensures { IsTrue result ↔ IsDueAt lines.now cycle sealed.now place }
+{
+    match sent_at(sealed.sent.as_slice(), place) {
+        Some(sent) => is_due(lines, cycle, &sealed.window, sent),
+        None => true,
+    }
+}
+
+/// Whether all transmissions of the window are due.
+fn are_due(lines: &[FaultLine], cycle: u16, sealed: &Sealed) -> bool
+    ensures { IsTrue result ↔ ((k : ℕ) → IsDueAt lines.now cycle sealed.now k) }
+{
+    for place in 0..sealed.sent.len() {
+        if !is_due_at(lines, cycle, sealed, place) {
+            return false;
+        }
+    }
+    true
+}
+
+/// Whether what the fault has a node send in the window was sent.
+fn is_babbled(sealed: &Sealed, fault: &Fault) -> bool
+    ensures { IsTrue result ↔ IsBabbled sealed.now fault.now }
+{
+    match fault {
+        Fault::Babble {
+            node,
+            channel,
+            bytes,
+        } => {
+            let sent = babble_in(*channel, *node, sealed.sent.as_slice());
+            are_same(sent, recordable(sealed.window.slot(*channel), Some(bytes)))
+        }
+        Fault::Mute { .. } | Fault::Corrupt { .. } => true,
+    }
+}
+
+/// Whether what the line has a node send was sent, if the line strikes the window.
+fn is_babbled_by(cycle: u16, sealed: &Sealed, line: &FaultLine) -> bool
+    ensures { IsTrue result ↔ IsBabbledBy cycle sealed.now line.now }
+{
+    !line.strikes(cycle, &sealed.window) || is_babbled(sealed, &line.fault)
+}
+
+/// The same of the line at this place, if there is one.
+fn is_babbled_at(lines: &[FaultLine], cycle: u16, sealed: &Sealed, place: usize) -> bool
+    ensures { IsTrue result ↔ IsBabbledAt lines.now cycle sealed.now place }
+{
+    match line_at(lines, place) {
+        Some(line) => is_babbled_by(cycle, sealed, line),
+        None => true,
+    }
+}
+
+/// Whether all that the lines have nodes send in the window was sent.
+fn are_babbled(lines: &[FaultLine], cycle: u16, sealed: &Sealed) -> bool
+    ensures { IsTrue result ↔ ((k : ℕ) → IsBabbledAt lines.now cycle sealed.now k) }
+{
+    for place in 0..lines.len() {
+        if !is_babbled_at(lines, cycle, sealed, place) {
+            return false;
+        }
+    }
+    true
+}
+
+/// The bit that is turned on the channel of the window, if any.
+fn corrupt_on(sealed: &Sealed, channel: Channel) -> Option<u16>
+    ensures { result ≡ corrupt_on sealed.now channel }
+{
+    match channel {
+        Channel::A => sealed.corrupt[0],
+        Channel::B => sealed.corrupt[1],
+    }
+}
+
+/// Whether the bit that is turned on the channel of the window is the one that the lines turn.
+fn is_bit_due(lines: &[FaultLine], cycle: u16, sealed: &Sealed, channel: Channel) -> bool
+    ensures { IsTrue result ↔ (corrupt_on sealed.now channel ≡ bit_due lines.now cycle sealed.now.window channel) }
+{
+    corrupt_on(sealed, channel) == bit_due(lines, cycle, &sealed.window, channel)
+}
+
+/// Whether the window, which lies in the cycle of this number of the run, has the faults of the lines that strike there,
+/// and no others.
+#[tactic(auto, using(crate::proofs::FaultedLemmas::has_faults))]
+fn has_faults(lines: &[FaultLine], cycle: u16, sealed: &Sealed) -> bool
+    ensures { IsTrue result → HasFaults lines.now cycle sealed.now }
+{
+    is_bit_due(lines, cycle, sealed, Channel::A)
+        && is_bit_due(lines, cycle, sealed, Channel::B)
+        && are_due(lines, cycle, sealed)
+        && are_babbled(lines, cycle, sealed)
+}
+
+/// Whether each window of the record has the faults of the lines that strike there, and no others (own profile).
+///
+/// That is found by one walk along the record, in which each line is looked at once for each cycle, and each that names
+/// the cycle a few times for each of its windows. Of lines that bring more than one fault of a kind, node and channel
+/// into a window, which `check_run` doesn't accept, the first is looked for, and the answer may be false for a record
+/// that has it. Refused for want of memory, which it takes for the lines of a cycle.
+pub fn have_faults(
+    alloc: Global,
+    lines: &[FaultLine],
+    recorded: &[Sealed],
+) -> Result<bool, AllocError>
+    ensures { IfOk result (λ answer. IsTrue answer → HaveFaults lines.now recorded.now) }
+{
+    let mut begun = 0u16;
+    let mut kept = Vec::new(alloc);
+    keep_lines_of(lines, 0, &mut kept)?;
+    for sealed in recorded {
+        if opens_cycle(&sealed.window) {
+            if begun == u16::MAX {
+                return Ok(false);
+            }
+            keep_lines_of(lines, begun, &mut kept)?;
+            begun += 1;
+        }
+        if !has_faults(kept.as_slice(), begun.saturating_sub(1), sealed) {
+            return Ok(false);
+        }
+    }
+    Ok(true)
+}

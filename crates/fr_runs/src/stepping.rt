@@ -1,0 +1,230 @@
+//! Whether tasks did the lines of their scripts in the cycles of these.
+
+ghost use Rattle.std.specs.Prelude.{◌≡◌, ◌<◌, ◌≤◌, ◌+◌, ◌↔◌, IsTrue, Some, IfSome, length, take, slice_get, option_map};
+ghost use Rattle.std.specs.Prelude.{ℕ};
+ghost use Rattle.fr_journal.specs.Lent.{whole};
+ghost use Rattle.fr_runs.specs.Steps.{IsProgress, Stands, StandsFor};
+ghost use Rattle.fr_runs.specs.Stepping.{is_fetch, task_of, lines_given, is_beginning, IsInTurn, IsStepped};
+ghost use Rattle.fr_runs.specs.Stepping.{IsSteppedAt, AreStepped};
+ghost use Rattle.fr_slots.specs.Numbers.{most_entries};
+
+use fr_bus::outcome::Sealed;
+use fr_bus::windows::opens_cycle;
+use fr_core::script::{Line, Script};
+use fr_interface::interface::Interface;
+use fr_journal::lent::LentEntry;
+use fr_slots::numbers::{NODES, NodeId, TASKS, TaskId};
+
+/// How many tasks a node has at most.
+const COUNT: usize = TASKS as usize;
+
+/// How far a walk along a journal has come.
+#[derive(Clone, Copy)]
+pub(crate) struct Progress {
+    /// How many windows were fetched.
+    pub fetches: usize,
+    /// How many were observed.
+    pub observes: usize,
+    /// How many cycles began in the windows that were fetched.
+    pub begun: usize,
+    /// How many calls each task made.
+    pub calls: [usize; COUNT],
+}
+
+/// The lines of the task's script, which is the first that is for it, or none.
+pub fn lines_given(scripts: &[Script], node: NodeId, task: TaskId) -> &[Line]
+    ensures { result.now ≡ lines_given scripts.now node task }
+{
+    for script in scripts {
+        if script.is_for(node, task) {
+            return script.lines.as_slice();
+        }
+    }
+    &[]
+}
+
+/// Whether the entry fetched a window.
+fn is_fetch(entry: &LentEntry<'_>) -> bool
+    ensures { result ≡ is_fetch (whole entry.now) }
+{
+    matches!(entry, LentEntry::Fetch { .. })
+}
+
+/// The task that made the call, if a task did.
+fn task_of(entry: &LentEntry<'_>) -> Option<TaskId>
+    ensures { result ≡ task_of (whole entry.now) }
+{
+    match entry {
+        LentEntry::Commit { task, .. } => Some(*task),
+        LentEntry::Withdraw { task, .. } => Some(*task),
+        LentEntry::Read { task, .. } => Some(*task),
+        LentEntry::Pop { task, .. } => Some(*task),
+        LentEntry::Fetch { .. } | LentEntry::Observe { .. } => None,
+    }
+}
+
+/// The number of entries.
+fn entries_of(interface: &Interface) -> u32
+    ensures value { result ≡ length interface.now.entries }
+    ensures few { result ≤ most_entries }
+{
+    interface.journal().len()
+}
+
+/// The entry of this number.
+fn entry_at(interface: &Interface, number: u32) -> Option<LentEntry<'_>>
+    ensures { option_map whole result ≡ slice_get interface.now.entries number }
+{
+    interface.journal().lent(number)
+}
+
+/// What stands at this place of the record.
+fn sealed_at(recorded: &[Sealed], place: usize) -> Option<&Sealed>
+    ensures { option_map (λ sealed. sealed.now) result ≡ slice_get recorded.now place }
+{
+    recorded.get(place)
+}
+
+/// The line at this place.
+fn line_at(lines: &[Line], place: usize) -> Option<&Line>
+    ensures { option_map (λ line. line.now) result ≡ slice_get lines.now place }
+{
+    lines.get(place)
+}
+
+/// Whether a cycle begins at this place of the record.
+fn is_beginning(recorded: &[Sealed], place: usize) -> bool
+    ensures { result ≡ is_beginning (slice_get recorded.now place) }
+{
+    match sealed_at(recorded, place) {
+        Some(sealed) => opens_cycle(&sealed.window),
+        None => false,
+    }
+}
+
+/// Whether a call that comes now comes in step with the cycle.
+fn stands(recorded: &[Sealed], cycle: u16, progress: &Progress) -> bool
+    ensures { IsTrue result ↔ Stands recorded.now cycle progress.now }
+{
+    progress.begun == usize::from(cycle)
+        && progress.observes == progress.fetches
+        && is_beginning(recorded, progress.fetches)
+}
+
+/// Whether that is so of the cycle of the line at this place, if there is one.
+fn stands_for(recorded: &[Sealed], lines: &[Line], place: usize, progress: &Progress) -> bool
+    ensures { IsTrue result ↔ StandsFor recorded.now lines.now place progress.now }
+{
+    match line_at(lines, place) {
+        Some(line) => stands(recorded, line.cycle, progress),
+        None => true,
+    }
+}
+
+/// Whether the entry of this number, if it is a task's, comes in step with the cycle of the task's next line.
+fn is_in_turn(
+    interface: &Interface,
+    recorded: &[Sealed],
+    scripts: &[Script],
+    node: NodeId,
+    number: u32,
+    entry: &LentEntry<'_>,
+    progress: &Progress,
+) -> bool
+    requires { IsProgress recorded.now (take number interface.now.entries) progress.now }
+    ensures { IsTrue result
+        ↔ IsInTurn recorded.now scripts.now node (take number interface.now.entries) (whole entry.now) }
+{
+    let Some(task) = task_of(entry) else {
+        return true;
+    };
+    let place = progress.calls[usize::from(task.number())];
+    stands_for(recorded, lines_given(scripts, node, task), place, progress)
+}
+
+/// Goes past the entry of this number.
+fn pass(
+    interface: &Interface,
+    recorded: &[Sealed],
+    number: u32,
+    entry: &LentEntry<'_>,
+    progress: &mut Progress,
+)
+    requires here { slice_get interface.now.entries number ≡ Some (whole entry.now) }
+    requires few { number < most_entries }
+    requires so_far { IsProgress recorded.now (take number interface.now.entries) progress.old }
+    ensures { IsProgress recorded.now (take (number + 1) interface.now.entries) progress.new }
+{
+    if let Some(task) = task_of(entry) {
+        progress.calls[usize::from(task.number())] += 1;
+    } else if is_fetch(entry) {
+        if is_beginning(recorded, progress.fetches) {
+            progress.begun += 1;
+        }
+        progress.fetches += 1;
+    } else {
+        progress.observes += 1;
+    }
+}
+
+/// Whether each line was done in its cycle, by the journal of the node, which is walked once.
+fn is_stepped(interface: &Interface, recorded: &[Sealed], scripts: &[Script], node: NodeId) -> bool
+    ensures { IsTrue result ↔ IsStepped recorded.now scripts.now node interface.now }
+{
+    let mut progress = Progress {
+        fetches: 0,
+        observes: 0,
+        begun: 0,
+        calls: [0; COUNT],
+    };
+    for number in 0..entries_of(interface) {
+        let Some(entry) = entry_at(interface, number) else {
+            unreachable!();
+        };
+        if !is_in_turn(
+            interface, recorded, scripts, node, number, &entry, &progress,
+        ) {
+            return false;
+        }
+        pass(interface, recorded, number, &entry, &mut progress);
+    }
+    true
+}
+
+/// The interface at this place.
+fn interface_at(interfaces: &[Interface], place: usize) -> Option<&Interface>
+    ensures { option_map (λ interface. interface.now) result ≡ slice_get interfaces.now place }
+{
+    interfaces.get(place)
+}
+
+/// The same of the node, if its interface is there.
+fn is_stepped_at(
+    interfaces: &[Interface],
+    recorded: &[Sealed],
+    scripts: &[Script],
+    node: NodeId,
+) -> bool
+    ensures { IsTrue result ↔ IsSteppedAt recorded.now scripts.now interfaces.now node }
+{
+    match interface_at(interfaces, usize::from(node.number())) {
+        Some(interface) => is_stepped(interface, recorded, scripts, node),
+        None => true,
+    }
+}
+
+/// Whether each task made the calls of its script's lines in the cycles of these (own profile): each once its node had
+/// fetched and observed all windows of the cycles before, and before it fetched the first window of the line's cycle. A
+/// task's lines are those of the first script that is for it, and its calls are taken for them in their order.
+///
+/// Each journal is walked once.
+pub fn are_stepped(interfaces: &[Interface], recorded: &[Sealed], scripts: &[Script]) -> bool
+    ensures { IsTrue result ↔ AreStepped recorded.now scripts.now interfaces.now }
+{
+    for number in 0..NODES {
+        if !is_stepped_at(interfaces, recorded, scripts, NodeId::from_number(number)) {
+            return false;
+        }
+    }
+    true
+}

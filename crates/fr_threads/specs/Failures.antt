@@ -1,0 +1,81 @@
+-- Which failure of a run is told, and as what (own profile).
+use Rattle.std.specs.Prelude.{◌≡◌, ℕ, nat_lt, List, Option, Some, None, Result, Ok, Err, if◌then◌else◌}
+use Rattle.std.specs.List.{fold}
+use Rattle.fr_bus.specs.declared.error.BusError.{BusError}
+use Rattle.fr_bus.specs.declared.error.BusError.TheVariants as bus
+use Rattle.fr_core.specs.declared.settle.SettleError.{SettleError}
+use Rattle.fr_core.specs.declared.settle.SettleError.TheVariants as settle
+use Rattle.fr_desks.specs.declared.wire.WireError.{WireError}
+use Rattle.fr_desks.specs.declared.wire.WireError.TheVariants as wire
+use Rattle.fr_threads.specs.declared.error.RunError.{RunError}
+use Rattle.fr_threads.specs.declared.error.RunError.TheVariants as told
+use Rattle.fr_threads.specs.declared.failure.Failure.{Failure}
+use Rattle.fr_threads.specs.declared.failure.Failure.TheVariants.{Host, Slot, Bus, Thread, Settle, Memory, Stopped}
+use Rattle.fr_threads.specs.declared.run.Run.{Run}
+
+-- ---- of several failures one
+
+abbrev pub rank : Failure → ℕ
+rank (Host e) = 0
+rank (Slot e) = 1
+rank (Bus e) = 2
+rank Thread = 3
+rank (Settle e) = 4
+rank Memory = 5
+rank Stopped = 6
+
+-- the one of the lesser rank, and of two of one rank the earlier
+abbrev pub least_of : Option Failure → Failure → Failure
+least_of None failure = failure
+least_of (Some earlier) failure = if nat_lt (rank failure) (rank earlier) then failure else earlier
+
+abbrev pub told_after : Option Failure → Option Failure → Option Failure
+told_after earlier None = earlier
+told_after earlier (Some failure) = Some (least_of earlier failure)
+
+-- of those that failed the first of the least rank
+abbrev pub told_of_all : List (Option Failure) → Option Failure
+told_of_all failures = fold told_after None failures
+
+-- ---- as what it is told
+
+-- want of memory is one failure wherever it was met
+abbrev pub failure_of_bus : BusError → Failure
+failure_of_bus bus.Memory = Memory
+failure_of_bus e = Bus e
+
+abbrev pub failure_of_wire : WireError → Failure
+failure_of_wire (wire.Bus e) = failure_of_bus e
+failure_of_wire wire.Stopped = Stopped
+
+abbrev pub failure_of_settling : SettleError → Failure
+failure_of_settling settle.Memory = Memory
+failure_of_settling e = Settle e
+
+abbrev pub error_of_bus : BusError → RunError
+error_of_bus bus.Memory = told.Memory
+error_of_bus e = told.Bus e
+
+abbrev pub error_of_settling : SettleError → RunError
+error_of_settling settle.Memory = told.Memory
+error_of_settling e = told.Settle e
+
+-- a run in which every thread was stopped has none that failed, and didn't come to its end
+abbrev pub error_of : Failure → RunError
+error_of (Host e) = told.Host e
+error_of (Slot e) = told.Slot e
+error_of (Bus e) = error_of_bus e
+error_of Thread = told.Thread
+error_of (Settle e) = error_of_settling e
+error_of Memory = told.Memory
+error_of Stopped = told.Thread
+
+-- want of memory isn't told as a refusal of the bus or of the settling
+abbrev pub IsMemoryTold : RunError → Type 0
+IsMemoryTold (told.Bus e) = ¬ (e ≡ bus.Memory)
+IsMemoryTold (told.Settle e) = ¬ (e ≡ settle.Memory)
+IsMemoryTold e = Unit {0}
+
+abbrev pub TellsMemory : Result Run RunError → Type 0
+TellsMemory (Ok run) = Unit {0}
+TellsMemory (Err e) = IsMemoryTold e
