@@ -12,7 +12,7 @@ from pathlib import Path
 from musmyrtle.fault_costs import Difference
 from musmyrtle.fault_list import SingleFault
 
-OUTCOME = ("fr_bench", "run")
+OUTCOME = ("fr_view", "outcome")
 """The program and its command that print the outcome of a run."""
 CLUSTER_FILE, SCENARIO_FILE = "cluster.toml", "scenario"
 LOG_VERSION = 1

@@ -19,10 +19,11 @@ KILLED_AT = "#!/bin/sh\nfor last; do :; done\nif grep -q 'mute 0 A \\* s1$' \"$l
 
 
 class Faults:
-    """Runs of the tool over the built programs: the one that prints outcomes, and the one for sessions."""
+    """Runs of the tool over the built programs: the one that prints outcomes, the one whose refusals `fr_lint`
+    explains, and the one for sessions."""
 
-    def __init__(self, runs, world, folder):
-        self.runs, self.folder = runs, folder
+    def __init__(self, runs, bench, world, folder):
+        self.runs, self.bench, self.folder = runs, bench, folder
         self.front = [sys.executable, "-B", TOP / "fr_faults", "--program", runs.program, "--world", world]
 
     def ask(self, *words):
@@ -69,7 +70,7 @@ class Faults:
         bad.write_text(text.replace("commit 1 0 0 0", "commit 1 0 9 0"))
         for words in (["three-nodes/scenario", *THREE_NODES[1:]], [THREE_NODES[0], bad, *THREE_NODES[2:]],
                       ["missing", *THREE_NODES[1:]], [THREE_NODES[0], "missing", "--cycles", "4"]):
-            lint = run([sys.executable, "-B", TOP / "fr_lint", "--program", self.runs.program, *words])
+            lint = run([sys.executable, "-B", TOP / "fr_lint", "--program", self.bench, *words])
             self.runs.compare(f"what is refused of {words[:2]}", self.ask(*words), ("", lint[0].decode(), 1))
         no_words = (["--kinds", "mutes"], ["--nodes", "x"], ["--in-cycle", "4"], ["--resume"], ["--fail-on", "worse"],
                     ["--sshlogin", "a"], ["--against", "missing"], ["--against", EXAMPLES / "three-nodes/plan"],
