@@ -13,7 +13,12 @@ const LAST_SLOT: [i64; 10] = [1023, 2000, 0, 1, 1, 0, 1, 3024, 0, 1];
 type Opened = (Option<u16>, Option<u16>, Option<LaneError>);
 
 /// What a new lane answers where its first slot was closed with so many bytes, if any, and then so many without any.
-fn opened(params: [i64; 10], sent: &[u16], silent: u16, minislot: u16) -> Result<Opened, Fail> {
+fn answers_of_lane(
+    params: [i64; 10],
+    sent: &[u16],
+    silent: u16,
+    minislot: u16,
+) -> Result<Opened, Fail> {
     let mut lane = Lane::new(&Params::new(params)?);
     for bytes in sent {
         lane.close(*bytes)?;
@@ -30,7 +35,10 @@ fn a_silent_lane_opens_a_slot_at_each_minislot(rt: HostRuntime) -> Result<(), Fa
     for silent in 0..10 {
         let minislot = silent + 1;
         let wanted = (Some(minislot), Some(minislot + 3), Some(LaneError::TooLong));
-        assert_eq!(rt; opened(SMALL_CYCLE, &[], silent, minislot)?, wanted);
+        assert_eq!(rt;
+            answers_of_lane(SMALL_CYCLE, &[], silent, minislot)?,
+            wanted
+        );
     }
     Ok(())
 }
@@ -50,7 +58,7 @@ fn a_lane_opens_what_is_left_of_its_minislots(rt: HostRuntime) -> Result<(), Fai
         (LAST_SLOT, &[], 1024, 1025, (None, None, ended)),
     ];
     for (params, sent, silent, minislot, wanted) in rows {
-        assert_eq!(rt; opened(params, sent, silent, minislot)?, wanted);
+        assert_eq!(rt; answers_of_lane(params, sent, silent, minislot)?, wanted);
     }
     Ok(())
 }

@@ -48,7 +48,7 @@ fn world_of(alloc: Global, kind: Kind) -> Result<World, Fail> {
 }
 
 /// What a settling of these interfaces with the record of that world tells: how many windows, or what differs.
-fn told(
+fn settle_told(
     alloc: Global,
     interfaces: &[Interface],
     world: &World,
@@ -66,7 +66,7 @@ fn told_between(
     record: Kind,
 ) -> Result<Result<u32, SettleError>, Fail> {
     let (one, other) = (world_of(alloc, interfaces)?, world_of(alloc, record)?);
-    told(alloc, one.interfaces(), &other, &[])
+    settle_told(alloc, one.interfaces(), &other, &[])
 }
 
 #[test]
@@ -117,7 +117,7 @@ fn told_again(alloc: Global, world: &World, places: &[usize]) -> Result<Vec<Inte
 fn told_of_places(alloc: Global, places: &[usize]) -> Result<Result<u32, SettleError>, Fail> {
     let idle = world_of(alloc, Kind::Idle)?;
     let interfaces = told_again(alloc, &idle, places)?;
-    told(alloc, interfaces.as_slice(), &idle, &[])
+    settle_told(alloc, interfaces.as_slice(), &idle, &[])
 }
 
 #[test]
@@ -156,7 +156,7 @@ fn script(alloc: Global, entry: Option<u32>) -> Result<Script, Fail> {
 /// What a settling tells of the world in which node 0 committed, where it was to be answered so.
 fn told_with(alloc: Global, entry: Option<u32>) -> Result<Result<u32, SettleError>, Fail> {
     let sent = world_of(alloc, Kind::Sent)?;
-    told(alloc, sent.interfaces(), &sent, &[script(alloc, entry)?])
+    settle_told(alloc, sent.interfaces(), &sent, &[script(alloc, entry)?])
 }
 
 #[test]

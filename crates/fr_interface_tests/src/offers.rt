@@ -15,7 +15,7 @@ use std::test::Fail;
 const NULL_ON_A: [u8; 10] = [0x00, 0x02, 0x03, 0xc1, 0x41, 0x00, 0x00, 0xd1, 0x4f, 0x6c];
 
 /// The interface of a node that owns slot 2, once its task has committed; another receipt fails the test.
-fn committed(alloc: Global) -> Result<Interface, Fail> {
+fn with_commit(alloc: Global) -> Result<Interface, Fail> {
     let mut interface = interface(alloc, &sender(8)?)?;
     let receipt = interface.commit(task(0)?, 0, &payload(&[0x0a, 0x0b])?)?;
     if receipt.task.number() != 0 || receipt.entry != 0 {
@@ -26,7 +26,7 @@ fn committed(alloc: Global) -> Result<Interface, Fail> {
 
 /// The interface of a node that owns slot 2 on channel A in every fourth cycle: from 0 on with sync frames, and from 1
 /// on without.
-fn divided(alloc: Global) -> Result<Interface, Fail> {
+fn with_divided_slot(alloc: Global) -> Result<Interface, Fail> {
     let mut plan = plan_of(1)?;
     for (base, sync) in [(0, true), (1, false)] {
         plan.add_own(own(Channels::A, CycleFilter::new(base, 4)?, sync)?)?;
@@ -47,7 +47,7 @@ fn some_bytes(bytes: &[u8]) -> Result<Option<Bytes>, Fail> {
 
 #[test]
 fn an_offer_is_the_spelled_frame(rt: HostRuntime) -> Result<(), Fail> {
-    let mut interface = committed(rt.alloc())?;
+    let mut interface = with_commit(rt.alloc())?;
     let data = offer_in(&mut interface, 0)?;
     assert!(rt; data.a == some_bytes(&DATA_ON_A)? && data.b == some_bytes(&DATA_ON_B)?);
     let null = offer_in(&mut interface, 1)?;
@@ -57,7 +57,7 @@ fn an_offer_is_the_spelled_frame(rt: HostRuntime) -> Result<(), Fail> {
 
 #[test]
 fn a_null_frame_is_that_of_the_line_of_its_cycle(rt: HostRuntime) -> Result<(), Fail> {
-    let mut interface = divided(rt.alloc())?;
+    let mut interface = with_divided_slot(rt.alloc())?;
     let null = offer_in(&mut interface, 1)?;
     assert!(rt; null.a == some_bytes(&NULL_ON_A)? && null.b.is_none());
     let nothing = offer_in(&mut interface, 2)?;
@@ -67,7 +67,7 @@ fn a_null_frame_is_that_of_the_line_of_its_cycle(rt: HostRuntime) -> Result<(), 
 
 #[test]
 fn bytes_are_written_over_those_of_the_window_before(rt: HostRuntime) -> Result<(), Fail> {
-    let mut interface = committed(rt.alloc())?;
+    let mut interface = with_commit(rt.alloc())?;
     let mut offer = Offer { a: None, b: None };
     interface.fetch_into(&slot_two(0)?, &mut offer)?;
     assert!(rt; offer.a == some_bytes(&DATA_ON_A)? && offer.b == some_bytes(&DATA_ON_B)?);
@@ -79,7 +79,7 @@ fn bytes_are_written_over_those_of_the_window_before(rt: HostRuntime) -> Result<
 
 #[test]
 fn what_is_offered_is_answered_without_bytes(rt: HostRuntime) -> Result<(), Fail> {
-    let mut interface = committed(rt.alloc())?;
+    let mut interface = with_commit(rt.alloc())?;
     let (a, b) = interface.fetch_offered(&slot_two(0)?)?;
     assert!(rt; a == Offered::Data(0) && b == Offered::Data(0));
     Ok(())

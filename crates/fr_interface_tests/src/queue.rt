@@ -25,7 +25,7 @@ fn three_arrived(alloc: Global) -> Result<Interface, Fail> {
 }
 
 /// The last byte of the frame that is popped, if any, and then the queue's length and what it lost.
-fn popped(interface: &mut Interface) -> Result<(Option<u8>, Option<u32>, Option<u32>), Fail> {
+fn pop_once(interface: &mut Interface) -> Result<(Option<u8>, Option<u32>, Option<u32>), Fail> {
     let frame = interface.pop(task(0)?)?;
     let mark = frame.and_then(|frame| frame.payload.as_slice().last().copied());
     Ok((mark, interface.queue_len(), interface.queue_lost()))
@@ -44,7 +44,7 @@ fn queue_overwrites_the_oldest(rt: HostRuntime) -> Result<(), Fail> {
         (None, Some(0), Some(1)),
     ];
     for wanted in rows {
-        assert_eq!(rt; popped(&mut interface)?, wanted);
+        assert_eq!(rt; pop_once(&mut interface)?, wanted);
     }
     Ok(())
 }

@@ -265,7 +265,7 @@ fn text_of(alloc: Global, lines: &[&[u8]]) -> Result<Vec<u8>, Fail> {
 }
 
 /// What an auditor answers to a text in pieces of this size.
-fn fed(alloc: Global, text: &[u8], size: usize) -> Result<Interface, TraceError>
+fn feed_in_pieces(alloc: Global, text: &[u8], size: usize) -> Result<Interface, TraceError>
     requires { 0 < size }
 {
     let mut auditor = Auditor::new(alloc);
@@ -289,14 +289,14 @@ fn another_refusal(
     }
     for size in 1..65 {
         if told == Some(error) {
-            told = fed(alloc, text.as_slice(), size).err();
+            told = feed_in_pieces(alloc, text.as_slice(), size).err();
         }
     }
     Ok((told != Some(error)).then_some(told))
 }
 
 /// The lines of the first trace with another line in the place of one, counted from 0.
-fn changed<'a>(place: usize, line: &'a [u8]) -> [&'a [u8]; 13] {
+fn with_line_changed<'a>(place: usize, line: &'a [u8]) -> [&'a [u8]; 13] {
     let mut lines = LINES;
     if let Some(old) = lines.get_mut(place) {
         *old = line;
@@ -306,7 +306,7 @@ fn changed<'a>(place: usize, line: &'a [u8]) -> [&'a [u8]; 13] {
 
 #[test]
 fn a_cut_trace_is_refused_in_pieces_of_each_size(rt: HostRuntime) -> Result<(), Fail> {
-    let cut = changed(7, b"see 0 x200");
+    let cut = with_line_changed(7, b"see 0 x200");
     let rows: [(&[&[u8]], TraceError); 5] = [
         (&[], TraceError::BadMagic),
         (&[b"frtrace 1"], TraceError::BadMagic),
@@ -336,7 +336,7 @@ fn a_changed_line_is_refused_in_pieces_of_each_size(rt: HostRuntime) -> Result<(
     ];
     for (place, line, error) in rows {
         assert_eq!(rt;
-            another_refusal(rt.alloc(), &changed(place, line), error)?,
+            another_refusal(rt.alloc(), &with_line_changed(place, line), error)?,
             None
         );
     }
@@ -349,7 +349,7 @@ fn is_told(alloc: Global, lines: &[&[u8]], told: &[u8]) -> Result<bool, Fail> {
     let mut is_told = true;
     for size in 1..65 {
         let mut report = Vec::with_capacity(alloc, 128)?;
-        write_report(&fed(alloc, text.as_slice(), size)?, &mut report)?;
+        write_report(&feed_in_pieces(alloc, text.as_slice(), size)?, &mut report)?;
         is_told = is_told && report.as_slice() == told;
     }
     Ok(is_told)
@@ -466,7 +466,7 @@ fn a_line_is_too_long_at_its_byte_1201(rt: HostRuntime) -> Result<(), Fail> {
 
 /// What an audit of these pieces answers where the read of this number fails, after how many reads, and how long its
 /// report is.
-fn audited(
+fn audit_failing(
     alloc: Global,
     pieces: &[&[u8]],
     fails_at: usize,
@@ -487,11 +487,11 @@ fn a_reader_that_fails_is_read_at_once(rt: HostRuntime) -> Result<(), Fail> {
         (2, io::ErrorKind::Other),
     ];
     for (fails_at, kind) in rows {
-        let answer = audited(rt.alloc(), &LINES, fails_at, kind)?;
+        let answer = audit_failing(rt.alloc(), &LINES, fails_at, kind)?;
         assert_eq!(rt; answer, (Some(TraceError::Read), fails_at + 1, 0));
     }
     // After a fault nothing is read, so no read fails.
-    let answer = audited(rt.alloc(), &[b"frtrace 4\n"], 1, io::ErrorKind::Other)?;
+    let answer = audit_failing(rt.alloc(), &[b"frtrace 4\n"], 1, io::ErrorKind::Other)?;
     assert_eq!(rt; answer, (Some(TraceError::BadMagic), 1, 0));
     Ok(())
 }
