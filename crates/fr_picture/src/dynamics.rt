@@ -9,6 +9,9 @@ use fr_timing::segments::{Segments, segments_of};
 use std::io;
 use std::io::Write;
 
+/// What the number of a slot takes that is written into a box.
+const SLOT_LENGTH: u64 = 300;
+
 /// The place of a slot among those of the segment: its left end, and its length.
 #[derive(Clone, Copy)]
 struct Cell {
@@ -72,6 +75,58 @@ fn write_buffer<W: Write>(writer: &mut W, buffer: &Buffer) -> io::Result<()> {
     )
 }
 
+/// Whether the node never begins a transmission in the dynamic segment of the channel.
+fn never_sends(cluster: &Cluster, node: NodeId, channel: Channel) -> bool {
+    match cluster.node(node) {
+        Some(plan) => plan.latest(channel) == 0,
+        None => false,
+    }
+}
+
+/// Writes the numbers of the slot and of its node into a cell, where they fit.
+fn write_numbers<W: Write>(
+    writer: &mut W,
+    slot: SlotId,
+    node: NodeId,
+    cell: Cell,
+    top: u64,
+) -> io::Result<()> {
+    let middle = cell.left.saturating_add(cell.length / 2);
+    let (over, under) = (top.saturating_add(195), top.saturating_add(315));
+    if cell.length >= SLOT_LENGTH {
+        write!(writer, "<text x='{middle}' y='{over}'>{slot}</text>")?;
+        write!(writer, "<text x='{middle}' y='{under}'>{node}</text>")
+    } else if cell.length >= NUMBER_LENGTH {
+        write!(
+            writer,
+            "<text x='{middle}' y='{}'>{node}</text>",
+            top.saturating_add(260)
+        )
+    } else {
+        Ok(())
+    }
+}
+
+/// Writes how the element of a dynamic slot begins.
+fn write_sender<W: Write>(
+    writer: &mut W,
+    cluster: &Cluster,
+    slot: SlotId,
+    channel: Channel,
+    node: NodeId,
+) -> io::Result<()> {
+    let never = if never_sends(cluster, node, channel) {
+        " never"
+    } else {
+        ""
+    };
+    write!(
+        writer,
+        "<g class='sender n{node}{never}'><title>dynamic slot {slot}"
+    )?;
+    write!(writer, " on {channel}: node {node}")
+}
+
 /// Writes the element of a dynamic slot, whose cell says nothing of when it comes.
 fn write_slot<W: Write>(
     writer: &mut W,
@@ -83,13 +138,12 @@ fn write_slot<W: Write>(
     cell: Cell,
 ) -> io::Result<()> {
     let (left, top) = (cell.left, row_of(channel));
-    write!(
-        writer,
-        "<g class='sender n{node}'><title>dynamic slot {slot}"
-    )?;
-    write!(writer, " on {channel}: node {node}")?;
+    write_sender(writer, cluster, slot, channel, node)?;
     if let Some(buffer) = buffer_for(cluster, node, cycle, slot, channel) {
         write_buffer(writer, &buffer)?;
+    }
+    if never_sends(cluster, node, channel) {
+        write!(writer, ", never sent: the node's latest minislot is 0")?;
     }
     write!(
         writer,
@@ -102,14 +156,7 @@ fn write_slot<W: Write>(
         cell.length,
         CHANNEL_HEIGHT - 140
     )?;
-    if cell.length >= NUMBER_LENGTH {
-        let middle = left.saturating_add(cell.length / 2);
-        write!(
-            writer,
-            "<text x='{middle}' y='{}'>{node}</text>",
-            top.saturating_add(260)
-        )?;
-    }
+    write_numbers(writer, slot, node, cell, top)?;
     writeln!(writer, "</g>")
 }
 

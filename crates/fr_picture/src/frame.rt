@@ -11,11 +11,14 @@ use std::io::Write;
 /// How far the first row of the guardians stands from the top.
 pub(crate) const GUARDS_TOP: u64 = 2300;
 
+/// What the number of a slot takes over its box.
+const AXIS_LENGTH: u64 = 220;
+
 /// How far one row of them stands from the next.
 pub(crate) const GUARD_PITCH: u64 = 180;
 
-/// The style of all pictures. The colours are those of Okabe and Ito, which colour-blind people tell apart; nodes 8 to
-/// 15 have the same with stripes.
+/// The style of all pictures. The colours are those of Okabe and Ito, and a wine red in place of their black, which
+/// colour-blind people tell apart; nodes 8 to 15 have the same with stripes.
 const STYLE: &str = "<style>
 text{font-family:sans-serif;font-size:110px;text-anchor:middle;fill:#000;stroke:#fff;stroke-width:24px;paint-order:stroke;stroke-linejoin:round}
 .name text{text-anchor:end}
@@ -35,7 +38,7 @@ rect{stroke:#fff}
 .n4 rect,.s4{fill:#0072b2}
 .n5 rect,.s5{fill:#d55e00}
 .n6 rect,.s6{fill:#cc79a7}
-.n7 rect,.s7{fill:#808080}
+.n7 rect,.s7{fill:#882255}
 .n8 rect{fill:url(#p0)}
 .n9 rect{fill:url(#p1)}
 .n10 rect{fill:url(#p2)}
@@ -44,6 +47,8 @@ rect{stroke:#fff}
 .n13 rect{fill:url(#p5)}
 .n14 rect{fill:url(#p6)}
 .n15 rect{fill:url(#p7)}
+.never rect{fill-opacity:.25;stroke:#000;stroke-dasharray:40}
+.axis text{font-size:90px}
 </style>
 ";
 
@@ -168,6 +173,37 @@ pub(crate) fn write_segments<W: Write>(writer: &mut W, params: &Params) -> io::R
         from = write_tick(writer, params, macrotick, from)?;
     }
     Ok(())
+}
+
+/// Of how many static slots one has its number written: so many that a number has room.
+fn axis_step(params: &Params) -> u16 {
+    let length = extent(params, 0, u32::from(params.static_mt));
+    for step in [1, 2, 5, 10, 20, 50, 100, 200, 500] {
+        if length.saturating_mul(u64::from(step)) >= AXIS_LENGTH {
+            return step;
+        }
+    }
+    1000
+}
+
+/// Writes the numbers of the static slots over their boxes.
+pub(crate) fn write_axis<W: Write>(writer: &mut W, params: &Params) -> io::Result<()> {
+    let step = axis_step(params).max(1);
+    write!(writer, "<g class='axis'><title>static slots</title>")?;
+    for earlier in 0..params.static_slots {
+        let slot = earlier.saturating_add(1);
+        if slot == 1 || slot % step == 0 {
+            let start = u32::from(earlier).saturating_mul(u32::from(params.static_mt));
+            let length = extent(
+                params,
+                start,
+                start.saturating_add(u32::from(params.static_mt)),
+            );
+            let middle = across(params, start).saturating_add(length / 2);
+            write!(writer, "<text x='{middle}' y='975'>{slot}</text>")?;
+        }
+    }
+    writeln!(writer, "</g>")
 }
 
 /// Writes the name of a row, whose middle stands so far from the top.

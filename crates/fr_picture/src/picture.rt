@@ -6,7 +6,7 @@ ghost use Rattle.fr_picture.specs.Owners.{AreOwnerTexts};
 ghost use Rattle.fr_picture.specs.Schedules.{Draws, IsPicture};
 
 use crate::dynamics::write_dynamic;
-use crate::frame::{write_end, write_head, write_name, write_segments};
+use crate::frame::{write_axis, write_end, write_head, write_name, write_segments};
 use crate::guards::write_guards;
 use crate::owners::write_owners;
 use crate::scale::row_of;
@@ -25,6 +25,7 @@ use std::io::{Read, Write};
 fn write_before<W: Write>(writer: &mut W, cluster: &Cluster, cycle: Cycle) -> io::Result<()> {
     write_head(writer, cluster, cycle)?;
     write_segments(writer, cluster.params())?;
+    write_axis(writer, cluster.params())?;
     write_name(writer, row_of(Channel::A).saturating_add(210), "channel A")?;
     write_name(writer, row_of(Channel::B).saturating_add(210), "channel B")
 }

@@ -1,0 +1,153 @@
+-- The cells of a matrix: for each window of the record in which the channel has a slot, what was seen there and what
+-- was sent (own profile).
+use Rattle.std.specs.Prelude.{◌≡◌, ℕ, ◌+◌, ◌-◌, ◌*◌, nat_lt, nat_le, Bool, true, false, ◌&&◌, List, [], ◌∷◌, ◌++◌}
+use Rattle.std.specs.Prelude.{length, codes, Option, Some, None, if◌then◌else◌}
+use Rattle.std.specs.Fmt.{decimal}
+use Rattle.std.specs.List.{flat_map}
+use Rattle.fr_bus.specs.declared.outcome.Fate.{Fate}
+use Rattle.fr_bus.specs.declared.outcome.Fate.TheVariants.{Passed, Blocked, Muted}
+use Rattle.fr_bus.specs.declared.outcome.Sent.{Sent}
+use Rattle.fr_bus.specs.Record.{Recorded}
+use Rattle.fr_bus.specs.Windows.{cycles_begun, this_cycle}
+use Rattle.fr_matrix.specs.declared.cell.Cell.{Cell}
+use Rattle.fr_matrix.specs.declared.look.Marks.{Marks}
+use Rattle.fr_matrix.specs.declared.view.View.{View}
+use Rattle.fr_matrix.specs.Looks.{look_in, look_word, marks_in, sender_in, sign, turned_bit}
+use Rattle.fr_slots.specs.Admission.{is_channel}
+use Rattle.fr_slots.specs.declared.channel.Channel.{Channel}
+use Rattle.fr_slots.specs.History.{each_after}
+use Rattle.fr_slots.specs.Parameters.{Parameters}
+use Rattle.fr_slots.specs.Windows.{slot_of}
+use Rattle.fr_text.specs.Spelling.{hex_text}
+
+-- ---- words
+
+abbrev pub mark_text : Bool → List ℕ → List ℕ
+mark_text is_so word = if is_so then word else []
+
+unfoldable pub marks_class : Marks → List ℕ
+marks_class m =
+    mark_text m.blocked (codes " blocked") ++ mark_text m.lost (codes " lost") ++ mark_text m.turned (codes " turned")
+
+unfoldable pub marks_letters : Marks → List ℕ
+marks_letters m = mark_text m.blocked (codes "b") ++ mark_text m.lost (codes "l") ++ mark_text m.turned (codes "t")
+
+abbrev pub sender_class : Option ℕ → List ℕ
+sender_class None = []
+sender_class (Some node) = codes " n" ++ decimal node
+
+abbrev pub sender_number : Option ℕ → List ℕ
+sender_number None = []
+sender_number (Some node) = decimal node
+
+unfoldable pub head_text : Cell → List ℕ
+head_text c = (codes "<g class='" ++ look_word c.look) ++ sender_class c.sender ++ marks_class c.marks ++ codes "'>"
+
+unfoldable pub title_text : Cell → List ℕ
+title_text c =
+    codes "<title>cycle " ++ (decimal c.cycle ++ (codes ", slot " ++ (decimal c.slot ++ (codes ", window "
+    ++ (decimal c.number ++ (codes ": " ++ look_word c.look))))))
+
+-- ---- what was sent
+
+abbrev pub fate_text : Fate → List ℕ
+fate_text Passed = codes ""
+fate_text Blocked = codes ", blocked"
+fate_text Muted = codes ", lost"
+
+abbrev pub verb_of : Bool → List ℕ
+verb_of is_babble = if is_babble then codes "babbled" else codes "sent"
+
+unfoldable pub sent_text : Sent → List ℕ
+sent_text t =
+    (codes "; node " ++ (decimal t.node ++ (codes " " ++ (verb_of t.babble ++ codes " "))))
+    ++ hex_text t.bytes.items ++ fate_text t.fate
+
+abbrev pub sent_on : Channel → Sent → List ℕ
+sent_on channel t = if is_channel t.channel channel then sent_text t else []
+
+abbrev pub turned_text : Option ℕ → List ℕ
+turned_text None = []
+turned_text (Some bit) = codes "; bit " ++ (decimal bit ++ codes " turned")
+
+-- ---- a cell
+
+unfoldable pub box_text : ℕ → ℕ → List ℕ
+box_text left top =
+    codes "<rect x='" ++ (decimal left ++ (codes "' y='" ++ (decimal top ++ codes "' width='20' height='20'/>")))
+
+unfoldable pub label_text : Cell → List ℕ
+label_text c =
+    (codes "<text x='" ++ (decimal c.left ++ (codes "' y='" ++ (decimal c.top ++ codes "' dx='10' dy='14'>"))))
+    ++ sender_number c.sender ++ sign c.look ++ marks_letters c.marks ++ codes "</text>"
+
+unfoldable pub close_text : List ℕ
+close_text = codes "</title>"
+
+abbrev pub front_text : Cell → Channel → List Sent → Option ℕ → List ℕ
+front_text c channel sent turned =
+    head_text c ++ title_text c ++ flat_map (sent_on channel) sent ++ turned_text turned ++ close_text
+
+abbrev pub end_text : List ℕ
+end_text = codes "</g>" ++ codes "\n"
+
+abbrev pub cell_text : Cell → Channel → List Sent → Option ℕ → List ℕ
+cell_text c channel sent turned =
+    front_text c channel sent turned ++ box_text c.left c.top ++ label_text c ++ end_text
+
+-- ---- where a window stands
+
+-- the row of a window is its cycle of the run, its column the number of windows of that cycle before it
+abbrev pub cycle_of : List Recorded → Recorded → ℕ
+cycle_of before r = cycles_begun (before ++ r ∷ []) - 1
+
+abbrev pub column_of : List Recorded → Recorded → ℕ
+column_of before r = length (this_cycle (before ++ r ∷ [])) - 1
+
+-- a matrix has at most 64 rows and 512 columns
+abbrev pub is_drawn : View → ℕ → ℕ → Bool
+is_drawn v cycle column = nat_le v.from cycle && nat_lt (cycle - v.from) 64 && nat_lt column 512
+
+abbrev pub across : ℕ → ℕ
+across column = 70 + 22 * column
+
+abbrev pub down : ℕ → ℕ
+down row = 90 + 22 * row
+
+-- ---- the cells
+
+abbrev pub cell_of : Parameters → View → ℕ → ℕ → ℕ → Recorded → Cell
+cell_of p v cycle column slot r = record {
+  left = across column;
+  top = down (cycle - v.from);
+  cycle = cycle;
+  slot = slot;
+  number = r.window.number;
+  look = look_in p v r;
+  sender = sender_in v.channel r.sent;
+  marks = marks_in v.channel r;
+}
+
+-- none where the channel has no slot
+abbrev pub slot_cell : Parameters → View → ℕ → ℕ → Recorded → Option ℕ → List ℕ
+slot_cell p v cycle column r None = []
+slot_cell p v cycle column r (Some slot) =
+    cell_text (cell_of p v cycle column slot r) v.channel r.sent (turned_bit v.channel r)
+
+abbrev pub cell_at : Parameters → View → ℕ → ℕ → Recorded → List ℕ
+cell_at p v cycle column r =
+    if is_drawn v cycle column then slot_cell p v cycle column r (slot_of r.window v.channel) else []
+
+abbrev pub cell_after : Parameters → View → List Recorded → Recorded → List ℕ
+cell_after p v before r = cell_at p v (cycle_of before r) (column_of before r) r
+
+-- the cells of all windows of the record, in order
+abbrev pub cells_text : Parameters → View → List Recorded → List ℕ
+cells_text p v recorded = each_after (cell_after p v) [] recorded
+
+-- The cells stand one after another in the picture. What stands before and after them, as the style and the legend,
+-- isn't told here.
+pub record IsMatrix (p : Parameters) (v : View) (recorded : List Recorded) (text : List ℕ) : Type 0 where
+  pub before : List ℕ
+  pub after : List ℕ
+  pub text_is : text ≡ before ++ cells_text p v recorded ++ after

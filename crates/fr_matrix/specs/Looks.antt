@@ -1,0 +1,104 @@
+-- What a cell shows of a window of the record: what was seen there, who sent it, and what became of all else (own
+-- profile).
+use Rattle.std.specs.Prelude.{ℕ, Bool, true, false, ◌&&◌, List, Option, Some, None, is_some, option_map, codes}
+use Rattle.std.specs.Prelude.{if◌then◌else◌}
+use Rattle.std.specs.List.{find, list_any}
+use Rattle.fr_bus.specs.declared.outcome.Fate.{Fate}
+use Rattle.fr_bus.specs.declared.outcome.Fate.TheVariants.{Passed, Blocked, Muted}
+use Rattle.fr_bus.specs.declared.outcome.Sent.{Sent}
+use Rattle.fr_bus.specs.Outcome.{is_of, passed_on}
+use Rattle.fr_bus.specs.Record.{Recorded, corrupt_on, seen_by}
+use Rattle.fr_frame.specs.Decoding.{decoded}
+use Rattle.fr_frame.specs.Fields.{Fields}
+use Rattle.fr_matrix.specs.declared.look.Look.{Look}
+use Rattle.fr_matrix.specs.declared.look.Look.TheVariants as look
+use Rattle.fr_matrix.specs.declared.look.Marks.{Marks}
+use Rattle.fr_matrix.specs.declared.view.View.{View}
+use Rattle.fr_slots.specs.Admission.{is_channel}
+use Rattle.fr_slots.specs.declared.channel.Channel.{Channel}
+use Rattle.fr_slots.specs.Parameters.{Parameters}
+use Rattle.fr_status.specs.declared.seen.Seen.{Seen}
+use Rattle.fr_status.specs.declared.seen.Seen.TheVariants as seen
+
+-- ---- what was seen
+
+abbrev pub look_read : Option Fields → Look
+look_read None = look.Broken
+look_read (Some f) = if f.has_data then look.Data else look.Null
+
+abbrev pub look_of : Channel → Seen → Look
+look_of channel seen.Silence = look.Silence
+look_of channel seen.Own = look.Own
+look_of channel seen.Conflict = look.Collision
+look_of channel seen.Noise = look.Collision
+look_of channel seen.Overrun = look.Overrun
+look_of channel (seen.Bytes bytes) = look_read (decoded channel bytes.items)
+
+-- a transmission of the node passed on the channel
+abbrev pub sends : Channel → ℕ → List Sent → Bool
+sends channel node sent = list_any (λ (t : Sent). passed_on channel t && is_of node t) sent
+
+-- What the bus carried is what node 0 sees, and where node 0 sent, node 1: so of a transmission that passed alone it is
+-- what those see who didn't send it.
+abbrev pub viewer_or : Option ℕ → Bool → ℕ
+viewer_or (Some node) zero_sends = node
+viewer_or None zero_sends = if zero_sends then 1 else 0
+
+abbrev pub viewer : View → List Sent → ℕ
+viewer v sent = viewer_or v.node (sends v.channel 0 sent)
+
+abbrev pub look_in : Parameters → View → Recorded → Look
+look_in p v r = look_of v.channel (seen_by p r v.channel (viewer v r.sent))
+
+-- who sent what passed first on the channel
+abbrev pub sender_in : Channel → List Sent → Option ℕ
+sender_in channel sent = option_map (λ (t : Sent). t.node) (find (passed_on channel) sent)
+
+-- ---- what became of all else
+
+abbrev pub was_blocked : Fate → Bool
+was_blocked Passed = false
+was_blocked Blocked = true
+was_blocked Muted = false
+
+abbrev pub was_lost : Fate → Bool
+was_lost Passed = false
+was_lost Blocked = false
+was_lost Muted = true
+
+abbrev pub is_blocked : Channel → Sent → Bool
+is_blocked channel t = is_channel t.channel channel && was_blocked t.fate
+
+abbrev pub is_lost : Channel → Sent → Bool
+is_lost channel t = is_channel t.channel channel && was_lost t.fate
+
+abbrev pub turned_bit : Channel → Recorded → Option ℕ
+turned_bit channel r = corrupt_on r channel
+
+abbrev pub marks_in : Channel → Recorded → Marks
+marks_in channel r = record {
+  blocked = list_any (is_blocked channel) r.sent;
+  lost = list_any (is_lost channel) r.sent;
+  turned = is_some (turned_bit channel r);
+}
+
+-- ---- words
+
+abbrev pub look_word : Look → List ℕ
+look_word look.Silence = codes "silence"
+look_word look.Own = codes "own"
+look_word look.Data = codes "data"
+look_word look.Null = codes "null"
+look_word look.Broken = codes "broken"
+look_word look.Collision = codes "collision"
+look_word look.Overrun = codes "overrun"
+
+-- what stands after the sender's number
+abbrev pub sign : Look → List ℕ
+sign look.Silence = codes ""
+sign look.Own = codes "="
+sign look.Data = codes ""
+sign look.Null = codes "-"
+sign look.Broken = codes "?"
+sign look.Collision = codes "X"
+sign look.Overrun = codes "+"

@@ -1,0 +1,232 @@
+//! A cell of the matrix.
+
+ghost use Rattle.std.specs.Prelude.{◌≡◌, ◌≤◌, ◌<◌, ◌^◌, [], if◌then◌else◌};
+ghost use Rattle.std.specs.List.{flat_map};
+ghost use Rattle.fr_text.specs.Writing.{Writes};
+ghost use Rattle.fr_matrix.specs.Cells.{box_text, cell_text, close_text, fate_text, front_text, head_text, label_text, mark_text};
+ghost use Rattle.fr_matrix.specs.Cells.{marks_class};
+ghost use Rattle.fr_matrix.specs.Cells.{marks_letters, sender_class, sender_number, sent_on, sent_text, title_text};
+ghost use Rattle.fr_matrix.specs.Cells.{turned_text};
+
+use crate::look::{Look, Marks, look_word, sign};
+use fr_bus::outcome::{Fate, Sent};
+use fr_slots::channel::Channel;
+use fr_slots::numbers::{NodeId, SlotId};
+use fr_text::hexes::write_hex;
+use std::io;
+use std::io::Write;
+
+/// What a cell of the matrix shows, and where (own profile).
+#[derive(Clone, Copy)]
+pub struct Cell {
+    /// How far it stands from the left.
+    pub left: u64,
+    /// How far it stands from the top.
+    pub top: u64,
+    /// The cycle of the run.
+    pub cycle: usize,
+    /// The slot that the channel has open.
+    pub slot: SlotId,
+    /// The number of the window.
+    pub number: u32,
+    /// What was seen.
+    pub look: Look,
+    /// Who sent what passed first.
+    pub sender: Option<NodeId>,
+    /// What became of all else.
+    pub marks: Marks,
+}
+
+/// Writes a word where something is so.
+fn write_mark<W: Write>(writer: &mut W, is_so: bool, word: &'static str) -> io::Result<()>
+    ensures { Writes W.contents writer.old writer.new result (mark_text is_so word.entry.now) }
+{
+    if is_so {
+        writer.write_all(word.as_bytes())
+    } else {
+        Ok(())
+    }
+}
+
+/// Writes the classes of what became of all else.
+#[tactic(auto, unfolding(crate::specs::Cells::marks_class))]
+fn write_marks_class<W: Write>(writer: &mut W, marks: Marks) -> io::Result<()>
+    ensures { Writes W.contents writer.old writer.new result (marks_class marks) }
+{
+    write_mark(writer, marks.blocked, " blocked")?;
+    write_mark(writer, marks.lost, " lost")?;
+    write_mark(writer, marks.turned, " turned")
+}
+
+/// Writes the letters of what became of all else.
+#[tactic(auto, unfolding(crate::specs::Cells::marks_letters))]
+fn write_marks_letters<W: Write>(writer: &mut W, marks: Marks) -> io::Result<()>
+    ensures { Writes W.contents writer.old writer.new result (marks_letters marks) }
+{
+    write_mark(writer, marks.blocked, "b")?;
+    write_mark(writer, marks.lost, "l")?;
+    write_mark(writer, marks.turned, "t")
+}
+
+/// Writes the class of the sender.
+fn write_sender_class<W: Write>(writer: &mut W, sender: Option<NodeId>) -> io::Result<()>
+    ensures { Writes W.contents writer.old writer.new result (sender_class sender) }
+{
+    match sender {
+        Some(node) => write!(writer, " n{node}"),
+        None => Ok(()),
+    }
+}
+
+/// Writes the number of the sender.
+fn write_sender_number<W: Write>(writer: &mut W, sender: Option<NodeId>) -> io::Result<()>
+    ensures { Writes W.contents writer.old writer.new result (sender_number sender) }
+{
+    match sender {
+        Some(node) => write!(writer, "{node}"),
+        None => Ok(()),
+    }
+}
+
+/// Writes how a cell begins.
+#[tactic(auto, unfolding(crate::specs::Cells::head_text))]
+fn write_head<W: Write>(writer: &mut W, cell: &Cell) -> io::Result<()>
+    ensures { Writes W.contents writer.old writer.new result (head_text cell.now) }
+{
+    write!(writer, "<g class='{}", look_word(cell.look))?;
+    write_sender_class(writer, cell.sender)?;
+    write_marks_class(writer, cell.marks)?;
+    write!(writer, "'>")
+}
+
+/// Writes how its title begins.
+#[tactic(auto, unfolding(crate::specs::Cells::title_text))]
+fn write_title<W: Write>(writer: &mut W, cell: &Cell) -> io::Result<()>
+    ensures { Writes W.contents writer.old writer.new result (title_text cell.now) }
+{
+    let (cycle, slot, number, word) = (cell.cycle, cell.slot, cell.number, look_word(cell.look));
+    write!(
+        writer,
+        "<title>cycle {cycle}, slot {slot}, window {number}: {word}"
+    )
+}
+
+/// The words of what became of a transmission.
+fn fate_text(fate: Fate) -> &'static str
+    ensures { result.now ≡ fate_text fate }
+{
+    match fate {
+        Fate::Passed => "",
+        Fate::Blocked => ", blocked",
+        Fate::Muted => ", lost",
+    }
+}
+
+/// Writes a transmission.
+#[tactic(auto, unfolding(crate::specs::Cells::sent_text))]
+fn write_sent<W: Write>(writer: &mut W, sent: &Sent) -> io::Result<()>
+    ensures { Writes W.contents writer.old writer.new result (sent_text sent.now) }
+{
+    let (node, verb) = (sent.node, if sent.babble { "babbled" } else { "sent" });
+    write!(writer, "; node {node} {verb} ")?;
+    write_hex(writer, sent.bytes.as_slice())?;
+    writer.write_all(fate_text(sent.fate).as_bytes())
+}
+
+/// Writes a transmission that was on the channel.
+fn write_sent_on<W: Write>(writer: &mut W, channel: Channel, sent: &Sent) -> io::Result<()>
+    ensures { Writes W.contents writer.old writer.new result (sent_on channel sent.now) }
+{
+    if sent.channel == channel {
+        write_sent(writer, sent)
+    } else {
+        Ok(())
+    }
+}
+
+/// Writes what was sent on the channel.
+fn write_all_sent<W: Write>(writer: &mut W, channel: Channel, all: &[Sent]) -> io::Result<()>
+    ensures { Writes W.contents writer.old writer.new result (flat_map (sent_on channel) all.now) }
+{
+    for sent in all {
+        write_sent_on(writer, channel, sent)?;
+    }
+    Ok(())
+}
+
+/// Writes which bit a fault turned.
+fn write_turned<W: Write>(writer: &mut W, turned: Option<u16>) -> io::Result<()>
+    ensures { Writes W.contents writer.old writer.new result (turned_text turned) }
+{
+    match turned {
+        Some(bit) => write!(writer, "; bit {bit} turned"),
+        None => Ok(()),
+    }
+}
+
+/// Writes how its title ends.
+#[tactic(auto, unfolding(crate::specs::Cells::close_text))]
+fn write_close<W: Write>(writer: &mut W) -> io::Result<()>
+    ensures { Writes W.contents writer.old writer.new result close_text }
+{
+    write!(writer, "</title>")
+}
+
+/// Writes its box.
+#[tactic(auto, unfolding(crate::specs::Cells::box_text))]
+fn write_box<W: Write>(writer: &mut W, left: u64, top: u64) -> io::Result<()>
+    ensures { Writes W.contents writer.old writer.new result (box_text left top) }
+{
+    write!(
+        writer,
+        "<rect x='{left}' y='{top}' width='20' height='20'/>"
+    )
+}
+
+/// Writes what stands in it: the sender's number, and signs for all that is to be read without colours.
+#[tactic(auto, unfolding(crate::specs::Cells::label_text))]
+fn write_label<W: Write>(writer: &mut W, cell: &Cell) -> io::Result<()>
+    ensures { Writes W.contents writer.old writer.new result (label_text cell.now) }
+{
+    let (left, top) = (cell.left, cell.top);
+    write!(writer, "<text x='{left}' y='{top}' dx='10' dy='14'>")?;
+    write_sender_number(writer, cell.sender)?;
+    writer.write_all(sign(cell.look).as_bytes())?;
+    write_marks_letters(writer, cell.marks)?;
+    write!(writer, "</text>")
+}
+
+/// Writes what stands before its box: its classes, and its title.
+fn write_front<W: Write>(
+    writer: &mut W,
+    cell: &Cell,
+    channel: Channel,
+    all: &[Sent],
+    turned: Option<u16>,
+) -> io::Result<()>
+    ensures { Writes W.contents writer.old writer.new result (front_text cell.now channel all.now turned) }
+{
+    write_head(writer, cell)?;
+    write_title(writer, cell)?;
+    write_all_sent(writer, channel, all)?;
+    write_turned(writer, turned)?;
+    write_close(writer)
+}
+
+/// Writes a cell, with all that was sent on the channel and the bit that was turned (own profile).
+///
+/// Fails where the writer fails, and then a part of it may have gone out.
+pub fn write_cell<W: Write>(
+    writer: &mut W,
+    cell: &Cell,
+    channel: Channel,
+    all: &[Sent],
+    turned: Option<u16>,
+) -> io::Result<()>
+    ensures { Writes W.contents writer.old writer.new result (cell_text cell.now channel all.now turned) }
+{
+    write_front(writer, cell, channel, all, turned)?;
+    write_box(writer, cell.left, cell.top)?;
+    write_label(writer, cell)?;
+    writeln!(writer, "</g>")
+}

@@ -1,0 +1,195 @@
+//! What a cell shows of a window.
+
+ghost use Rattle.std.specs.Prelude.{◌≡◌, ◌&&◌, option_map};
+ghost use Rattle.std.specs.List.{find, list_any};
+ghost use Rattle.fr_bus.specs.Outcome.{is_of, passed_on};
+ghost use Rattle.fr_bus.specs.Record.{corrupt_on};
+ghost use Rattle.fr_frame.specs.Decoding.{decoded};
+ghost use Rattle.fr_matrix.specs.Looks.{look_in, look_of, look_read, look_word, marks_in, sender_in, sends, sign, viewer};
+ghost use Rattle.fr_matrix.specs.Looks.{is_blocked, is_lost, turned_bit};
+
+use crate::view::View;
+use fr_bus::outcome::{Fate, Sealed, Sent};
+use fr_frame::decode::decode_lent;
+use fr_slots::channel::Channel;
+use fr_slots::numbers::NodeId;
+use fr_slots::params::Params;
+use fr_status::seen::Seen;
+
+/// What was seen in a window on a channel (own profile).
+#[derive(Clone, Copy, PartialEq, Eq)]
+pub enum Look {
+    /// Nothing.
+    Silence,
+    /// The node's own transmission.
+    Own,
+    /// A frame with data.
+    Data,
+    /// A null frame.
+    Null,
+    /// Bytes that are no frame.
+    Broken,
+    /// Several transmissions at once.
+    Collision,
+    /// A transmission too long for its slot or for the rest of the dynamic segment.
+    Overrun,
+}
+
+/// What became of transmissions that didn't come through, and of the bits of those that did (own profile).
+#[derive(Clone, Copy, PartialEq, Eq)]
+pub struct Marks {
+    /// A guardian stopped one.
+    pub blocked: bool,
+    /// A fault lost one.
+    pub lost: bool,
+    /// A fault turned a bit.
+    pub turned: bool,
+}
+
+/// What bytes are on the channel.
+fn look_read(channel: Channel, bytes: &[u8]) -> Look
+    ensures { result ≡ look_read (decoded channel bytes.now) }
+{
+    match decode_lent(bytes, channel) {
+        Ok(frame) => if frame.has_data {
+            Look::Data
+        } else {
+            Look::Null
+        },
+        Err(_) => Look::Broken,
+    }
+}
+
+/// What was seen.
+fn look_of(channel: Channel, seen: &Seen) -> Look
+    ensures { result ≡ look_of channel seen.now }
+{
+    match seen {
+        Seen::Silence => Look::Silence,
+        Seen::Own => Look::Own,
+        Seen::Conflict | Seen::Noise => Look::Collision,
+        Seen::Overrun => Look::Overrun,
+        Seen::Bytes(bytes) => look_read(channel, bytes.as_slice()),
+    }
+}
+
+/// Whether it passed on the channel.
+fn passed_on(channel: Channel, sent: &Sent) -> bool
+    ensures { result ≡ passed_on channel sent.now }
+{
+    sent.channel == channel && sent.fate == Fate::Passed
+}
+
+/// Whether a transmission of the node passed on the channel.
+fn sends(channel: Channel, node: NodeId, sent: &[Sent]) -> bool
+    ensures { result ≡ sends channel node sent.now }
+{
+    sent.iter().any(|t| passed_on(channel, t) && t.node == node)
+}
+
+/// Through whose eyes the window is seen: the node's, and else those of one that didn't send alone.
+fn viewer(view: &View, sent: &[Sent]) -> NodeId
+    ensures { result ≡ viewer view.now sent.now }
+{
+    match view.node {
+        Some(node) => node,
+        None if sends(view.channel, NodeId::from_number(0), sent) => NodeId::from_number(1),
+        None => NodeId::from_number(0),
+    }
+}
+
+/// What is seen of the window (own profile).
+pub fn look_in(params: &Params, view: &View, sealed: &Sealed) -> Look
+    ensures { result ≡ look_in params.now view.now sealed.now }
+{
+    let viewer = viewer(view, sealed.sent.as_slice());
+    look_of(view.channel, &sealed.seen(params, view.channel, viewer))
+}
+
+/// Who sent what passed first on the channel, if anything did (own profile).
+pub fn sender_in(channel: Channel, sent: &[Sent]) -> Option<NodeId>
+    ensures { result ≡ sender_in channel sent.now }
+{
+    match sent.iter().find(|t| passed_on(channel, t)) {
+        Some(t) => Some(t.node),
+        None => None,
+    }
+}
+
+/// Whether a guardian stopped it on the channel.
+fn is_blocked(channel: Channel, sent: &Sent) -> bool
+    ensures { result ≡ is_blocked channel sent.now }
+{
+    sent.channel == channel && sent.fate == Fate::Blocked
+}
+
+/// Whether a fault lost it on the channel.
+fn is_lost(channel: Channel, sent: &Sent) -> bool
+    ensures { result ≡ is_lost channel sent.now }
+{
+    sent.channel == channel && sent.fate == Fate::Muted
+}
+
+/// Whether a guardian stopped any of them on the channel.
+fn any_blocked(channel: Channel, sent: &[Sent]) -> bool
+    ensures { result ≡ list_any (is_blocked channel) sent.now }
+{
+    sent.iter().any(|t| is_blocked(channel, t))
+}
+
+/// Whether a fault lost any of them on the channel.
+fn any_lost(channel: Channel, sent: &[Sent]) -> bool
+    ensures { result ≡ list_any (is_lost channel) sent.now }
+{
+    sent.iter().any(|t| is_lost(channel, t))
+}
+
+/// The bit that a fault turns on the channel, if any.
+pub fn turned_bit(channel: Channel, sealed: &Sealed) -> Option<u16>
+    ensures { result ≡ turned_bit channel sealed.now }
+{
+    match channel {
+        Channel::A => sealed.corrupt[0],
+        Channel::B => sealed.corrupt[1],
+    }
+}
+
+/// What became of the transmissions on the channel (own profile).
+pub fn marks_in(channel: Channel, sealed: &Sealed) -> Marks
+    ensures { result ≡ marks_in channel sealed.now }
+{
+    Marks {
+        blocked: any_blocked(channel, sealed.sent.as_slice()),
+        lost: any_lost(channel, sealed.sent.as_slice()),
+        turned: turned_bit(channel, sealed).is_some(),
+    }
+}
+
+/// The word of a look.
+pub fn look_word(look: Look) -> &'static str
+    ensures { result.now ≡ look_word look }
+{
+    match look {
+        Look::Silence => "silence",
+        Look::Own => "own",
+        Look::Data => "data",
+        Look::Null => "null",
+        Look::Broken => "broken",
+        Look::Collision => "collision",
+        Look::Overrun => "overrun",
+    }
+}
+
+/// What stands in a cell after the sender's number, so that it is read without its colour.
+pub fn sign(look: Look) -> &'static str
+    ensures { result.now ≡ sign look }
+{
+    match look {
+        Look::Silence | Look::Data => "",
+        Look::Own => "=",
+        Look::Null => "-",
+        Look::Broken => "?",
+        Look::Collision => "X",
+        Look::Overrun => "+",
+    }
+}

@@ -1,0 +1,59 @@
+//! The matrix of a run.
+
+ghost use Rattle.std.specs.Prelude.{◌≡◌, IfOk};
+ghost use Rattle.fr_matrix.specs.Cells.{cells_text, IsMatrix};
+
+use crate::cells::write_cells;
+use crate::page::{write_after, write_before};
+use crate::view::View;
+use fr_bus::outcome::Sealed;
+use fr_slots::params::Params;
+use std::alloc::{AllocError, Global};
+
+/// The cells.
+fn cells_of(
+    alloc: Global,
+    params: &Params,
+    recorded: &[Sealed],
+    view: &View,
+) -> Result<Vec<u8>, AllocError>
+    ensures { IfOk result (λ text. text.items ≡ cells_text params.now view.now recorded.now) }
+{
+    let mut text = Vec::new(alloc);
+    match write_cells(&mut text, params, view, recorded) {
+        Ok(()) => Ok(text),
+        // A list of bytes fails to take more for want of memory alone, here and below.
+        Err(_) => Err(AllocError),
+    }
+}
+
+/// The communication matrix of a run with this record, as it happened: an SVG text (own profile).
+///
+/// It has a row for each cycle of the run from `view.from` on, up to 64, and a column for each window of the cycle, up
+/// to 512: the static slots, and then the windows of the dynamic segment in their order. A cell is left out where the
+/// channel has no slot. Refused where memory is refused.
+pub fn matrix_of(
+    alloc: Global,
+    params: &Params,
+    recorded: &[Sealed],
+    view: &View,
+) -> Result<Vec<u8>, AllocError>
+    ensures { IfOk result (λ text. IsMatrix params.now view.now recorded.now text.items) }
+{
+    let cells = cells_of(alloc, params, recorded, view)?;
+    let mut text = Vec::new(alloc);
+    if write_before(&mut text, params, view, recorded).is_err() {
+        return Err(AllocError);
+    }
+    let mut after = Vec::new(alloc);
+    if write_after(&mut after, view, recorded).is_err() {
+        return Err(AllocError);
+    }
+    if text.extend_from_slice(cells.as_slice()).is_err() {
+        return Err(AllocError);
+    }
+    if text.extend_from_slice(after.as_slice()).is_err() {
+        return Err(AllocError);
+    }
+    Ok(text)
+}
