@@ -1,15 +1,19 @@
 -- What is kept of a text, and what is written of its line at fault.
-use Rattle.std.proofs.Common.{◌≡◌, ℕ, List, [], ◌++◌, take, Option, Some, None, IfSome, ap, ◌∙◌}
+use Rattle.std.proofs.Common.{◌≡◌, ℕ, List, [], ◌++◌, take, Option, Some, None, Err, IfSome, ap, ◌∙◌}
+use Rattle.std.specs.Io.KnownBytes.{Appends}
 use Rattle.std.specs.Prelude.{option_map}
+use Rattle.fr_capture.specs.declared.form.Form.{Form}
 use Rattle.fr_interface.specs.State.{State}
+use Rattle.fr_trace.specs.Audit.{IsOfText}
 use Rattle.fr_trace.specs.declared.error.TraceError.{TraceError}
+use Rattle.fr_trace.specs.declared.error.TraceError.TheVariants as refusal
 use Rattle.fr_trace.specs.Refusals.{feed_count}
 use Rattle.fr_trace.specs.Stream.{fresh, take_bytes}
 use Rattle.fr_why.specs.Asking.{reason_asked}
 use Rattle.fr_why.specs.declared.head.Head.{Head}
 use Rattle.fr_why.specs.declared.reason.Reason.{Reason}
-use Rattle.fr_why.specs.Explains.{kept}
-use Rattle.fr_why.specs.Faults.{state_at, windows_of}
+use Rattle.fr_why.specs.Explains.{kept, shown_so_far, ShowsUntil}
+use Rattle.fr_why.specs.Faults.{IsAtFault, state_at, windows_of}
 use Rattle.fr_why.specs.Heads.{Tells}
 use Rattle.fr_why.specs.Reasons.{reason_for}
 use Rattle.fr_why.specs.WhyText.{fault_text, refused_text}
@@ -32,3 +36,17 @@ refused_is e front line words old before h o r w (p, came, told) nothing is coun
     ∙ (ap (λ (n : ℕ). fault_text e n line r w) count
     ∙ (ap (λ (x : Reason). fault_text e (feed_count front) line x w) asked
     ∙ ap (λ (n : ℕ). fault_text e (feed_count front) line (reason_for e (take_bytes fresh front) line) n) (windows ∙ ap windows_of left))))
+
+-- ---- until the fault
+
+pub shows_fault : (form : Form) (text front line rest : List ℕ) (old new : Option (List ℕ)) (e : TraceError) → IsOfText e → IsAtFault e text front line rest
+    → Appends old new (shown_so_far form (state_at (take_bytes fresh front))) → ShowsUntil form text old new (Err e)
+shows_fault form text front line rest old new refusal.BadMagic is fault shown = (front, line, rest, fault, shown)
+shows_fault form text front line rest old new (refusal.BadLine n) is fault shown = (front, line, rest, fault, shown)
+shows_fault form text front line rest old new (refusal.LineTooLong n) is fault shown = (front, line, rest, fault, shown)
+shows_fault form text front line rest old new (refusal.Refused n) is fault shown = (front, line, rest, fault, shown)
+shows_fault form text front line rest old new (refusal.WrongAnswer n) is fault shown = (front, line, rest, fault, shown)
+shows_fault form text front line rest old new refusal.Truncated is fault shown = (front, line, rest, fault, shown)
+shows_fault form text front line rest old new refusal.Read is fault shown = absurd is
+shows_fault form text front line rest old new refusal.Write is fault shown = absurd is
+shows_fault form text front line rest old new refusal.Memory is fault shown = absurd is

@@ -158,6 +158,7 @@ refused_here text start before at h auditor new piece e stands next piece_is rea
       named = line_named e front line (10 ∷ []) none next.plain (omega arith) (named_answer (front ++ (line ++ 10 ∷ [])) e (ap answer_of shown));
     } in
     record {
+      of_text = is;
       starts = omega arith;
       ends = omega (arith, length-drop start text, next.within, stands.within);
       at_fault = subst (λ (l : List ℕ). IsAtFault e text front l (drop (start + at) text)) (sym (line_at start at text)) fault;
@@ -208,6 +209,7 @@ refused_last text start before h auditor new e stands plain reads answered is =
       named = line_named e front line [] none plain (omega arith) (subst (λ (t : List ℕ). LineIsNamed {A = State} (Err e) t) ended (named_outcome text e out));
     } in
     record {
+      of_text = is;
       starts = stands.within;
       ends = omega arith;
       at_fault = subst (λ (l : List ℕ). IsAtFault e text front l (drop (length text) text)) (sym (take_rest text start)) fault;

@@ -19,6 +19,7 @@ between start end text = take (end - start) (drop start text)
 
 -- the text is refused at this line, and the lines before have told this
 pub record IsFaultIn (text : List ℕ) (f : Fault) : Type 0 where
+  pub of_text : IsOfText f.error
   pub starts : f.start ≤ f.end
   pub ends : f.end ≤ length text
   pub at_fault : IsAtFault f.error text (take f.start text) (between f.start f.end text) (drop f.end text)
