@@ -1,0 +1,52 @@
+-- What is kept of a text, and what is written of its line at fault.
+use Rattle.std.proofs.Common.{◌≡◌, ℕ, List, [], ◌++◌, take, Option, Some, None, Err, IfSome, ap, ◌∙◌}
+use Rattle.std.specs.Io.KnownBytes.{Appends}
+use Rattle.std.specs.Prelude.{option_map}
+use Rattle.fr_capture.specs.declared.form.Form.{Form}
+use Rattle.fr_interface.specs.State.{State}
+use Rattle.fr_trace.specs.Audit.{IsOfText}
+use Rattle.fr_trace.specs.declared.error.TraceError.{TraceError}
+use Rattle.fr_trace.specs.declared.error.TraceError.TheVariants as refusal
+use Rattle.fr_trace.specs.Refusals.{feed_count}
+use Rattle.fr_trace.specs.Stream.{fresh, take_bytes}
+use Rattle.fr_why.specs.Asking.{reason_asked}
+use Rattle.fr_why.specs.declared.head.Head.{Head}
+use Rattle.fr_why.specs.declared.reason.Reason.{Reason}
+use Rattle.fr_why.specs.Explains.{kept, shown_so_far, ShowsUntil}
+use Rattle.fr_why.specs.Faults.{IsAtFault, state_at, windows_of}
+use Rattle.fr_why.specs.Heads.{Tells}
+use Rattle.fr_why.specs.Reasons.{reason_for}
+use Rattle.fr_why.specs.WhyText.{fault_text, refused_text}
+use Rattle.fr_why.proofs.HeadLemmas.{reason_told}
+
+-- all bytes of as many as are kept
+pub all_kept : (known : Option (List ℕ)) (limit : ℕ) (old new : List ℕ) → limit ≡ 98548055 → old ≡ [] → IfSome (option_map (take limit) known) (λ xs. new ≡ old ++ xs) → IfSome known (λ text. new ≡ kept text)
+all_kept None limit old new most nothing read = tt
+all_kept (Some text) limit old new most nothing read =
+    read ∙ (ap (λ (t : List ℕ). t ++ take limit text) nothing ∙ ap (λ (n : ℕ). take n text) most)
+
+-- what is asked of what is kept of the lines before is what they tell
+pub refused_is : (e : TraceError) (front line words old : List ℕ) (before : ℕ) (h : Head) (o : Option State) (r : Reason) (w : ℕ) → Tells front h → old ≡ [] → words ≡ old ++ fault_text e before line r w
+    → before ≡ feed_count front → o ≡ state_at (take_bytes fresh front) → r ≡ reason_asked e h o line → w ≡ windows_of o → words ≡ refused_text e front line
+refused_is e front line words old before h o r w (p, came, told) nothing is count left reason windows =
+    let asked : r ≡ reason_for e (take_bytes fresh front) line =
+    reason ∙ (ap (λ (x : Option State). reason_asked e h x line) left ∙ reason_told e front line h p came told) in
+    is
+    ∙ (ap (λ (t : List ℕ). t ++ fault_text e before line r w) nothing
+    ∙ (ap (λ (n : ℕ). fault_text e n line r w) count
+    ∙ (ap (λ (x : Reason). fault_text e (feed_count front) line x w) asked
+    ∙ ap (λ (n : ℕ). fault_text e (feed_count front) line (reason_for e (take_bytes fresh front) line) n) (windows ∙ ap windows_of left))))
+
+-- ---- until the fault
+
+pub shows_fault : (form : Form) (text front line rest : List ℕ) (old new : Option (List ℕ)) (e : TraceError) → IsOfText e → IsAtFault e text front line rest
+    → Appends old new (shown_so_far form (state_at (take_bytes fresh front))) → ShowsUntil form text old new (Err e)
+shows_fault form text front line rest old new refusal.BadMagic is fault shown = (front, line, rest, fault, shown)
+shows_fault form text front line rest old new (refusal.BadLine n) is fault shown = (front, line, rest, fault, shown)
+shows_fault form text front line rest old new (refusal.LineTooLong n) is fault shown = (front, line, rest, fault, shown)
+shows_fault form text front line rest old new (refusal.Refused n) is fault shown = (front, line, rest, fault, shown)
+shows_fault form text front line rest old new (refusal.WrongAnswer n) is fault shown = (front, line, rest, fault, shown)
+shows_fault form text front line rest old new refusal.Truncated is fault shown = (front, line, rest, fault, shown)
+shows_fault form text front line rest old new refusal.Read is fault shown = absurd is
+shows_fault form text front line rest old new refusal.Write is fault shown = absurd is
+shows_fault form text front line rest old new refusal.Memory is fault shown = absurd is

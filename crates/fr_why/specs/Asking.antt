@@ -1,0 +1,34 @@
+-- The same reasons, of what the code keeps of the lines before (Heads), and of the state that it asks an auditor for.
+use Rattle.std.specs.Prelude.{ℕ, List, Option, Some, None, if◌then◌else◌}
+use Rattle.std.specs.Str.{bytes_eq}
+use Rattle.fr_interface.specs.State.{State}
+use Rattle.fr_lines.specs.declared.versions.Version.{Version}
+use Rattle.fr_lines.specs.Reading.{params_in, entry_in}
+use Rattle.fr_lines.specs.Spelling.{begin_line}
+use Rattle.fr_slots.specs.Faults.{plan_fault}
+use Rattle.fr_text.specs.Spaces.{words_of}
+use Rattle.fr_trace.specs.declared.error.TraceError.{TraceError}
+use Rattle.fr_trace.specs.declared.error.TraceError.TheVariants as refusal
+use Rattle.fr_why.specs.declared.head.Head.{Head}
+use Rattle.fr_why.specs.declared.head.Head.TheVariants as head
+use Rattle.fr_why.specs.declared.reason.Reason.{Reason}
+use Rattle.fr_why.specs.declared.reason.Reason.TheVariants.{Plain}
+use Rattle.fr_why.specs.Reasons.{reason_of_numbers, reason_of_fault, reason_of_entry}
+
+abbrev pub reason_by_state : Version → Option State → List ℕ → Reason
+reason_by_state v None line = Plain
+reason_by_state v (Some s) line = reason_of_entry s (entry_in v (words_of line))
+
+abbrev pub reason_by_head : Head → Option State → List ℕ → Reason
+reason_by_head head.Start o line = Plain
+reason_by_head (head.Parameters v) o line = reason_of_numbers (params_in (words_of line))
+reason_by_head (head.Node v p) o line = Plain
+reason_by_head (head.Lines v p plan) o line = if bytes_eq line begin_line then reason_of_fault (plan_fault p plan)
+    else Plain
+reason_by_head (head.Body v) o line = reason_by_state v o line
+reason_by_head head.Finished o line = Plain
+
+abbrev pub reason_asked : TraceError → Head → Option State → List ℕ → Reason
+reason_asked (refusal.Refused n) h o line = reason_by_head h o line
+reason_asked (refusal.WrongAnswer n) h o line = reason_by_head h o line
+reason_asked e h o line = Plain

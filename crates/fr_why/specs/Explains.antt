@@ -1,0 +1,66 @@
+-- What a command does that says why a text is refused, and one that shows what was seen up to that fault (own profile).
+use Rattle.std.specs.Prelude.{⊤, ◌≡◌, ℕ, ◌+◌, List, [], take, Option, Some, None, Result, Ok, Err, Vec}
+use Rattle.std.specs.declared.alloc.Global.{Global}
+use Rattle.std.specs.Io.KnownBytes.{Keeps, Appends}
+use Rattle.fr_capture.specs.declared.form.Form.{Form}
+use Rattle.fr_capture.specs.Shows.{text_of}
+use Rattle.fr_interface.specs.State.{State, IsLegalInterface}
+use Rattle.fr_trace.specs.declared.error.TraceError.{TraceError}
+use Rattle.fr_trace.specs.declared.error.TraceError.TheVariants.{Read, Write, Memory}
+use Rattle.fr_trace.specs.Refusals.{feed_count, longest_text}
+use Rattle.fr_trace.specs.Stream.{fresh, take_bytes, outcome_of, longest_line}
+use Rattle.fr_why.specs.declared.verdict.Verdict.{Verdict}
+use Rattle.fr_why.specs.declared.verdict.Verdict.TheVariants.{Accepted, Refused}
+use Rattle.fr_why.specs.Faults.{IsAtFault, state_at, window_count}
+use Rattle.fr_why.specs.WhyText.{accepted_text, refused_text}
+
+-- A text of more bytes than this isn't read further: it is longer than any that is accepted, and of its line at fault
+-- there is all that is shown.
+abbrev pub most_kept : ℕ
+most_kept = longest_text + longest_line + 1
+
+abbrev pub kept : List ℕ → List ℕ
+kept text = take most_kept text
+
+-- that is read, or the reader failed or memory ran out
+abbrev pub IsKept : List ℕ → Result (Vec ℕ Global) TraceError → Type 0
+IsKept text (Ok bytes) = bytes.items ≡ kept text
+IsKept text (Err Read) = ⊤
+IsKept text (Err Memory) = ⊤
+IsKept text (Err e) = ⊥
+
+-- ---- why
+
+-- The text is accepted, and the words say so, with its lines and windows; or it is refused, and the words tell of its
+-- line at fault.
+abbrev pub IsExplained : List ℕ → Verdict → List ℕ → Type 0
+IsExplained text Accepted words = (s : State) × (outcome_of (take_bytes fresh text) ≡ Ok s) × IsLegalInterface s
+    × (words ≡ accepted_text (feed_count text) (window_count s.entries))
+IsExplained text Refused words = (e : TraceError) × (front : List ℕ) × (line : List ℕ) × (rest : List ℕ)
+    × IsAtFault e text front line rest × (words ≡ refused_text e front line)
+
+-- What explains the text is written; or nothing is, since the reader failed or memory ran out; or the writer failed.
+abbrev pub Explains : List ℕ → Option (List ℕ) → Option (List ℕ) → Result Verdict TraceError → Type 0
+Explains text old new (Ok verdict) = (words : List ℕ) × IsExplained text verdict words × Appends old new words
+Explains text old new (Err Read) = Keeps old new
+Explains text old new (Err Memory) = Keeps old new
+Explains text old new (Err Write) = ⊤
+Explains text old new (Err e) = ⊥
+
+-- ---- until the fault
+
+-- what the lines show, once the plan is told
+abbrev pub shown_so_far : Form → Option State → List ℕ
+shown_so_far form None = []
+shown_so_far form (Some s) = text_of form s
+
+-- An accepted text is shown whole. Of a text that is refused what the lines before its line at fault show is written,
+-- and the answer is the audit's. Where the reader failed or memory ran out nothing is written.
+abbrev pub ShowsUntil : Form → List ℕ → Option (List ℕ) → Option (List ℕ) → Result (Unit {0}) TraceError → Type 0
+ShowsUntil form text old new (Ok x) = (s : State) × (outcome_of (take_bytes fresh text) ≡ Ok s) × IsLegalInterface s
+    × Appends old new (text_of form s)
+ShowsUntil form text old new (Err Read) = Keeps old new
+ShowsUntil form text old new (Err Memory) = Keeps old new
+ShowsUntil form text old new (Err Write) = ⊤
+ShowsUntil form text old new (Err e) = (front : List ℕ) × (line : List ℕ) × (rest : List ℕ)
+    × IsAtFault e text front line rest × Appends old new (shown_so_far form (state_at (take_bytes fresh front)))

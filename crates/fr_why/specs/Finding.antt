@@ -1,0 +1,50 @@
+-- What the code keeps of the line at which a text is refused: places in the text.
+use Rattle.std.specs.Prelude.{◌≡◌, ℕ, ◌-◌, ◌≤◌, List, [], length, take, drop, Result, Ok, Err}
+use Rattle.fr_interface.specs.State.{IsLegalInterface}
+use Rattle.fr_trace.specs.Audit.{IsOfText}
+use Rattle.fr_trace.specs.declared.error.TraceError.{TraceError}
+use Rattle.fr_trace.specs.declared.error.TraceError.TheVariants.{Read, Write, Memory}
+use Rattle.fr_trace.specs.Refusals.{feed_count}
+use Rattle.fr_trace.specs.Stream.{Progress, reading, Phase, fresh, take_bytes, outcome_of}
+use Rattle.fr_why.specs.declared.finding.Fault.{Fault}
+use Rattle.fr_why.specs.declared.finding.Found.{Found}
+use Rattle.fr_why.specs.declared.finding.Found.TheVariants.{Accepted, Refused}
+use Rattle.fr_why.specs.declared.head.Head.{Head}
+use Rattle.fr_why.specs.Faults.{IsAtFault}
+use Rattle.fr_why.specs.Heads.{head_of, Tells}
+
+-- the bytes from the one place up to the other
+abbrev pub between : ℕ → ℕ → List ℕ → List ℕ
+between start end text = take (end - start) (drop start text)
+
+-- the text is refused at this line, and the lines before have told this
+pub record IsFaultIn (text : List ℕ) (f : Fault) : Type 0 where
+  pub of_text : IsOfText f.error
+  pub starts : f.start ≤ f.end
+  pub ends : f.end ≤ length text
+  pub at_fault : IsAtFault f.error text (take f.start text) (between f.start f.end text) (drop f.end text)
+  pub counted : f.before ≡ feed_count (take f.start text)
+  pub told : Tells (take f.start text) f.head
+
+-- it is accepted as this interface with so many lines, or refused there
+abbrev pub IsFound : List ℕ → Found → Type 0
+IsFound text (Accepted s lines) = (outcome_of (take_bytes fresh text) ≡ Ok s) × IsLegalInterface s
+    × (lines ≡ feed_count text)
+IsFound text (Refused f) = IsFaultIn text f
+
+-- an error that no text gives is told at once
+abbrev pub found_of : TraceError → Fault → Result Found TraceError
+found_of Read f = Err Read
+found_of Write f = Err Write
+found_of Memory f = Err Memory
+found_of e f = Ok (Refused f)
+
+-- an auditor that has read whole lines of a text, which end at this place, and what was kept of them
+pub record StandsAt (text : List ℕ) (start before : ℕ) (h : Head) (auditor : Progress) : Type 0 where
+  pub within : start ≤ length text
+  pub few : before ≤ start
+  pub counted : before ≡ feed_count (take start text)
+  pub phase : Phase
+  pub came : take_bytes fresh (take start text) ≡ reading phase []
+  pub read : auditor ≡ reading phase []
+  pub told : h ≡ head_of phase

@@ -1,0 +1,96 @@
+-- What is written about a text: that it is accepted, or where and why it is refused (own profile).
+use Rattle.std.specs.Prelude.{ℕ, ◌+◌, ◌==◌, nat_le, not, Bool, ◌&&◌, List, [], ◌∷◌, ◌++◌, codes, take, if◌then◌else◌}
+use Rattle.std.specs.Fmt.{decimal}
+use Rattle.std.specs.List.{flat_map}
+use Rattle.fr_interface.specs.ErrorNames.{host_error_name, slot_error_name}
+use Rattle.fr_lines.specs.Spelling.{line_feed, line_text}
+use Rattle.fr_slots.specs.Admission.{letter_of}
+use Rattle.fr_slots.specs.declared.fault.PlanFault.{PlanFault}
+use Rattle.fr_slots.specs.declared.fault.PlanFault.TheVariants as fault
+use Rattle.fr_slots.specs.declared.params.RangeError.{RangeError}
+use Rattle.fr_slots.specs.declared.params.RangeError.TheVariants as range
+use Rattle.fr_slots.specs.Parameters.{name_of}
+use Rattle.fr_text.specs.Spelling.{hex_text}
+use Rattle.fr_trace.specs.declared.error.TraceError.{TraceError}
+use Rattle.fr_trace.specs.declared.error.TraceError.TheVariants as refusal
+use Rattle.fr_trace.specs.Refusals.{feed_count}
+use Rattle.fr_trace.specs.Stream.{Progress, fresh, take_bytes, longest_line}
+use Rattle.fr_trace.specs.TraceText.{entry_line}
+use Rattle.fr_why.specs.declared.reason.Reason.{Reason}
+use Rattle.fr_why.specs.declared.reason.Reason.TheVariants.{Plain, Params, Plan, Host, Slot, Due}
+use Rattle.fr_why.specs.Faults.{state_at, windows_of}
+use Rattle.fr_why.specs.Reasons.{reason_for}
+
+-- ---- the refusal, as an audit prints it
+
+abbrev pub error_words : TraceError → List (List ℕ)
+error_words refusal.BadMagic = codes "BadMagic" ∷ []
+error_words (refusal.BadLine n) = codes "BadLine" ∷ decimal n ∷ []
+error_words (refusal.LineTooLong n) = codes "LineTooLong" ∷ decimal n ∷ []
+error_words (refusal.Refused n) = codes "Refused" ∷ decimal n ∷ []
+error_words (refusal.WrongAnswer n) = codes "WrongAnswer" ∷ decimal n ∷ []
+error_words refusal.Truncated = codes "Truncated" ∷ []
+error_words refusal.Read = codes "Read" ∷ []
+error_words refusal.Write = codes "Write" ∷ []
+error_words refusal.Memory = codes "Memory" ∷ []
+
+-- ---- the text of a line
+
+-- a byte of ASCII that has a sign of its own, which isn't that of the bytes that have none
+abbrev pub is_shown : ℕ → Bool
+is_shown b = nat_le 32 b && nat_le b 126 && not (b == 92)
+
+-- such a byte as it is, and any other by a backslash, `x` and its two hexadecimal digits
+abbrev pub byte_text : ℕ → List ℕ
+byte_text b = if is_shown b then b ∷ [] else 92 ∷ hex_text (b ∷ [])
+
+-- after a space the bytes of a line, as many of them as a line may have; and nothing of an empty one
+abbrev pub after_space : List ℕ → List ℕ
+after_space [] = []
+after_space (b ∷ bytes) = 32 ∷ flat_map byte_text (take longest_line (b ∷ bytes))
+
+abbrev pub place_text : ℕ → List ℕ → List ℕ
+place_text number line = codes "line " ++ decimal number ++ after_space line ++ line_feed
+
+-- ---- what the refusal rests on
+
+abbrev pub range_words : RangeError → List (List ℕ)
+range_words (range.OutOfRange key) = codes "OutOfRange" ∷ name_of key ∷ []
+range_words range.CycleSum = codes "CycleSum" ∷ []
+
+abbrev pub fault_words : PlanFault → List (List ℕ)
+fault_words (fault.NotOwned buffer) = codes "NotOwned" ∷ decimal buffer ∷ []
+fault_words (fault.DynamicBoth buffer) = codes "DynamicBoth" ∷ decimal buffer ∷ []
+fault_words (fault.Overlap slot channel cycle) = codes "Overlap" ∷ decimal slot ∷ letter_of channel ∷ decimal cycle ∷ []
+fault_words (fault.TooLong buffer) = codes "TooLong" ∷ decimal buffer ∷ []
+fault_words fault.OutOfParams = codes "OutOfParams" ∷ []
+
+-- whose refusal it is, and its name there; or the line of the entry that the call makes
+abbrev pub reason_text : Reason → List ℕ
+reason_text Plain = []
+reason_text (Params e) = line_text (codes "reason" ∷ codes "Params" ∷ range_words e)
+reason_text (Plan e) = line_text (codes "reason" ∷ codes "Plan" ∷ fault_words e)
+reason_text (Host e) = line_text (codes "reason" ∷ codes "Host" ∷ host_error_name e ∷ [])
+reason_text (Slot e) = line_text (codes "reason" ∷ codes "Slot" ∷ slot_error_name e ∷ [])
+reason_text (Due e) = codes "due " ++ entry_line e
+
+-- ---- the whole text
+
+-- so many lines, and so many windows that were fetched in them
+abbrev pub count_text : ℕ → ℕ → List ℕ
+count_text lines windows = line_text (codes "lines" ∷ decimal lines ∷ []) ++ line_text (codes "windows" ∷ decimal windows ∷ [])
+
+abbrev pub accepted_text : ℕ → ℕ → List ℕ
+accepted_text lines windows = line_text (codes "accepted" ∷ []) ++ count_text lines windows
+
+-- the error, the line with its number, what the refusal rests on, and what stands before it
+abbrev pub fault_text : TraceError → ℕ → List ℕ → Reason → ℕ → List ℕ
+fault_text e before line reason windows =
+    line_text (codes "refused" ∷ error_words e) ++ (place_text (before + 1) line ++ (reason_text reason
+    ++ count_text before windows))
+
+-- the same, of this line after these
+abbrev pub refused_text : TraceError → List ℕ → List ℕ → List ℕ
+refused_text e front line =
+    fault_text e (feed_count front) line (reason_for e (take_bytes fresh front) line)
+    (windows_of (state_at (take_bytes fresh front)))

@@ -1,0 +1,35 @@
+//! The interface that the lines before the one at fault have left.
+ghost use Rattle.std.specs.Prelude.{◌≡◌, IfOk, IfErr};
+ghost use Rattle.fr_trace.specs.Audit.{IsOfText};
+ghost use Rattle.fr_trace.specs.Stream.{fresh, take_bytes};
+ghost use Rattle.fr_why.specs.Faults.{state_at};
+ghost use Rattle.fr_why.specs.Heads.{Tells};
+
+use crate::head::Head;
+use fr_interface::interface::Interface;
+use fr_trace::error::TraceError;
+use fr_trace::pieces::audit_pieces;
+use std::alloc::Global;
+
+/// The interface that these lines leave, once they have told its plan, whether or not `end` is one of them.
+///
+/// Refused with `Memory` where memory for it is refused.
+pub(crate) fn interface_after(
+    alloc: Global,
+    head: &Head,
+    lines: &[u8],
+) -> Result<Option<Interface>, TraceError>
+    requires { Tells lines.now head.now }
+    ensures left { IfOk result (λ o. o ≡ state_at (take_bytes fresh lines.now)) }
+    ensures refused { IfErr result (λ e. IsOfText e → ⊥) }
+{
+    let text = match head {
+        Head::Body(_) => audit_pieces(alloc, &[lines, b"end\n"]),
+        Head::Finished => audit_pieces(alloc, &[lines]),
+        _ => return Ok(None),
+    };
+    match text {
+        Ok(interface) => Ok(Some(interface)),
+        Err(error) => Err(error),
+    }
+}

@@ -1,0 +1,25 @@
+//! The text of a trace, kept whole.
+ghost use Rattle.std.specs.Prelude.{IfSome};
+ghost use Rattle.fr_why.specs.Explains.{IsKept};
+
+use fr_trace::error::TraceError;
+use std::alloc::Global;
+use std::io::{ErrorKind, Read};
+
+/// No more bytes than these are kept of a text. It is longer than any that is accepted: 82,054 lines of 1200 bytes
+/// with their line feeds, and a further line.
+const MOST_KEPT: u64 = 98_548_055;
+
+/// All bytes that the reader has left, or the first of them, as many as are kept.
+///
+/// Refused with `Read` where the reader fails, and with `Memory` where memory is refused.
+pub(crate) fn kept_of<R: Read>(alloc: Global, reader: &mut R) -> Result<Vec<u8>, TraceError>
+    ensures { IfSome (R.remaining reader.old) (λ text. IsKept text result) }
+{
+    let mut bytes = Vec::new(alloc);
+    match reader.take(MOST_KEPT).read_to_end(&mut bytes) {
+        Ok(_) => Ok(bytes),
+        Err(error) if error.kind() == ErrorKind::OutOfMemory => Err(TraceError::Memory),
+        Err(_) => Err(TraceError::Read),
+    }
+}

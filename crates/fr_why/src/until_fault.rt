@@ -1,0 +1,59 @@
+//! What was seen in a trace, up to the line at fault.
+ghost use Rattle.std.specs.Prelude.{IfSome};
+ghost use Rattle.fr_why.specs.Explains.{kept, ShowsUntil};
+ghost use Rattle.fr_why.specs.Finding.{IsFaultIn};
+
+use crate::before::interface_after;
+use crate::finding::{Fault, Found, find};
+use crate::kept::kept_of;
+use fr_capture::form::Form;
+use fr_capture::show::write_form;
+use fr_trace::error::TraceError;
+use std::alloc::Global;
+use std::io::{Read, Write};
+
+/// Writes what was seen before the line at fault, and answers its error.
+fn show_before<W: Write>(
+    alloc: Global,
+    form: Form,
+    text: &[u8],
+    fault: &Fault,
+    writer: &mut W,
+) -> Result<(), TraceError>
+    requires { IsFaultIn text.now fault.now }
+    ensures { ShowsUntil form text.now (W.contents writer.old) (W.contents writer.new) result }
+{
+    match interface_after(alloc, &fault.head, &text[..fault.start]) {
+        Ok(Some(interface)) => {
+            write_form(alloc, form, &interface, writer)?;
+            Err(fault.error)
+        }
+        Ok(None) => Err(fault.error),
+        Err(error) => Err(error),
+    }
+}
+
+/// Reads a trace to its end, and writes what was seen in it, in this form: of a trace that an audit refuses what was seen
+/// up to the line at fault, or up to where it breaks off (own profile).
+///
+/// Refused as an audit refuses it, with the error of the first line at fault, once what was seen in the lines before is
+/// written; where these haven't told the plan yet, nothing is. Refused too with `Read` where the reader fails and with
+/// `Memory` where memory is refused, and then nothing is written; and with `Write` where the writer fails, and then some
+/// of it may have been written. A text of more than 98,548,055 bytes, which is longer than any accepted one, is read no
+/// further and refused for those.
+pub fn show_until_fault<R: Read, W: Write>(
+    alloc: Global,
+    form: Form,
+    reader: &mut R,
+    writer: &mut W,
+) -> Result<(), TraceError>
+    ensures { IfSome (R.remaining reader.old)
+        (λ text. ShowsUntil form (kept text) (W.contents writer.old) (W.contents writer.new) result) }
+{
+    let text = kept_of(alloc, reader)?;
+    match find(alloc, text.as_slice()) {
+        Ok(Found::Accepted(interface, _)) => write_form(alloc, form, &interface, writer),
+        Ok(Found::Refused(fault)) => show_before(alloc, form, text.as_slice(), &fault, writer),
+        Err(error) => Err(error),
+    }
+}

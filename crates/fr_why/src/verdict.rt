@@ -1,0 +1,10 @@
+//! How a trace was judged.
+
+/// How a trace was judged that was read whole (own profile).
+#[derive(Clone, Copy, Debug, PartialEq, Eq)]
+pub enum Verdict {
+    /// An audit accepts it.
+    Accepted,
+    /// An audit refuses it.
+    Refused,
+}
