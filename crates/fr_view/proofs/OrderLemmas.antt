@@ -14,9 +14,10 @@ use Rattle.fr_view.specs.declared.command.Order.{Order}
 use Rattle.fr_view.specs.declared.command.Order.TheVariants as the_order
 use Rattle.fr_words.specs.declared.error.OrderError.{OrderError}
 use Rattle.fr_words.specs.declared.error.OrderError.TheVariants as refusal
-use Rattle.fr_playing.specs.declared.shown.Shown.TheVariants.{Outcome, Answers, Trace}
-use Rattle.fr_view.specs.Orders.{IsAnswerTo, IsOrder, IsScheduleBy, IsShowBy, asks, cycle_asked, has_run_by}
-use Rattle.fr_view.specs.Orders.{has_schedule_by, has_show_by, node_asked, shown_by, the_commands}
+use Rattle.fr_showing.specs.declared.shown.Shown.{Shown}
+use Rattle.fr_showing.specs.declared.shown.Shown.TheVariants.{Outcome, Answers, Commits, Record, Trace, Matrix}
+use Rattle.fr_view.specs.Orders.{IsAnswerTo, IsOrder, IsScheduleBy, IsShowBy, asks, cycle_asked, drawn_by, has_run_by}
+use Rattle.fr_view.specs.Orders.{has_schedule_by, has_show_by, node_asked, shown_by, the_commands, view_asked}
 use Rattle.fr_words.specs.Commands.{IsNamed, cycles_in, order_error_of, word_in}
 
 pub are_simple : is_simple the_commands ≡ true
@@ -51,8 +52,9 @@ has_alike f g same =
     ap₂ (λ a b. a && b) (ap is_some (same (codes "FILE"))) (ap (λ w. is_some (cycle_asked w)) (same (codes "cycle")))
 
 schedule_alike : (f g : Text → Option Text) → ((id : Text) → f id ≡ g id) → (o : Order) → IsScheduleBy f o → IsScheduleBy g o
-schedule_alike f g same the_order.Capture is = is
-schedule_alike f g same the_order.Frames is = is
+schedule_alike f g same (the_order.Capture until_fault) is = is
+schedule_alike f g same (the_order.Frames until_fault) is = is
+schedule_alike f g same the_order.Why is = is
 schedule_alike f g same the_order.Help is = is
 schedule_alike f g same (the_order.Show shown cluster scenario cycles) is = is
 schedule_alike f g same (the_order.Schedule file cycle) is =
@@ -64,8 +66,9 @@ schedule_told entered look None named same told = tt
 schedule_told entered look (Some o) named same told = by o (schedule_alike look (word_in entered) same o told)
   where
     by : (o : Order) → IsScheduleBy (word_in entered) o → IsOrder entered o
-    by the_order.Capture is = absurd is
-    by the_order.Frames is = absurd is
+    by (the_order.Capture until_fault) is = absurd is
+    by (the_order.Frames until_fault) is = absurd is
+    by the_order.Why is = absurd is
     by the_order.Help is = absurd is
     by (the_order.Show shown cluster scenario cycles) is = absurd is
     by (the_order.Schedule file cycle) is = (named, is)
@@ -83,10 +86,24 @@ schedule_lacks entered look None named same lacks = asks_nothing entered named (
 
 -- ---- what is shown of a run
 
+-- what is shown by a command of this name, by the words for the node of a trace and by what is drawn
+shown_with : Text → Option Text → Option Shown → Option Shown
+shown_with name node drawn =
+    if bytes_eq name (codes "outcome") then Some Outcome else if bytes_eq name (codes "answers") then Some Answers
+    else if bytes_eq name (codes "commits") then Some Commits else if bytes_eq name (codes "record") then Some Record
+    else if bytes_eq name (codes "trace") then option_map Trace (node_asked node) else drawn
+
+drawn_with : Text → Option Text → Option Text → Option Text → Option Shown
+drawn_with name channel node from = if bytes_eq name (codes "matrix") then option_map Matrix (view_asked channel node from) else None
+
+drawn_alike : (name : Text) (f g : Text → Option Text) → ((id : Text) → f id ≡ g id) → drawn_by name f ≡ drawn_by name g
+drawn_alike name f g same =
+    ap (λ w. drawn_with name w (f (codes "node")) (f (codes "from"))) (same (codes "channel"))
+    ∙ ap (λ w. drawn_with name (g (codes "channel")) w (f (codes "from"))) (same (codes "node"))
+    ∙ ap (λ w. drawn_with name (g (codes "channel")) (g (codes "node")) w) (same (codes "from"))
+
 shown_alike : (name : Text) (f g : Text → Option Text) → ((id : Text) → f id ≡ g id) → shown_by name f ≡ shown_by name g
-shown_alike name f g same =
-    ap (λ w. if bytes_eq name (codes "outcome") then Some Outcome else if bytes_eq name (codes "answers") then Some Answers
-    else if bytes_eq name (codes "trace") then option_map Trace (node_asked w) else None) (same (codes "NODE"))
+shown_alike name f g same = ap₂ (λ w d. shown_with name w d) (same (codes "NODE")) (drawn_alike name f g same)
 
 run_alike : (f g : Text → Option Text) → ((id : Text) → f id ≡ g id) → has_run_by f ≡ has_run_by g
 run_alike f g same =
@@ -95,8 +112,9 @@ run_alike f g same =
     (ap (λ w. is_some (option_and_then cycles_in w)) (same (codes "cycles")))
 
 show_alike : (name : Text) (f g : Text → Option Text) → ((id : Text) → f id ≡ g id) → (o : Order) → IsShowBy name f o → IsShowBy name g o
-show_alike name f g same the_order.Capture is = is
-show_alike name f g same the_order.Frames is = is
+show_alike name f g same (the_order.Capture until_fault) is = is
+show_alike name f g same (the_order.Frames until_fault) is = is
+show_alike name f g same the_order.Why is = is
 show_alike name f g same the_order.Help is = is
 show_alike name f g same (the_order.Schedule file cycle) is = is
 show_alike name f g same (the_order.Show shown cluster scenario cycles) is = (
@@ -117,23 +135,25 @@ show_told (Some (entered, rows)) name look (Some o) named same told =
     is = cc named
 
     by : (o : Order) → IsShowBy entered (λ id. first_of id rows) o → IsOrder (Some (entered, rows)) o
-    by the_order.Capture is = absurd is
-    by the_order.Frames is = absurd is
+    by (the_order.Capture until_fault) is = absurd is
+    by (the_order.Frames until_fault) is = absurd is
+    by the_order.Why is = absurd is
     by the_order.Help is = absurd is
     by (the_order.Schedule file cycle) is = absurd is
     by (the_order.Show shown cluster scenario cycles) is = is
 
 pub show_lacks : (entered : Option (Text × List Row)) (name : Text) (look : Text → Option Text) (found : Option Order) → IsNamed name entered
-    → bytes_eq name (codes "capture") ≡ false → bytes_eq name (codes "frames") ≡ false → bytes_eq name (codes "schedule") ≡ false
+    → bytes_eq name (codes "capture") ≡ false → bytes_eq name (codes "frames") ≡ false → bytes_eq name (codes "why") ≡ false
+    → bytes_eq name (codes "schedule") ≡ false
     → ((id : Text) → look id ≡ word_in entered id) → IfNone found (has_show_by name look ≡ false) → IfNone found (asks entered ≡ false)
-show_lacks entered name look (Some o) named capture frames schedule same lacks = tt
-show_lacks None name look None named capture frames schedule same lacks = cc named
-show_lacks (Some (entered, rows)) name look None named capture frames schedule same lacks =
+show_lacks entered name look (Some o) named capture frames why schedule same lacks = tt
+show_lacks None name look None named capture frames why schedule same lacks = cc named
+show_lacks (Some (entered, rows)) name look None named capture frames why schedule same lacks =
     let is : entered ≡ name = cc named in
     let words = λ (id : Text). first_of id rows in
     let alike : has_show_by name look ≡ has_show_by name words =
     ap₂ (λ a b. is_some a && b) (shown_alike name look words same) (run_alike look words same) in
     subst (λ (n : Text). asks (Some (n, rows)) ≡ false) (sym is)
     (ap₂ (λ a b. a || b)
-    (ap₂ (λ a b. a || b) (ap₂ (λ a b. a || b) (sym alike ∙ lacks) capture) frames)
+    (ap₂ (λ a b. a || b) (ap₂ (λ a b. a || b) (ap₂ (λ a b. a || b) (sym alike ∙ lacks) capture) frames) why)
     (ap (λ b. b && has_schedule_by (word_in (Some (name, rows)))) schedule))

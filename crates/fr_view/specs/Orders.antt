@@ -1,5 +1,6 @@
 -- Which words are an order, by the rules of `clap`, and how the refusal of words follows from its errors.
-use Rattle.std.specs.Prelude.{◌≡◌, ◌⊎◌, ◌<◌, ℕ, List, [], ◌∷◌, length, Option, Some, None, Result, Ok, Err, true, false}
+use Rattle.std.specs.Prelude.{◌≡◌, ◌⊎◌, ◌<◌, ℕ, List, [], ◌∷◌, length, Option, Some, None, Result, Ok, Err, true}
+use Rattle.std.specs.Prelude.{false}
 use Rattle.std.specs.Prelude.{codes}
 use Rattle.std.specs.Prelude.{option_map, option_and_then, Bool, ◌&&◌, ◌||◌, is_some, if◌then◌else◌}
 use Rattle.fr_text.specs.Reading.{number_in}
@@ -8,20 +9,24 @@ use Rattle.clap.specs.Words.{App, Row, Rule, Shape, Text, fault_of, first_of, ne
 use Rattle.clap.specs.Words.{with_rule, with_subcommand}
 use Rattle.clap.specs.declared.error.kind.ErrorKind.{ErrorKind}
 use Rattle.clap.specs.declared.error.kind.ErrorKind.TheVariants as kind
-use Rattle.fr_playing.specs.declared.shown.Shown.{Shown}
-use Rattle.fr_playing.specs.declared.shown.Shown.TheVariants.{Outcome, Answers, Trace}
+use Rattle.fr_matrix.specs.declared.view.View.{View}
+use Rattle.fr_showing.specs.declared.shown.Shown.{Shown}
+use Rattle.fr_showing.specs.declared.shown.Shown.TheVariants.{Outcome, Answers, Commits, Record, Trace, Matrix}
+use Rattle.fr_slots.specs.declared.channel.Channel.{Channel}
+use Rattle.fr_slots.specs.declared.channel.Channel.TheVariants.{A, B}
+use Rattle.clap.specs.declared.builder.action.ArgAction.TheVariants.{SetTrue}
 use Rattle.fr_view.specs.declared.command.Order.{Order}
 use Rattle.fr_view.specs.declared.command.Order.TheVariants as the_order
 use Rattle.fr_words.specs.declared.error.OrderError.{OrderError}
 use Rattle.fr_words.specs.declared.error.OrderError.TheVariants as refusal
 use Rattle.fr_words.specs.Commands.{IsNamed, bare, cycles_in, named, the_cycles, the_file, with_file, word_in}
 
--- the program with its commands
-abbrev pub one_command : App
-one_command = with_subcommand (bare (codes "fr_view")) (named (codes "capture"))
+-- a command that reads a trace, and the flag by which it ends at the line at fault
+abbrev pub the_flag : Rule
+the_flag = record (new_rule (codes "until-fault")) { long = Some (codes "until-fault"); action = Some SetTrue }
 
-abbrev pub two_commands : App
-two_commands = with_subcommand one_command (named (codes "frames"))
+abbrev pub of_trace : Text → App
+of_trace name = with_rule (new_app name) the_flag
 
 -- a picture of a cluster file, and a cycle that may be
 abbrev pub the_cycle : Rule
@@ -30,8 +35,18 @@ the_cycle = record (new_rule (codes "cycle")) { long = Some (codes "cycle") }
 abbrev pub schedule_command : App
 schedule_command = with_rule (with_file (codes "schedule")) the_cycle
 
+-- the program with the commands that read one file
+abbrev pub one_command : App
+one_command = with_subcommand (bare (codes "fr_view")) (of_trace (codes "capture")).top
+
+abbrev pub two_commands : App
+two_commands = with_subcommand one_command (of_trace (codes "frames")).top
+
 abbrev pub three_commands : App
-three_commands = with_subcommand two_commands schedule_command.top
+three_commands = with_subcommand two_commands (named (codes "why"))
+
+abbrev pub file_commands : App
+file_commands = with_subcommand three_commands schedule_command.top
 
 -- a command of a run, with its two files and the number of its cycles
 abbrev pub the_scenario : Rule
@@ -40,20 +55,45 @@ the_scenario = record (new_rule (codes "SCENARIO")) { required = true }
 abbrev pub with_run : App → App
 with_run command = with_rule (with_rule (with_rule command the_file) the_scenario) the_cycles
 
+abbrev pub of_run : Text → App
+of_run name = with_run (new_app name)
+
 abbrev pub the_node : Rule
 the_node = record (new_rule (codes "NODE")) { required = true }
 
 abbrev pub trace_command : App
 trace_command = with_run (with_rule (new_app (codes "trace")) the_node)
 
-abbrev pub four_commands : App
-four_commands = with_subcommand three_commands (with_run (new_app (codes "outcome"))).top
+-- what of a run is drawn
+abbrev pub option_named : Text → Rule
+option_named name = record (new_rule name) { long = Some name }
 
-abbrev pub five_commands : App
-five_commands = with_subcommand four_commands (with_run (new_app (codes "answers"))).top
+abbrev pub matrix_drawn : App
+matrix_drawn =
+    with_rule (with_rule (with_rule (new_app (codes "matrix")) (option_named (codes "channel")))
+    (option_named (codes "node"))) (option_named (codes "from"))
+
+abbrev pub matrix_command : App
+matrix_command = with_run matrix_drawn
+
+-- with the commands that show what is told of a run in lines
+abbrev pub with_outcome : App
+with_outcome = with_subcommand file_commands (of_run (codes "outcome")).top
+
+abbrev pub with_answers : App
+with_answers = with_subcommand with_outcome (of_run (codes "answers")).top
+
+abbrev pub with_commits : App
+with_commits = with_subcommand with_answers (of_run (codes "commits")).top
+
+abbrev pub line_commands : App
+line_commands = with_subcommand with_commits (of_run (codes "record")).top
+
+abbrev pub with_matrix : App
+with_matrix = with_subcommand line_commands matrix_command.top
 
 abbrev pub the_commands : App
-the_commands = with_subcommand five_commands trace_command.top
+the_commands = with_subcommand with_matrix trace_command.top
 
 -- ---- what the words enter
 
@@ -73,8 +113,9 @@ has_schedule_by first_word = is_some (first_word (codes "FILE")) && is_some (cyc
 
 -- the picture is the one that they ask for
 abbrev pub IsScheduleBy : (Text → Option Text) → Order → Type 0
-IsScheduleBy first_word the_order.Capture = ⊥
-IsScheduleBy first_word the_order.Frames = ⊥
+IsScheduleBy first_word (the_order.Capture until_fault) = ⊥
+IsScheduleBy first_word (the_order.Frames until_fault) = ⊥
+IsScheduleBy first_word the_order.Why = ⊥
 IsScheduleBy first_word the_order.Help = ⊥
 IsScheduleBy first_word (the_order.Show shown cluster scenario cycles) = ⊥
 IsScheduleBy first_word (the_order.Schedule file cycle) =
@@ -86,13 +127,47 @@ IsScheduleBy first_word (the_order.Schedule file cycle) =
 abbrev pub node_asked : Option Text → Option ℕ
 node_asked word = option_and_then (number_in 16) word
 
+-- the channel that a word names, A where there is none
+abbrev pub channel_asked : Option Text → Option Channel
+channel_asked None = Some A
+channel_asked (Some word) =
+    if bytes_eq word (codes "A") then Some A else if bytes_eq word (codes "B") then Some B else None
+
+-- the node through whose eyes a run is seen, or nobody where no word is there
+abbrev pub viewer_asked : Option Text → Option (Option ℕ)
+viewer_asked None = Some None
+viewer_asked (Some word) = option_map Some (number_in 16 word)
+
+-- the cycle of the run that is drawn first
+abbrev pub from_asked : Option Text → Option ℕ
+from_asked None = Some 0
+from_asked (Some word) = number_in 1024 word
+
+abbrev pub view_with : Option Channel → Option (Option ℕ) → Option ℕ → Option View
+view_with None node from = None
+view_with (Some channel) None from = None
+view_with (Some channel) (Some node) None = None
+view_with (Some channel) (Some node) (Some from) = Some (record { channel = channel; node = node; from = from })
+
+abbrev pub view_asked : Option Text → Option Text → Option Text → Option View
+view_asked channel node from = view_with (channel_asked channel) (viewer_asked node) (from_asked from)
+
+-- what a command of this name draws of a run
+abbrev pub drawn_by : Text → (Text → Option Text) → Option Shown
+drawn_by name first_word =
+    if bytes_eq name (codes "matrix") then option_map Matrix
+    (view_asked (first_word (codes "channel")) (first_word (codes "node")) (first_word (codes "from")))
+    else None
+
 -- what a command of this name shows of a run, if it is one of those
 abbrev pub shown_by : Text → (Text → Option Text) → Option Shown
 shown_by name first_word =
     if bytes_eq name (codes "outcome") then Some Outcome
     else if bytes_eq name (codes "answers") then Some Answers
+    else if bytes_eq name (codes "commits") then Some Commits
+    else if bytes_eq name (codes "record") then Some Record
     else if bytes_eq name (codes "trace") then option_map Trace (node_asked (first_word (codes "NODE")))
-    else None
+    else drawn_by name first_word
 
 -- whether the first words of these arguments name a run
 abbrev pub has_run_by : (Text → Option Text) → Bool
@@ -105,8 +180,9 @@ has_show_by name first_word = is_some (shown_by name first_word) && has_run_by f
 
 -- the order shows of that run what the command of this name shows
 abbrev pub IsShowBy : Text → (Text → Option Text) → Order → Type 0
-IsShowBy name first_word the_order.Capture = ⊥
-IsShowBy name first_word the_order.Frames = ⊥
+IsShowBy name first_word (the_order.Capture until_fault) = ⊥
+IsShowBy name first_word (the_order.Frames until_fault) = ⊥
+IsShowBy name first_word the_order.Why = ⊥
 IsShowBy name first_word the_order.Help = ⊥
 IsShowBy name first_word (the_order.Schedule file cycle) = ⊥
 IsShowBy name first_word (the_order.Show shown cluster scenario cycles) =
@@ -124,22 +200,36 @@ abbrev pub IsShow : Option (Text × List Row) → Order → Type 0
 IsShow None order = ⊥
 IsShow (Some (name, rows)) order = IsShowBy name (λ id. first_of id rows) order
 
+-- ---- a trace
+
+-- the word is that of a flag that is there
+abbrev pub is_true : Option Text → Bool
+is_true None = false
+is_true (Some word) = bytes_eq word (codes "true")
+
+-- a command of this name is entered, and its flag is this
+abbrev pub IsTraced : Text → Option (Text × List Row) → Bool → Type 0
+IsTraced name entered until_fault =
+    IsNamed name entered × (until_fault ≡ is_true (word_in entered (codes "until-fault")))
+
 -- ---- any command
 
 -- one of the commands is entered, with all that it needs
 abbrev pub asks : Option (Text × List Row) → Bool
 asks entered =
     has_show entered || is_named (codes "capture") entered || is_named (codes "frames") entered
-    || (is_named (codes "schedule") entered && has_schedule_by (word_in entered))
+    || is_named (codes "why") entered || (is_named (codes "schedule") entered && has_schedule_by (word_in entered))
 
 -- the order is that of the command which is entered
 abbrev pub IsOrder : Option (Text × List Row) → Order → Type 0
-IsOrder entered the_order.Capture = IsNamed (codes "capture") entered
-IsOrder entered the_order.Frames = IsNamed (codes "frames") entered
+IsOrder entered (the_order.Capture until_fault) = IsTraced (codes "capture") entered until_fault
+IsOrder entered (the_order.Frames until_fault) = IsTraced (codes "frames") entered until_fault
+IsOrder entered the_order.Why = IsNamed (codes "why") entered
 IsOrder entered the_order.Help = ⊥
 IsOrder entered (the_order.Schedule file cycle) =
     IsNamed (codes "schedule") entered × IsScheduleBy (word_in entered) (the_order.Schedule file cycle)
-IsOrder entered (the_order.Show shown cluster scenario cycles) = IsShow entered (the_order.Show shown cluster scenario cycles)
+IsOrder entered (the_order.Show shown cluster scenario cycles) =
+    IsShow entered (the_order.Show shown cluster scenario cycles)
 
 -- ---- the answer
 

@@ -1,6 +1,6 @@
 //! What the program can be asked to do.
 
-use fr_playing::shown::Shown;
+use fr_showing::shown::Shown;
 
 /// What the program is asked to do (own profile).
 #[derive(Clone, Copy, PartialEq, Eq)]
@@ -13,9 +13,17 @@ pub enum Order<'a> {
         cycle: u8,
     },
     /// Read the trace of one controller on standard input and print a capture of what it saw.
-    Capture,
+    Capture {
+        /// Of a trace that is refused, print what was seen up to the line at fault.
+        until_fault: bool,
+    },
     /// Read such a trace and print a table of what it saw.
-    Frames,
+    Frames {
+        /// Of a trace that is refused, print what was seen up to the line at fault.
+        until_fault: bool,
+    },
+    /// Read such a trace and print why an audit refuses it.
+    Why,
     /// Play a run of the cluster of the one file with the scenario of the other, and print what is to be shown of it.
     Show {
         /// What is to be shown.

@@ -1,15 +1,19 @@
 //! The bench's program for looking at things. It reads its command from the words after its name, does it, and says by
 //! its exit status how it went: 0 where it is done, 1 where an input is refused, 2 where the words are no command.
 //!
-//! What it prints on standard output comes only once the command has accepted all its input. A refusal is one line on
-//! standard error.
+//! What it prints on standard output comes only once the command has accepted all its input, but for `--until-fault`,
+//! and for `why`, whose answer it is. A refusal is one line on standard error.
 //!
 //! ```text
 //! fr_view schedule cluster.toml > cycle.svg          a picture of a cycle: who sends where, when guardians are open
 //! fr_view capture < node.trace > node.pcap           what a controller saw, as a capture that Wireshark opens
 //! fr_view frames < node.trace                        the same as a table
+//! fr_view why < node.trace                           which line of a trace is at fault, and why
 //! fr_view outcome cluster.toml scenario --cycles 8   what `fr_bench run` prints of a run
 //! fr_view answers cluster.toml scenario --cycles 8   what each line of the scenario was answered
+//! fr_view commits cluster.toml scenario --cycles 8   what became of each commit
+//! fr_view record cluster.toml scenario --cycles 8    what the bus carried, window by window
+//! fr_view matrix cluster.toml scenario --cycles 8    the same as a picture
 //! fr_view trace 0 cluster.toml scenario --cycles 8   the trace of a node after the run
 //! fr_view --help                                     what there is
 //! ```
@@ -29,9 +33,12 @@ use fr_capture::show::show_trace;
 use fr_commands::cluster_file::cluster_of;
 use fr_commands::files::file_named;
 use fr_picture::picture::show_schedule;
-use fr_playing::show::show_run;
-use fr_playing::shown::Shown;
+use fr_showing::show::show_run;
+use fr_showing::shown::Shown;
 use fr_slots::numbers::Cycle;
+use fr_why::explain::explain_trace;
+use fr_why::until_fault::show_until_fault;
+use fr_why::verdict::Verdict;
 use fr_words::given::{texts_of, words_given};
 use order::order;
 use std::io;
@@ -39,14 +46,28 @@ use std::process::ExitCode;
 use std::rt::{Env, Files};
 
 /// What the program prints where it is asked for help.
-const HELP: &str =
-    "fr_view schedule FILE [--cycle N] > SVG      a picture of a cycle of the cluster, 0 unless another is named
-fr_view capture < TRACE > CAPTURE            what a controller saw, as a capture that Wireshark opens
-fr_view frames < TRACE                       the same as a table
-fr_view outcome FILE SCENARIO --cycles N     what `fr_bench run` prints of a run of the cluster
-fr_view answers FILE SCENARIO --cycles N     a line for each line of a task, with its answer
-fr_view trace NODE FILE SCENARIO --cycles N  the trace of a node after the run
-fr_view --help                               these lines
+const HELP: &str = "fr_view schedule FILE [--cycle N] > SVG
+    a picture of a cycle of the cluster, 0 unless another is named
+fr_view capture [--until-fault] < TRACE > CAPTURE
+    what a controller saw, as a capture that Wireshark opens
+fr_view frames [--until-fault] < TRACE
+    the same as a table; with --until-fault what was seen before the line at fault, and then the refusal
+fr_view why < TRACE
+    why an audit refuses a trace: the line at fault, the reason, and the line as it would be right
+fr_view outcome FILE SCENARIO --cycles N
+    what `fr_bench run` prints of a run of the cluster
+fr_view answers FILE SCENARIO --cycles N
+    a line for each line of a task, with its answer
+fr_view commits FILE SCENARIO --cycles N
+    a line for each commit, with what became of it
+fr_view record FILE SCENARIO --cycles N
+    a line for each transmission and each turned bit, window by window
+fr_view matrix FILE SCENARIO --cycles N [--channel A|B] [--node N] [--from CYCLE] > SVG
+    what channel A or B carried, or a node saw there, as a picture of up to 64 cycles
+fr_view trace NODE FILE SCENARIO --cycles N
+    the trace of a node after the run
+fr_view --help
+    these lines
 ";
 
 /// Plays a run of the cluster of the one file with the scenario of the other, which is opened once the cluster is
@@ -65,38 +86,73 @@ fn show_files<R: Files + Print + AllocGlobal>(
     Ok(show_run(alloc, &cluster, &mut file, cycles, shown, &mut output)?)
 }
 
+/// Writes what a controller saw, by its trace on standard input.
+fn show_seen<R: Input + Print + AllocGlobal>(
+    rt: &R,
+    form: Form,
+    until_fault: bool,
+) -> Result<(), Failure> {
+    let (alloc, mut output) = (rt.alloc(), io::writer(rt));
+    if until_fault {
+        Ok(show_until_fault(alloc, form, &mut rt.reader(), &mut output)?)
+    } else {
+        Ok(show_trace(alloc, form, &mut rt.reader(), &mut output)?)
+    }
+}
+
+/// Writes why an audit refuses the trace on standard input, and says by the status whether it does.
+fn explain<R: Input + Print + AllocGlobal>(rt: &R) -> Result<ExitCode, Failure> {
+    let mut output = io::writer(rt);
+    match explain_trace(rt.alloc(), &mut rt.reader(), &mut output)? {
+        Verdict::Accepted => Ok(ExitCode::SUCCESS),
+        Verdict::Refused => Ok(ExitCode::from(1)),
+    }
+}
+
+/// Writes the picture of a cycle of the cluster in the file.
+fn show_cycle<R: Files + Print + AllocGlobal>(
+    rt: &R,
+    file: &str,
+    cycle: u8,
+) -> Result<(), Failure> {
+    let Some(cycle) = Cycle::new(cycle) else {
+        return Err(Failure::Usage);
+    };
+    let (mut file, mut output) = (file_named(rt, file)?, io::writer(rt));
+    Ok(show_schedule(rt.alloc(), &mut file, cycle, &mut output)?)
+}
+
+/// Writes what there is to be asked for.
+fn show_help<R: Print>(rt: &R) -> Result<(), Failure> {
+    match io::Write::write_all(&mut io::writer(rt), HELP.as_bytes()) {
+        Ok(()) => Ok(()),
+        Err(_) => Err(Failure::Write),
+    }
+}
+
 /// Does the order.
 fn carry_out<R: Files + Input + Print + AllocGlobal>(
     rt: &R,
     order: Order<'_>,
-) -> Result<(), Failure> {
-    let alloc = rt.alloc();
-    let mut output = io::writer(rt);
+) -> Result<ExitCode, Failure> {
     match order {
-        Order::Schedule { file, cycle } => {
-            let Some(cycle) = Cycle::new(cycle) else {
-                return Err(Failure::Usage);
-            };
-            let mut file = file_named(rt, file)?;
-            Ok(show_schedule(alloc, &mut file, cycle, &mut output)?)
-        }
-        Order::Capture => Ok(show_trace(alloc, Form::Capture, &mut rt.reader(), &mut output)?),
-        Order::Frames => Ok(show_trace(alloc, Form::Table, &mut rt.reader(), &mut output)?),
+        Order::Schedule { file, cycle } => show_cycle(rt, file, cycle)?,
+        Order::Capture { until_fault } => show_seen(rt, Form::Capture, until_fault)?,
+        Order::Frames { until_fault } => show_seen(rt, Form::Table, until_fault)?,
+        Order::Why => return explain(rt),
         Order::Show {
             shown,
             cluster,
             scenario,
             cycles,
-        } => show_files(rt, shown, cluster, scenario, cycles),
-        Order::Help => match io::Write::write_all(&mut output, HELP.as_bytes()) {
-            Ok(()) => Ok(()),
-            Err(_) => Err(Failure::Write),
-        },
+        } => show_files(rt, shown, cluster, scenario, cycles)?,
+        Order::Help => show_help(rt)?,
     }
+    Ok(ExitCode::SUCCESS)
 }
 
 /// Does what the words ask for.
-fn run<R: Env + Files + Input + Print + AllocGlobal>(rt: &R) -> Result<(), Failure> {
+fn run<R: Env + Files + Input + Print + AllocGlobal>(rt: &R) -> Result<ExitCode, Failure> {
     let words = words_given(rt)?;
     let texts: Vec<&str> = texts_of(rt.alloc(), &words)?;
     carry_out(rt, order(rt.alloc(), texts.as_slice())?)
@@ -104,7 +160,7 @@ fn run<R: Env + Files + Input + Print + AllocGlobal>(rt: &R) -> Result<(), Failu
 
 fn main(rt: HostRuntime) -> ExitCode {
     match run(&rt) {
-        Ok(()) => ExitCode::SUCCESS,
+        Ok(status) => status,
         Err(failure) => {
             let _ = eprintln!(rt; "{failure}");
             ExitCode::from(failure.status())

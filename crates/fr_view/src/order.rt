@@ -1,15 +1,18 @@
 //! Reads the words after the program's name.
-ghost use Rattle.std.specs.Prelude.{◌≡◌, IfNone, IfOk, IfSome, false, map};
+ghost use Rattle.std.specs.Prelude.{◌≡◌, IfNone, IfOk, IfSome, codes, false, map, option_map};
 ghost use Rattle.clap.specs.Words.{app_of, first_value, found_of, subcommand_rows_of};
 ghost use Rattle.clap.specs.declared.builder.command.Command.TheViews.{out-Command};
 ghost use Rattle.fr_text.specs.Reading.{number_in};
-ghost use Rattle.fr_view.specs.Orders.{IsAnswer, IsOrder, IsScheduleBy, IsShowBy, asks};
-ghost use Rattle.fr_view.specs.Orders.{has_schedule_by, has_show_by, is_help, schedule_command, shown_by};
-ghost use Rattle.fr_view.specs.Orders.{the_commands, three_commands, trace_command, with_run};
+ghost use Rattle.fr_view.specs.Orders.{IsAnswer, IsOrder, IsScheduleBy, IsShowBy, asks, channel_asked, drawn_by};
+ghost use Rattle.fr_view.specs.Orders.{file_commands, from_asked, has_schedule_by, has_show_by, is_help, is_true};
+ghost use Rattle.fr_view.specs.Orders.{line_commands, matrix_command, of_trace, schedule_command, shown_by};
+ghost use Rattle.fr_view.specs.Orders.{the_commands, trace_command, view_asked, viewer_asked, with_run};
 
 use crate::command::Order;
-use clap::{Arg, ArgMatches, Command};
-use fr_playing::shown::Shown;
+use clap::{Arg, ArgAction, ArgMatches, Command};
+use fr_matrix::view::View;
+use fr_showing::shown::Shown;
+use fr_slots::channel::Channel;
 use fr_slots::numbers::NodeId;
 use fr_text::numbers::number_of;
 use fr_words::commands::{cycles_of, of_file, program};
@@ -46,25 +49,63 @@ fn trace_command<'a>(alloc: Global) -> Result<Command<'a>, AllocError>
     of_run(alloc, Command::new(alloc, "trace").arg(node)?)
 }
 
+/// A command that reads a trace, with the flag that lets it end at the line at fault.
+fn of_trace<'a>(alloc: Global, name: &'a str) -> Result<Command<'a>, AllocError>
+    ensures { IfOk result (λ c. app_of c ≡ of_trace name.now) }
+{
+    let flag = Arg::new(alloc, "until-fault")
+        .long("until-fault")
+        .action(ArgAction::SetTrue);
+    Command::new(alloc, name).arg(flag)
+}
+
+/// The command `matrix`, with what is to be drawn of the run.
+fn matrix_command<'a>(alloc: Global) -> Result<Command<'a>, AllocError>
+    ensures app { IfOk result (λ c. app_of c ≡ matrix_command) }
+    ensures local { IfOk result (λ c. (out-Command c).has_globals ≡ false) }
+{
+    let channel = Arg::new(alloc, "channel").long("channel");
+    let node = Arg::new(alloc, "node").long("node");
+    let from = Arg::new(alloc, "from").long("from");
+    let drawn = Command::new(alloc, "matrix")
+        .arg(channel)?
+        .arg(node)?
+        .arg(from)?;
+    of_run(alloc, drawn)
+}
+
 /// The commands that read one file, as `clap` is told of them.
 fn file_commands<'a>(alloc: Global) -> Result<Command<'a>, AllocError>
-    ensures { IfOk result (λ c. app_of c ≡ three_commands) }
+    ensures { IfOk result (λ c. app_of c ≡ file_commands) }
 {
-    let first = program(alloc, "fr_view").subcommand(Command::new(alloc, "capture"))?;
-    let second = first.subcommand(Command::new(alloc, "frames"))?;
-    second.subcommand(schedule_command(alloc)?)
+    let first = program(alloc, "fr_view").subcommand(of_trace(alloc, "capture")?)?;
+    let second = first.subcommand(of_trace(alloc, "frames")?)?;
+    let third = second.subcommand(Command::new(alloc, "why"))?;
+    third.subcommand(schedule_command(alloc)?)
+}
+
+/// With these the commands that show what is told of a run in lines.
+fn line_commands<'a>(alloc: Global, files: Command<'a>) -> Result<Command<'a>, AllocError>
+    requires { app_of files ≡ file_commands }
+    ensures { IfOk result (λ c. app_of c ≡ line_commands) }
+{
+    let outcome = of_run(alloc, Command::new(alloc, "outcome"))?;
+    let answers = of_run(alloc, Command::new(alloc, "answers"))?;
+    let commits = of_run(alloc, Command::new(alloc, "commits"))?;
+    let recorded = of_run(alloc, Command::new(alloc, "record"))?;
+    let first = files.subcommand(outcome)?;
+    let second = first.subcommand(answers)?;
+    let third = second.subcommand(commits)?;
+    third.subcommand(recorded)
 }
 
 /// The commands, as `clap` is told of them.
 fn commands<'a>(alloc: Global) -> Result<Command<'a>, AllocError>
     ensures { IfOk result (λ c. app_of c ≡ the_commands) }
 {
-    let third = file_commands(alloc)?;
-    let outcome = of_run(alloc, Command::new(alloc, "outcome"))?;
-    let answers = of_run(alloc, Command::new(alloc, "answers"))?;
-    let fourth = third.subcommand(outcome)?;
-    let fifth = fourth.subcommand(answers)?;
-    fifth.subcommand(trace_command(alloc)?)
+    let lines = line_commands(alloc, file_commands(alloc)?)?;
+    let drawn = lines.subcommand(matrix_command(alloc)?)?;
+    drawn.subcommand(trace_command(alloc)?)
 }
 
 /// The cycle that a word is: 0 to 63, without a leading zero.
@@ -100,6 +141,74 @@ fn node_of(word: &str) -> Option<NodeId>
     }
 }
 
+/// The channel that a word names, A where there is none.
+fn channel_of(word: Option<&str>) -> Option<Channel>
+    ensures { result ≡ channel_asked (option_map (λ w. w.now) word) }
+{
+    match word {
+        None | Some("A") => Some(Channel::A),
+        Some("B") => Some(Channel::B),
+        Some(_) => None,
+    }
+}
+
+/// The node through whose eyes a run is seen, or nobody where no word is there.
+fn viewer_of(word: Option<&str>) -> Option<Option<NodeId>>
+    ensures { result ≡ viewer_asked (option_map (λ w. w.now) word) }
+{
+    match word {
+        None => Some(None),
+        Some(word) => match node_of(word) {
+            Some(node) => Some(Some(node)),
+            None => None,
+        },
+    }
+}
+
+/// The cycle of the run that is drawn first: 0 to 1023, without a leading zero, and 0 where no word is there.
+fn first_of(word: Option<&str>) -> Option<u16>
+    ensures { result ≡ from_asked (option_map (λ w. w.now) word) }
+{
+    match word {
+        None => Some(0),
+        Some(word) => match number_of(word.as_bytes(), 1024) {
+            Some(number) => Some(number as u16),
+            None => None,
+        },
+    }
+}
+
+/// What is to be drawn, by the first words of the arguments.
+fn view_of(channel: Option<&str>, node: Option<&str>, from: Option<&str>) -> Option<View>
+    ensures { result ≡ view_asked
+        (option_map (λ w. w.now) channel)
+        (option_map (λ w. w.now) node)
+        (option_map (λ w. w.now) from) }
+{
+    let channel = channel_of(channel)?;
+    let node = viewer_of(node)?;
+    let from = first_of(from)?;
+    Some(View {
+        channel,
+        node,
+        from,
+    })
+}
+
+/// What a command of this name draws of a run, if it is the one that draws.
+fn drawn_in(name: &str, arguments: &ArgMatches<'_>) -> Option<Shown>
+    ensures { result ≡ drawn_by name.now (first_value (found_of arguments.now)) }
+{
+    if name != "matrix" {
+        return None;
+    }
+    let (channel, node) = (arguments.get_str("channel"), arguments.get_str("node"));
+    match view_of(channel, node, arguments.get_str("from")) {
+        Some(view) => Some(Shown::Matrix(view)),
+        None => None,
+    }
+}
+
 /// What a command of this name shows of a run, if it is one of those.
 fn shown_in(name: &str, arguments: &ArgMatches<'_>) -> Option<Shown>
     ensures { result ≡ shown_by name.now (first_value (found_of arguments.now)) }
@@ -107,8 +216,10 @@ fn shown_in(name: &str, arguments: &ArgMatches<'_>) -> Option<Shown>
     match name {
         "outcome" => Some(Shown::Outcome),
         "answers" => Some(Shown::Answers),
+        "commits" => Some(Shown::Commits),
+        "record" => Some(Shown::Record),
         "trace" => Some(Shown::Trace(node_of(arguments.get_str("NODE")?)?)),
-        _ => None,
+        _ => drawn_in(name, arguments),
     }
 }
 
@@ -126,6 +237,13 @@ fn show_in<'a>(name: &str, arguments: &ArgMatches<'a>) -> Option<Order<'a>>
     })
 }
 
+/// Whether what was seen is asked for up to the line at fault.
+fn is_until_fault(arguments: &ArgMatches<'_>) -> bool
+    ensures { result ≡ is_true (first_value (found_of arguments.now) (codes "until-fault")) }
+{
+    arguments.get_str("until-fault") == Some("true")
+}
+
 /// The order that the command's name and arguments stand for.
 fn order_in<'a>(matches: &ArgMatches<'a>) -> Option<Order<'a>>
     ensures told { IfSome result (IsOrder (subcommand_rows_of matches.now)) }
@@ -134,8 +252,13 @@ fn order_in<'a>(matches: &ArgMatches<'a>) -> Option<Order<'a>>
     let (name, arguments) = matches.subcommand()?;
     match name {
         "schedule" => schedule_in(arguments),
-        "capture" => Some(Order::Capture),
-        "frames" => Some(Order::Frames),
+        "capture" => Some(Order::Capture {
+            until_fault: is_until_fault(arguments),
+        }),
+        "frames" => Some(Order::Frames {
+            until_fault: is_until_fault(arguments),
+        }),
+        "why" => Some(Order::Why),
         name => show_in(name, arguments),
     }
 }
@@ -153,8 +276,8 @@ fn is_help(words: &[&str]) -> bool
 /// The order that the words after the program's name give (own profile).
 ///
 /// Refused with `Memory` where memory for the parse was refused, and else with `Usage` for all words that are no
-/// command. A call for help is the word `--help` alone. A cycle is 0 to 63, a node 0 to 15 and a number of cycles 1 to
-/// 1024, without a leading zero.
+/// command. A call for help is the word `--help` alone. A cycle of a picture is 0 to 63, the first one of a matrix 0 to
+/// 1023, a node 0 to 15 and a number of cycles 1 to 1024, without a leading zero.
 pub fn order<'a>(alloc: Global, words: &'a [&'a str]) -> Result<Order<'a>, OrderError>
     ensures { IsAnswer (map (λ word. word.now) words.now) result }
 {
