@@ -14,7 +14,7 @@ use Rattle.fr_view.specs.declared.command.Order.{Order}
 use Rattle.fr_view.specs.declared.command.Order.TheVariants as the_order
 use Rattle.fr_words.specs.declared.error.OrderError.{OrderError}
 use Rattle.fr_words.specs.declared.error.OrderError.TheVariants as refusal
-use Rattle.fr_playing.specs.declared.shown.Shown.TheVariants.{Outcome, Answers, Trace}
+use Rattle.fr_showing.specs.declared.shown.Shown.TheVariants.{Outcome, Answers, Trace}
 use Rattle.fr_view.specs.Orders.{IsAnswerTo, IsOrder, IsScheduleBy, IsShowBy, asks, cycle_asked, has_run_by}
 use Rattle.fr_view.specs.Orders.{has_schedule_by, has_show_by, node_asked, shown_by, the_commands}
 use Rattle.fr_words.specs.Commands.{IsNamed, cycles_in, order_error_of, word_in}

@@ -8,8 +8,8 @@ use Rattle.clap.specs.Words.{App, Row, Rule, Shape, Text, fault_of, first_of, ne
 use Rattle.clap.specs.Words.{with_rule, with_subcommand}
 use Rattle.clap.specs.declared.error.kind.ErrorKind.{ErrorKind}
 use Rattle.clap.specs.declared.error.kind.ErrorKind.TheVariants as kind
-use Rattle.fr_playing.specs.declared.shown.Shown.{Shown}
-use Rattle.fr_playing.specs.declared.shown.Shown.TheVariants.{Outcome, Answers, Trace}
+use Rattle.fr_showing.specs.declared.shown.Shown.{Shown}
+use Rattle.fr_showing.specs.declared.shown.Shown.TheVariants.{Outcome, Answers, Trace}
 use Rattle.fr_view.specs.declared.command.Order.{Order}
 use Rattle.fr_view.specs.declared.command.Order.TheVariants as the_order
 use Rattle.fr_words.specs.declared.error.OrderError.{OrderError}

@@ -1,6 +1,6 @@
 //! What the program can be asked to do.
 
-use fr_playing::shown::Shown;
+use fr_showing::shown::Shown;
 
 /// What the program is asked to do (own profile).
 #[derive(Clone, Copy, PartialEq, Eq)]

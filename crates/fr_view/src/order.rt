@@ -9,7 +9,7 @@ ghost use Rattle.fr_view.specs.Orders.{the_commands, three_commands, trace_comma
 
 use crate::command::Order;
 use clap::{Arg, ArgMatches, Command};
-use fr_playing::shown::Shown;
+use fr_showing::shown::Shown;
 use fr_slots::numbers::NodeId;
 use fr_text::numbers::number_of;
 use fr_words::commands::{cycles_of, of_file, program};
