@@ -9,5 +9,7 @@
 #![tactic(auto)]
 
 pub mod answers;
+pub mod commits;
+mod fates;
 pub mod show;
 pub mod shown;
