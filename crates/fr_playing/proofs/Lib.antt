@@ -1,3 +1,3 @@
+pub mod FileLemmas
 pub mod LawLemmas
 pub mod PlayLemmas
-pub mod ShowLemmas

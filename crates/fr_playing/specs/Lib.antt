@@ -1,6 +1,5 @@
-pub mod AnswerText
 pub mod Calls
+pub mod Files
 pub mod Playing
 pub mod Refusals
-pub mod Shows
 pub mod Windows

@@ -5,8 +5,8 @@ use fr_core::world::World;
 use fr_interface::interface::Interface;
 use fr_slots::numbers::NodeId;
 
-/// The interface of the node, if the cluster has it.
-pub(crate) fn interface_of(world: &World, node: NodeId) -> Option<&Interface>
+/// The interface of the node, if the cluster has it (own profile).
+pub fn interface_of(world: &World, node: NodeId) -> Option<&Interface>
     ensures { option_map (λ interface. interface.now) result ≡ slice_get world.now.interfaces node }
 {
     world.interfaces().get(usize::from(node.number()))

@@ -1,37 +1,14 @@
 //! The commands that show a run.
 ghost use Rattle.std.specs.Prelude.{IfSome};
-ghost use Rattle.fr_playing.specs.Shows.{IsPlayOf, Prints, Tells};
+ghost use Rattle.fr_showing.specs.Shows.{Prints, Tells};
 
-use crate::error::PlayError;
-use crate::play::{Played, play};
 use crate::shown::{Shown, text_of};
 use fr_commands::output::write_whole;
-use fr_outcome::scenario_file::scenario_of;
+use fr_playing::error::PlayError;
+use fr_playing::file::play_file;
 use fr_schedule::cluster::Cluster;
 use std::alloc::Global;
 use std::io::{Read, Write};
-
-/// Reads a scenario file to its end, and plays a run of the cluster with it for so many cycles (own profile).
-///
-/// Refused as the file of the scenario is, then as the run is (`play`).
-#[tactic(auto, using(crate::proofs::ShowLemmas::file_refused, crate::proofs::ShowLemmas::played_of))]
-pub fn play_file<R: Read>(
-    alloc: Global,
-    cluster: &Cluster,
-    reader: &mut R,
-    cycles: u16,
-) -> Result<Played, PlayError>
-    ensures { IfSome (R.remaining reader.old) (λ text. IsPlayOf cluster.now cycles text result) }
-{
-    let scenario = scenario_of(alloc, reader)?;
-    play(
-        alloc,
-        cluster,
-        scenario.scripts(),
-        scenario.faults(),
-        cycles,
-    )
-}
 
 /// Reads a scenario file to its end, plays a run of the cluster with it for so many cycles, and writes what is to be
 /// shown of it (own profile).

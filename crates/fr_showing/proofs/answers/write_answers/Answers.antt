@@ -1,7 +1,7 @@
 use Rattle.std.proofs.KnownBytes.{Appends-nil}
-use Rattle.fr_playing.specs.AnswerText.{answer_line}
+use Rattle.fr_showing.specs.AnswerText.{answer_line}
 use Rattle.fr_trace.proofs.WritingLemmas.{written-more}
-use Rattle.fr_playing.proofs.answers.write_answers.Goals as goal
+use Rattle.fr_showing.proofs.answers.write_answers.Goals as goal
 
 pub loop-call-init : goal.loop-call-init
 loop-call-init g c = Appends-nil (g.W.Write.contents c.args.writer.now)

@@ -1,8 +1,8 @@
 use Rattle.std.proofs.Common.{take}
 use Rattle.std.specs.Io.KnownBytes.{Appends}
 use Rattle.std.specs.List.{flat_map}
-use Rattle.fr_playing.specs.AnswerText.{answer_line}
-use Rattle.fr_playing.proofs.answers.write_answers.Given as goal
+use Rattle.fr_showing.specs.AnswerText.{answer_line}
+use Rattle.fr_showing.proofs.answers.write_answers.Given as goal
 
 -- the lines so far
 abbrev pub invariant-loop-call : goal.invariant-loop-call

@@ -1,10 +1,10 @@
 use Rattle.std.proofs.Common.{◌≡◌, ℕ, List, Result, Err, rules, subst, sym}
 use Rattle.std.specs.Prelude.{IfSome}
 use Rattle.std.specs.Io.KnownBytes.{Appends}
-use Rattle.fr_playing.proofs.ShowLemmas.{node_missing, shown_of}
+use Rattle.fr_showing.proofs.ShowLemmas.{node_missing, shown_of}
 use Rattle.fr_playing.specs.declared.error.PlayError.{PlayError}
-use Rattle.fr_playing.specs.Shows.{Tells}
-use Rattle.fr_playing.proofs.show.show_run.Goals as goal
+use Rattle.fr_showing.specs.Shows.{Tells}
+use Rattle.fr_showing.proofs.show.show_run.Goals as goal
 
 pub returns-in_err-text-clause-refused : goal.returns-in_err-text-clause-refused
 returns-in_err-text-clause-refused g c =

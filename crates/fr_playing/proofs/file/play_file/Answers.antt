@@ -1,5 +1,5 @@
-use Rattle.fr_playing.proofs.ShowLemmas.{played_from}
-use Rattle.fr_playing.proofs.show.play_file.Goals as goal
+use Rattle.fr_playing.proofs.FileLemmas.{played_from}
+use Rattle.fr_playing.proofs.file.play_file.Goals as goal
 
 pub returns : goal.returns
 returns g c =

@@ -3,21 +3,21 @@ ghost use Rattle.std.specs.Prelude.{◌≡◌, slice_get};
 ghost use Rattle.std.specs.List.{flat_map};
 ghost use Rattle.fr_text.specs.Spaces.{line_of};
 ghost use Rattle.fr_text.specs.Writing.{Writes};
-ghost use Rattle.fr_playing.specs.AnswerText.{action_words, answer_words, channel_word, answer_line, origin_of};
-ghost use Rattle.fr_playing.specs.AnswerText.{channel_in, frame_words};
+ghost use Rattle.fr_showing.specs.AnswerText.{action_words, answer_words, channel_word, answer_line, origin_of};
+ghost use Rattle.fr_showing.specs.AnswerText.{channel_in, frame_words};
 
-use crate::call::Call;
-use crate::nodes::interface_of;
 use fr_core::event::Reply;
 use fr_core::script::Action;
 use fr_core::world::World;
 use fr_frame::frame::Frame;
 use fr_journal::entry::{Entry, Origin};
+use fr_playing::call::Call;
+use fr_playing::nodes::interface_of;
 use fr_slots::channel::Channel;
 use fr_slots::numbers::NodeId;
 use fr_text::hexes::write_hex;
-use std::io;
 use std::io::Write;
+use std::io;
 
 /// Where the frame of a read or a pop came from.
 fn origin_of(entry: &Entry) -> Option<Origin>

@@ -1,0 +1,249 @@
+-- What became of a commit, entry after entry.
+use Rattle.std.proofs.Common.{◌≡◌, ℕ, ◌+◌, ◌-◌, ◌≤◌, ◌<◌, Bool, true, false, cond, ◌||◌, List, [], ◌∷◌, ◌++◌, length, take, drop}
+use Rattle.std.proofs.Common.{Option, Some, None, refl, sym, ap, subst, ◌∙◌, append-nil, arith, count_by}
+use Rattle.std.specs.Prelude.{slice_get, IsSomeAnd, unwrap_or}
+use Rattle.std.specs.List.{flat_map, list_any}
+use Rattle.std.specs.Option.{option_or}
+use Rattle.std.proofs.lemmas.Grind.{flat_map-append}
+use Rattle.std.proofs.lemmas.List.Sums.{sum_by-append, count_by-le-length}
+use Rattle.fr_core.specs.Accounts.{begins_cycle_at, run_cycle}
+use Rattle.fr_interface.specs.State.{State, IsLegalInterface}
+use Rattle.fr_journal.proofs.FateStepLemmas.{fate_by}
+use Rattle.fr_journal.proofs.LastCommitLemmas.{IsCommitAt, slice_get-front}
+use Rattle.fr_journal.specs.declared.entry.Entry.{Entry}
+use Rattle.fr_journal.specs.declared.entry.Entry.TheVariants.{Commit, Withdraw, Read, Pop, Fetch, Observe}
+use Rattle.fr_journal.specs.Fate.{is_commit_on, is_data_of, sends, takes_back}
+use Rattle.fr_journal.specs.Legal.{IsLegal}
+use Rattle.fr_showing.proofs.DecidedLemmas.{undone, gone_by_commit, gone_by_withdraw}
+use Rattle.fr_showing.proofs.GoingLemmas.{both, here, left_after, length_passed}
+use Rattle.fr_showing.specs.CommitSteps.{entry_text, handed_text, line_in}
+use Rattle.fr_showing.specs.CommitText.{commit_by, sending_text, Committed}
+use Rattle.fr_showing.specs.declared.fates.Became.{Became}
+use Rattle.fr_showing.specs.declared.fates.Became.TheVariants.{Sent, Withdrawn, Overwritten, Pending}
+use Rattle.fr_showing.specs.declared.fates.Sending.{Sending}
+use Rattle.fr_showing.specs.Fates.{became_in, cycles_of, first_after, overwritten_by, sending_if, sendings_by, told_by}
+use Rattle.fr_showing.specs.Fates.{withdrawn_by}
+use Rattle.fr_showing.specs.FateSteps.{became_with, is_pending}
+use Rattle.fr_slots.specs.declared.channel.Channel.TheVariants.{A, B}
+use Rattle.fr_slots.specs.History.{AllAfter, each_after}
+
+-- ---- cycles
+
+pub cycles_more : (es : List Entry) (n : ℕ) (e : Entry) → slice_get es n ≡ Some e → cycles_of (take (n + 1) es) ≡ cycles_of (take n es) + cond (begins_cycle_at e) 1 0
+cycles_more es n e is =
+    let h = here es n e is in
+    ap cycles_of h.passed ∙ omega (arith, sum_by-append (λ (x : Entry). cond (begins_cycle_at x) 1 0) (take n es) (e ∷ []))
+
+pub cycles_few : (es : List Entry) (n : ℕ) → n ≤ length es → cycles_of (take n es) ≤ n
+cycles_few es n le = omega (arith, count_by-le-length begins_cycle_at (take n es), length_passed es n le)
+
+no_cycle : (buffer : ℕ) (e : Entry) → is_commit_on buffer e ≡ true → begins_cycle_at e ≡ false
+no_cycle buffer (Commit task number payload) is = refl
+no_cycle buffer (Withdraw task number of) is = refl
+no_cycle buffer (Read task number from) is = refl
+no_cycle buffer (Pop task from) is = refl
+no_cycle buffer (Fetch w a b) is = absurd cc
+no_cycle buffer (Observe number a b) is = refl
+
+-- a commit begins no cycle
+pub cycles_with : (es : List Entry) (buffer k : ℕ) → IsCommitAt buffer es k → cycles_of (take k es) ≡ cycles_of (take (k + 1) es)
+cycles_with es buffer k there = by_entry (slice_get es k) refl there
+  where
+    by_entry : (o : Option Entry) → slice_get es k ≡ o → IsSomeAnd o (λ e. is_commit_on buffer e ≡ true) → cycles_of (take k es) ≡ cycles_of (take (k + 1) es)
+    by_entry None is on = absurd on
+    by_entry (Some e) is on =
+        let none : cond (begins_cycle_at e) 1 0 ≡ 0 = ap (λ (b : Bool). cond b 1 0) (no_cycle buffer e on) in
+        omega (arith, cycles_more es k e is, none)
+
+-- ---- what one entry decides
+
+module _ (buffer k : ℕ) (xs : List Entry) (e : Entry) (rest : List Entry) where
+  abbrev sent_later : Bool
+  sent_later = list_any (sends k) rest
+
+  abbrev taken_later : Bool
+  taken_later = list_any (takes_back k) rest
+
+  abbrev replaced_later : Bool
+  replaced_later = list_any (is_commit_on buffer) rest
+
+  abbrev withdraws_later : Option Became
+  withdraws_later = first_after (withdrawn_by k) (xs ++ e ∷ []) rest
+
+  abbrev commits_later : Option Became
+  commits_later = first_after (overwritten_by buffer) (xs ++ e ∷ []) rest
+
+  abbrev if_withdraw : Bool → Option Became
+  if_withdraw t = option_or (cond t (Some (Withdrawn (cycles_of xs) (length xs))) None) withdraws_later
+
+  abbrev if_commit : Bool → Option Became
+  if_commit t = option_or (cond t (Some (Overwritten (cycles_of xs) (length xs))) None) commits_later
+
+  -- by what the entry does: whether it sends the commit, takes it back, takes its place
+  abbrev by_tests : Bool → Bool → Bool → Bool → Bool → Became
+  by_tests s t u sent taken =
+      told_by (fate_by (s || sent) (t || taken) (u || replaced_later)) (if_withdraw t) (if_commit u)
+
+  became_here : became_in buffer k xs (e ∷ rest) ≡ by_tests (sends k e) (takes_back k e) (is_commit_on buffer e) sent_later taken_later
+  unfolding first_after
+  became_here = refl
+
+  undecided_by : sends k e ≡ false → takes_back k e ≡ false → is_commit_on buffer e ≡ false
+      → became_in buffer k xs (e ∷ rest) ≡ became_in buffer k (xs ++ e ∷ []) rest
+  undecided_by unsent untaken off = became_here ∙ (λ i. by_tests (unsent i) (untaken i) (off i) sent_later taken_later)
+
+  by_sent : sends k e ≡ true → became_in buffer k xs (e ∷ rest) ≡ Sent
+  by_sent is = became_here ∙ (λ i. by_tests (is i) (takes_back k e) (is_commit_on buffer e) sent_later taken_later)
+
+  by_withdraw : sends k e ≡ false → takes_back k e ≡ true → sent_later ≡ false → became_in buffer k xs (e ∷ rest) ≡ Withdrawn (cycles_of xs) (length xs)
+  by_withdraw unsent is later = became_here ∙ (λ i. by_tests (unsent i) (is i) (is_commit_on buffer e) (later i) taken_later)
+
+  by_commit : sends k e ≡ false → takes_back k e ≡ false → is_commit_on buffer e ≡ true → sent_later ≡ false → taken_later ≡ false
+      → became_in buffer k xs (e ∷ rest) ≡ Overwritten (cycles_of xs) (length xs)
+  by_commit unsent untaken is unsent_later untaken_later =
+      became_here ∙ (λ i. by_tests (unsent i) (untaken i) (is i) (unsent_later i) (untaken_later i))
+
+  pub undecided : (cycle number : ℕ) → is_pending (became_with buffer k cycle number e) ≡ true → became_in buffer k xs (e ∷ rest) ≡ became_in buffer k (xs ++ e ∷ []) rest
+  undecided cycle number is = cases (sends k e) (takes_back k e) (is_commit_on buffer e) refl refl refl is
+    where
+      cases : (s t u : Bool) → sends k e ≡ s → takes_back k e ≡ t → is_commit_on buffer e ≡ u
+          → is_pending (cond s Sent (cond t (Withdrawn cycle number) (cond u (Overwritten cycle number) Pending))) ≡ true
+          → became_in buffer k xs (e ∷ rest) ≡ became_in buffer k (xs ++ e ∷ []) rest
+      cases true t u s_is t_is u_is is = absurd cc
+      cases false true u s_is t_is u_is is = absurd cc
+      cases false false true s_is t_is u_is is = absurd cc
+      cases false false false s_is t_is u_is is = undecided_by s_is t_is u_is
+
+module _ (s : State) (buffer k : ℕ) (legal : IsLegalInterface s) (there : IsCommitAt buffer s.entries k) where
+  within : k < length s.entries
+  within = by_entry (slice_get s.entries k) refl there
+    where
+      by_entry : (o : Option Entry) → slice_get s.entries k ≡ o → IsSomeAnd o (λ e. is_commit_on buffer e ≡ true) → k < length s.entries
+      by_entry None is on = absurd on
+      by_entry (Some e) is on = (here s.entries k e is).within
+
+  module _ (n : ℕ) (e : Entry) (later : k < n) (is : slice_get s.entries n ≡ Some e) where
+    abbrev xs : List Entry
+    xs = take n s.entries
+
+    abbrev rest : List Entry
+    rest = drop (n + 1) s.entries
+
+    legal_here : AllAfter (IsLegal s.params s.plan) xs (e ∷ rest)
+    legal_here =
+        let h = here s.entries n e is in
+        subst (AllAfter (IsLegal s.params s.plan) xs) h.left (left_after (IsLegal s.params s.plan) s.entries n legal.legal)
+
+    long : k < length xs
+    long = let h = here s.entries n e is in omega (arith, later, h.place)
+
+    there_here : IsCommitAt buffer xs k
+    there_here =
+        let same : slice_get s.entries k ≡ slice_get xs k =
+        ap (λ (l : List Entry). slice_get l k) (sym (both s.entries n)) ∙ slice_get-front xs (drop n s.entries) k long in
+        subst (λ (o : Option Entry). IsSomeAnd o (λ e. is_commit_on buffer e ≡ true)) same there
+
+    longer : k < length (xs ++ e ∷ [])
+    longer = let h = here s.entries n e is in omega (arith, long, ap (length {A = Entry}) h.passed, length_passed s.entries (n + 1) (omega (arith, h.within)), later)
+
+    there_then : IsCommitAt buffer (xs ++ e ∷ []) k
+    there_then =
+        subst (λ (o : Option Entry). IsSomeAnd o (λ e. is_commit_on buffer e ≡ true)) (sym (slice_get-front xs (e ∷ []) k long)) there_here
+
+    legal_now : IsLegal s.params s.plan xs e
+    unfolding AllAfter
+    legal_now = legal_here.0
+
+    legal_then : AllAfter (IsLegal s.params s.plan) (xs ++ e ∷ []) rest
+    unfolding AllAfter
+    legal_then = legal_here.1
+
+    after_withdraw : takes_back k e ≡ true → (list_any (sends k) rest ≡ false) × (list_any (takes_back k) rest ≡ false)
+    after_withdraw taken =
+        undone s.params s.plan buffer k (xs ++ e ∷ []) rest legal_then longer there_then
+        (gone_by_withdraw s.params s.plan buffer k xs e legal_now there_here taken)
+
+    pub after_commit : is_commit_on buffer e ≡ true → (list_any (sends k) rest ≡ false) × (list_any (takes_back k) rest ≡ false)
+    after_commit on =
+        undone s.params s.plan buffer k (xs ++ e ∷ []) rest legal_then longer there_then
+        (gone_by_commit s.params s.plan buffer k xs e long on)
+
+    at_place : became_in buffer k xs (drop n s.entries) ≡ became_in buffer k xs (e ∷ rest)
+    at_place = ap (became_in buffer k xs) (here s.entries n e is).left
+
+    -- the entry does nothing to it
+    pub same_then : (cycle : ℕ) → is_pending (became_with buffer k cycle n e) ≡ true
+        → became_in buffer k xs (drop n s.entries) ≡ became_in buffer k (take (n + 1) s.entries) rest
+    same_then cycle pending =
+        at_place ∙ undecided buffer k xs e rest cycle n pending ∙ ap (λ (l : List Entry). became_in buffer k l rest) (sym (here s.entries n e is).passed)
+
+    -- the entry decides
+    pub decided : (cycle : ℕ) → cycle ≡ cycles_of xs → is_pending (became_with buffer k cycle n e) ≡ false
+        → became_with buffer k cycle n e ≡ became_in buffer k xs (drop n s.entries)
+    decided cycle cycle_is found = cases (sends k e) (takes_back k e) (is_commit_on buffer e) refl refl refl found ∙ sym at_place
+      where
+        number_is : length xs ≡ n
+        number_is = (here s.entries n e is).place
+
+        cases : (s t u : Bool) → sends k e ≡ s → takes_back k e ≡ t → is_commit_on buffer e ≡ u
+            → is_pending (cond s Sent (cond t (Withdrawn cycle n) (cond u (Overwritten cycle n) Pending))) ≡ false
+            → cond s Sent (cond t (Withdrawn cycle n) (cond u (Overwritten cycle n) Pending)) ≡ became_in buffer k xs (e ∷ rest)
+        cases true t u s_is t_is u_is found = sym (by_sent buffer k xs e rest s_is)
+        cases false true u s_is t_is u_is found =
+            (λ i. Withdrawn (cycle_is i) (sym number_is i)) ∙ sym (by_withdraw buffer k xs e rest s_is t_is (after_withdraw t_is).0)
+        cases false false true s_is t_is u_is found =
+            let later = after_commit u_is in
+            (λ i. Overwritten (cycle_is i) (sym number_is i)) ∙ sym (by_commit buffer k xs e rest s_is t_is u_is later.0 later.1)
+        cases false false false s_is t_is u_is found = absurd cc
+
+-- where no entry is left, the commit is pending
+pub pending_then : (buffer k : ℕ) (xs left : List Entry) → left ≡ [] → became_in buffer k xs left ≡ Pending
+pending_then buffer k xs left none = ap (became_in buffer k xs) none
+
+-- ---- where it is sent
+
+both_false : (a b : Bool) → (a || b) ≡ false → (a ≡ false) × (b ≡ false)
+both_false true b is = absurd cc
+both_false false b is = (refl, is)
+
+unsent_by : (k : ℕ) (xs : List Entry) (e : Entry) → sends k e ≡ false → sendings_by k xs e ≡ []
+unsent_by k xs (Commit task buffer payload) is = refl
+unsent_by k xs (Withdraw task buffer of) is = refl
+unsent_by k xs (Read task buffer from) is = refl
+unsent_by k xs (Pop task from) is = refl
+unsent_by k xs (Fetch w a b) is =
+    let parts = both_false (is_data_of k a) (is_data_of k b) is in
+    let cycle : ℕ = run_cycle (xs ++ Fetch w a b ∷ []) in
+    λ i. cond (parts.0 i) (record { cycle = cycle; window = w; channel = A } ∷ []) [] ++ cond (parts.1 i) (record { cycle = cycle; window = w; channel = B } ∷ []) []
+unsent_by k xs (Observe number a b) is = refl
+
+pub unsent_later : (k : ℕ) (xs rest : List Entry) → list_any (sends k) rest ≡ false → each_after (sendings_by k) xs rest ≡ []
+unfolding each_after
+unsent_later k xs [] is = refl
+unsent_later k xs (e ∷ rest) is =
+    let parts = both_false (sends k e) (list_any (sends k) rest) is in
+    (λ i. unsent_by k xs e parts.0 i ++ unsent_later k (xs ++ e ∷ []) rest parts.1 i)
+
+pub handed_is : (k cycle : ℕ) (xs : List Entry) (e : Entry) → cycle ≡ run_cycle (xs ++ e ∷ []) → handed_text k cycle e ≡ flat_map sending_text (sendings_by k xs e)
+handed_is k cycle xs (Commit task buffer payload) is = refl
+handed_is k cycle xs (Withdraw task buffer of) is = refl
+handed_is k cycle xs (Read task buffer from) is = refl
+handed_is k cycle xs (Pop task from) is = refl
+handed_is k cycle xs (Fetch w a b) is =
+    let now : ℕ = run_cycle (xs ++ Fetch w a b ∷ []) in
+    (λ i. flat_map sending_text (sending_if k (is i) w A a) ++ flat_map sending_text (sending_if k (is i) w B b))
+    ∙ sym (flat_map-append sending_text (sending_if k now w A a) (sending_if k now w B b))
+handed_is k cycle xs (Observe number a b) is = refl
+
+-- ---- lines
+
+pub entry_is : (node : ℕ) (es : List Entry) (cycle number : ℕ) (xs : List Entry) (e : Entry) → cycle ≡ cycles_of xs → number ≡ length xs
+    → entry_text node es cycle number e ≡ flat_map (line_in es) (commit_by node xs e)
+entry_is node es cycle number xs (Commit task buffer payload) cycle_is number_is =
+    let made : ℕ → ℕ → Committed = λ (c n : ℕ). record { node = node; buffer = buffer; task = task; cycle = c; entry = n; payload = payload } in
+    (λ i. line_in es (made (cycle_is i) (number_is i))) ∙ sym (append-nil (line_in es (made (cycles_of xs) (length xs))))
+entry_is node es cycle number xs (Withdraw task buffer of) cycle_is number_is = refl
+entry_is node es cycle number xs (Read task buffer from) cycle_is number_is = refl
+entry_is node es cycle number xs (Pop task from) cycle_is number_is = refl
+entry_is node es cycle number xs (Fetch w a b) cycle_is number_is = refl
+entry_is node es cycle number xs (Observe number_seen a b) cycle_is number_is = refl

@@ -1,0 +1,4 @@
+pub mod DecidedLemmas
+pub mod FateLemmas
+pub mod GoingLemmas
+pub mod ShowLemmas

@@ -1,0 +1,68 @@
+-- What a command does that shows a run, by what its parts do.
+use Rattle.std.proofs.Common.{◌≡◌, ◌⊎◌, ℕ, List, Option, Some, None, Ok, Err, sym, subst, inl, inr}
+use Rattle.std.specs.Prelude.{IfSome}
+use Rattle.std.specs.Io.KnownBytes.{Appends}
+use Rattle.fr_commands.specs.declared.error.BenchError.TheVariants as bench
+use Rattle.fr_outcome.specs.ScenarioFiles.{RunIsRefused}
+use Rattle.fr_playing.specs.declared.error.PlayError.{PlayError}
+use Rattle.fr_playing.specs.declared.error.PlayError.TheVariants as refusal
+use Rattle.fr_playing.specs.declared.play.Played.{Played}
+use Rattle.fr_playing.specs.Files.{IsPlayOf}
+use Rattle.fr_schedule.specs.Descriptions.{Description}
+use Rattle.fr_showing.specs.declared.shown.Shown.{Shown}
+use Rattle.fr_showing.specs.Shows.{Adds, Prints, Tells, shown_text}
+
+-- a run that wasn't played isn't shown
+unshown : (d : Description) (cycles : ℕ) (shown : Shown) (text : List ℕ) (e : PlayError) → IsPlayOf d cycles text (Err e) → Tells d cycles shown text (Err e)
+unshown d cycles shown text (refusal.Run e) is = is
+unshown d cycles shown text (refusal.Step e) is = is
+unshown d cycles shown text refusal.Unfinished is = is
+unshown d cycles shown text refusal.UnknownNode is = absurd is
+unshown d cycles shown text (refusal.Scenario e) is = is
+unshown d cycles shown text (refusal.Text bench.Memory) is = is
+unshown d cycles shown text (refusal.Text bench.TooLong) is = is
+unshown d cycles shown text (refusal.Text bench.Read) is = is
+unshown d cycles shown text (refusal.Text bench.Write) is = absurd is
+unshown d cycles shown text (refusal.Text bench.BadNumber) is = is
+unshown d cycles shown text (refusal.Text (bench.Config e)) is = is
+unshown d cycles shown text (refusal.Text (bench.Midpoint e)) is = is
+
+pub unshown_of : (d : Description) (cycles : ℕ) (shown : Shown) (text : Option (List ℕ)) (e : PlayError) → IfSome text (λ t. IsPlayOf d cycles t (Err e))
+    → IfSome text (λ t. Tells d cycles shown t (Err e))
+unshown_of d cycles shown None e is = tt
+unshown_of d cycles shown (Some t) e is = unshown d cycles shown t e is
+
+-- what leaves the writer as it was
+pub unwritten : (d : Description) (cycles : ℕ) (shown : Shown) (text old new : Option (List ℕ)) (e : PlayError) → new ≡ old → Prints d cycles shown text old new (Err e)
+unwritten d cycles shown text old new (refusal.Run e) same = same
+unwritten d cycles shown text old new (refusal.Step e) same = same
+unwritten d cycles shown text old new refusal.Unfinished same = same
+unwritten d cycles shown text old new refusal.UnknownNode same = same
+unwritten d cycles shown text old new (refusal.Scenario e) same = same
+unwritten d cycles shown text old new (refusal.Text bench.Memory) same = same
+unwritten d cycles shown text old new (refusal.Text bench.TooLong) same = same
+unwritten d cycles shown text old new (refusal.Text bench.Read) same = same
+unwritten d cycles shown text old new (refusal.Text bench.Write) same = tt
+unwritten d cycles shown text old new (refusal.Text bench.BadNumber) same = same
+unwritten d cycles shown text old new (refusal.Text (bench.Config e)) same = same
+unwritten d cycles shown text old new (refusal.Text (bench.Midpoint e)) same = same
+
+-- a node that isn't there, or want of memory
+pub node_missing : (d : Description) (cycles : ℕ) (shown : Shown) (text : Option (List ℕ)) (played : Played) (e : PlayError) → IfSome text (λ t. IsPlayOf d cycles t (Ok played))
+    → (e ≡ refusal.Text bench.Memory) ⊎ ((e ≡ refusal.UnknownNode) × (shown_text shown played ≡ None)) → IfSome text (λ t. Tells d cycles shown t (Err e))
+node_missing d cycles shown None played e is why = tt
+node_missing d cycles shown (Some t) played e is (inl memory) = subst (λ (x : PlayError). Tells d cycles shown t (Err x)) (sym memory) tt
+node_missing d cycles shown (Some t) played e is (inr (unknown, none)) =
+    subst (λ (x : PlayError). Tells d cycles shown t (Err x)) (sym unknown) (played, is.1, none)
+
+-- the text of the run was written
+pub shown_of : (d : Description) (cycles : ℕ) (shown : Shown) (text old new : Option (List ℕ)) (played : Played) (written : List ℕ)
+    → IfSome text (λ t. IsPlayOf d cycles t (Ok played)) → shown_text shown played ≡ Some written → Appends old new written → IfSome text (Adds d cycles shown old new)
+shown_of d cycles shown None old new played written is of_run added = tt
+shown_of d cycles shown (Some t) old new played written is of_run added = (played, written, is.1, of_run, added)
+
+-- it was to be written
+pub can_be_had : (d : Description) (cycles : ℕ) (text : Option (List ℕ)) (played : Played) → IfSome text (λ t. IsPlayOf d cycles t (Ok played))
+    → IfSome text (λ t. RunIsRefused d cycles t None)
+can_be_had d cycles None played is = tt
+can_be_had d cycles (Some t) played is = is.0

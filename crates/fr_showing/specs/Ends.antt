@@ -1,0 +1,45 @@
+-- How a transmission ended (own profile).
+use Rattle.std.specs.Prelude.{ℕ, ◌/◌, nat_lt, Bool, false, List, length, count_by, Option, Some, None, if◌then◌else◌}
+use Rattle.fr_bus.specs.declared.outcome.Fate.{Fate}
+use Rattle.fr_bus.specs.declared.outcome.Fate.TheVariants as fate
+use Rattle.fr_bus.specs.declared.outcome.Sent.{Sent}
+use Rattle.fr_bus.specs.Outcome.{overruns, passed_on}
+use Rattle.fr_bus.specs.Record.{Recorded, corrupt_on}
+use Rattle.fr_lines.specs.Parts.{absent}
+use Rattle.fr_showing.specs.declared.ends.End.{End}
+use Rattle.fr_showing.specs.declared.ends.End.TheVariants.{Alone, Turned, Overrun, Collided, Muted, Blocked}
+use Rattle.fr_slots.specs.Parameters.{Parameters}
+use Rattle.std.specs.Prelude.{codes}
+
+-- the bit that is to be turned is one of these bytes
+abbrev pub is_turned : Option ℕ → List ℕ → Bool
+is_turned None bytes = false
+is_turned (Some bit) bytes = nat_lt (bit / 8) (length bytes)
+
+-- it was too long, or one of its bits was turned, or neither
+abbrev pub end_alone : Parameters → Recorded → Sent → End
+end_alone p r t =
+    if overruns p r.window (length t.bytes.items) then Overrun
+    else if is_turned (corrupt_on r t.channel) t.bytes.items then Turned
+    else Alone
+
+-- others passed on its channel too, or none did
+abbrev pub end_passed : Parameters → Recorded → Sent → End
+end_passed p r t = if nat_lt 1 (count_by (passed_on t.channel) r.sent) then Collided else end_alone p r t
+
+abbrev pub end_by : Fate → Parameters → Recorded → Sent → End
+end_by fate.Passed p r t = end_passed p r t
+end_by fate.Blocked p r t = Blocked
+end_by fate.Muted p r t = Muted
+
+-- a transmission of a recorded window
+abbrev pub end_of : Parameters → Recorded → Sent → End
+end_of p r t = end_by t.fate p r t
+
+abbrev pub end_word : End → List ℕ
+end_word Alone = codes "alone"
+end_word Turned = codes "turned"
+end_word Overrun = codes "overrun"
+end_word Collided = codes "collided"
+end_word Muted = codes "muted"
+end_word Blocked = codes "blocked"

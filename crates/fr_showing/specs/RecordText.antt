@@ -1,0 +1,94 @@
+-- The bus's record, a line for each transmission and each turned bit (own profile).
+use Rattle.std.specs.Prelude.{ℕ, ◌+◌, ◌-◌, Bool, true, false, List, [], ◌∷◌, ◌++◌, codes, take, Option, Some, None}
+use Rattle.std.specs.Prelude.{if◌then◌else◌}
+use Rattle.std.specs.Fmt.{decimal}
+use Rattle.std.specs.List.{flat_map}
+use Rattle.fr_bus.specs.declared.outcome.Fate.{Fate}
+use Rattle.fr_bus.specs.declared.outcome.Fate.TheVariants.{Passed, Blocked, Muted}
+use Rattle.fr_bus.specs.declared.outcome.Sent.{Sent}
+use Rattle.fr_bus.specs.Record.{Recorded, corrupt_on}
+use Rattle.fr_bus.specs.Windows.{cycles_begun}
+use Rattle.fr_frame.specs.Decoding.{decoded}
+use Rattle.fr_frame.specs.Fields.{Fields}
+use Rattle.fr_lines.specs.Parts.{absent, indicators, optional_number}
+use Rattle.fr_lines.specs.Spelling.{line_text}
+use Rattle.fr_showing.specs.Ends.{end_of, end_word}
+use Rattle.fr_slots.specs.Admission.{letter_of}
+use Rattle.fr_slots.specs.declared.channel.Channel.{Channel}
+use Rattle.fr_slots.specs.declared.channel.Channel.TheVariants.{A, B}
+use Rattle.fr_slots.specs.History.{each_after}
+use Rattle.fr_slots.specs.Parameters.{Parameters}
+use Rattle.fr_slots.specs.Windows.{Opportunity, slot_of, is_static}
+use Rattle.fr_text.specs.Spaces.{line_of}
+use Rattle.fr_text.specs.Spelling.{hex_text}
+
+-- ---- words
+
+-- a static window has no minislot
+abbrev pub minislot_word : Opportunity → List ℕ
+minislot_word w = if is_static w then absent else decimal w.minislot
+
+-- the number of the window, the cycle of the run, the minislot, the slot and the channel
+abbrev pub place_words : ℕ → Opportunity → Channel → List (List ℕ)
+place_words cycle w channel =
+    decimal w.number ∷ decimal cycle ∷ minislot_word w ∷ optional_number (slot_of w channel) ∷ letter_of channel ∷ []
+
+abbrev pub kind_word : Bool → List ℕ
+kind_word true = codes "babble"
+kind_word false = codes "offer"
+
+abbrev pub fate_word : Fate → List ℕ
+fate_word Passed = codes "passed"
+fate_word Blocked = codes "blocked"
+fate_word Muted = codes "muted"
+
+-- the ID and the flags of a frame, or neither
+abbrev pub frame_words : Option Fields → List (List ℕ)
+frame_words None = absent ∷ absent ∷ []
+frame_words (Some f) = decimal f.id ∷ indicators f ∷ []
+
+-- the node, what it was, what became of it, and how it ended
+abbrev pub sent_words : Parameters → Recorded → Sent → List (List ℕ)
+sent_words p r t = decimal t.node ∷ kind_word t.babble ∷ fate_word t.fate ∷ end_word (end_of p r t) ∷ []
+
+-- ---- parts of a line
+
+unfoldable pub place_text : ℕ → Opportunity → Channel → List ℕ
+place_text cycle w channel = line_of (place_words cycle w channel)
+
+unfoldable pub fate_text : Parameters → Recorded → Sent → List ℕ
+fate_text p r t = line_of (sent_words p r t)
+
+-- the frame that the bytes are, if they are one
+unfoldable pub frame_text : Channel → List ℕ → List ℕ
+frame_text channel bytes = line_of (frame_words (decoded channel bytes))
+
+-- ---- lines
+
+-- the frame that it is, and its bytes as they were sent
+unfoldable pub bytes_line : Sent → List ℕ
+bytes_line t = line_text (frame_text t.channel t.bytes.items ∷ hex_text t.bytes.items ∷ [])
+
+-- where it was, what became of it, and the rest
+abbrev pub sent_line : Parameters → ℕ → Recorded → Sent → List ℕ
+sent_line p cycle r t =
+    line_of (place_text cycle r.window t.channel ∷ fate_text p r t ∷ []) ++ (32 ∷ []) ++ bytes_line t
+
+-- where a bit was to be turned, and which, counted from the most significant bit of the first byte
+abbrev pub bit_lines : ℕ → Recorded → Channel → Option ℕ → List ℕ
+bit_lines cycle r channel None = []
+bit_lines cycle r channel (Some bit) =
+    line_text (place_text cycle r.window channel ∷ absent ∷ codes "corrupt" ∷ decimal bit ∷ [])
+
+-- the transmissions of a window in their order, and then the bits, channel A before B
+abbrev pub window_text : Parameters → ℕ → Recorded → List ℕ
+window_text p cycle r =
+    flat_map (sent_line p cycle r) r.sent ++ bit_lines cycle r A (corrupt_on r A) ++ bit_lines cycle r B (corrupt_on r B)
+
+-- a window after those before it, in its cycle of the run
+abbrev pub window_after : Parameters → List Recorded → Recorded → List ℕ
+window_after p before r = window_text p (cycles_begun (before ++ r ∷ []) - 1) r
+
+-- all windows of a record, in their order
+abbrev pub record_text : Parameters → List Recorded → List ℕ
+record_text p rs = each_after (window_after p) [] rs

@@ -1,0 +1,123 @@
+//! How transmissions ended.
+ghost use Rattle.std.specs.Prelude.{◌≡◌, ◌≤◌, count_by};
+ghost use Rattle.fr_bus.specs.Outcome.{overruns, passed_on};
+ghost use Rattle.fr_bus.specs.Record.{corrupt_on};
+ghost use Rattle.fr_showing.specs.Ends.{end_alone, end_of, end_passed, end_word, is_turned};
+
+use fr_bus::outcome::{Fate, Sealed, Sent};
+use fr_slots::channel::Channel;
+use fr_slots::params::Params;
+use fr_slots::window::Window;
+
+/// How a transmission ended (own profile).
+#[derive(Clone, Copy, PartialEq, Eq)]
+pub enum End {
+    /// It passed alone, as it was sent.
+    Alone,
+    /// It passed alone, with one of its bits turned.
+    Turned,
+    /// It passed alone, and was too long for its slot or for the rest of the dynamic segment.
+    Overrun,
+    /// It passed, and so did others on its channel.
+    Collided,
+    /// A fault lost it.
+    Muted,
+    /// The guardian of its node stopped it.
+    Blocked,
+}
+
+/// Whether the transmission passed on the channel.
+fn passed_on(channel: Channel, sent: &Sent) -> bool
+    ensures { result ≡ passed_on channel sent.now }
+{
+    sent.channel == channel && sent.fate == Fate::Passed
+}
+
+/// How many passed on the channel.
+fn count_passed(channel: Channel, sent: &[Sent]) -> usize
+    ensures { result ≡ count_by (passed_on channel) sent.now }
+{
+    sent.iter().filter(|t| passed_on(channel, *t)).count()
+}
+
+/// The bit that a fault turns on the channel, if any.
+pub(crate) fn corrupt_on(sealed: &Sealed, channel: Channel) -> Option<u16>
+    ensures { result ≡ corrupt_on sealed.now channel }
+{
+    match channel {
+        Channel::A => sealed.corrupt[0],
+        Channel::B => sealed.corrupt[1],
+    }
+}
+
+/// Whether so many bytes are too long for the window.
+fn overruns(params: &Params, window: &Window, bytes: usize) -> bool
+    requires { bytes ≤ 262 }
+    ensures { result ≡ overruns params.now window.now bytes }
+{
+    if window.is_static() {
+        bytes > 8 + 2 * usize::from(params.static_words)
+    } else {
+        let filled = bytes.div_ceil(2 * usize::from(params.words_per_minislot));
+        usize::from(window.minislot) - 1 + filled > usize::from(params.minislots)
+    }
+}
+
+/// Whether the bit that is to be turned is one of these bytes.
+fn is_turned(corrupt: Option<u16>, bytes: &[u8]) -> bool
+    ensures { result ≡ is_turned corrupt bytes.now }
+{
+    match corrupt {
+        Some(bit) => usize::from(bit / 8) < bytes.len(),
+        None => false,
+    }
+}
+
+/// How the only transmission ended that passed on its channel.
+fn end_alone(params: &Params, sealed: &Sealed, sent: &Sent) -> End
+    ensures { result ≡ end_alone params.now sealed.now sent.now }
+{
+    if overruns(params, &sealed.window, sent.bytes.len()) {
+        End::Overrun
+    } else if is_turned(corrupt_on(sealed, sent.channel), sent.bytes.as_slice()) {
+        End::Turned
+    } else {
+        End::Alone
+    }
+}
+
+/// How a transmission ended that passed.
+fn end_passed(params: &Params, sealed: &Sealed, sent: &Sent) -> End
+    ensures { result ≡ end_passed params.now sealed.now sent.now }
+{
+    if count_passed(sent.channel, sealed.sent.as_slice()) > 1 {
+        End::Collided
+    } else {
+        end_alone(params, sealed, sent)
+    }
+}
+
+/// How a transmission of the window ended (own profile).
+pub fn end_of(params: &Params, sealed: &Sealed, sent: &Sent) -> End
+    ensures { result ≡ end_of params.now sealed.now sent.now }
+{
+    match sent.fate {
+        Fate::Passed => end_passed(params, sealed, sent),
+        Fate::Blocked => End::Blocked,
+        Fate::Muted => End::Muted,
+    }
+}
+
+/// The word of how a transmission ended.
+pub(crate) fn end_word(end: End) -> &'static str
+    ensures { result.now ≡ end_word end }
+{
+    match end {
+        End::Alone => "alone",
+        End::Turned => "turned",
+        End::Overrun => "overrun",
+        End::Collided => "collided",
+        End::Muted => "muted",
+        End::Blocked => "blocked",
+    }
+}

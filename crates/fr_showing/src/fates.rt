@@ -1,0 +1,119 @@
+//! What became of a commit, and where it was sent.
+ghost use Rattle.std.specs.Prelude.{◌≡◌, ◌<◌, ◌+◌, ◌^◌, true, if◌then◌else◌, take, slice_get, IsSomeAnd};
+ghost use Rattle.fr_core.specs.Accounts.{begins_cycle_at};
+ghost use Rattle.fr_journal.specs.Fate.{is_commit_on, is_data_of};
+ghost use Rattle.fr_journal.specs.Lent.{whole};
+ghost use Rattle.fr_showing.specs.Fates.{became, cycles_of};
+ghost use Rattle.fr_showing.specs.FateSteps.{became_with, is_pending};
+
+use fr_bus::windows::opens_cycle;
+use fr_interface::interface::Interface;
+use fr_journal::entry::Offered;
+use fr_journal::lent::LentEntry;
+use fr_slots::channel::Channel;
+use fr_slots::window::Window;
+
+/// What became of a commit, and by which entry: its cycle of the run, and its number in the journal.
+#[derive(Clone, Copy)]
+pub(crate) enum Became {
+    /// A later fetch handed it to the bus.
+    Sent,
+    /// A later withdraw took it back.
+    Withdrawn { cycle: u32, entry: u32 },
+    /// A later commit took its place.
+    Overwritten { cycle: u32, entry: u32 },
+    /// None of these.
+    Pending,
+}
+
+/// A commit as it was handed to the bus on one channel.
+#[derive(Clone, Copy)]
+pub(crate) struct Sending {
+    /// The cycle of the run, from 0.
+    pub(crate) cycle: u32,
+    /// The window.
+    pub(crate) window: Window,
+    /// The channel.
+    pub(crate) channel: Channel,
+}
+
+/// How many cycles of the run began up to this entry and with it, where so many began before it.
+pub(crate) fn begun_with(begun: u32, entry: &LentEntry<'_>) -> u32
+    requires { begun + 1 < 2 ^ 32 }
+    ensures { result ≡ begun + (if begins_cycle_at (whole entry.now) then 1 else 0) }
+{
+    match entry {
+        LentEntry::Fetch { window, .. } => if opens_cycle(window) { begun + 1 } else { begun },
+        _ => begun,
+    }
+}
+
+/// Whether this is the data of the commit.
+pub(crate) fn is_data_of(commit: u32, offered: Offered) -> bool
+    ensures { result ≡ is_data_of commit offered }
+{
+    match offered {
+        Offered::Data(entry) => entry == commit,
+        Offered::Nothing | Offered::Null => false,
+    }
+}
+
+/// Whether the entry is a commit on the buffer.
+pub(crate) fn is_commit_on(buffer: u8, entry: &LentEntry<'_>) -> bool
+    ensures { result ≡ is_commit_on buffer (whole entry.now) }
+{
+    match entry {
+        LentEntry::Commit { buffer: place, .. } => *place == buffer,
+        _ => false,
+    }
+}
+
+/// What the entry makes of a commit on the buffer that was pending before it.
+fn became_with(commit: u32, buffer: u8, cycle: u32, number: u32, entry: &LentEntry<'_>) -> Became
+    ensures { result ≡ became_with buffer commit cycle number (whole entry.now) }
+{
+    match entry {
+        LentEntry::Fetch { a, b, .. } if is_data_of(commit, *a) || is_data_of(commit, *b) => {
+            Became::Sent
+        }
+        LentEntry::Withdraw { of: Some(of), .. } if *of == commit => Became::Withdrawn {
+            cycle,
+            entry: number,
+        },
+        LentEntry::Commit { buffer: place, .. } if *place == buffer => Became::Overwritten {
+            cycle,
+            entry: number,
+        },
+        _ => Became::Pending,
+    }
+}
+
+/// Whether nothing was done to it.
+fn is_pending(became: Became) -> bool
+    ensures { result ≡ is_pending became }
+{
+    matches!(became, Became::Pending)
+}
+
+/// What became of the commit of this number on the buffer, where so many cycles began before it. The first later entry
+/// that does something to it decides, since in a legal journal none does anything to it after that but to send it
+/// again.
+pub(crate) fn became(interface: &Interface, buffer: u8, commit: u32, begun: u32) -> Became
+    requires there { IsSomeAnd (slice_get interface.now.entries commit) (λ e. is_commit_on buffer e ≡ true) }
+    requires cycle { begun ≡ cycles_of (take commit interface.now.entries) }
+    ensures { result ≡ became buffer interface.now.entries commit }
+{
+    let journal = interface.journal();
+    let mut begun = begun;
+    for number in commit + 1..journal.len() {
+        let Some(entry) = journal.lent(number) else {
+            return Became::Pending;
+        };
+        let became = became_with(commit, buffer, begun, number, &entry);
+        if !is_pending(became) {
+            return became;
+        }
+        begun = begun_with(begun, &entry);
+    }
+    Became::Pending
+}

@@ -1,0 +1,15 @@
+//! What a run was, as texts: what each line of a script was answered, the trace of a node, the outcome (own profile).
+//!
+//! ```text
+//! show_run(alloc, &cluster, &mut scenario_file, cycles, Shown::Answers, &mut output)?; // a line for each of them
+//! let text = text_of(alloc, Shown::Outcome, &played)?; // of a run that was played before
+//! ```
+//!
+//! *(own profile)* marks a rule of this project's own, which says nothing of the standard.
+#![tactic(auto)]
+
+pub mod answers;
+pub mod commits;
+mod fates;
+pub mod show;
+pub mod shown;

@@ -1,0 +1,215 @@
+//! The bus's record, a line for each transmission and each turned bit.
+ghost use Rattle.std.specs.Prelude.{◌≡◌, ◌+◌, ◌<◌, ◌^◌, if◌then◌else◌};
+ghost use Rattle.std.specs.List.{flat_map};
+ghost use Rattle.fr_bus.specs.Record.{corrupt_on};
+ghost use Rattle.fr_bus.specs.Windows.{begins_cycle};
+ghost use Rattle.fr_showing.specs.RecordText.{bit_lines, bytes_line, fate_text, fate_word, frame_text, kind_word, minislot_word};
+ghost use Rattle.fr_showing.specs.RecordText.{place_text, record_text, sent_line, window_text};
+ghost use Rattle.fr_text.specs.Writing.{Writes};
+
+use crate::ends::{corrupt_on, end_of, end_word};
+use fr_bus::bus::Bus;
+use fr_bus::outcome::{Fate, Sealed, Sent};
+use fr_bus::windows::opens_cycle;
+use fr_frame::decode::decode_lent;
+use fr_lines::frames::write_indicators;
+use fr_lines::writing::write_slot;
+use fr_slots::channel::Channel;
+use fr_slots::params::Params;
+use fr_slots::window::Window;
+use fr_text::hexes::write_hex;
+use std::io;
+use std::io::Write;
+
+/// Writes the minislot of a window, and a dash for a static one.
+fn write_minislot<W: Write>(writer: &mut W, window: &Window) -> io::Result<()>
+    ensures { Writes W.contents writer.old writer.new result (minislot_word window.now) }
+{
+    if window.is_static() {
+        write!(writer, "-")
+    } else {
+        write!(writer, "{}", window.minislot)
+    }
+}
+
+/// Writes where a transmission was: the window, the cycle of the run, the minislot, the slot and the channel.
+#[tactic(auto, unfolding(crate::specs::RecordText::place_text))]
+fn write_place<W: Write>(
+    writer: &mut W,
+    cycle: usize,
+    window: &Window,
+    channel: Channel,
+) -> io::Result<()>
+    ensures { Writes W.contents writer.old writer.new result (place_text cycle window.now channel) }
+{
+    write!(writer, "{} {cycle} ", window.number)?;
+    write_minislot(writer, window)?;
+    write_slot(writer, window.slot(channel))?;
+    write!(writer, " {channel}")
+}
+
+/// The word of whether a transmission is a babble.
+fn kind_word(babble: bool) -> &'static str
+    ensures { result.now ≡ kind_word babble }
+{
+    if babble { "babble" } else { "offer" }
+}
+
+/// The word of what became of a transmission.
+fn fate_word(fate: Fate) -> &'static str
+    ensures { result.now ≡ fate_word fate }
+{
+    match fate {
+        Fate::Passed => "passed",
+        Fate::Blocked => "blocked",
+        Fate::Muted => "muted",
+    }
+}
+
+/// Writes the ID and the flags of the frame that the bytes are, and dashes where they are none.
+#[tactic(auto, unfolding(crate::specs::RecordText::frame_text))]
+fn write_frame<W: Write>(writer: &mut W, channel: Channel, bytes: &[u8]) -> io::Result<()>
+    ensures { Writes W.contents writer.old writer.new result (frame_text channel bytes.now) }
+{
+    match decode_lent(bytes, channel) {
+        Ok(frame) => {
+            write!(writer, "{} ", frame.id)?;
+            write_indicators(writer, &frame)
+        }
+        Err(_) => write!(writer, "- -"),
+    }
+}
+
+/// Writes the node of a transmission, what it was, what became of it and how it ended.
+#[tactic(auto, unfolding(crate::specs::RecordText::fate_text))]
+fn write_fate<W: Write>(
+    writer: &mut W,
+    params: &Params,
+    sealed: &Sealed,
+    sent: &Sent,
+) -> io::Result<()>
+    ensures { Writes W.contents writer.old writer.new result (fate_text params.now sealed.now sent.now) }
+{
+    let (node, kind) = (sent.node.number(), kind_word(sent.babble));
+    let (fate, end) = (fate_word(sent.fate), end_word(end_of(params, sealed, sent)));
+    write!(writer, "{node} {kind} {fate} {end}")
+}
+
+/// The window of a sealed one.
+fn window_of(sealed: &Sealed) -> &Window
+    ensures { result.now ≡ sealed.now.window }
+{
+    &sealed.window
+}
+
+/// Writes the end of the line of a transmission: the frame that it is, and its bytes.
+#[tactic(auto, unfolding(crate::specs::RecordText::bytes_line))]
+fn write_bytes<W: Write>(writer: &mut W, sent: &Sent) -> io::Result<()>
+    ensures { Writes W.contents writer.old writer.new result (bytes_line sent.now) }
+{
+    write_frame(writer, sent.channel, sent.bytes.as_slice())?;
+    writer.write_all(b" ")?;
+    write_hex(writer, sent.bytes.as_slice())?;
+    writer.write_all(b"\n")
+}
+
+/// Writes the line of a transmission of the window.
+fn write_sent<W: Write>(
+    writer: &mut W,
+    params: &Params,
+    cycle: usize,
+    sealed: &Sealed,
+    sent: &Sent,
+) -> io::Result<()>
+    ensures { Writes W.contents writer.old writer.new result (sent_line params.now cycle sealed.now sent.now) }
+{
+    write_place(writer, cycle, window_of(sealed), sent.channel)?;
+    writer.write_all(b" ")?;
+    write_fate(writer, params, sealed, sent)?;
+    writer.write_all(b" ")?;
+    write_bytes(writer, sent)
+}
+
+/// Writes the lines of the window's transmissions.
+fn write_transmissions<W: Write>(
+    writer: &mut W,
+    params: &Params,
+    cycle: usize,
+    sealed: &Sealed,
+) -> io::Result<()>
+    ensures { Writes W.contents writer.old writer.new result
+        (flat_map (sent_line params.now cycle sealed.now) sealed.now.sent) }
+{
+    let sent = sealed.sent.as_slice();
+    for transmission in sent {
+        write_sent(writer, params, cycle, sealed, transmission)?;
+    }
+    Ok(())
+}
+
+/// Writes the line of the bit that was to be turned on the channel, if there is one.
+fn write_bit<W: Write>(
+    writer: &mut W,
+    cycle: usize,
+    sealed: &Sealed,
+    channel: Channel,
+) -> io::Result<()>
+    ensures { Writes W.contents writer.old writer.new result
+        (bit_lines cycle sealed.now channel (corrupt_on sealed.now channel)) }
+{
+    match corrupt_on(sealed, channel) {
+        Some(bit) => {
+            write_place(writer, cycle, window_of(sealed), channel)?;
+            writeln!(writer, " - corrupt {bit}")
+        }
+        None => Ok(()),
+    }
+}
+
+/// Writes the lines of the window.
+fn write_window<W: Write>(
+    writer: &mut W,
+    params: &Params,
+    cycle: usize,
+    sealed: &Sealed,
+) -> io::Result<()>
+    ensures { Writes W.contents writer.old writer.new result (window_text params.now cycle sealed.now) }
+{
+    write_transmissions(writer, params, cycle, sealed)?;
+    write_bit(writer, cycle, sealed, Channel::A)?;
+    write_bit(writer, cycle, sealed, Channel::B)
+}
+
+/// How many cycles of the run began up to this window and with it, where so many began before it.
+fn begun_with(begun: usize, sealed: &Sealed) -> usize
+    requires { begun + 1 < 2 ^ 64 }
+    ensures { result ≡ begun + (if begins_cycle sealed.now then 1 else 0) }
+{
+    if opens_cycle(&sealed.window) {
+        begun + 1
+    } else {
+        begun
+    }
+}
+
+/// Writes the bus's record (own profile): for each window, in their order, a line for each of its transmissions, in the
+/// order of the nodes, of a node on channel A before B and its offer before its babble, and then one for each bit that
+/// was to be turned.
+///
+/// A line has the window's number, the cycle of the run, the minislot or a dash in a static slot, the slot and the
+/// channel. Those of a transmission go on with the node, `offer` or `babble`, `passed`, `blocked` or `muted`, how it
+/// ended (`End`), the ID and the flags of the frame that its bytes are, or two dashes, and the bytes as they were sent.
+/// Those of a bit go on with a dash, `corrupt`, and the bit, counted from the most significant one of the first byte.
+///
+/// Fails where the writer fails, and then a part of the text may have gone out.
+pub fn write_record<W: Write>(writer: &mut W, params: &Params, bus: &Bus) -> io::Result<()>
+    ensures { Writes W.contents writer.old writer.new result (record_text params.now bus.now.sealed) }
+{
+    let record = bus.record();
+    let mut begun = 0;
+    for sealed in record {
+        begun = begun_with(begun, sealed);
+        write_window(writer, params, begun.saturating_sub(1), sealed)?;
+    }
+    Ok(())
+}
