@@ -14,10 +14,11 @@ use Rattle.fr_view.specs.declared.command.Order.{Order}
 use Rattle.fr_view.specs.declared.command.Order.TheVariants as the_order
 use Rattle.fr_words.specs.declared.error.OrderError.{OrderError}
 use Rattle.fr_words.specs.declared.error.OrderError.TheVariants as refusal
-use Rattle.fr_showing.specs.declared.shown.Shown.{Shown}
-use Rattle.fr_showing.specs.declared.shown.Shown.TheVariants.{Outcome, Answers, Commits, Record, Trace, Matrix}
-use Rattle.fr_view.specs.Orders.{IsAnswerTo, IsOrder, IsScheduleBy, IsShowBy, asks, cycle_asked, drawn_by, has_run_by}
-use Rattle.fr_view.specs.Orders.{has_schedule_by, has_show_by, node_asked, shown_by, the_commands, view_asked}
+use Rattle.fr_view.specs.declared.command.Asked.{Asked}
+use Rattle.fr_view.specs.declared.command.Asked.TheVariants.{Outcome, Answers, Commits, Record, Trace}
+use Rattle.fr_view.specs.Orders.{IsAnswerTo, IsOrder, IsScheduleBy, IsShowBy, asked_by, asks, channel_asked, cycle_asked}
+use Rattle.fr_view.specs.Orders.{drawn_by, from_asked, has_run_by, has_schedule_by, has_show_by, matrix_of, node_asked}
+use Rattle.fr_view.specs.Orders.{the_commands, viewer_asked}
 use Rattle.fr_words.specs.Commands.{IsNamed, cycles_in, order_error_of, word_in}
 
 pub are_simple : is_simple the_commands ≡ true
@@ -56,7 +57,7 @@ schedule_alike f g same (the_order.Capture until_fault) is = is
 schedule_alike f g same (the_order.Frames until_fault) is = is
 schedule_alike f g same the_order.Why is = is
 schedule_alike f g same the_order.Help is = is
-schedule_alike f g same (the_order.Show shown cluster scenario cycles) is = is
+schedule_alike f g same (the_order.Show asked cluster scenario cycles) is = is
 schedule_alike f g same (the_order.Schedule file cycle) is =
     (sym (same (codes "FILE")) ∙ is.0, ap cycle_asked (sym (same (codes "cycle"))) ∙ is.1)
 
@@ -70,7 +71,7 @@ schedule_told entered look (Some o) named same told = by o (schedule_alike look 
     by (the_order.Frames until_fault) is = absurd is
     by the_order.Why is = absurd is
     by the_order.Help is = absurd is
-    by (the_order.Show shown cluster scenario cycles) is = absurd is
+    by (the_order.Show asked cluster scenario cycles) is = absurd is
     by (the_order.Schedule file cycle) is = (named, is)
 
 asks_nothing : (entered : Option (Text × List Row)) → IsNamed (codes "schedule") entered → has_schedule_by (word_in entered) ≡ false → asks entered ≡ false
@@ -86,24 +87,22 @@ schedule_lacks entered look None named same lacks = asks_nothing entered named (
 
 -- ---- what is shown of a run
 
--- what is shown by a command of this name, by the words for the node of a trace and by what is drawn
-shown_with : Text → Option Text → Option Shown → Option Shown
-shown_with name node drawn =
+drawn_alike : (f g : Text → Option Text) → ((id : Text) → f id ≡ g id) → drawn_by f ≡ drawn_by g
+drawn_alike f g same =
+    ap (λ w. matrix_of (channel_asked w) (viewer_asked (f (codes "node"))) (from_asked (f (codes "from")))) (same (codes "channel"))
+    ∙ ap (λ w. matrix_of (channel_asked (g (codes "channel"))) (viewer_asked w) (from_asked (f (codes "from")))) (same (codes "node"))
+    ∙ ap (λ w. matrix_of (channel_asked (g (codes "channel"))) (viewer_asked (g (codes "node"))) (from_asked w)) (same (codes "from"))
+
+-- what is shown by a command of this name, by the word for the node of a trace and by what is drawn
+abbrev asked_with : Text → Option Text → Option Asked → Option Asked
+asked_with name node drawn =
     if bytes_eq name (codes "outcome") then Some Outcome else if bytes_eq name (codes "answers") then Some Answers
     else if bytes_eq name (codes "commits") then Some Commits else if bytes_eq name (codes "record") then Some Record
-    else if bytes_eq name (codes "trace") then option_map Trace (node_asked node) else drawn
+    else if bytes_eq name (codes "trace") then option_map Trace (node_asked node)
+    else if bytes_eq name (codes "matrix") then drawn else None
 
-drawn_with : Text → Option Text → Option Text → Option Text → Option Shown
-drawn_with name channel node from = if bytes_eq name (codes "matrix") then option_map Matrix (view_asked channel node from) else None
-
-drawn_alike : (name : Text) (f g : Text → Option Text) → ((id : Text) → f id ≡ g id) → drawn_by name f ≡ drawn_by name g
-drawn_alike name f g same =
-    ap (λ w. drawn_with name w (f (codes "node")) (f (codes "from"))) (same (codes "channel"))
-    ∙ ap (λ w. drawn_with name (g (codes "channel")) w (f (codes "from"))) (same (codes "node"))
-    ∙ ap (λ w. drawn_with name (g (codes "channel")) (g (codes "node")) w) (same (codes "from"))
-
-shown_alike : (name : Text) (f g : Text → Option Text) → ((id : Text) → f id ≡ g id) → shown_by name f ≡ shown_by name g
-shown_alike name f g same = ap₂ (λ w d. shown_with name w d) (same (codes "NODE")) (drawn_alike name f g same)
+asked_alike : (name : Text) (f g : Text → Option Text) → ((id : Text) → f id ≡ g id) → asked_by name f ≡ asked_by name g
+asked_alike name f g same = ap₂ (λ w d. asked_with name w d) (same (codes "NODE")) (drawn_alike f g same)
 
 run_alike : (f g : Text → Option Text) → ((id : Text) → f id ≡ g id) → has_run_by f ≡ has_run_by g
 run_alike f g same =
@@ -117,8 +116,8 @@ show_alike name f g same (the_order.Frames until_fault) is = is
 show_alike name f g same the_order.Why is = is
 show_alike name f g same the_order.Help is = is
 show_alike name f g same (the_order.Schedule file cycle) is = is
-show_alike name f g same (the_order.Show shown cluster scenario cycles) is = (
-  sym (shown_alike name f g same) ∙ is.0,
+show_alike name f g same (the_order.Show asked cluster scenario cycles) is = (
+  sym (asked_alike name f g same) ∙ is.0,
   sym (same (codes "FILE")) ∙ is.1,
   sym (same (codes "SCENARIO")) ∙ is.2,
   ap (λ w. option_and_then cycles_in w) (sym (same (codes "cycles"))) ∙ is.3,
@@ -140,7 +139,7 @@ show_told (Some (entered, rows)) name look (Some o) named same told =
     by the_order.Why is = absurd is
     by the_order.Help is = absurd is
     by (the_order.Schedule file cycle) is = absurd is
-    by (the_order.Show shown cluster scenario cycles) is = is
+    by (the_order.Show asked cluster scenario cycles) is = is
 
 pub show_lacks : (entered : Option (Text × List Row)) (name : Text) (look : Text → Option Text) (found : Option Order) → IsNamed name entered
     → bytes_eq name (codes "capture") ≡ false → bytes_eq name (codes "frames") ≡ false → bytes_eq name (codes "why") ≡ false
@@ -152,7 +151,7 @@ show_lacks (Some (entered, rows)) name look None named capture frames why schedu
     let is : entered ≡ name = cc named in
     let words = λ (id : Text). first_of id rows in
     let alike : has_show_by name look ≡ has_show_by name words =
-    ap₂ (λ a b. is_some a && b) (shown_alike name look words same) (run_alike look words same) in
+    ap₂ (λ a b. is_some a && b) (asked_alike name look words same) (run_alike look words same) in
     subst (λ (n : Text). asks (Some (n, rows)) ≡ false) (sym is)
     (ap₂ (λ a b. a || b)
     (ap₂ (λ a b. a || b) (ap₂ (λ a b. a || b) (ap₂ (λ a b. a || b) (sym alike ∙ lacks) capture) frames) why)

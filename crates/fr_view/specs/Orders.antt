@@ -9,9 +9,8 @@ use Rattle.clap.specs.Words.{App, Row, Rule, Shape, Text, fault_of, first_of, ne
 use Rattle.clap.specs.Words.{with_rule, with_subcommand}
 use Rattle.clap.specs.declared.error.kind.ErrorKind.{ErrorKind}
 use Rattle.clap.specs.declared.error.kind.ErrorKind.TheVariants as kind
-use Rattle.fr_matrix.specs.declared.view.View.{View}
-use Rattle.fr_showing.specs.declared.shown.Shown.{Shown}
-use Rattle.fr_showing.specs.declared.shown.Shown.TheVariants.{Outcome, Answers, Commits, Record, Trace, Matrix}
+use Rattle.fr_view.specs.declared.command.Asked.{Asked}
+use Rattle.fr_view.specs.declared.command.Asked.TheVariants.{Outcome, Answers, Commits, Record, Trace, Matrix}
 use Rattle.fr_slots.specs.declared.channel.Channel.{Channel}
 use Rattle.fr_slots.specs.declared.channel.Channel.TheVariants.{A, B}
 use Rattle.clap.specs.declared.builder.action.ArgAction.TheVariants.{SetTrue}
@@ -117,7 +116,7 @@ IsScheduleBy first_word (the_order.Capture until_fault) = ⊥
 IsScheduleBy first_word (the_order.Frames until_fault) = ⊥
 IsScheduleBy first_word the_order.Why = ⊥
 IsScheduleBy first_word the_order.Help = ⊥
-IsScheduleBy first_word (the_order.Show shown cluster scenario cycles) = ⊥
+IsScheduleBy first_word (the_order.Show asked cluster scenario cycles) = ⊥
 IsScheduleBy first_word (the_order.Schedule file cycle) =
     (first_word (codes "FILE") ≡ Some file.now) × (cycle_asked (first_word (codes "cycle")) ≡ Some cycle)
 
@@ -143,31 +142,28 @@ abbrev pub from_asked : Option Text → Option ℕ
 from_asked None = Some 0
 from_asked (Some word) = number_in 1024 word
 
-abbrev pub view_with : Option Channel → Option (Option ℕ) → Option ℕ → Option View
-view_with None node from = None
-view_with (Some channel) None from = None
-view_with (Some channel) (Some node) None = None
-view_with (Some channel) (Some node) (Some from) = Some (record { channel = channel; node = node; from = from })
+abbrev pub matrix_of : Option Channel → Option (Option ℕ) → Option ℕ → Option Asked
+matrix_of None node from = None
+matrix_of (Some channel) None from = None
+matrix_of (Some channel) (Some node) None = None
+matrix_of (Some channel) (Some node) (Some from) = Some (Matrix channel node from)
 
-abbrev pub view_asked : Option Text → Option Text → Option Text → Option View
-view_asked channel node from = view_with (channel_asked channel) (viewer_asked node) (from_asked from)
-
--- what a command of this name draws of a run
-abbrev pub drawn_by : Text → (Text → Option Text) → Option Shown
-drawn_by name first_word =
-    if bytes_eq name (codes "matrix") then option_map Matrix
-    (view_asked (first_word (codes "channel")) (first_word (codes "node")) (first_word (codes "from")))
-    else None
+-- what is to be drawn of a run
+abbrev pub drawn_by : (Text → Option Text) → Option Asked
+drawn_by first_word =
+    matrix_of (channel_asked (first_word (codes "channel"))) (viewer_asked (first_word (codes "node")))
+    (from_asked (first_word (codes "from")))
 
 -- what a command of this name shows of a run, if it is one of those
-abbrev pub shown_by : Text → (Text → Option Text) → Option Shown
-shown_by name first_word =
+abbrev pub asked_by : Text → (Text → Option Text) → Option Asked
+asked_by name first_word =
     if bytes_eq name (codes "outcome") then Some Outcome
     else if bytes_eq name (codes "answers") then Some Answers
     else if bytes_eq name (codes "commits") then Some Commits
     else if bytes_eq name (codes "record") then Some Record
     else if bytes_eq name (codes "trace") then option_map Trace (node_asked (first_word (codes "NODE")))
-    else drawn_by name first_word
+    else if bytes_eq name (codes "matrix") then drawn_by first_word
+    else None
 
 -- whether the first words of these arguments name a run
 abbrev pub has_run_by : (Text → Option Text) → Bool
@@ -176,7 +172,7 @@ has_run_by first_word =
     && is_some (option_and_then cycles_in (first_word (codes "cycles")))
 
 abbrev pub has_show_by : Text → (Text → Option Text) → Bool
-has_show_by name first_word = is_some (shown_by name first_word) && has_run_by first_word
+has_show_by name first_word = is_some (asked_by name first_word) && has_run_by first_word
 
 -- the order shows of that run what the command of this name shows
 abbrev pub IsShowBy : Text → (Text → Option Text) → Order → Type 0
@@ -185,8 +181,8 @@ IsShowBy name first_word (the_order.Frames until_fault) = ⊥
 IsShowBy name first_word the_order.Why = ⊥
 IsShowBy name first_word the_order.Help = ⊥
 IsShowBy name first_word (the_order.Schedule file cycle) = ⊥
-IsShowBy name first_word (the_order.Show shown cluster scenario cycles) =
-    (shown_by name first_word ≡ Some shown)
+IsShowBy name first_word (the_order.Show asked cluster scenario cycles) =
+    (asked_by name first_word ≡ Some asked)
     × (first_word (codes "FILE") ≡ Some cluster.now)
     × (first_word (codes "SCENARIO") ≡ Some scenario.now)
     × (option_and_then cycles_in (first_word (codes "cycles")) ≡ Some cycles)
@@ -228,8 +224,8 @@ IsOrder entered the_order.Why = IsNamed (codes "why") entered
 IsOrder entered the_order.Help = ⊥
 IsOrder entered (the_order.Schedule file cycle) =
     IsNamed (codes "schedule") entered × IsScheduleBy (word_in entered) (the_order.Schedule file cycle)
-IsOrder entered (the_order.Show shown cluster scenario cycles) =
-    IsShow entered (the_order.Show shown cluster scenario cycles)
+IsOrder entered (the_order.Show asked cluster scenario cycles) =
+    IsShow entered (the_order.Show asked cluster scenario cycles)
 
 -- ---- the answer
 

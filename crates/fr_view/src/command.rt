@@ -1,6 +1,30 @@
 //! What the program can be asked to do.
 
-use fr_showing::shown::Shown;
+use fr_slots::channel::Channel;
+
+/// What is to be shown of a run (own profile).
+#[derive(Clone, Copy, PartialEq, Eq)]
+pub enum Asked {
+    /// Its outcome.
+    Outcome,
+    /// A line for each line of a script, with its answer.
+    Answers,
+    /// A line for each commit, with what became of it.
+    Commits,
+    /// A line for each transmission and each turned bit.
+    Record,
+    /// The trace of the node of this number, 0 to 15.
+    Trace(u8),
+    /// A picture of what a channel carried.
+    Matrix {
+        /// The channel.
+        channel: Channel,
+        /// The number of the node through whose eyes it is seen, 0 to 15, if it is one.
+        node: Option<u8>,
+        /// The cycle of the run that is drawn first, 0 to 1023.
+        from: u16,
+    },
+}
 
 /// What the program is asked to do (own profile).
 #[derive(Clone, Copy, PartialEq, Eq)]
@@ -27,7 +51,7 @@ pub enum Order<'a> {
     /// Play a run of the cluster of the one file with the scenario of the other, and print what is to be shown of it.
     Show {
         /// What is to be shown.
-        shown: Shown,
+        asked: Asked,
         /// The name of the cluster file.
         cluster: &'a str,
         /// The name of the scenario file.

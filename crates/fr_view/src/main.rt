@@ -26,16 +26,17 @@ mod command;
 mod failure;
 mod order;
 
-use command::Order;
+use command::{Asked, Order};
 use failure::Failure;
 use fr_capture::form::Form;
 use fr_capture::show::show_trace;
 use fr_commands::cluster_file::cluster_of;
 use fr_commands::files::file_named;
+use fr_matrix::view::View;
 use fr_picture::picture::show_schedule;
 use fr_showing::show::show_run;
 use fr_showing::shown::Shown;
-use fr_slots::numbers::Cycle;
+use fr_slots::numbers::{Cycle, NodeId};
 use fr_why::explain::explain_trace;
 use fr_why::until_fault::show_until_fault;
 use fr_why::verdict::Verdict;
@@ -70,15 +71,47 @@ fr_view --help
     these lines
 ";
 
+/// What is to be shown of a run.
+fn shown_of(asked: Asked) -> Option<Shown> {
+    match asked {
+        Asked::Outcome => Some(Shown::Outcome),
+        Asked::Answers => Some(Shown::Answers),
+        Asked::Commits => Some(Shown::Commits),
+        Asked::Record => Some(Shown::Record),
+        Asked::Trace(node) => Some(Shown::Trace(NodeId::new(node)?)),
+        Asked::Matrix {
+            channel,
+            node: None,
+            from,
+        } => Some(Shown::Matrix(View {
+            channel,
+            node: None,
+            from,
+        })),
+        Asked::Matrix {
+            channel,
+            node: Some(node),
+            from,
+        } => Some(Shown::Matrix(View {
+            channel,
+            node: Some(NodeId::new(node)?),
+            from,
+        })),
+    }
+}
+
 /// Plays a run of the cluster of the one file with the scenario of the other, which is opened once the cluster is
 /// accepted, and writes what is to be shown of it.
 fn show_files<R: Files + Print + AllocGlobal>(
     rt: &R,
-    shown: Shown,
+    asked: Asked,
     cluster: &str,
     scenario: &str,
     cycles: u16,
 ) -> Result<(), Failure> {
+    let Some(shown) = shown_of(asked) else {
+        return Err(Failure::Usage);
+    };
     let alloc = rt.alloc();
     let cluster = cluster_of(alloc, &mut file_named(rt, cluster)?)?;
     let mut file = file_named(rt, scenario)?;
@@ -141,11 +174,11 @@ fn carry_out<R: Files + Input + Print + AllocGlobal>(
         Order::Frames { until_fault } => show_seen(rt, Form::Table, until_fault)?,
         Order::Why => return explain(rt),
         Order::Show {
-            shown,
+            asked,
             cluster,
             scenario,
             cycles,
-        } => show_files(rt, shown, cluster, scenario, cycles)?,
+        } => show_files(rt, asked, cluster, scenario, cycles)?,
         Order::Help => show_help(rt)?,
     }
     Ok(ExitCode::SUCCESS)

@@ -1,19 +1,16 @@
 //! Reads the words after the program's name.
-ghost use Rattle.std.specs.Prelude.{◌≡◌, IfNone, IfOk, IfSome, codes, false, map, option_map};
+ghost use Rattle.std.specs.Prelude.{◌≡◌, IfNone, IfOk, IfSome, codes, false, map};
 ghost use Rattle.clap.specs.Words.{app_of, first_value, found_of, subcommand_rows_of};
 ghost use Rattle.clap.specs.declared.builder.command.Command.TheViews.{out-Command};
 ghost use Rattle.fr_text.specs.Reading.{number_in};
-ghost use Rattle.fr_view.specs.Orders.{IsAnswer, IsOrder, IsScheduleBy, IsShowBy, asks, channel_asked, drawn_by};
-ghost use Rattle.fr_view.specs.Orders.{file_commands, from_asked, has_schedule_by, has_show_by, is_help, is_true};
-ghost use Rattle.fr_view.specs.Orders.{line_commands, matrix_command, of_trace, schedule_command, shown_by};
-ghost use Rattle.fr_view.specs.Orders.{the_commands, trace_command, view_asked, viewer_asked, with_run};
+ghost use Rattle.fr_view.specs.Orders.{IsAnswer, IsOrder, IsScheduleBy, IsShowBy, asked_by, asks, channel_asked};
+ghost use Rattle.fr_view.specs.Orders.{drawn_by, file_commands, from_asked, has_schedule_by, has_show_by, is_help};
+ghost use Rattle.fr_view.specs.Orders.{is_true, line_commands, matrix_command, of_trace, schedule_command};
+ghost use Rattle.fr_view.specs.Orders.{the_commands, trace_command, viewer_asked, with_run};
 
-use crate::command::Order;
+use crate::command::{Asked, Order};
 use clap::{Arg, ArgAction, ArgMatches, Command};
-use fr_matrix::view::View;
-use fr_showing::shown::Shown;
 use fr_slots::channel::Channel;
-use fr_slots::numbers::NodeId;
 use fr_text::numbers::number_of;
 use fr_words::commands::{cycles_of, of_file, program};
 use fr_words::error::OrderError;
@@ -51,7 +48,8 @@ fn trace_command<'a>(alloc: Global) -> Result<Command<'a>, AllocError>
 
 /// A command that reads a trace, with the flag that lets it end at the line at fault.
 fn of_trace<'a>(alloc: Global, name: &'a str) -> Result<Command<'a>, AllocError>
-    ensures { IfOk result (λ c. app_of c ≡ of_trace name.now) }
+    ensures app { IfOk result (λ c. app_of c ≡ of_trace name.now) }
+    ensures local { IfOk result (λ c. (out-Command c).has_globals ≡ false) }
 {
     let flag = Arg::new(alloc, "until-fault")
         .long("until-fault")
@@ -131,32 +129,32 @@ fn schedule_in<'a>(arguments: &ArgMatches<'a>) -> Option<Order<'a>>
     Some(Order::Schedule { file, cycle })
 }
 
-/// The node that a word is: 0 to 15, without a leading zero.
-fn node_of(word: &str) -> Option<NodeId>
+/// The number of a node that a word is: 0 to 15, without a leading zero.
+fn node_of(word: &str) -> Option<u8>
     ensures { result ≡ number_in 16 word.now }
 {
     match number_of(word.as_bytes(), 16) {
-        Some(number) => Some(NodeId::from_number(number as u8)),
+        Some(number) => Some(number as u8),
         None => None,
     }
 }
 
-/// The channel that a word names, A where there is none.
-fn channel_of(word: Option<&str>) -> Option<Channel>
-    ensures { result ≡ channel_asked (option_map (λ w. w.now) word) }
+/// The channel that is drawn: A, unless another one is named.
+fn channel_in(arguments: &ArgMatches<'_>) -> Option<Channel>
+    ensures { result ≡ channel_asked (first_value (found_of arguments.now) (codes "channel")) }
 {
-    match word {
+    match arguments.get_str("channel") {
         None | Some("A") => Some(Channel::A),
         Some("B") => Some(Channel::B),
         Some(_) => None,
     }
 }
 
-/// The node through whose eyes a run is seen, or nobody where no word is there.
-fn viewer_of(word: Option<&str>) -> Option<Option<NodeId>>
-    ensures { result ≡ viewer_asked (option_map (λ w. w.now) word) }
+/// The node through whose eyes a run is seen, or nobody where none is named.
+fn viewer_in(arguments: &ArgMatches<'_>) -> Option<Option<u8>>
+    ensures { result ≡ viewer_asked (first_value (found_of arguments.now) (codes "node")) }
 {
-    match word {
+    match arguments.get_str("node") {
         None => Some(None),
         Some(word) => match node_of(word) {
             Some(node) => Some(Some(node)),
@@ -165,11 +163,11 @@ fn viewer_of(word: Option<&str>) -> Option<Option<NodeId>>
     }
 }
 
-/// The cycle of the run that is drawn first: 0 to 1023, without a leading zero, and 0 where no word is there.
-fn first_of(word: Option<&str>) -> Option<u16>
-    ensures { result ≡ from_asked (option_map (λ w. w.now) word) }
+/// The cycle of the run that is drawn first: 0 to 1023, without a leading zero, and 0 where none is named.
+fn first_in(arguments: &ArgMatches<'_>) -> Option<u16>
+    ensures { result ≡ from_asked (first_value (found_of arguments.now) (codes "from")) }
 {
-    match word {
+    match arguments.get_str("from") {
         None => Some(0),
         Some(word) => match number_of(word.as_bytes(), 1024) {
             Some(number) => Some(number as u16),
@@ -178,48 +176,32 @@ fn first_of(word: Option<&str>) -> Option<u16>
     }
 }
 
-/// What is to be drawn, by the first words of the arguments.
-fn view_of(channel: Option<&str>, node: Option<&str>, from: Option<&str>) -> Option<View>
-    ensures { result ≡ view_asked
-        (option_map (λ w. w.now) channel)
-        (option_map (λ w. w.now) node)
-        (option_map (λ w. w.now) from) }
+/// What is to be drawn of a run.
+fn drawn_in(arguments: &ArgMatches<'_>) -> Option<Asked>
+    ensures { result ≡ drawn_by (first_value (found_of arguments.now)) }
 {
-    let channel = channel_of(channel)?;
-    let node = viewer_of(node)?;
-    let from = first_of(from)?;
-    Some(View {
+    let channel = channel_in(arguments)?;
+    let node = viewer_in(arguments)?;
+    let from = first_in(arguments)?;
+    Some(Asked::Matrix {
         channel,
         node,
         from,
     })
 }
 
-/// What a command of this name draws of a run, if it is the one that draws.
-fn drawn_in(name: &str, arguments: &ArgMatches<'_>) -> Option<Shown>
-    ensures { result ≡ drawn_by name.now (first_value (found_of arguments.now)) }
-{
-    if name != "matrix" {
-        return None;
-    }
-    let (channel, node) = (arguments.get_str("channel"), arguments.get_str("node"));
-    match view_of(channel, node, arguments.get_str("from")) {
-        Some(view) => Some(Shown::Matrix(view)),
-        None => None,
-    }
-}
-
 /// What a command of this name shows of a run, if it is one of those.
-fn shown_in(name: &str, arguments: &ArgMatches<'_>) -> Option<Shown>
-    ensures { result ≡ shown_by name.now (first_value (found_of arguments.now)) }
+fn asked_in(name: &str, arguments: &ArgMatches<'_>) -> Option<Asked>
+    ensures { result ≡ asked_by name.now (first_value (found_of arguments.now)) }
 {
     match name {
-        "outcome" => Some(Shown::Outcome),
-        "answers" => Some(Shown::Answers),
-        "commits" => Some(Shown::Commits),
-        "record" => Some(Shown::Record),
-        "trace" => Some(Shown::Trace(node_of(arguments.get_str("NODE")?)?)),
-        _ => drawn_in(name, arguments),
+        "outcome" => Some(Asked::Outcome),
+        "answers" => Some(Asked::Answers),
+        "commits" => Some(Asked::Commits),
+        "record" => Some(Asked::Record),
+        "trace" => Some(Asked::Trace(node_of(arguments.get_str("NODE")?)?)),
+        "matrix" => drawn_in(arguments),
+        _ => None,
     }
 }
 
@@ -228,9 +210,9 @@ fn show_in<'a>(name: &str, arguments: &ArgMatches<'a>) -> Option<Order<'a>>
     ensures told { IfSome result (IsShowBy name.now (first_value (found_of arguments.now))) }
     ensures nothing { IfNone result (has_show_by name.now (first_value (found_of arguments.now)) ≡ false) }
 {
-    let shown = shown_in(name, arguments)?;
+    let asked = asked_in(name, arguments)?;
     Some(Order::Show {
-        shown,
+        asked,
         cluster: arguments.get_str("FILE")?,
         scenario: arguments.get_str("SCENARIO")?,
         cycles: cycles_of(arguments.get_str("cycles")?)?,

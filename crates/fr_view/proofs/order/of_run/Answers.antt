@@ -1,4 +1,4 @@
-use Rattle.std.proofs.Common.{rules, ap₂, codes, false, ◌≡◌, ◌∙◌, ◌||◌}
+use Rattle.std.proofs.Common.{rules, ap, ap₂, false, ◌≡◌, ◌∙◌, ◌||◌}
 use Rattle.std.proofs.lemmas.Result.{IfOk-weaker}
 use Rattle.clap.specs.Walk.{rule_of}
 use Rattle.clap.specs.Words.{app_of, with_rule}
@@ -13,7 +13,7 @@ returns c =
     let scenario_is : rule_of c.required-scenario.result ≡ the_scenario = search rules in
     let cycles_is : rule_of c.required-cycles.result ≡ the_cycles = search rules in
     let first : app_of c.in_ok-arg.field-0 ≡ with_rule (app_of c.args.command) the_file =
-    c.in_ok-arg.ensures.shape (search rules) ∙ ap₂ with_rule refl file_is in
+    c.in_ok-arg.ensures.shape (search rules) ∙ ap (λ r. with_rule (app_of c.args.command) r) file_is in
     let second : app_of c.in_ok-arg-2.field-0 ≡ with_rule (with_rule (app_of c.args.command) the_file) the_scenario =
     c.in_ok-arg-2.ensures.shape (search rules) ∙ ap₂ with_rule first scenario_is in
     let local : (out-Command c.in_ok-arg-2.field-0).has_globals ≡ false = search rules in
