@@ -4,8 +4,8 @@ use Rattle.std.specs.Prelude.{ℕ, List, [], ◌++◌}
 use Rattle.std.specs.List.{flat_map}
 use Rattle.fr_journal.specs.declared.entry.Entry.{Entry}
 use Rattle.fr_journal.specs.declared.entry.Entry.TheVariants.{Commit, Withdraw, Read, Pop, Fetch, Observe}
-use Rattle.fr_lines.specs.Spelling.{line_text}
-use Rattle.fr_showing.specs.CommitText.{commit_by, commit_words, sending_text, Committed}
+use Rattle.fr_showing.specs.CommitText.{commit_by, line_in, sending_text, Committed}
+use Rattle.fr_showing.specs.declared.commits.Commitment.{Commitment}
 use Rattle.fr_showing.specs.Fates.{sending_if}
 use Rattle.fr_slots.specs.declared.channel.Channel.TheVariants.{A, B}
 use Rattle.fr_slots.specs.History.{each_after}
@@ -20,8 +20,16 @@ handed_text commit cycle (Fetch window a b) =
     flat_map sending_text (sending_if commit cycle window A a) ++ flat_map sending_text (sending_if commit cycle window B b)
 handed_text commit cycle (Observe window a b) = []
 
-abbrev pub line_in : List Entry → Committed → List ℕ
-line_in entries c = line_text (commit_words entries c)
+-- the commit that the code has
+abbrev pub committed : Commitment → Committed
+committed c = record {
+  node = c.node;
+  buffer = c.buffer;
+  task = c.task;
+  cycle = c.cycle;
+  entry = c.entry;
+  payload = c.payload.now;
+}
 
 -- the line of the entry of this number, made in this cycle, if it is a commit
 abbrev pub entry_text : ℕ → List Entry → ℕ → ℕ → Entry → List ℕ

@@ -78,12 +78,16 @@ became_text entries commit Pending = codes "pending"
 
 -- ---- lines
 
-abbrev pub commit_words : List Entry → Committed → List (List ℕ)
-commit_words entries c =
-    decimal c.node ∷ decimal c.buffer ∷ decimal c.task ∷ decimal c.cycle ∷ decimal c.entry ∷ hex_text c.payload
-    ∷ codes "="
-    ∷ became_text entries c.entry (became c.buffer entries c.entry)
-    ∷ []
+-- the commit
+unfoldable pub made_text : Committed → List ℕ
+made_text c =
+    line_of (decimal c.node ∷ decimal c.buffer ∷ decimal c.task ∷ decimal c.cycle ∷ decimal c.entry ∷ hex_text c.payload
+    ∷ [])
+
+-- the commit, and what became of it by the entries of its journal
+abbrev pub line_in : List Entry → Committed → List ℕ
+line_in entries c =
+    line_text (made_text c ∷ codes "=" ∷ became_text entries c.entry (became c.buffer entries c.entry) ∷ [])
 
 abbrev pub commit_line : WorldState → Committed → List ℕ
-commit_line w c = line_text (commit_words (entries_at w c.node) c)
+commit_line w c = line_in (entries_at w c.node) c

@@ -1,16 +1,16 @@
 //! The commits of a run, each with what became of it.
 ghost use Rattle.std.specs.Prelude.{◌≡◌, ◌-◌, true, take, slice_get, IsSomeAnd, Some};
 ghost use Rattle.std.specs.List.{flat_map};
+ghost use Rattle.fr_frame.specs.Payload.{IsPayload};
 ghost use Rattle.fr_journal.specs.Fate.{is_commit_on};
-ghost use Rattle.fr_journal.specs.Lent.{whole};
+ghost use Rattle.fr_journal.specs.Lent.{whole, HasPayload};
 ghost use Rattle.fr_showing.specs.CommitText.{became_text, commit_line, commits};
-ghost use Rattle.fr_showing.specs.CommitText.{commit_words, sending_text, sendings_text};
-ghost use Rattle.fr_showing.specs.CommitSteps.{entry_text, handed_text, node_text};
+ghost use Rattle.fr_showing.specs.CommitText.{line_in, made_text, sending_text, sendings_text};
+ghost use Rattle.fr_showing.specs.CommitSteps.{committed, entry_text, handed_text, node_text};
 ghost use Rattle.fr_showing.specs.Fates.{became, cycles_of, sending_if};
-ghost use Rattle.fr_lines.specs.Spelling.{line_text};
 ghost use Rattle.fr_text.specs.Writing.{Writes};
 
-use crate::fates::{Became, Sending, became, begun_with, is_commit_on, is_data_of};
+use crate::fates::{Became, Sending, became_of, begun_with, is_commit_on, is_data_of};
 use fr_core::world::World;
 use fr_interface::interface::Interface;
 use fr_journal::entry::Offered;
@@ -22,7 +22,6 @@ use fr_slots::window::Window;
 use fr_text::hexes::write_hex;
 use std::io;
 use std::io::Write;
-use std::marker::Model;
 
 /// A commit of a journal.
 #[derive(Clone, Copy)]
@@ -39,21 +38,6 @@ struct Commitment<'a> {
     entry: u32,
     /// Its bytes.
     payload: &'a [u8],
-}
-
-impl<'a> Model for Commitment<'a> {
-    ghost use Rattle.fr_showing.specs.CommitText.{Committed};
-
-    ghost Value = { Committed };
-
-    ghost view = { λ c. record {
-      node = c.node;
-      buffer = c.buffer;
-      task = c.task;
-      cycle = c.cycle;
-      entry = c.entry;
-      payload = c.payload.now;
-    } };
 }
 
 /// Writes a space, and where the commit was sent.
@@ -108,55 +92,69 @@ fn write_handed<W: Write>(
     }
 }
 
-/// Writes where the commit was sent. After the next commit on its buffer a legal journal sends it no more.
+/// Writes where the commit on the buffer was sent, before which so many cycles began. After the next commit on its
+/// buffer a legal journal sends it no more.
 fn write_sendings<W: Write>(
     writer: &mut W,
     interface: &Interface,
-    commit: &Commitment<'_>,
+    buffer: u8,
+    commit: u32,
+    begun: u32,
 ) -> io::Result<()>
-    requires there { IsSomeAnd (slice_get interface.now.entries commit.now.entry)
-        (λ e. is_commit_on commit.now.buffer e ≡ true) }
-    requires cycle { commit.now.cycle ≡ cycles_of (take commit.now.entry interface.now.entries) }
-    ensures { Writes W.contents writer.old writer.new result
-        (sendings_text interface.now.entries commit.now.entry) }
+    requires there { IsSomeAnd (slice_get interface.now.entries commit) (λ e. is_commit_on buffer e ≡ true) }
+    requires cycle { begun ≡ cycles_of (take commit interface.now.entries) }
+    ensures { Writes W.contents writer.old writer.new result (sendings_text interface.now.entries commit) }
 {
     let journal = interface.journal();
-    let mut begun = commit.cycle;
-    for number in commit.entry + 1..journal.len() {
+    let end = journal.len();
+    let mut begun = begun;
+    for number in commit + 1..end {
         let Some(entry) = journal.lent(number) else {
             return Ok(());
         };
-        if is_commit_on(commit.buffer, &entry) {
+        if is_commit_on(buffer, &entry) {
             return Ok(());
         }
         begun = begun_with(begun, &entry);
-        write_handed(writer, commit.entry, begun, &entry)?;
+        write_handed(writer, commit, begun, &entry)?;
     }
     Ok(())
 }
 
-/// Writes what became of the commit.
+/// Writes what became of the commit on the buffer, before which so many cycles began.
 fn write_became<W: Write>(
     writer: &mut W,
     interface: &Interface,
-    commit: &Commitment<'_>,
+    buffer: u8,
+    commit: u32,
+    begun: u32,
 ) -> io::Result<()>
-    requires there { IsSomeAnd (slice_get interface.now.entries commit.now.entry)
-        (λ e. is_commit_on commit.now.buffer e ≡ true) }
-    requires cycle { commit.now.cycle ≡ cycles_of (take commit.now.entry interface.now.entries) }
+    requires there { IsSomeAnd (slice_get interface.now.entries commit) (λ e. is_commit_on buffer e ≡ true) }
+    requires cycle { begun ≡ cycles_of (take commit interface.now.entries) }
     ensures { Writes W.contents writer.old writer.new result
-        (became_text interface.now.entries commit.now.entry
-        (became commit.now.buffer interface.now.entries commit.now.entry)) }
+        (became_text interface.now.entries commit (became buffer interface.now.entries commit)) }
 {
-    match became(interface, commit.buffer, commit.entry, commit.cycle) {
+    match became_of(interface, buffer, commit, begun) {
         Became::Sent => {
             write!(writer, "sent")?;
-            write_sendings(writer, interface, commit)
+            write_sendings(writer, interface, buffer, commit, begun)
         }
         Became::Withdrawn { cycle, entry } => write!(writer, "withdrawn {cycle} {entry}"),
         Became::Overwritten { cycle, entry } => write!(writer, "overwritten {cycle} {entry}"),
         Became::Pending => write!(writer, "pending"),
     }
+}
+
+/// Writes what a line begins with: what the commit was.
+#[tactic(auto, unfolding(crate::specs::CommitText::made_text))]
+fn write_made<W: Write>(writer: &mut W, commit: &Commitment<'_>) -> io::Result<()>
+    requires { IsPayload commit.now.payload.now }
+    ensures { Writes W.contents writer.old writer.new result (made_text (committed commit.now)) }
+{
+    let (node, buffer, task) = (commit.node, commit.buffer, commit.task.number());
+    write!(writer, "{node} {buffer} {task} ")?;
+    write!(writer, "{} {} ", commit.cycle, commit.entry)?;
+    write_hex(writer, commit.payload)
 }
 
 /// Writes the line of the commit.
@@ -165,18 +163,15 @@ fn write_commit<W: Write>(
     interface: &Interface,
     commit: &Commitment<'_>,
 ) -> io::Result<()>
+    requires payload { IsPayload commit.now.payload.now }
     requires there { IsSomeAnd (slice_get interface.now.entries commit.now.entry)
         (λ e. is_commit_on commit.now.buffer e ≡ true) }
     requires cycle { commit.now.cycle ≡ cycles_of (take commit.now.entry interface.now.entries) }
-    ensures { Writes W.contents writer.old writer.new result
-        (line_text (commit_words interface.now.entries commit.now)) }
+    ensures { Writes W.contents writer.old writer.new result (line_in interface.now.entries (committed commit.now)) }
 {
-    let (node, buffer, task) = (commit.node, commit.buffer, commit.task.number());
-    write!(writer, "{node} {buffer} {task} ")?;
-    write!(writer, "{} {} ", commit.cycle, commit.entry)?;
-    write_hex(writer, commit.payload)?;
+    write_made(writer, commit)?;
     write!(writer, " = ")?;
-    write_became(writer, interface, commit)?;
+    write_became(writer, interface, commit.buffer, commit.entry, commit.cycle)?;
     writeln!(writer)
 }
 
@@ -189,6 +184,7 @@ fn write_entry<W: Write>(
     number: u32,
     entry: &LentEntry<'_>,
 ) -> io::Result<()>
+    requires payload { HasPayload entry.now }
     requires there { slice_get interface.now.entries number ≡ Some (whole entry.now) }
     requires cycle { begun ≡ cycles_of (take number interface.now.entries) }
     ensures { Writes W.contents writer.old writer.new result

@@ -10,6 +10,10 @@
 
 pub mod answers;
 pub mod commits;
+pub mod ends;
 mod fates;
+mod parts;
+pub mod record;
 pub mod show;
 pub mod shown;
+mod takers;
