@@ -7,6 +7,7 @@ use Rattle.std.specs.Option.{option_or}
 use Rattle.std.proofs.lemmas.Grind.{flat_map-append}
 use Rattle.std.proofs.lemmas.List.Sums.{sum_by-append, count_by-le-length}
 use Rattle.fr_core.specs.Accounts.{begins_cycle_at, run_cycle}
+use Rattle.fr_core.specs.Worlds.{WorldState}
 use Rattle.fr_interface.specs.State.{State, IsLegalInterface}
 use Rattle.fr_journal.proofs.FateStepLemmas.{fate_by}
 use Rattle.fr_journal.proofs.LastCommitLemmas.{IsCommitAt, slice_get-front}
@@ -227,29 +228,30 @@ unsent_later k xs (e ∷ rest) is =
     let parts = both_false (sends k e) (list_any (sends k) rest) is in
     (λ i. unsent_by k xs e parts.0 i ++ unsent_later k (xs ++ e ∷ []) rest parts.1 i)
 
-pub handed_is : (k cycle : ℕ) (xs : List Entry) (e : Entry) → cycle ≡ run_cycle (xs ++ e ∷ []) → handed_text k cycle e ≡ flat_map sending_text (sendings_by k xs e)
-handed_is k cycle xs (Commit task buffer payload) is = refl
-handed_is k cycle xs (Withdraw task buffer of) is = refl
-handed_is k cycle xs (Read task buffer from) is = refl
-handed_is k cycle xs (Pop task from) is = refl
-handed_is k cycle xs (Fetch w a b) is =
-    let now : ℕ = run_cycle (xs ++ Fetch w a b ∷ []) in
-    (λ i. flat_map sending_text (sending_if k (is i) w A a) ++ flat_map sending_text (sending_if k (is i) w B b))
-    ∙ sym (flat_map-append sending_text (sending_if k now w A a) (sending_if k now w B b))
-handed_is k cycle xs (Observe number a b) is = refl
+pub handed_is : (w : WorldState) (node k cycle : ℕ) (before : List Entry) (e : Entry) → cycle ≡ run_cycle (before ++ e ∷ [])
+    → handed_text w node k cycle e ≡ flat_map (sending_text w node) (sendings_by k before e)
+handed_is w node k cycle before (Commit task buffer payload) is = refl
+handed_is w node k cycle before (Withdraw task buffer of) is = refl
+handed_is w node k cycle before (Read task buffer from) is = refl
+handed_is w node k cycle before (Pop task from) is = refl
+handed_is w node k cycle before (Fetch window a b) is =
+    let now : ℕ = run_cycle (before ++ Fetch window a b ∷ []) in
+    (λ i. flat_map (sending_text w node) (sending_if k (is i) window A a) ++ flat_map (sending_text w node) (sending_if k (is i) window B b))
+    ∙ sym (flat_map-append (sending_text w node) (sending_if k now window A a) (sending_if k now window B b))
+handed_is w node k cycle before (Observe number a b) is = refl
 
 -- ---- lines
 
-pub entry_is : (node : ℕ) (es : List Entry) (cycle number : ℕ) (xs : List Entry) (e : Entry) → cycle ≡ cycles_of xs → number ≡ length xs
-    → entry_text node es cycle number e ≡ flat_map (line_in es) (commit_by node xs e)
-entry_is node es cycle number xs (Commit task buffer payload) cycle_is number_is =
+pub entry_is : (w : WorldState) (node : ℕ) (es : List Entry) (cycle number : ℕ) (before : List Entry) (e : Entry) → cycle ≡ cycles_of before → number ≡ length before
+    → entry_text w node es cycle number e ≡ flat_map (line_in w es) (commit_by node before e)
+entry_is w node es cycle number before (Commit task buffer payload) cycle_is number_is =
     let made : ℕ → ℕ → Committed = λ (c n : ℕ). record { node = node; buffer = buffer; task = task; cycle = c; entry = n; payload = payload } in
-    (λ i. line_in es (made (cycle_is i) (number_is i))) ∙ sym (append-nil (line_in es (made (cycles_of xs) (length xs))))
-entry_is node es cycle number xs (Withdraw task buffer of) cycle_is number_is = refl
-entry_is node es cycle number xs (Read task buffer from) cycle_is number_is = refl
-entry_is node es cycle number xs (Pop task from) cycle_is number_is = refl
-entry_is node es cycle number xs (Fetch w a b) cycle_is number_is = refl
-entry_is node es cycle number xs (Observe number_seen a b) cycle_is number_is = refl
+    (λ i. line_in w es (made (cycle_is i) (number_is i))) ∙ sym (append-nil (line_in w es (made (cycles_of before) (length before))))
+entry_is w node es cycle number before (Withdraw task buffer of) cycle_is number_is = refl
+entry_is w node es cycle number before (Read task buffer from) cycle_is number_is = refl
+entry_is w node es cycle number before (Pop task from) cycle_is number_is = refl
+entry_is w node es cycle number before (Fetch window a b) cycle_is number_is = refl
+entry_is w node es cycle number before (Observe number_seen a b) cycle_is number_is = refl
 
 -- ---- an entry of a journal that is lent
 

@@ -129,7 +129,7 @@ fn offer_of(channel: Channel, node: usize, sent: &[Sent]) -> Option<&Sent>
 }
 
 /// The window at this place of the record.
-fn sealed_at(record: &[Sealed], place: usize) -> Option<&Sealed>
+pub(crate) fn sealed_at(record: &[Sealed], place: usize) -> Option<&Sealed>
     ensures { option_map (λ sealed. sealed.now) result ≡ slice_get record.now place }
 {
     record.get(place)

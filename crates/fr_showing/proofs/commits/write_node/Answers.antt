@@ -13,7 +13,7 @@ pub loop-number-init : goal.loop-number-init
 loop-number-init g c = record {
   cycle = refl;
   written =
-      starts (commit_by c.args.node) (line_in c.args.interface.now.entries) c.args.interface.now.entries (node_text c.args.node c.args.interface.now.entries)
+      starts (commit_by c.args.node) (line_in c.args.world.now c.args.interface.now.entries) c.args.interface.now.entries (node_text c.args.world.now c.args.node c.args.interface.now.entries)
       (g.W.Write.contents c.args.writer.now) 0 refl;
 }
 
@@ -28,9 +28,9 @@ loop-number-preserved g c =
     record {
       cycle = c.begun_with-begun.ensures ∙ ap (λ (b : ℕ). b + cond (begins_cycle_at e) 1 0) c.loop-number.invariant.cycle ∙ sym (cycles_more es n e there);
       written =
-          goes_on (commit_by c.args.node) (line_in es) es (node_text c.args.node es) (g.W.Write.contents c.args.writer.now) now mid n e there c.loop-number.invariant.written
+          goes_on (commit_by c.args.node) (line_in c.args.world.now es) es (node_text c.args.world.now c.args.node es) (g.W.Write.contents c.args.writer.now) now mid n e there c.loop-number.invariant.written
           (subst (λ (t : List ℕ). Appends now mid t)
-          (entry_is c.args.node es c.loop-number.begun n (take n es) e c.loop-number.invariant.cycle (sym (here es n e there).place)) c.in_ok-write_entry.ensures);
+          (entry_is c.args.world.now c.args.node es c.loop-number.begun n (take n es) e c.loop-number.invariant.cycle (sym (here es n e there).place)) c.in_ok-write_entry.ensures);
     }
 
 pub returns : goal.returns
@@ -38,5 +38,5 @@ returns g c =
     let es = c.args.interface.now.entries in
     let n : ℕ = c.loop-number.number in
     let le : length es ≤ n = omega (arith, c.loop-number-test.false, c.len-number-end.ensures.value, ap (length {A = _}) c.journal-journal.ensures.entries) in
-    ends_behind (commit_by c.args.node) (line_in es) es (node_text c.args.node es) (g.W.Write.contents c.args.writer.now) (g.W.Write.contents c.loop-number.writer) n le
+    ends_behind (commit_by c.args.node) (line_in c.args.world.now es) es (node_text c.args.world.now c.args.node es) (g.W.Write.contents c.args.writer.now) (g.W.Write.contents c.loop-number.writer) n le
     c.loop-number.invariant.written

@@ -23,7 +23,7 @@ pub loop-number-init : goal.loop-number-init
 loop-number-init g c = record {
   cycle = c.requires.cycle ∙ cycles_with c.args.interface.now.entries c.args.buffer c.args.commit c.requires.there;
   written =
-      starts (sendings_by c.args.commit) sending_text c.args.interface.now.entries (sendings_text c.args.interface.now.entries c.args.commit)
+      starts (sendings_by c.args.commit) (sending_text c.args.world.now c.args.node) c.args.interface.now.entries (sendings_text c.args.world.now c.args.node c.args.interface.now.entries c.args.commit)
       (g.W.Write.contents c.args.writer.now) (c.args.commit + 1) refl;
 }
 
@@ -39,8 +39,8 @@ returns-then-is_commit_on g c =
     let e = whole c.in-Some.entry in
     let there : slice_get es n ≡ Some e = lent_there es c.journal-journal.result.now.entries n c.lent.result c.in-Some.entry c.journal-journal.ensures.entries c.lent.ensures.entry c.in-Some.is in
     let later : c.args.commit < n = omega (arith, c.loop-number.auto.number) in
-    ends (sendings_by c.args.commit) sending_text es (sendings_text es c.args.commit) (g.W.Write.contents c.args.writer.now) (g.W.Write.contents c.loop-number.writer) n
-    (ap (flat_map sending_text)
+    ends (sendings_by c.args.commit) (sending_text c.args.world.now c.args.node) es (sendings_text c.args.world.now c.args.node es c.args.commit) (g.W.Write.contents c.args.writer.now) (g.W.Write.contents c.loop-number.writer) n
+    (ap (flat_map (sending_text c.args.world.now c.args.node))
     (unsent_here c.args.interface.now c.args.buffer c.args.commit c.journal-journal.ensures.legal c.requires.there n e later there (sym c.is_commit_on.ensures ∙ c.if-is_commit_on.true)))
     c.loop-number.invariant.written
 
@@ -59,8 +59,8 @@ loop-number-preserved g c =
     record {
       cycle = begun;
       written =
-          goes_on (sendings_by k) sending_text es (sendings_text es k) (g.W.Write.contents c.args.writer.now) now mid n e there c.loop-number.invariant.written
-          (subst (λ (t : List ℕ). Appends now mid t) (handed_is k (c.begun_with-begun.result - 1) (take n es) e cycle) c.in_ok-write_handed.ensures);
+          goes_on (sendings_by k) (sending_text c.args.world.now c.args.node) es (sendings_text c.args.world.now c.args.node es k) (g.W.Write.contents c.args.writer.now) now mid n e there c.loop-number.invariant.written
+          (subst (λ (t : List ℕ). Appends now mid t) (handed_is c.args.world.now c.args.node k (c.begun_with-begun.result - 1) (take n es) e cycle) c.in_ok-write_handed.ensures);
     }
 
 pub returns : goal.returns
@@ -68,5 +68,5 @@ returns g c =
     let es = c.args.interface.now.entries in
     let n : ℕ = c.loop-number.number in
     let le : length es ≤ n = omega (arith, c.loop-number-test.false, c.len-end.ensures.value, ap (length {A = _}) c.journal-journal.ensures.entries) in
-    ends_behind (sendings_by c.args.commit) sending_text es (sendings_text es c.args.commit) (g.W.Write.contents c.args.writer.now) (g.W.Write.contents c.loop-number.writer) n le
+    ends_behind (sendings_by c.args.commit) (sending_text c.args.world.now c.args.node) es (sendings_text c.args.world.now c.args.node es c.args.commit) (g.W.Write.contents c.args.writer.now) (g.W.Write.contents c.loop-number.writer) n le
     c.loop-number.invariant.written
