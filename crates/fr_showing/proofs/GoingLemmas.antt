@@ -99,9 +99,9 @@ module _ {X A : Type 0} (f : List X → X → List A) (text : A → List ℕ) (x
       → Appends now mid (flat_map text (f (take n xs) x)) → IsWritten all old mid (n + 1)
   goes_on all old now mid n x is so_far one = record {
     then_all = λ new more.
-    so_far.then_all new (
-    subst (λ (t : List ℕ). Appends now new t) (sym (text_here n x is))
-    (Appends-trans now mid new (flat_map text (f (take n xs) x)) (text_left (n + 1)) one more));
+        so_far.then_all new (
+        subst (λ (t : List ℕ). Appends now new t) (sym (text_here n x is))
+        (Appends-trans now mid new (flat_map text (f (take n xs) x)) (text_left (n + 1)) one more));
   }
 
   -- where nothing is left to be written, all is written

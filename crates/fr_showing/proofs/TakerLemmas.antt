@@ -62,10 +62,10 @@ pub goes_on : (first : Bool) (all : List Taker) (old now mid : Option (List ℕ)
     → Appends now mid (after_commas any part) → then ≡ (any || is_any part) → IsGoing first all old now any left → IsGoing first all old mid then rest
 goes_on first all old now mid any then left part rest cut one then_is so_far = record {
   then_all = λ new more.
-  so_far.then_all new (
-  subst (λ (t : List ℕ). Appends now new t) (sym (ap (after_commas any) cut ∙ commas-append any part rest))
-  (Appends-trans now mid new (after_commas any part) (after_commas (any || is_any part) rest) one
-  (subst (λ (b : Bool). Appends mid new (after_commas b rest)) then_is more)));
+      so_far.then_all new (
+      subst (λ (t : List ℕ). Appends now new t) (sym (ap (after_commas any) cut ∙ commas-append any part rest))
+      (Appends-trans now mid new (after_commas any part) (after_commas (any || is_any part) rest) one
+      (subst (λ (b : Bool). Appends mid new (after_commas b rest)) then_is more)));
   same_any =
       ap (λ (b : Bool). b || is_any rest) then_is ∙ sym (or_assoc any (is_any part) (is_any rest)) ∙ ap (λ (b : Bool). any || b) (sym (ap is_any cut ∙ any-append part rest))
       ∙ so_far.same_any;

@@ -13,8 +13,10 @@ use Rattle.fr_playing.specs.declared.error.PlayError.{PlayError}
 use Rattle.fr_playing.specs.declared.play.Played.{Played}
 use Rattle.fr_schedule.specs.Descriptions.{Description}
 use Rattle.fr_showing.specs.AnswerText.{answer_line}
-use Rattle.fr_showing.specs.declared.shown.Shown.TheVariants.{Outcome, Answers, Trace}
+use Rattle.fr_showing.specs.CommitText.{commit_line, commits}
+use Rattle.fr_showing.specs.declared.shown.Shown.TheVariants.{Outcome, Answers, Commits, Record, Trace}
 use Rattle.fr_showing.specs.declared.shown.Shown.{Shown}
+use Rattle.fr_showing.specs.RecordText.{record_text}
 use Rattle.fr_trace.specs.TraceText.{trace_text}
 
 -- ---- the texts
@@ -23,6 +25,8 @@ use Rattle.fr_trace.specs.TraceText.{trace_text}
 abbrev pub shown_text : Shown → Played → Option (List ℕ)
 shown_text Outcome played = Some (outcome_text played.world.interfaces (length played.world.bus.sealed))
 shown_text Answers played = Some (flat_map (answer_line played.world) played.calls.items)
+shown_text Commits played = Some (flat_map (commit_line played.world) (commits played.world))
+shown_text Record played = Some (record_text played.world.bus.cluster.params played.world.bus.sealed)
 shown_text (Trace node) played = option_map (trace_text Three) (slice_get played.world.interfaces node)
 
 -- ---- what is written

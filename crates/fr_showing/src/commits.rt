@@ -245,7 +245,15 @@ fn write_commit<W: Write>(
     write_made(writer, commit)?;
     write!(writer, " = ")?;
     let (node, buffer) = (commit.node, commit.buffer);
-    write_became(writer, world, node, interface, buffer, commit.entry, commit.cycle)?;
+    write_became(
+        writer,
+        world,
+        node,
+        interface,
+        buffer,
+        commit.entry,
+        commit.cycle,
+    )?;
     writeln!(writer)
 }
 

@@ -43,7 +43,11 @@ pub(crate) fn begun_with(begun: u32, entry: &LentEntry<'_>) -> u32
     ensures { result ≡ begun + (if begins_cycle_at (whole entry.now) then 1 else 0) }
 {
     match entry {
-        LentEntry::Fetch { window, .. } => if opens_cycle(window) { begun + 1 } else { begun },
+        LentEntry::Fetch { window, .. } => if opens_cycle(window) {
+            begun + 1
+        } else {
+            begun
+        },
         _ => begun,
     }
 }
