@@ -1,12 +1,13 @@
 -- Lists along which the code goes: what was passed, what is here, and what is left to be written.
 use Rattle.std.proofs.Common.{◌≡◌, ℕ, zero, suc, ◌+◌, ◌≤◌, ◌<◌, List, [], ◌∷◌, ◌++◌, length, take, drop, Option, Some, None}
-use Rattle.std.proofs.Common.{refl, sym, ap, subst, ◌∙◌, append-nil, arith}
+use Rattle.std.proofs.Common.{get_or, refl, sym, ap, subst, ◌∙◌, append-nil, arith}
 use Rattle.std.specs.Prelude.{slice_get}
 use Rattle.std.specs.Io.KnownBytes.{Appends}
 use Rattle.std.specs.List.{flat_map, range_with_len}
 use Rattle.std.proofs.KnownBytes.{Appends-trans, Appends-nil}
 use Rattle.std.proofs.lemmas.Grind.{flat_map-append}
 use Rattle.std.proofs.lemmas.List.{append_assoc}
+use Rattle.std.proofs.lemmas.Option.{slice_get_read}
 use Rattle.fr_slots.specs.History.{AllAfter, each_after}
 
 -- ---- a place in a list
@@ -98,9 +99,9 @@ module _ {X A : Type 0} (f : List X → X → List A) (text : A → List ℕ) (x
       → Appends now mid (flat_map text (f (take n xs) x)) → IsWritten all old mid (n + 1)
   goes_on all old now mid n x is so_far one = record {
     then_all = λ new more.
-    so_far.then_all new (
-    subst (λ (t : List ℕ). Appends now new t) (sym (text_here n x is))
-    (Appends-trans now mid new (flat_map text (f (take n xs) x)) (text_left (n + 1)) one more));
+        so_far.then_all new (
+        subst (λ (t : List ℕ). Appends now new t) (sym (text_here n x is))
+        (Appends-trans now mid new (flat_map text (f (take n xs) x)) (text_left (n + 1)) one more));
   }
 
   -- where nothing is left to be written, all is written
@@ -132,3 +133,8 @@ one_list_more text f n old mid new before more =
     ∙ ap (λ (l : List _). flat_map f (range_with_len 0 n) ++ l) (append-nil (f (0 + n)) ∙ ap f place) in
     subst (λ (t : List ℕ). Appends old new t) (sym (ap (flat_map text) all ∙ flat_map-append text (flat_map f (range_with_len 0 n)) (f n)))
     (Appends-trans old mid new (flat_map text (flat_map f (range_with_len 0 n))) (flat_map text (f n)) before more)
+
+-- ---- an element that a loop has
+
+pub left_here : {X : Type 0} (xs : List X) (n : ℕ) (x : X) → n < length xs → x ≡ get_or xs n x → drop n xs ≡ x ∷ drop (n + 1) xs
+left_here xs n x lt is = (here xs n x (slice_get_read xs (length xs) n x refl lt is)).left

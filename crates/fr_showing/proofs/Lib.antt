@@ -1,4 +1,8 @@
+pub mod CommitLemmas
 pub mod DecidedLemmas
 pub mod FateLemmas
 pub mod GoingLemmas
+pub mod PartLemmas
+pub mod RecordLemmas
 pub mod ShowLemmas
+pub mod TakerLemmas

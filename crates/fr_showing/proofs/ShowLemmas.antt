@@ -10,7 +10,7 @@ use Rattle.fr_playing.specs.declared.play.Played.{Played}
 use Rattle.fr_playing.specs.Files.{IsPlayOf}
 use Rattle.fr_schedule.specs.Descriptions.{Description}
 use Rattle.fr_showing.specs.declared.shown.Shown.{Shown}
-use Rattle.fr_showing.specs.Shows.{Adds, Prints, Tells, shown_text}
+use Rattle.fr_showing.specs.Shows.{Adds, IsShown, LacksNode, Prints, Tells}
 
 -- a run that wasn't played isn't shown
 unshown : (d : Description) (cycles : ℕ) (shown : Shown) (text : List ℕ) (e : PlayError) → IsPlayOf d cycles text (Err e) → Tells d cycles shown text (Err e)
@@ -49,7 +49,7 @@ unwritten d cycles shown text old new (refusal.Text (bench.Midpoint e)) same = s
 
 -- a node that isn't there, or want of memory
 pub node_missing : (d : Description) (cycles : ℕ) (shown : Shown) (text : Option (List ℕ)) (played : Played) (e : PlayError) → IfSome text (λ t. IsPlayOf d cycles t (Ok played))
-    → (e ≡ refusal.Text bench.Memory) ⊎ ((e ≡ refusal.UnknownNode) × (shown_text shown played ≡ None)) → IfSome text (λ t. Tells d cycles shown t (Err e))
+    → (e ≡ refusal.Text bench.Memory) ⊎ ((e ≡ refusal.UnknownNode) × LacksNode shown played) → IfSome text (λ t. Tells d cycles shown t (Err e))
 node_missing d cycles shown None played e is why = tt
 node_missing d cycles shown (Some t) played e is (inl memory) = subst (λ (x : PlayError). Tells d cycles shown t (Err x)) (sym memory) tt
 node_missing d cycles shown (Some t) played e is (inr (unknown, none)) =
@@ -57,7 +57,7 @@ node_missing d cycles shown (Some t) played e is (inr (unknown, none)) =
 
 -- the text of the run was written
 pub shown_of : (d : Description) (cycles : ℕ) (shown : Shown) (text old new : Option (List ℕ)) (played : Played) (written : List ℕ)
-    → IfSome text (λ t. IsPlayOf d cycles t (Ok played)) → shown_text shown played ≡ Some written → Appends old new written → IfSome text (Adds d cycles shown old new)
+    → IfSome text (λ t. IsPlayOf d cycles t (Ok played)) → IsShown shown played written → Appends old new written → IfSome text (Adds d cycles shown old new)
 shown_of d cycles shown None old new played written is of_run added = tt
 shown_of d cycles shown (Some t) old new played written is of_run added = (played, written, is.1, of_run, added)
 

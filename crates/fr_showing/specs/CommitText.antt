@@ -1,7 +1,8 @@
 -- The commits of a run, each with what became of it (own profile).
-use Rattle.std.specs.Prelude.{ℕ, List, [], ◌∷◌, ◌++◌, codes, length}
+use Rattle.std.specs.Prelude.{ℕ, List, [], ◌∷◌, ◌++◌, codes, length, slice_get, Option, Some}
 use Rattle.std.specs.Fmt.{decimal}
 use Rattle.std.specs.List.{flat_map, range_with_len}
+use Rattle.fr_bus.specs.Record.{Recorded}
 use Rattle.fr_core.specs.Worlds.{WorldState, interface_at}
 use Rattle.fr_journal.specs.declared.entry.Entry.{Entry}
 use Rattle.fr_journal.specs.declared.entry.Entry.TheVariants.{Commit, Withdraw, Read, Pop, Fetch, Observe}
@@ -9,8 +10,13 @@ use Rattle.fr_lines.specs.Parts.{optional_number}
 use Rattle.fr_lines.specs.Spelling.{line_text}
 use Rattle.fr_showing.specs.declared.fates.Became.{Became}
 use Rattle.fr_showing.specs.declared.fates.Became.TheVariants.{Sent, Withdrawn, Overwritten, Pending}
+use Rattle.fr_showing.specs.declared.ends.End.{End}
+use Rattle.fr_showing.specs.declared.ends.End.TheVariants.{Alone, Turned}
 use Rattle.fr_showing.specs.declared.fates.Sending.{Sending}
+use Rattle.fr_showing.specs.declared.takers.Taker.{Taker}
+use Rattle.fr_showing.specs.Ends.{ended_word, offer_end}
 use Rattle.fr_showing.specs.Fates.{became, cycles_of, sendings}
+use Rattle.fr_showing.specs.Takers.{takers_in, takers_word}
 use Rattle.fr_slots.specs.Admission.{letter_of}
 use Rattle.fr_slots.specs.History.{each_after}
 use Rattle.fr_slots.specs.Windows.{slot_of}
@@ -55,35 +61,65 @@ commits_in w node = each_after (commit_by node) [] (entries_at w node)
 abbrev pub commits : WorldState → List Committed
 commits w = flat_map (commits_in w) (range_with_len 0 (length w.interfaces))
 
--- ---- what became of them
+-- ---- where they were sent
 
--- a cycle of the run, the slot and the channel
-abbrev pub sending_words : Sending → List (List ℕ)
-sending_words s = decimal s.cycle ∷ optional_number (slot_of s.window s.channel) ∷ letter_of s.channel ∷ []
+-- the recorded window of a sending
+abbrev pub recorded_of : WorldState → Sending → Option Recorded
+recorded_of w s = slice_get w.bus.sealed s.window.number
+
+-- how the node's offer ended there
+abbrev pub end_in : WorldState → ℕ → Sending → Option End
+end_in w node s = offer_end w.bus.cluster.params (recorded_of w s) s.channel node
+
+-- What is taken of a transmission that didn't pass alone is nothing.
+abbrev pub takers_by : Option End → List Taker → List Taker
+takers_by (Some Alone) takers = takers
+takers_by (Some Turned) takers = takers
+takers_by end takers = []
+
+-- what took it, where it ended so
+unfoldable pub taken_text : WorldState → Sending → Option End → List ℕ
+taken_text w s end =
+    takers_word (takers_by end (takers_in w.bus.cluster.params w.interfaces (recorded_of w s) s.channel))
+
+-- a cycle of the run, the slot and the channel, how it ended there, and what took it
+abbrev pub sending_words : WorldState → ℕ → Sending → List (List ℕ)
+sending_words w node s =
+    decimal s.cycle ∷ optional_number (slot_of s.window s.channel) ∷ letter_of s.channel ∷ ended_word (end_in w node s)
+    ∷ taken_text w s (end_in w node s)
+    ∷ []
 
 -- after a space
-abbrev pub sending_text : Sending → List ℕ
-sending_text s = 32 ∷ line_of (sending_words s)
+unfoldable pub sending_text : WorldState → ℕ → Sending → List ℕ
+sending_text w node s = 32 ∷ line_of (sending_words w node s)
 
-abbrev pub sendings_text : List Entry → ℕ → List ℕ
-sendings_text entries commit = flat_map sending_text (sendings entries commit)
+abbrev pub sendings_text : WorldState → ℕ → List Entry → ℕ → List ℕ
+sendings_text w node entries commit = flat_map (sending_text w node) (sendings entries commit)
 
-abbrev pub became_text : List Entry → ℕ → Became → List ℕ
-became_text entries commit Sent = codes "sent" ++ sendings_text entries commit
-became_text entries commit (Withdrawn cycle entry) =
+-- ---- what became of them
+
+abbrev pub became_text : WorldState → ℕ → List Entry → ℕ → Became → List ℕ
+became_text w node entries commit Sent = codes "sent" ++ sendings_text w node entries commit
+became_text w node entries commit (Withdrawn cycle entry) =
     line_of (codes "withdrawn" ∷ decimal cycle ∷ decimal entry ∷ [])
-became_text entries commit (Overwritten cycle entry) =
+became_text w node entries commit (Overwritten cycle entry) =
     line_of (codes "overwritten" ∷ decimal cycle ∷ decimal entry ∷ [])
-became_text entries commit Pending = codes "pending"
+became_text w node entries commit Pending = codes "pending"
 
 -- ---- lines
 
-abbrev pub commit_words : List Entry → Committed → List (List ℕ)
-commit_words entries c =
-    decimal c.node ∷ decimal c.buffer ∷ decimal c.task ∷ decimal c.cycle ∷ decimal c.entry ∷ hex_text c.payload
-    ∷ codes "="
-    ∷ became_text entries c.entry (became c.buffer entries c.entry)
-    ∷ []
+-- the commit
+unfoldable pub made_text : Committed → List ℕ
+made_text c =
+    line_of (decimal c.node ∷ decimal c.buffer ∷ decimal c.task ∷ decimal c.cycle ∷ decimal c.entry ∷ hex_text c.payload
+    ∷ [])
+
+-- the commit, and what became of it by the entries of its journal
+abbrev pub line_in : WorldState → List Entry → Committed → List ℕ
+line_in w entries c =
+    line_text (made_text c ∷ codes "="
+    ∷ became_text w c.node entries c.entry (became c.buffer entries c.entry)
+    ∷ [])
 
 abbrev pub commit_line : WorldState → Committed → List ℕ
-commit_line w c = line_text (commit_words (entries_at w c.node) c)
+commit_line w c = line_in w (entries_at w c.node) c

@@ -1,15 +1,17 @@
 -- How a transmission ended (own profile).
-use Rattle.std.specs.Prelude.{ℕ, ◌/◌, nat_lt, Bool, false, List, length, count_by, Option, Some, None, if◌then◌else◌}
+use Rattle.std.specs.Prelude.{ℕ, ◌/◌, nat_lt, Bool, false, List, codes, length, count_by, Option, Some, None, option_map}
+use Rattle.std.specs.Prelude.{if◌then◌else◌}
+use Rattle.std.specs.List.{find}
 use Rattle.fr_bus.specs.declared.outcome.Fate.{Fate}
 use Rattle.fr_bus.specs.declared.outcome.Fate.TheVariants as fate
 use Rattle.fr_bus.specs.declared.outcome.Sent.{Sent}
 use Rattle.fr_bus.specs.Outcome.{overruns, passed_on}
-use Rattle.fr_bus.specs.Record.{Recorded, corrupt_on}
+use Rattle.fr_bus.specs.Record.{Recorded, corrupt_on, is_offer_of}
 use Rattle.fr_lines.specs.Parts.{absent}
 use Rattle.fr_showing.specs.declared.ends.End.{End}
 use Rattle.fr_showing.specs.declared.ends.End.TheVariants.{Alone, Turned, Overrun, Collided, Muted, Blocked}
+use Rattle.fr_slots.specs.declared.channel.Channel.{Channel}
 use Rattle.fr_slots.specs.Parameters.{Parameters}
-use Rattle.std.specs.Prelude.{codes}
 
 -- the bit that is to be turned is one of these bytes
 abbrev pub is_turned : Option ℕ → List ℕ → Bool
@@ -36,6 +38,11 @@ end_by fate.Muted p r t = Muted
 abbrev pub end_of : Parameters → Recorded → Sent → End
 end_of p r t = end_by t.fate p r t
 
+-- how the node's offer on the channel ended, if there was one in the window, and the record has the window
+abbrev pub offer_end : Parameters → Option Recorded → Channel → ℕ → Option End
+offer_end p None channel node = None
+offer_end p (Some r) channel node = option_map (end_of p r) (find (is_offer_of channel node) r.sent)
+
 abbrev pub end_word : End → List ℕ
 end_word Alone = codes "alone"
 end_word Turned = codes "turned"
@@ -43,3 +50,7 @@ end_word Overrun = codes "overrun"
 end_word Collided = codes "collided"
 end_word Muted = codes "muted"
 end_word Blocked = codes "blocked"
+
+abbrev pub ended_word : Option End → List ℕ
+ended_word None = absent
+ended_word (Some end) = end_word end

@@ -1,6 +1,10 @@
 pub mod AnswerText
 pub mod CommitSteps
 pub mod CommitText
+pub mod Ends
 pub mod FateSteps
 pub mod Fates
+pub mod RecordText
 pub mod Shows
+pub mod TakerSteps
+pub mod Takers

@@ -16,8 +16,8 @@ use fr_playing::nodes::interface_of;
 use fr_slots::channel::Channel;
 use fr_slots::numbers::NodeId;
 use fr_text::hexes::write_hex;
-use std::io::Write;
 use std::io;
+use std::io::Write;
 
 /// Where the frame of a read or a pop came from.
 fn origin_of(entry: &Entry) -> Option<Origin>

@@ -1,16 +1,20 @@
 //! The commits of a run, each with what became of it.
 ghost use Rattle.std.specs.Prelude.{◌≡◌, ◌-◌, true, take, slice_get, IsSomeAnd, Some};
 ghost use Rattle.std.specs.List.{flat_map};
+ghost use Rattle.fr_frame.specs.Payload.{IsPayload};
 ghost use Rattle.fr_journal.specs.Fate.{is_commit_on};
-ghost use Rattle.fr_journal.specs.Lent.{whole};
-ghost use Rattle.fr_showing.specs.CommitText.{became_text, commit_line, commits};
-ghost use Rattle.fr_showing.specs.CommitText.{commit_words, sending_text, sendings_text};
-ghost use Rattle.fr_showing.specs.CommitSteps.{entry_text, handed_text, node_text};
+ghost use Rattle.fr_journal.specs.Lent.{whole, HasPayload};
+ghost use Rattle.fr_showing.specs.CommitSteps.{committed, entry_text, handed_text, is_takeable, node_text};
+ghost use Rattle.fr_showing.specs.CommitText.{became_text, commit_line, commits, end_in, line_in, made_text};
+ghost use Rattle.fr_showing.specs.CommitText.{recorded_of, sending_text, sendings_text, taken_text};
 ghost use Rattle.fr_showing.specs.Fates.{became, cycles_of, sending_if};
-ghost use Rattle.fr_lines.specs.Spelling.{line_text};
+ghost use Rattle.fr_showing.specs.Takers.{takers_in, takers_word};
 ghost use Rattle.fr_text.specs.Writing.{Writes};
 
-use crate::fates::{Became, Sending, became, begun_with, is_commit_on, is_data_of};
+use crate::ends::{End, ended_word, offer_end, sealed_at};
+use crate::fates::{Became, Sending, became_of, begun_with, is_commit_on, is_data_of};
+use crate::parts::{interfaces_of, params_of};
+use crate::takers::write_takers;
 use fr_core::world::World;
 use fr_interface::interface::Interface;
 use fr_journal::entry::Offered;
@@ -18,11 +22,9 @@ use fr_journal::lent::LentEntry;
 use fr_lines::writing::write_slot;
 use fr_slots::channel::Channel;
 use fr_slots::numbers::TaskId;
-use fr_slots::window::Window;
 use fr_text::hexes::write_hex;
 use std::io;
 use std::io::Write;
-use std::marker::Model;
 
 /// A commit of a journal.
 #[derive(Clone, Copy)]
@@ -41,117 +43,172 @@ struct Commitment<'a> {
     payload: &'a [u8],
 }
 
-impl<'a> Model for Commitment<'a> {
-    ghost use Rattle.fr_showing.specs.CommitText.{Committed};
-
-    ghost Value = { Committed };
-
-    ghost view = { λ c. record {
-      node = c.node;
-      buffer = c.buffer;
-      task = c.task;
-      cycle = c.cycle;
-      entry = c.entry;
-      payload = c.payload.now;
-    } };
+/// How the node's offer ended where it was sent.
+fn end_in(world: &World, node: usize, sending: &Sending) -> Option<End>
+    ensures { result ≡ end_in world.now node sending.now }
+{
+    let (record, window) = (world.bus().record(), sending.window.number);
+    offer_end(params_of(world), record, window, sending.channel, node)
 }
 
-/// Writes a space, and where the commit was sent.
-fn write_sending<W: Write>(writer: &mut W, sending: &Sending) -> io::Result<()>
-    ensures { Writes W.contents writer.old writer.new result (sending_text sending.now) }
+/// Whether what ended so can be taken.
+fn is_takeable(end: Option<End>) -> bool
+    ensures { result ≡ is_takeable end }
 {
+    matches!(end, Some(End::Alone | End::Turned))
+}
+
+/// Writes what took a transmission that passed alone, or a dash.
+fn write_takers_of<W: Write>(writer: &mut W, world: &World, sending: &Sending) -> io::Result<()>
+    ensures { Writes W.contents writer.old writer.new result
+        (takers_word (takers_in world.now.bus.cluster.params world.now.interfaces
+        (recorded_of world.now sending.now) sending.now.channel)) }
+{
+    match sealed_at(world.bus().record(), sending.window.number as usize) {
+        Some(sealed) => {
+            let (params, interfaces) = (params_of(world), interfaces_of(world));
+            write_takers(writer, params, interfaces, sealed, sending.channel)
+        }
+        None => write!(writer, "-"),
+    }
+}
+
+/// Writes what took a transmission that ended so, or a dash.
+fn write_taken<W: Write>(
+    writer: &mut W,
+    world: &World,
+    sending: &Sending,
+    end: Option<End>,
+) -> io::Result<()>
+    ensures { Writes W.contents writer.old writer.new result (taken_text world.now sending.now end) }
+{
+    if is_takeable(end) {
+        write_takers_of(writer, world, sending)
+    } else {
+        write!(writer, "-")
+    }
+}
+
+/// Writes a space, and where the node's commit was sent.
+#[tactic(auto, unfolding(crate::specs::CommitText::sending_text))]
+fn write_sending<W: Write>(
+    writer: &mut W,
+    world: &World,
+    node: usize,
+    sending: &Sending,
+) -> io::Result<()>
+    ensures { Writes W.contents writer.old writer.new result (sending_text world.now node sending.now) }
+{
+    let end = end_in(world, node, sending);
     write!(writer, " {}", sending.cycle)?;
     write_slot(writer, sending.window.slot(sending.channel))?;
-    write!(writer, " {}", sending.channel)
+    write!(writer, " {} {} ", sending.channel, ended_word(end))?;
+    write_taken(writer, world, sending, end)
 }
 
 /// The same, where the commit is what was offered on the channel.
 fn write_if_sent<W: Write>(
     writer: &mut W,
+    world: &World,
+    node: usize,
     commit: u32,
-    cycle: u32,
-    window: &Window,
-    channel: Channel,
     offered: Offered,
+    sending: &Sending,
 ) -> io::Result<()>
     ensures { Writes W.contents writer.old writer.new result
-        (flat_map sending_text (sending_if commit cycle window.now channel offered)) }
+        (flat_map (sending_text world.now node)
+        (sending_if commit sending.now.cycle sending.now.window sending.now.channel offered)) }
 {
     if is_data_of(commit, offered) {
-        let sending = Sending {
-            cycle,
-            window: *window,
-            channel,
-        };
-        write_sending(writer, &sending)
+        write_sending(writer, world, node, sending)
     } else {
         Ok(())
     }
 }
 
-/// Writes where the entry hands the commit to the bus, if it does. So many cycles began up to it and with it.
+/// Writes where the entry hands the node's commit to the bus, if it does. So many cycles began up to it and with it.
 fn write_handed<W: Write>(
     writer: &mut W,
+    world: &World,
+    node: usize,
     commit: u32,
     begun: u32,
     entry: &LentEntry<'_>,
 ) -> io::Result<()>
-    ensures { Writes W.contents writer.old writer.new result (handed_text commit (begun - 1) (whole entry.now)) }
+    ensures { Writes W.contents writer.old writer.new result
+        (handed_text world.now node commit (begun - 1) (whole entry.now)) }
 {
     match entry {
         LentEntry::Fetch { window, a, b } => {
-            let cycle = begun.saturating_sub(1);
-            write_if_sent(writer, commit, cycle, window, Channel::A, *a)?;
-            write_if_sent(writer, commit, cycle, window, Channel::B, *b)
+            let (cycle, window) = (begun.saturating_sub(1), *window);
+            let on_a = Sending {
+                cycle,
+                window,
+                channel: Channel::A,
+            };
+            let on_b = Sending {
+                cycle,
+                window,
+                channel: Channel::B,
+            };
+            write_if_sent(writer, world, node, commit, *a, &on_a)?;
+            write_if_sent(writer, world, node, commit, *b, &on_b)
         }
         _ => Ok(()),
     }
 }
 
-/// Writes where the commit was sent. After the next commit on its buffer a legal journal sends it no more.
+/// Writes where the commit on the buffer was sent, before which so many cycles began. After the next commit on its
+/// buffer a legal journal sends it no more.
 fn write_sendings<W: Write>(
     writer: &mut W,
+    world: &World,
+    node: usize,
     interface: &Interface,
-    commit: &Commitment<'_>,
+    buffer: u8,
+    commit: u32,
+    begun: u32,
 ) -> io::Result<()>
-    requires there { IsSomeAnd (slice_get interface.now.entries commit.now.entry)
-        (λ e. is_commit_on commit.now.buffer e ≡ true) }
-    requires cycle { commit.now.cycle ≡ cycles_of (take commit.now.entry interface.now.entries) }
+    requires there { IsSomeAnd (slice_get interface.now.entries commit) (λ e. is_commit_on buffer e ≡ true) }
+    requires cycle { begun ≡ cycles_of (take commit interface.now.entries) }
     ensures { Writes W.contents writer.old writer.new result
-        (sendings_text interface.now.entries commit.now.entry) }
+        (sendings_text world.now node interface.now.entries commit) }
 {
     let journal = interface.journal();
-    let mut begun = commit.cycle;
-    for number in commit.entry + 1..journal.len() {
+    let end = journal.len();
+    let mut begun = begun;
+    for number in commit + 1..end {
         let Some(entry) = journal.lent(number) else {
             return Ok(());
         };
-        if is_commit_on(commit.buffer, &entry) {
+        if is_commit_on(buffer, &entry) {
             return Ok(());
         }
         begun = begun_with(begun, &entry);
-        write_handed(writer, commit.entry, begun, &entry)?;
+        write_handed(writer, world, node, commit, begun, &entry)?;
     }
     Ok(())
 }
 
-/// Writes what became of the commit.
+/// Writes what became of the commit on the buffer, before which so many cycles began.
 fn write_became<W: Write>(
     writer: &mut W,
+    world: &World,
+    node: usize,
     interface: &Interface,
-    commit: &Commitment<'_>,
+    buffer: u8,
+    commit: u32,
+    begun: u32,
 ) -> io::Result<()>
-    requires there { IsSomeAnd (slice_get interface.now.entries commit.now.entry)
-        (λ e. is_commit_on commit.now.buffer e ≡ true) }
-    requires cycle { commit.now.cycle ≡ cycles_of (take commit.now.entry interface.now.entries) }
+    requires there { IsSomeAnd (slice_get interface.now.entries commit) (λ e. is_commit_on buffer e ≡ true) }
+    requires cycle { begun ≡ cycles_of (take commit interface.now.entries) }
     ensures { Writes W.contents writer.old writer.new result
-        (became_text interface.now.entries commit.now.entry
-        (became commit.now.buffer interface.now.entries commit.now.entry)) }
+        (became_text world.now node interface.now.entries commit (became buffer interface.now.entries commit)) }
 {
-    match became(interface, commit.buffer, commit.entry, commit.cycle) {
+    match became_of(interface, buffer, commit, begun) {
         Became::Sent => {
             write!(writer, "sent")?;
-            write_sendings(writer, interface, commit)
+            write_sendings(writer, world, node, interface, buffer, commit, begun)
         }
         Became::Withdrawn { cycle, entry } => write!(writer, "withdrawn {cycle} {entry}"),
         Became::Overwritten { cycle, entry } => write!(writer, "overwritten {cycle} {entry}"),
@@ -159,40 +216,62 @@ fn write_became<W: Write>(
     }
 }
 
-/// Writes the line of the commit.
-fn write_commit<W: Write>(
-    writer: &mut W,
-    interface: &Interface,
-    commit: &Commitment<'_>,
-) -> io::Result<()>
-    requires there { IsSomeAnd (slice_get interface.now.entries commit.now.entry)
-        (λ e. is_commit_on commit.now.buffer e ≡ true) }
-    requires cycle { commit.now.cycle ≡ cycles_of (take commit.now.entry interface.now.entries) }
-    ensures { Writes W.contents writer.old writer.new result
-        (line_text (commit_words interface.now.entries commit.now)) }
+/// Writes what a line begins with: what the commit was.
+#[tactic(auto, unfolding(crate::specs::CommitText::made_text))]
+fn write_made<W: Write>(writer: &mut W, commit: &Commitment<'_>) -> io::Result<()>
+    requires { IsPayload commit.now.payload.now }
+    ensures { Writes W.contents writer.old writer.new result (made_text (committed commit.now)) }
 {
     let (node, buffer, task) = (commit.node, commit.buffer, commit.task.number());
     write!(writer, "{node} {buffer} {task} ")?;
     write!(writer, "{} {} ", commit.cycle, commit.entry)?;
-    write_hex(writer, commit.payload)?;
+    write_hex(writer, commit.payload)
+}
+
+/// Writes the line of the commit.
+fn write_commit<W: Write>(
+    writer: &mut W,
+    world: &World,
+    interface: &Interface,
+    commit: &Commitment<'_>,
+) -> io::Result<()>
+    requires payload { IsPayload commit.now.payload.now }
+    requires there { IsSomeAnd (slice_get interface.now.entries commit.now.entry)
+        (λ e. is_commit_on commit.now.buffer e ≡ true) }
+    requires cycle { commit.now.cycle ≡ cycles_of (take commit.now.entry interface.now.entries) }
+    ensures { Writes W.contents writer.old writer.new result
+        (line_in world.now interface.now.entries (committed commit.now)) }
+{
+    write_made(writer, commit)?;
     write!(writer, " = ")?;
-    write_became(writer, interface, commit)?;
+    let (node, buffer) = (commit.node, commit.buffer);
+    write_became(
+        writer,
+        world,
+        node,
+        interface,
+        buffer,
+        commit.entry,
+        commit.cycle,
+    )?;
     writeln!(writer)
 }
 
 /// Writes the line of the entry, if it is a commit. So many cycles began before it.
 fn write_entry<W: Write>(
     writer: &mut W,
+    world: &World,
     node: usize,
     interface: &Interface,
     begun: u32,
     number: u32,
     entry: &LentEntry<'_>,
 ) -> io::Result<()>
+    requires payload { HasPayload entry.now }
     requires there { slice_get interface.now.entries number ≡ Some (whole entry.now) }
     requires cycle { begun ≡ cycles_of (take number interface.now.entries) }
     ensures { Writes W.contents writer.old writer.new result
-        (entry_text node interface.now.entries begun number (whole entry.now)) }
+        (entry_text world.now node interface.now.entries begun number (whole entry.now)) }
 {
     match entry {
         LentEntry::Commit {
@@ -208,15 +287,20 @@ fn write_entry<W: Write>(
                 entry: number,
                 payload: *payload,
             };
-            write_commit(writer, interface, &commit)
+            write_commit(writer, world, interface, &commit)
         }
         _ => Ok(()),
     }
 }
 
 /// Writes the lines of the node's commits.
-fn write_node<W: Write>(writer: &mut W, node: usize, interface: &Interface) -> io::Result<()>
-    ensures { Writes W.contents writer.old writer.new result (node_text node interface.now.entries) }
+fn write_node<W: Write>(
+    writer: &mut W,
+    world: &World,
+    node: usize,
+    interface: &Interface,
+) -> io::Result<()>
+    ensures { Writes W.contents writer.old writer.new result (node_text world.now node interface.now.entries) }
 {
     let journal = interface.journal();
     let mut begun = 0;
@@ -224,7 +308,7 @@ fn write_node<W: Write>(writer: &mut W, node: usize, interface: &Interface) -> i
         let Some(entry) = journal.lent(number) else {
             return Ok(());
         };
-        write_entry(writer, node, interface, begun, number, &entry)?;
+        write_entry(writer, world, node, interface, begun, number, &entry)?;
         begun = begun_with(begun, &entry);
     }
     Ok(())
@@ -233,7 +317,8 @@ fn write_node<W: Write>(writer: &mut W, node: usize, interface: &Interface) -> i
 /// Writes a line for each commit of each node's journal, in the order of the nodes and of the entries (own profile):
 /// the node, the buffer, the task, the cycle of the run, the entry, the payload, `=`, and what became of it. That is
 /// `pending`; `withdrawn` or `overwritten`, with the cycle and the entry that did it; or `sent`, and then for each time
-/// and each channel on which it was handed to the bus the cycle of the run, the slot and the channel.
+/// and each channel on which it was handed to the bus the cycle of the run, the slot, the channel, how it ended there
+/// (`End`), and the receive buffers and queues that took it, in the order of the nodes, or a dash.
 ///
 /// Fails where the writer fails, and then a part of the text may have gone out.
 pub fn write_commits<W: Write>(writer: &mut W, world: &World) -> io::Result<()>
@@ -241,7 +326,7 @@ pub fn write_commits<W: Write>(writer: &mut W, world: &World) -> io::Result<()>
 {
     let interfaces = world.interfaces();
     for node in 0..interfaces.len() {
-        write_node(writer, node, &interfaces[node])?;
+        write_node(writer, world, node, &interfaces[node])?;
     }
     Ok(())
 }

@@ -1,8 +1,9 @@
 //! How transmissions ended.
-ghost use Rattle.std.specs.Prelude.{◌≡◌, ◌≤◌, count_by};
+ghost use Rattle.std.specs.Prelude.{◌≡◌, ◌≤◌, count_by, option_map, slice_get};
+ghost use Rattle.std.specs.List.{find};
 ghost use Rattle.fr_bus.specs.Outcome.{overruns, passed_on};
-ghost use Rattle.fr_bus.specs.Record.{corrupt_on};
-ghost use Rattle.fr_showing.specs.Ends.{end_alone, end_of, end_passed, end_word, is_turned};
+ghost use Rattle.fr_bus.specs.Record.{corrupt_on, is_offer_of};
+ghost use Rattle.fr_showing.specs.Ends.{end_alone, end_of, end_passed, end_word, ended_word, is_turned, offer_end};
 
 use fr_bus::outcome::{Fate, Sealed, Sent};
 use fr_slots::channel::Channel;
@@ -105,6 +106,64 @@ pub fn end_of(params: &Params, sealed: &Sealed, sent: &Sent) -> End
         Fate::Passed => end_passed(params, sealed, sent),
         Fate::Blocked => End::Blocked,
         Fate::Muted => End::Muted,
+    }
+}
+
+/// Whether it is the node's offer on the channel.
+fn is_offer_of(channel: Channel, node: usize, sent: &Sent) -> bool
+    ensures { result ≡ is_offer_of channel node sent.now }
+{
+    usize::from(sent.node.number()) == node && sent.channel == channel && !sent.babble
+}
+
+/// The node's offer on the channel, if it is among these.
+fn offer_of(channel: Channel, node: usize, sent: &[Sent]) -> Option<&Sent>
+    ensures { option_map (λ t. t.now) result ≡ find (is_offer_of channel node) sent.now }
+{
+    for t in sent {
+        if is_offer_of(channel, node, t) {
+            return Some(t);
+        }
+    }
+    None
+}
+
+/// The window at this place of the record.
+pub(crate) fn sealed_at(record: &[Sealed], place: usize) -> Option<&Sealed>
+    ensures { option_map (λ sealed. sealed.now) result ≡ slice_get record.now place }
+{
+    record.get(place)
+}
+
+/// The transmissions of the window.
+pub(crate) fn sent_in(sealed: &Sealed) -> &[Sent]
+    ensures { result.now ≡ sealed.now.sent }
+{
+    sealed.sent.as_slice()
+}
+
+/// How the node's offer on the channel ended in the window of this number, if there was one.
+pub(crate) fn offer_end(
+    params: &Params,
+    record: &[Sealed],
+    window: u32,
+    channel: Channel,
+    node: usize,
+) -> Option<End>
+    ensures { result ≡ offer_end params.now (slice_get record.now window) channel node }
+{
+    let sealed = sealed_at(record, window as usize)?;
+    let sent = offer_of(channel, node, sent_in(sealed))?;
+    Some(end_of(params, sealed, sent))
+}
+
+/// The word of how a transmission ended, if there was one.
+pub(crate) fn ended_word(end: Option<End>) -> &'static str
+    ensures { result.now ≡ ended_word end }
+{
+    match end {
+        Some(end) => end_word(end),
+        None => "-",
     }
 }
 

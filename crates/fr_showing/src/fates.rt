@@ -43,7 +43,11 @@ pub(crate) fn begun_with(begun: u32, entry: &LentEntry<'_>) -> u32
     ensures { result ≡ begun + (if begins_cycle_at (whole entry.now) then 1 else 0) }
 {
     match entry {
-        LentEntry::Fetch { window, .. } => if opens_cycle(window) { begun + 1 } else { begun },
+        LentEntry::Fetch { window, .. } => if opens_cycle(window) {
+            begun + 1
+        } else {
+            begun
+        },
         _ => begun,
     }
 }
@@ -98,14 +102,15 @@ fn is_pending(became: Became) -> bool
 /// What became of the commit of this number on the buffer, where so many cycles began before it. The first later entry
 /// that does something to it decides, since in a legal journal none does anything to it after that but to send it
 /// again.
-pub(crate) fn became(interface: &Interface, buffer: u8, commit: u32, begun: u32) -> Became
+pub(crate) fn became_of(interface: &Interface, buffer: u8, commit: u32, begun: u32) -> Became
     requires there { IsSomeAnd (slice_get interface.now.entries commit) (λ e. is_commit_on buffer e ≡ true) }
     requires cycle { begun ≡ cycles_of (take commit interface.now.entries) }
     ensures { result ≡ became buffer interface.now.entries commit }
 {
     let journal = interface.journal();
+    let end = journal.len();
     let mut begun = begun;
-    for number in commit + 1..journal.len() {
+    for number in commit + 1..end {
         let Some(entry) = journal.lent(number) else {
             return Became::Pending;
         };

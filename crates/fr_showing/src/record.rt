@@ -3,8 +3,8 @@ ghost use Rattle.std.specs.Prelude.{◌≡◌, ◌+◌, ◌<◌, ◌^◌, if◌t
 ghost use Rattle.std.specs.List.{flat_map};
 ghost use Rattle.fr_bus.specs.Record.{corrupt_on};
 ghost use Rattle.fr_bus.specs.Windows.{begins_cycle};
-ghost use Rattle.fr_showing.specs.RecordText.{bit_lines, bytes_line, fate_text, fate_word, frame_text, kind_word, minislot_word};
-ghost use Rattle.fr_showing.specs.RecordText.{place_text, record_text, sent_line, window_text};
+ghost use Rattle.fr_showing.specs.RecordText.{bit_lines, bytes_line, fate_text, fate_word, frame_text, kind_word};
+ghost use Rattle.fr_showing.specs.RecordText.{minislot_word, place_text, record_text, sent_line, window_text};
 ghost use Rattle.fr_text.specs.Writing.{Writes};
 
 use crate::ends::{corrupt_on, end_of, end_word};

@@ -4,15 +4,23 @@ ghost use Rattle.std.specs.List.{flat_map};
 ghost use Rattle.fr_commands.specs.declared.error.BenchError.TheVariants as bench;
 ghost use Rattle.fr_lines.specs.declared.versions.Version.TheVariants.{Three};
 ghost use Rattle.fr_outcome.specs.OutcomeText.{outcome_text};
-ghost use Rattle.fr_showing.specs.AnswerText.{answer_line};
 ghost use Rattle.fr_playing.specs.declared.error.PlayError.TheVariants as refusal;
-ghost use Rattle.fr_showing.specs.Shows.{shown_text};
+ghost use Rattle.fr_showing.specs.AnswerText.{answer_line};
+ghost use Rattle.fr_showing.specs.CommitText.{commit_line, commits};
+ghost use Rattle.fr_showing.specs.RecordText.{record_text};
+ghost use Rattle.fr_matrix.specs.Cells.{IsMatrix};
+ghost use Rattle.fr_showing.specs.Shows.{IsShown, LacksNode, LacksViewer};
 ghost use Rattle.fr_trace.specs.TraceText.{trace_text};
 
 use crate::answers::write_answers;
+use crate::commits::write_commits;
+use crate::parts::params_of;
+use crate::record::write_record;
 use fr_commands::error::BenchError;
 use fr_core::world::World;
 use fr_interface::interface::Interface;
+use fr_matrix::matrix::matrix_of;
+use fr_matrix::view::View;
 use fr_outcome::outcome_text::write_outcome;
 use fr_playing::error::PlayError;
 use fr_playing::nodes::interface_of;
@@ -28,6 +36,12 @@ pub enum Shown {
     Outcome,
     /// A line for each line of a script, with its answer.
     Answers,
+    /// A line for each commit, with what became of it.
+    Commits,
+    /// A line for each transmission and each turned bit of the bus's record.
+    Record,
+    /// A picture of what a channel carried, or of what a node saw there.
+    Matrix(View),
     /// The trace of this node, in version 3.
     Trace(NodeId),
 }
@@ -60,6 +74,56 @@ fn answers_in(alloc: Global, played: &Played) -> Result<Vec<u8>, PlayError>
     }
 }
 
+/// The commits of a run.
+fn commits_in(alloc: Global, world: &World) -> Result<Vec<u8>, PlayError>
+    ensures text { IfOk result (λ text. text.items ≡ flat_map (commit_line world.now) (commits world.now)) }
+    ensures refused { IfErr result (λ e. e ≡ refusal.Text bench.Memory) }
+{
+    let mut text = Vec::new(alloc);
+    match write_commits(&mut text, world) {
+        Ok(()) => Ok(text),
+        Err(_) => Err(PlayError::Text(BenchError::Memory)),
+    }
+}
+
+/// The bus's record.
+fn record_in(alloc: Global, world: &World) -> Result<Vec<u8>, PlayError>
+    ensures text { IfOk result (λ text. text.items
+        ≡ record_text world.now.bus.cluster.params world.now.bus.sealed) }
+    ensures refused { IfErr result (λ e. e ≡ refusal.Text bench.Memory) }
+{
+    let mut text = Vec::new(alloc);
+    match write_record(&mut text, params_of(world), world.bus()) {
+        Ok(()) => Ok(text),
+        Err(_) => Err(PlayError::Text(BenchError::Memory)),
+    }
+}
+
+/// The matrix of the record.
+fn drawn_in(alloc: Global, world: &World, view: &View) -> Result<Vec<u8>, PlayError>
+    ensures text { IfOk result (λ text.
+        IsMatrix world.now.bus.cluster.params view.now world.now.bus.sealed text.items) }
+    ensures refused { IfErr result (λ e. e ≡ refusal.Text bench.Memory) }
+{
+    match matrix_of(alloc, params_of(world), world.bus().record(), view) {
+        Ok(text) => Ok(text),
+        Err(_) => Err(PlayError::Text(BenchError::Memory)),
+    }
+}
+
+/// The matrix of the record, unless it is to be seen through the eyes of a node that isn't there.
+fn matrix_in(alloc: Global, world: &World, view: &View) -> Result<Vec<u8>, PlayError>
+    ensures text { IfOk result (λ text.
+        IsMatrix world.now.bus.cluster.params view.now world.now.bus.sealed text.items) }
+    ensures refused { IfErr result (λ e. (e ≡ refusal.Text bench.Memory)
+        ⊎ ((e ≡ refusal.UnknownNode) × LacksViewer view.now.node world.now)) }
+{
+    match view.node {
+        Some(node) if interface_of(world, node).is_none() => Err(PlayError::UnknownNode),
+        _ => drawn_in(alloc, world, view),
+    }
+}
+
 /// The trace of an interface.
 fn trace_in(alloc: Global, interface: &Interface) -> Result<Vec<u8>, PlayError>
     ensures text { IfOk result (λ text. text.items ≡ trace_text Three interface.now) }
@@ -77,13 +141,16 @@ fn trace_in(alloc: Global, interface: &Interface) -> Result<Vec<u8>, PlayError>
 /// Refused with `UnknownNode` where the cluster doesn't have the node that is to be shown, and with `Memory` where
 /// memory is refused.
 pub fn text_of(alloc: Global, shown: Shown, played: &Played) -> Result<Vec<u8>, PlayError>
-    ensures text { IfOk result (λ text. shown_text shown played.now ≡ Some text.items) }
+    ensures text { IfOk result (λ text. IsShown shown played.now text.items) }
     ensures refused { IfErr result (λ e. (e ≡ refusal.Text bench.Memory)
-        ⊎ ((e ≡ refusal.UnknownNode) × (shown_text shown played.now ≡ None))) }
+        ⊎ ((e ≡ refusal.UnknownNode) × LacksNode shown played.now)) }
 {
     match shown {
         Shown::Outcome => outcome_in(alloc, &played.world),
         Shown::Answers => answers_in(alloc, played),
+        Shown::Commits => commits_in(alloc, &played.world),
+        Shown::Record => record_in(alloc, &played.world),
+        Shown::Matrix(view) => matrix_in(alloc, &played.world, &view),
         Shown::Trace(node) => match interface_of(&played.world, node) {
             Some(interface) => trace_in(alloc, interface),
             None => Err(PlayError::UnknownNode),

@@ -1,0 +1,13 @@
+use Rattle.std.proofs.Common.{◌≡◌, take}
+use Rattle.fr_showing.proofs.GoingLemmas.{IsWritten}
+use Rattle.fr_showing.specs.CommitText.{sending_text, sendings_text}
+use Rattle.fr_showing.specs.Fates.{cycles_of, sendings_by}
+use Rattle.fr_showing.proofs.commits.write_sendings.Given as goal
+
+-- the sendings that are left are still to be written
+abbrev pub invariant-loop-number : goal.invariant-loop-number
+invariant-loop-number g l = record {
+  cycle : l.begun ≡ cycles_of (take l.number l.interface.entries);
+  written : IsWritten (sendings_by l.commit) (sending_text l.world l.node) l.interface.entries (sendings_text l.world l.node l.interface.entries l.commit)
+      (g.W.Write.contents l.fn.writer) (g.W.Write.contents l.writer) l.number;
+}

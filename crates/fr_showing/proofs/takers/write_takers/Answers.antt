@@ -1,0 +1,17 @@
+use Rattle.std.proofs.Common.{List, ℕ, false, sym, subst, ◌∙◌}
+use Rattle.std.specs.Prelude.{codes, OnOk}
+use Rattle.std.specs.Io.KnownBytes.{Appends}
+use Rattle.fr_showing.proofs.TakerLemmas.{no_word}
+use Rattle.fr_showing.specs.declared.takers.Taker.{Taker}
+use Rattle.fr_showing.specs.Takers.{after_commas, takers_from}
+use Rattle.fr_trace.proofs.WritingLemmas.{appends-last}
+use Rattle.fr_showing.proofs.takers.write_takers.Goals as goal
+
+pub returns-else-branch : goal.returns-else-branch
+returns-else-branch g c =
+    let ts : List Taker = takers_from c.args.params.now c.args.sealed.now c.args.channel 0 c.args.interfaces.now in
+    let old = g.W.Write.contents c.args.writer.now in
+    let mid = g.W.Write.contents c.write_nodes.new.writer in
+    let new = g.W.Write.contents c.write.new.self in
+    subst (λ (t : List ℕ). OnOk c.write.result (Appends old new t)) (no_word ts (sym c.in_ok-write_nodes.ensures.any ∙ c.if-branch.false))
+    (appends-last c.write.result old mid new (after_commas false ts) (codes "-") c.in_ok-write_nodes.ensures.text c.write.ensures.bytes)

@@ -1,0 +1,266 @@
+//! What took a transmission.
+ghost use Rattle.std.specs.Prelude.{◌≡◌, ◌≤◌, ◌||◌, ◌∷◌, [], false, length, IfOk, is_some};
+ghost use Rattle.std.specs.Option.{option_and_then};
+ghost use Rattle.fr_bus.specs.Record.{seen_by};
+ghost use Rattle.fr_journal.specs.Arrivals.{is_for_queue, takes_window};
+ghost use Rattle.fr_journal.specs.Held.{data_frame_seen, with_data};
+ghost use Rattle.fr_showing.specs.Takers.{after_commas, taker_if, takers_from, takers_of, takers_word};
+ghost use Rattle.fr_showing.specs.TakerSteps.{buffers_by, came_in, is_any, queue_takes_by, takes_by};
+ghost use Rattle.fr_slots.specs.declared.channel.Channel.TheVariants as on;
+ghost use Rattle.fr_text.specs.Writing.{Writes};
+ghost use Rattle.std.specs.List.{list_any};
+
+use fr_bus::outcome::Sealed;
+use fr_frame::lent::LentFrame;
+use fr_interface::interface::Interface;
+use fr_slots::channel::Channel;
+use fr_slots::numbers::NodeId;
+use fr_slots::params::Params;
+use fr_slots::plan::{Buffer, NodePlan, Queue};
+use fr_slots::window::Window;
+use fr_status::seen::Seen;
+use fr_status::status::lent_status_of;
+use std::io;
+use std::io::Write;
+
+/// A receive buffer of a node, or its queue.
+#[derive(Clone, Copy)]
+pub(crate) struct Taker {
+    /// The node.
+    pub(crate) node: NodeId,
+    /// The buffer, and none for the queue.
+    pub(crate) buffer: Option<usize>,
+}
+
+/// What a node sees of a window: whether a valid data frame came on channel A, and whether one came on B.
+#[derive(Clone, Copy)]
+struct Came {
+    a: bool,
+    b: bool,
+}
+
+/// Whether this is a data frame.
+fn is_data(frame: Option<LentFrame<'_>>) -> bool
+    ensures { result ≡ is_some (option_and_then with_data frame.entry) }
+{
+    match frame {
+        Some(frame) => frame.has_data,
+        None => false,
+    }
+}
+
+/// Whether a valid data frame was seen on the channel.
+fn has_frame(params: &Params, window: &Window, channel: Channel, seen: &Seen) -> bool
+    ensures { result ≡ is_some (data_frame_seen params.now window.now channel seen.now) }
+{
+    match window.slot(channel) {
+        Some(slot) => is_data(lent_status_of(params, window.cycle, slot, channel, seen).1),
+        None => false,
+    }
+}
+
+/// The window of a sealed one.
+fn window_of(sealed: &Sealed) -> &Window
+    ensures { result.now ≡ sealed.now.window }
+{
+    &sealed.window
+}
+
+/// Whether a valid data frame came to the node on the channel.
+fn came_on(params: &Params, sealed: &Sealed, channel: Channel, node: NodeId) -> bool
+    ensures { result ≡ is_some
+        (data_frame_seen params.now sealed.now.window channel (seen_by params.now sealed.now channel node)) }
+{
+    let seen = sealed.seen(params, channel, node);
+    has_frame(params, window_of(sealed), channel, &seen)
+}
+
+/// What a node sees of the window.
+fn came_to(params: &Params, sealed: &Sealed, node: NodeId) -> Came
+    ensures a { result.a ≡ is_some
+        (data_frame_seen params.now sealed.now.window on.A (seen_by params.now sealed.now on.A node)) }
+    ensures b { result.b ≡ is_some
+        (data_frame_seen params.now sealed.now.window on.B (seen_by params.now sealed.now on.B node)) }
+{
+    Came {
+        a: came_on(params, sealed, Channel::A, node),
+        b: came_on(params, sealed, Channel::B, node),
+    }
+}
+
+/// Whether a receive buffer takes what came on the channel.
+fn takes(window: &Window, came: Came, channel: Channel, line: &Buffer) -> bool
+    ensures { result ≡ takes_by window.now came.a came.b channel line.now }
+{
+    let takes_a = came.a && line.filter.admits_window(window, Channel::A);
+    let takes_b = !takes_a && came.b && line.filter.admits_window(window, Channel::B);
+    match channel {
+        Channel::A => line.mode.is_receive() && takes_a,
+        Channel::B => line.mode.is_receive() && takes_b,
+    }
+}
+
+/// Whether this is a receive buffer that admits the window on the channel.
+fn takes_window(window: &Window, channel: Channel, line: &Buffer) -> bool
+    ensures { result ≡ takes_window window.now channel line.now }
+{
+    line.mode.is_receive() && line.filter.admits_window(window, channel)
+}
+
+/// Whether one of the buffers is a receive buffer that admits the window on the channel.
+fn is_taken(lines: &[Buffer], window: &Window, channel: Channel) -> bool
+    ensures { result ≡ list_any (takes_window window.now channel) lines.now }
+{
+    lines.iter().any(|line| takes_window(window, channel, line))
+}
+
+/// Whether the queue, and no receive buffer, is for what comes in the window on the channel.
+fn is_for_queue(plan: &NodePlan, queue: &Queue, window: &Window, channel: Channel) -> bool
+    ensures { result ≡ is_for_queue plan.now queue.now window.now channel }
+{
+    match window.slot(channel) {
+        Some(slot) => {
+            queue.admits(window.cycle, slot, channel) && !is_taken(plan.buffers(), window, channel)
+        }
+        None => false,
+    }
+}
+
+/// Whether a valid data frame came on the channel.
+fn came_in(came: Came, channel: Channel) -> bool
+    ensures { result ≡ came_in came.a came.b channel }
+{
+    match channel {
+        Channel::A => came.a,
+        Channel::B => came.b,
+    }
+}
+
+/// Whether the node's queue takes what came on the channel.
+fn queue_takes(plan: &NodePlan, window: &Window, came: Came, channel: Channel) -> bool
+    ensures { result ≡ queue_takes_by plan.now window.now came.a came.b channel plan.now.queue }
+{
+    match plan.queue() {
+        Some(queue) => is_for_queue(plan, &queue, window, channel) && came_in(came, channel),
+        None => false,
+    }
+}
+
+/// Writes a taker, after a comma where one was written before.
+#[tactic(auto, unfolding(crate::specs::Takers::after_commas))]
+fn write_taker<W: Write>(writer: &mut W, any: bool, taker: &Taker) -> io::Result<()>
+    ensures { Writes W.contents writer.old writer.new result (after_commas any (taker.now ∷ [])) }
+{
+    let (comma, node) = (if any { "," } else { "" }, taker.node.number());
+    match taker.buffer {
+        Some(buffer) => write!(writer, "{comma}{node}:b{buffer}"),
+        None => write!(writer, "{comma}{node}:queue"),
+    }
+}
+
+/// Writes a taker, if it is one, and says whether any was written by then.
+#[tactic(auto, unfolding(crate::specs::Takers::after_commas))]
+fn write_if<W: Write>(
+    writer: &mut W,
+    any: bool,
+    takes: bool,
+    node: NodeId,
+    buffer: Option<usize>,
+) -> io::Result<bool>
+    ensures text { Writes W.contents writer.old writer.new result (after_commas any (taker_if takes node buffer)) }
+    ensures any { IfOk result (λ now. now ≡ (any || is_any (taker_if takes node buffer))) }
+{
+    if takes {
+        write_taker(writer, any, &Taker { node, buffer })?;
+        Ok(true)
+    } else {
+        Ok(any)
+    }
+}
+
+/// Writes the buffers of the node that take what came on the channel, and says whether any was written by then.
+fn write_buffers<W: Write>(
+    writer: &mut W,
+    any: bool,
+    node: NodeId,
+    lines: &[Buffer],
+    window: &Window,
+    came: Came,
+    channel: Channel,
+) -> io::Result<bool>
+    ensures text { Writes W.contents writer.old writer.new result
+        (after_commas any (buffers_by window.now came.a came.b channel node 0 lines.now)) }
+    ensures any { IfOk result (λ now. now
+        ≡ (any || is_any (buffers_by window.now came.a came.b channel node 0 lines.now))) }
+{
+    let mut any = any;
+    for (number, line) in lines.iter().enumerate() {
+        let takes = takes(window, came, channel, line);
+        any = write_if(writer, any, takes, node, Some(number))?;
+    }
+    Ok(any)
+}
+
+/// Writes the buffers of the node and its queue that take what came on the channel, and says whether any was written
+/// by then.
+fn write_node<W: Write>(
+    writer: &mut W,
+    any: bool,
+    params: &Params,
+    plan: &NodePlan,
+    sealed: &Sealed,
+    channel: Channel,
+    node: NodeId,
+) -> io::Result<bool>
+    ensures text { Writes W.contents writer.old writer.new result
+        (after_commas any (takers_of params.now plan.now sealed.now channel node)) }
+    ensures any { IfOk result (λ now. now
+        ≡ (any || is_any (takers_of params.now plan.now sealed.now channel node))) }
+{
+    let (window, came) = (window_of(sealed), came_to(params, sealed, node));
+    let any = write_buffers(writer, any, node, plan.buffers(), window, came, channel)?;
+    let takes = queue_takes(plan, window, came, channel);
+    write_if(writer, any, takes, node, None)
+}
+
+/// Writes what took the transmission that came on the channel of the window, and says whether anything did.
+fn write_nodes<W: Write>(
+    writer: &mut W,
+    params: &Params,
+    interfaces: &[Interface],
+    sealed: &Sealed,
+    channel: Channel,
+) -> io::Result<bool>
+    requires { length interfaces.now ≤ 16 }
+    ensures text { Writes W.contents writer.old writer.new result
+        (after_commas false (takers_from params.now sealed.now channel 0 interfaces.now)) }
+    ensures any { IfOk result (λ now. now
+        ≡ is_any (takers_from params.now sealed.now channel 0 interfaces.now)) }
+{
+    let mut any = false;
+    for (number, interface) in interfaces.iter().enumerate() {
+        let node = NodeId::from_number(number as u8);
+        any = write_node(writer, any, params, interface.plan(), sealed, channel, node)?;
+    }
+    Ok(any)
+}
+
+/// Writes what took the transmission that came on the channel of the window: the buffers and queues, with commas
+/// between them, or a dash.
+pub(crate) fn write_takers<W: Write>(
+    writer: &mut W,
+    params: &Params,
+    interfaces: &[Interface],
+    sealed: &Sealed,
+    channel: Channel,
+) -> io::Result<()>
+    requires { length interfaces.now ≤ 16 }
+    ensures { Writes W.contents writer.old writer.new result
+        (takers_word (takers_from params.now sealed.now channel 0 interfaces.now)) }
+{
+    if write_nodes(writer, params, interfaces, sealed, channel)? {
+        Ok(())
+    } else {
+        write!(writer, "-")
+    }
+}
