@@ -8,17 +8,15 @@ ghost use Rattle.fr_ledger.specs.Posts.{parts_for};
 ghost use Rattle.fr_threads.specs.Failures.{told_after, told_of_all};
 
 use crate::failure::{Failure, least_of, told_with};
-use crate::shared::Shared;
+use crate::shared::{Common, Shared};
 use crate::task::{TaskDone, run_task};
 use fr_bus::windows::opens_cycle;
 use fr_core::event::Reply;
-use fr_core::script::Script;
 use fr_desks::desk::{Desk, TaskPass};
 use fr_desks::gate::Gate;
 use fr_interface::interface::{Interface, Offer};
 use fr_ledger::books::{Share, gather};
 use fr_runs::stepping::lines_given;
-use fr_schedule::cluster::Cluster;
 use fr_slots::numbers::NodeId;
 use fr_status::seen::Seen;
 use std::alloc::{AllocError, Global};
@@ -100,13 +98,10 @@ fn control<L: Ledger, R: Wait + Clock, G: Gate>(
 /// Starts the thread of each task. Where one can't be started those before it run.
 fn start_tasks<'s, E, L: Ledger + Send + Sync, R: Wait + Sync, G: Gate + Sync>(
     scope: &'s Scope<'s, E>,
-    rt: &'s R,
     alloc: Global,
+    common: &'s Common<'s, R, G>,
     desk: &'s Desk<L>,
-    shared: &'s Shared,
-    scripts: &'s [Script],
     node: NodeId,
-    gate: &'s G,
     passes: Vec<TaskPass<L>>,
     running: &mut Vec<JoinHandle<TaskDone<L>>>,
 ) -> Result<(), Failure>
@@ -115,8 +110,16 @@ fn start_tasks<'s, E, L: Ledger + Send + Sync, R: Wait + Sync, G: Gate + Sync>(
     ensures all { OnOk result (vec_len running.new ≡ vec_len running.old + vec_len passes) }
 {
     for pass in passes {
-        let lines = lines_given(scripts, node, pass.task());
-        match scope.spawn(move || run_task(rt, alloc, desk, shared, lines, gate, pass)) {
+        let lines = lines_given(common.scripts, node, pass.task());
+        match scope.spawn(move || run_task(
+            common.rt,
+            alloc,
+            desk,
+            common.shared,
+            lines,
+            common.gate,
+            pass,
+        )) {
             Ok(handle) => running.push_reserved(handle),
             Err(_) => return Err(Failure::Thread),
         }
@@ -185,13 +188,10 @@ fn all_answered<L: Ledger>(
 /// Runs the node's tasks and its controller, and joins them. Where one of them fails the run is stopped.
 fn serve<'s, E, L: Ledger + Send + Sync, R: Threads + Wait + Clock + Sync, G: Gate + Sync>(
     scope: &'s Scope<'s, E>,
-    rt: &'s R,
     alloc: Global,
+    common: &'s Common<'s, R, G>,
     desk: &'s Desk<L>,
-    shared: &'s Shared,
-    scripts: &'s [Script],
     node: NodeId,
-    gate: &'s G,
     passes: Vec<TaskPass<L>>,
 ) -> Result<TasksDone<L>, Failure>
     ensures { IfOk result (λ done. vec_len done.shares ≡ vec_len passes) }
@@ -199,60 +199,43 @@ fn serve<'s, E, L: Ledger + Send + Sync, R: Threads + Wait + Clock + Sync, G: Ga
     let mut joined = TasksJoined::with_room(alloc, passes.len())?;
     let kept = Vec::with_capacity(alloc, passes.len())?;
     let mut running = Vec::with_capacity(alloc, passes.len())?;
-    let ended = match start_tasks(
-        scope,
-        rt,
-        alloc,
-        desk,
-        shared,
-        scripts,
-        node,
-        gate,
-        passes,
-        &mut running,
-    ) {
-        Ok(()) => control(rt, desk, shared, node, gate),
+    let ended = match start_tasks(scope, alloc, common, desk, node, passes, &mut running) {
+        Ok(()) => control(common.rt, desk, common.shared, node, common.gate),
         Err(failure) => Err(failure),
     };
     if ended.is_err() {
-        shared.stop(rt);
+        common.shared.stop(common.rt);
     }
-    join_tasks(rt, running, &mut joined);
+    join_tasks(common.rt, running, &mut joined);
     all_answered(joined, ended, kept)
 }
 
 /// Runs the node's tasks and its controller in a scope.
 fn run_in_scope<L: Ledger + Send + Sync, R: Threads + Wait + Clock + Sync, G: Gate + Sync>(
-    rt: &R,
     alloc: Global,
+    common: &Common<'_, R, G>,
     desk: &Desk<L>,
-    shared: &Shared,
-    scripts: &[Script],
     node: NodeId,
-    gate: &G,
     passes: Vec<TaskPass<L>>,
 ) -> Result<TasksDone<L>, Failure>
     ensures { IfOk result (λ done. vec_len done.shares ≡ vec_len passes) }
 {
     thread::scope(
         thread::scope_env(),
-        rt,
+        common.rt,
         |scope| -> Result<TasksDone<L>, Failure>
             ensures { IfOk result (λ done. vec_len done.shares ≡ vec_len passes) }
-        { serve(scope, rt, alloc, desk, shared, scripts, node, gate, passes) },
+        { serve(scope, alloc, common, desk, node, passes) },
     )
 }
 
 /// Opens the node's desk, runs its tasks and its controller, closes the desk and gathers the shares.
 fn run_desk<L: Ledger + Send + Sync, R: Threads + Wait + Clock + Sync, G: Gate + Sync>(
-    rt: &R,
     alloc: Global,
+    common: &Common<'_, R, G>,
     blank: Blank,
     interface: Interface,
-    shared: &Shared,
-    scripts: &[Script],
     node: NodeId,
-    gate: &G,
 ) -> Result<NodeDone, Failure>
     requires name { blank.name ≡ L.name }
     requires parts { blank.parts ≡ L.parts }
@@ -260,7 +243,7 @@ fn run_desk<L: Ledger + Send + Sync, R: Threads + Wait + Clock + Sync, G: Gate +
     requires fresh { interface.entries ≡ [] }
 {
     let (desk, passes) = Desk::<L>::open(alloc, blank, node, interface)?;
-    let ended = run_in_scope(rt, alloc, &desk, shared, scripts, node, gate, passes);
+    let ended = run_in_scope(alloc, common, &desk, node, passes);
     let (interface, mut book, own) = desk.close();
     let TasksDone { shares, answers } = ended?;
     let commits = gather(&mut book, own, shares);
@@ -273,48 +256,31 @@ fn run_desk<L: Ledger + Send + Sync, R: Threads + Wait + Clock + Sync, G: Gate +
 
 /// Makes the interface of the node of this number, and runs the node with a ledger of its own.
 fn run_ledger<R: Threads + Wait + Clock + Sync, G: Gate + Sync>(
-    rt: &R,
     alloc: Global,
-    shared: &Shared,
-    cluster: &Cluster,
-    scripts: &[Script],
+    common: &Common<'_, R, G>,
     number: u8,
-    gate: &G,
 ) -> Result<NodeDone, Failure> {
     // A node that the cluster doesn't have has no thread, but neither its number nor its thread says so.
     let Some(node) = NodeId::new(number) else {
         return Err(Failure::Thread);
     };
-    let Some(plan) = cluster.node(node) else {
+    let Some(plan) = common.cluster.node(node) else {
         return Err(Failure::Thread);
     };
-    let interface = Interface::new(alloc, cluster.params(), plan)?;
+    let interface = Interface::new(alloc, common.cluster.params(), plan)?;
     let parts = u64::from(interface.plan().tasks()) + 1;
-    run_desk::<Brand, R, G>(
-        rt,
-        alloc,
-        Blank::new(parts),
-        interface,
-        shared,
-        scripts,
-        node,
-        gate,
-    )
+    run_desk::<Brand, R, G>(alloc, common, Blank::new(parts), interface, node)
 }
 
 /// The thread of the node of this number. Where it fails the run is stopped.
 pub(crate) fn run_node<R: Threads + Wait + Clock + Sync, G: Gate + Sync>(
-    rt: &R,
     alloc: Global,
-    shared: &Shared,
-    cluster: &Cluster,
-    scripts: &[Script],
+    common: &Common<'_, R, G>,
     number: u8,
-    gate: &G,
 ) -> Result<NodeDone, Failure> {
-    let done = run_ledger(rt, alloc, shared, cluster, scripts, number, gate);
+    let done = run_ledger(alloc, common, number);
     if done.is_err() {
-        shared.stop(rt);
+        common.shared.stop(common.rt);
     }
     done
 }

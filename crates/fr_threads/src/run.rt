@@ -16,7 +16,7 @@ use crate::failure::{Failure, least_of, told_with};
 use crate::mover::run_bus;
 use crate::node::{NodeDone, run_node};
 use crate::pace::Pace;
-use crate::shared::Shared;
+use crate::shared::{Common, Shared};
 use fr_bus::bus::Bus;
 use fr_bus::error::Phase;
 use fr_bus::outcome::Sealed;
@@ -104,13 +104,9 @@ impl NodesDone {
 /// Starts the thread of each node. Where one can't be started those before it run.
 fn start_nodes<'s, E, R: Threads + Wait + Clock + Sync, G: Gate + Sync>(
     scope: &'s Scope<'s, E>,
-    rt: &'s R,
     alloc: Global,
-    shared: &'s Shared,
-    cluster: &'s Cluster,
-    scripts: &'s [Script],
+    common: &'s Common<'s, R, G>,
     nodes: u8,
-    gate: &'s G,
     running: &mut Vec<JoinHandle<Result<NodeDone, Failure>>>,
 ) -> Result<(), Failure>
     requires { vec_len running.old + nodes ≤ vec_capacity running.old }
@@ -118,7 +114,7 @@ fn start_nodes<'s, E, R: Threads + Wait + Clock + Sync, G: Gate + Sync>(
     ensures all { OnOk result (vec_len running.new ≡ vec_len running.old + nodes) }
 {
     for number in 0..nodes {
-        match scope.spawn(move || run_node(rt, alloc, shared, cluster, scripts, number, gate)) {
+        match scope.spawn(move || run_node(alloc, common, number)) {
             Ok(handle) => running.push_reserved(handle),
             Err(_) => return Err(Failure::Thread),
         }
@@ -186,59 +182,42 @@ fn all_done(
 /// Runs the bus and the nodes, and joins them. Where one of them fails the run is stopped.
 fn serve<'s, E, R: Threads + Wait + Clock + Sync, G: Gate + Sync>(
     scope: &'s Scope<'s, E>,
-    rt: &'s R,
     alloc: Global,
-    shared: &'s Shared,
-    cluster: &'s Cluster,
-    scripts: &'s [Script],
+    common: &'s Common<'s, R, G>,
     faults: &'s [FaultLine],
-    gate: &'s G,
 ) -> Result<NodesDone, Failure>
     ensures { IfOk result (λ nodes. nodes.commits.items ≡ map commits_of nodes.interfaces.items) }
 {
-    let count = cluster.nodes();
+    let count = common.cluster.nodes();
     let nodes = NodesDone::with_room(alloc, usize::from(count))?;
     let mut answers = Vec::with_capacity(alloc, usize::from(count))?;
     let mut running = Vec::with_capacity(alloc, usize::from(count))?;
-    let Ok(bus) = scope.spawn(move || run_bus(rt, alloc, shared, faults, gate)) else {
+    let Ok(bus) = scope.spawn(move || run_bus(common.rt, alloc, common.shared, faults, common.gate))
+    else {
         return Err(Failure::Thread);
     };
-    let started = start_nodes(
-        scope,
-        rt,
-        alloc,
-        shared,
-        cluster,
-        scripts,
-        count,
-        gate,
-        &mut running,
-    );
+    let started = start_nodes(scope, alloc, common, count, &mut running);
     if started.is_err() {
-        shared.stop(rt);
+        common.shared.stop(common.rt);
     }
-    join_nodes(rt, running, &mut answers);
-    all_done(answers, bus.join(rt), started, nodes)
+    join_nodes(common.rt, running, &mut answers);
+    all_done(answers, bus.join(common.rt), started, nodes)
 }
 
 /// Runs the bus and the nodes in a scope.
 fn run_in_scope<R: Threads + Wait + Clock + Sync, G: Gate + Sync>(
-    rt: &R,
     alloc: Global,
-    shared: &Shared,
-    cluster: &Cluster,
-    scripts: &[Script],
+    common: &Common<'_, R, G>,
     faults: &[FaultLine],
-    gate: &G,
 ) -> Result<NodesDone, Failure>
     ensures { IfOk result (λ nodes. nodes.commits.items ≡ map commits_of nodes.interfaces.items) }
 {
     thread::scope(
         thread::scope_env(),
-        rt,
+        common.rt,
         |scope| -> Result<NodesDone, Failure>
             ensures { IfOk result (λ nodes. nodes.commits.items ≡ map commits_of nodes.interfaces.items) }
-        { serve(scope, rt, alloc, shared, cluster, scripts, faults, gate) },
+        { serve(scope, alloc, common, faults) },
     )
 }
 
@@ -345,7 +324,14 @@ fn run_all<R: Threads + Wait + Clock + Sync, G: Gate + Sync>(
     ensures { IfOk result (IsRunOf cluster.now scripts.now faults.now cycles stepped) }
 {
     let shared = shared_by_all(alloc, cluster, scripts, cycles, stepped)?;
-    let ended = run_in_scope(rt, alloc, &shared, cluster, scripts, faults, gate);
+    let common = Common {
+        rt,
+        shared: &shared,
+        cluster,
+        scripts,
+        gate,
+    };
+    let ended = run_in_scope(alloc, &common, faults);
     let Shared { wire, pace: _ } = shared;
     let bus = wire.close();
     let nodes = ended?;

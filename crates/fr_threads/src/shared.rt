@@ -2,7 +2,9 @@
 
 use crate::failure::Failure;
 use crate::pace::Pace;
+use fr_core::script::Script;
 use fr_desks::wire::Wire;
+use fr_schedule::cluster::Cluster;
 use std::sync::Wait;
 
 /// What all threads of a run share: the bus, and in a stepped run its pace.
@@ -10,6 +12,15 @@ use std::sync::Wait;
 pub(crate) struct Shared {
     pub wire: Wire,
     pub pace: Option<Pace>,
+}
+
+/// What the threads of a run are given.
+pub(crate) struct Common<'a, R, G> {
+    pub rt: &'a R,
+    pub shared: &'a Shared,
+    pub cluster: &'a Cluster,
+    pub scripts: &'a [Script],
+    pub gate: &'a G,
 }
 
 impl Shared {
