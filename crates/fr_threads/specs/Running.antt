@@ -3,7 +3,7 @@ use Rattle.std.specs.Prelude.{◌≡◌, ℕ, Bool, true, List, length, map, Opt
 use Rattle.std.specs.Prelude.{slice_get}
 use Rattle.std.specs.List.{All}
 use Rattle.std.specs.Option.{option_and_then}
-use Rattle.std.specs.Prelude.{Vec}
+use Rattle.std.specs.Global.{Vec}
 use Rattle.fr_bus.specs.declared.error.Phase.TheVariants.{Finished}
 use Rattle.fr_bus.specs.States.{OneSenderEach}
 use Rattle.fr_bus.specs.Windows.{cycles_begun}

@@ -12,11 +12,13 @@ use crate::shared::{Common, Shared};
 use crate::task::{TaskDone, run_task};
 use fr_bus::windows::opens_cycle;
 use fr_core::event::Reply;
+use fr_core::script::Script;
 use fr_desks::desk::{Desk, TaskPass};
 use fr_desks::gate::Gate;
 use fr_interface::interface::{Interface, Offer};
 use fr_ledger::books::{Share, gather};
 use fr_runs::stepping::lines_given;
+use fr_schedule::cluster::Cluster;
 use fr_slots::numbers::NodeId;
 use fr_status::seen::Seen;
 use std::alloc::{AllocError, Global};
@@ -274,13 +276,24 @@ fn run_ledger<R: Threads + Wait + Clock + Sync, G: Gate + Sync>(
 
 /// The thread of the node of this number. Where it fails the run is stopped.
 pub(crate) fn run_node<R: Threads + Wait + Clock + Sync, G: Gate + Sync>(
+    rt: &R,
     alloc: Global,
-    common: &Common<'_, R, G>,
+    shared: &Shared,
+    cluster: &Cluster,
+    scripts: &[Script],
     number: u8,
+    gate: &G,
 ) -> Result<NodeDone, Failure> {
-    let done = run_ledger(alloc, common, number);
+    let common = Common {
+        rt,
+        shared,
+        cluster,
+        scripts,
+        gate,
+    };
+    let done = run_ledger(alloc, &common, number);
     if done.is_err() {
-        common.shared.stop(common.rt);
+        shared.stop(rt);
     }
     done
 }

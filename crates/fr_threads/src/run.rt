@@ -16,7 +16,7 @@ use crate::failure::{Failure, least_of, told_with};
 use crate::mover::run_bus;
 use crate::node::{NodeDone, run_node};
 use crate::pace::Pace;
-use crate::shared::{Common, Shared};
+use crate::shared::Shared;
 use fr_bus::bus::Bus;
 use fr_bus::error::Phase;
 use fr_bus::outcome::Sealed;
@@ -104,9 +104,13 @@ impl NodesDone {
 /// Starts the thread of each node. Where one can't be started those before it run.
 fn start_nodes<'s, E, R: Threads + Wait + Clock + Sync, G: Gate + Sync>(
     scope: &'s Scope<'s, E>,
+    rt: &'s R,
     alloc: Global,
-    common: &'s Common<'s, R, G>,
+    shared: &'s Shared,
+    cluster: &'s Cluster,
+    scripts: &'s [Script],
     nodes: u8,
+    gate: &'s G,
     running: &mut Vec<JoinHandle<Result<NodeDone, Failure>>>,
 ) -> Result<(), Failure>
     requires { vec_len running.old + nodes ≤ vec_capacity running.old }
@@ -114,7 +118,7 @@ fn start_nodes<'s, E, R: Threads + Wait + Clock + Sync, G: Gate + Sync>(
     ensures all { OnOk result (vec_len running.new ≡ vec_len running.old + nodes) }
 {
     for number in 0..nodes {
-        match scope.spawn(move || run_node(alloc, common, number)) {
+        match scope.spawn(move || run_node(rt, alloc, shared, cluster, scripts, number, gate)) {
             Ok(handle) => running.push_reserved(handle),
             Err(_) => return Err(Failure::Thread),
         }
@@ -182,42 +186,59 @@ fn all_done(
 /// Runs the bus and the nodes, and joins them. Where one of them fails the run is stopped.
 fn serve<'s, E, R: Threads + Wait + Clock + Sync, G: Gate + Sync>(
     scope: &'s Scope<'s, E>,
+    rt: &'s R,
     alloc: Global,
-    common: &'s Common<'s, R, G>,
+    shared: &'s Shared,
+    cluster: &'s Cluster,
+    scripts: &'s [Script],
     faults: &'s [FaultLine],
+    gate: &'s G,
 ) -> Result<NodesDone, Failure>
     ensures { IfOk result (λ nodes. nodes.commits.items ≡ map commits_of nodes.interfaces.items) }
 {
-    let count = common.cluster.nodes();
+    let count = cluster.nodes();
     let nodes = NodesDone::with_room(alloc, usize::from(count))?;
     let mut answers = Vec::with_capacity(alloc, usize::from(count))?;
     let mut running = Vec::with_capacity(alloc, usize::from(count))?;
-    let Ok(bus) = scope.spawn(move || run_bus(common.rt, alloc, common.shared, faults, common.gate))
-    else {
+    let Ok(bus) = scope.spawn(move || run_bus(rt, alloc, shared, faults, gate)) else {
         return Err(Failure::Thread);
     };
-    let started = start_nodes(scope, alloc, common, count, &mut running);
+    let started = start_nodes(
+        scope,
+        rt,
+        alloc,
+        shared,
+        cluster,
+        scripts,
+        count,
+        gate,
+        &mut running,
+    );
     if started.is_err() {
-        common.shared.stop(common.rt);
+        shared.stop(rt);
     }
-    join_nodes(common.rt, running, &mut answers);
-    all_done(answers, bus.join(common.rt), started, nodes)
+    join_nodes(rt, running, &mut answers);
+    all_done(answers, bus.join(rt), started, nodes)
 }
 
 /// Runs the bus and the nodes in a scope.
 fn run_in_scope<R: Threads + Wait + Clock + Sync, G: Gate + Sync>(
+    rt: &R,
     alloc: Global,
-    common: &Common<'_, R, G>,
+    shared: &Shared,
+    cluster: &Cluster,
+    scripts: &[Script],
     faults: &[FaultLine],
+    gate: &G,
 ) -> Result<NodesDone, Failure>
     ensures { IfOk result (λ nodes. nodes.commits.items ≡ map commits_of nodes.interfaces.items) }
 {
     thread::scope(
         thread::scope_env(),
-        common.rt,
+        rt,
         |scope| -> Result<NodesDone, Failure>
             ensures { IfOk result (λ nodes. nodes.commits.items ≡ map commits_of nodes.interfaces.items) }
-        { serve(scope, alloc, common, faults) },
+        { serve(scope, rt, alloc, shared, cluster, scripts, faults, gate) },
     )
 }
 
@@ -324,14 +345,7 @@ fn run_all<R: Threads + Wait + Clock + Sync, G: Gate + Sync>(
     ensures { IfOk result (IsRunOf cluster.now scripts.now faults.now cycles stepped) }
 {
     let shared = shared_by_all(alloc, cluster, scripts, cycles, stepped)?;
-    let common = Common {
-        rt,
-        shared: &shared,
-        cluster,
-        scripts,
-        gate,
-    };
-    let ended = run_in_scope(alloc, &common, faults);
+    let ended = run_in_scope(rt, alloc, &shared, cluster, scripts, faults, gate);
     let Shared { wire, pace: _ } = shared;
     let bus = wire.close();
     let nodes = ended?;

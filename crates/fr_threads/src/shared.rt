@@ -14,7 +14,8 @@ pub(crate) struct Shared {
     pub pace: Option<Pace>,
 }
 
-/// What the threads of a run are given.
+/// What the threads of a node are given.
+#[derive(Drop)]
 pub(crate) struct Common<'a, R, G> {
     pub rt: &'a R,
     pub shared: &'a Shared,

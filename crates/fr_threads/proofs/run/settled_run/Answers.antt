@@ -1,19 +1,35 @@
-use Rattle.std.proofs.Common.{rules, subst}
+use Rattle.std.proofs.Common.{◌≡◌, rules, subst, sym, true, ◌∙◌}
+use Rattle.std.specs.Prelude.{IsTrue}
 use Rattle.fr_core.specs.Receivers.{Receivers}
+use Rattle.fr_runs.specs.Stepping.{AreStepped}
 use Rattle.fr_threads.proofs.RunLemmas.{settles_same}
+use Rattle.fr_threads.proofs.run.settled_run.Goals.{else-stepped-via-then-stepped+else-not-are_stepped, else-stepped-via-else-stepped}
 use Rattle.fr_threads.proofs.run.settled_run.Goals as goal
 
-pub returns-in-Ok : goal.returns-in-Ok
-returns-in-Ok c =
+pub returns : goal.returns
+returns c =
     let same_interfaces = c.as_slice-2.ensures.value in
-    let settled = settles_same _ _ _ _ _ _ _ same_interfaces c.as_slice-3.ensures.value c.in-Ok.ensures.answer in
+    let settled = settles_same _ _ _ _ _ _ _ same_interfaces c.as_slice-3.ensures.value c.in_ok-settled.ensures.answer in
+    let at_end : IsTrue c.in_ok-is_at_end.field-0 = search rules in
+    let stepped : c.args.stepped ≡ true → AreStepped c.args.bus.sealed c.args.given.now c.args.nodes.interfaces.items =
+    elim c.else-stepped.branch [
+      | else-stepped-via-then-stepped+else-not-are_stepped w ↦
+          λ yes.
+          let are : IsTrue w.are_stepped.result = search rules in
+          let found = w.are_stepped.ensures.0 are in
+          subst (λ rs. AreStepped rs c.args.given.now c.args.nodes.interfaces.items) w.record.ensures.value
+          (subst (λ is. AreStepped w.record.result.now c.args.given.now is) w.as_slice-then-stepped.ensures.value found)
+      | else-stepped-via-else-stepped w ↦ λ yes. cc (w.if-stepped.false, yes)
+    ] in
     record {
       agrees = settled.0;
       windows = settled.1;
-      receivers = subst (λ is. Receivers c.args.cluster.now is c.args.bus.sealed) same_interfaces c.in-Ok.ensures.receivers;
-      one_sender = c.in-Ok.ensures.one_sender;
+      receivers = subst (λ is. Receivers c.args.cluster.now is c.args.bus.sealed) same_interfaces c.in_ok-settled.ensures.receivers;
+      one_sender = c.in_ok-settled.ensures.one_sender;
       commits = c.requires;
-      finished = search rules;
-      cycles_done = search rules;
+      finished = c.in_ok-is_at_end.ensures.finished at_end;
+      cycles_done = c.in_ok-is_at_end.ensures.cycles at_end;
       scripts = c.in_ok-scripts.ensures;
+      faults = c.in_ok-is_at_end.ensures.faults at_end;
+      stepped = stepped;
     }
