@@ -1,5 +1,5 @@
 -- What the refusal of a line rests on, by what the lines before it have told (own profile).
-use Rattle.std.specs.Prelude.{ℕ, ℤ, Bool, true, false, ◌||◌, List, [], ◌∷◌, codes, Option, Some, None, is_none}
+use Rattle.std.specs.Prelude.{⊤, ℕ, ℤ, Bool, true, false, ◌||◌, List, [], ◌∷◌, codes, Option, Some, None, is_none}
 use Rattle.std.specs.Prelude.{option_map, Result, Ok, Err, if◌then◌else◌}
 use Rattle.std.specs.Str.{bytes_eq}
 use Rattle.fr_interface.specs.State.{State, commit_refusal, withdraw_refusal, read_refusal, pop_refusal, fetch_refusal}
@@ -124,3 +124,18 @@ reason_for (refusal.BadLine n) before line = misfit_at before line
 reason_for (refusal.Refused n) before line = reason_at before line
 reason_for (refusal.WrongAnswer n) before line = reason_at before line
 reason_for e before line = Plain
+
+-- ---- that nothing is left out
+
+-- a refusal of a line or of a call is told with its own reason, and a wrong answer with the entry that the call makes
+abbrev pub IsReasonOf : TraceError → Reason → Type 0
+IsReasonOf (refusal.BadLine n) (Line misfit) = ⊤
+IsReasonOf (refusal.Refused n) (Params e) = ⊤
+IsReasonOf (refusal.Refused n) (reason.Plan e) = ⊤
+IsReasonOf (refusal.Refused n) (Host e) = ⊤
+IsReasonOf (refusal.Refused n) (Slot e) = ⊤
+IsReasonOf (refusal.WrongAnswer n) (Due made) = ⊤
+IsReasonOf refusal.BadMagic Plain = ⊤
+IsReasonOf (refusal.LineTooLong n) Plain = ⊤
+IsReasonOf refusal.Truncated Plain = ⊤
+IsReasonOf e r = ⊥

@@ -48,7 +48,11 @@ fn is_of_journal(word: &[u8]) -> bool
 fn unread(may_stand: bool) -> Misfit
     ensures { result ≡ misfit_of may_stand }
 {
-    if may_stand { Misfit::Form } else { Misfit::Word }
+    if may_stand {
+        Misfit::Form
+    } else {
+        Misfit::Word
+    }
 }
 
 /// Why a line is refused that is read, by whether its kind may still come.
