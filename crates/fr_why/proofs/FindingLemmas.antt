@@ -6,13 +6,16 @@ use Rattle.std.proofs.lemmas.Bool.{eqb-true}
 use Rattle.std.proofs.lemmas.List.Sums.{fold-append}
 use Rattle.std.specs.Prelude.{IfOk, IfErr}
 use Rattle.fr_interface.specs.State.{State}
+use Rattle.fr_slots.specs.declared.plan.Queue.{Queue}
+use Rattle.fr_slots.specs.Numbers.{most_entries}
+use Rattle.fr_slots.specs.Plans.{IsPlan}
 use Rattle.fr_text.specs.Plain.{has_no_feed}
 use Rattle.fr_trace.specs.Audit.{IsOfText, HasNoFault}
 use Rattle.fr_trace.specs.declared.error.TraceError.{TraceError}
 use Rattle.fr_trace.specs.declared.error.TraceError.TheVariants as refusal
 use Rattle.fr_trace.specs.Feeds.{Reads, held}
-use Rattle.fr_trace.specs.Refusals.{feed_count, LineIsNamed}
-use Rattle.fr_trace.specs.Stream.{Progress, reading, failed, fresh, take_byte, take_bytes, take_line, answer_of, outcome_of}
+use Rattle.fr_trace.specs.Refusals.{feed_count, LineIsNamed, HasFewLines}
+use Rattle.fr_trace.specs.Stream.{Progress, reading, failed, fresh, take_byte, take_bytes, take_line, answer_of, outcome_of, queue_count}
 use Rattle.fr_trace.specs.Stream.{magic, params, node, lines, body, finished}
 use Rattle.fr_trace.proofs.CutLemmas.{stays_failed, no_feed, no_feed_before}
 use Rattle.memchr.specs.Find.{IsFirstByte, is_byte}
@@ -229,6 +232,14 @@ accepted_last text start before h auditor new s stands plain reads fine =
       ap outcome_of (read_rest text start (reading stands.phase []) new stands.came read) ∙ fine,
       omega (arith, count, none, stands.counted),
     )
+
+-- the lines of a lawful plan and of a journal are few
+queue_few : (o : Option Queue) → queue_count o ≤ 1
+queue_few None = omega arith
+queue_few (Some q) = omega arith
+
+pub few_lines : (s : State) → IsPlan s.plan → length s.entries ≤ most_entries → HasFewLines s
+few_lines s plan few = let one = queue_few s.plan.queue in omega (arith, one, plan.few_owned, plan.few_buffers, few)
 
 -- ---- what is found
 

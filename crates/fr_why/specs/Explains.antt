@@ -1,5 +1,5 @@
 -- What a command does that says why a text is refused, and one that shows what was seen up to that fault (own profile).
-use Rattle.std.specs.Prelude.{⊤, ◌≡◌, ℕ, ◌+◌, List, [], take, Option, Some, None, Result, Ok, Err, Vec}
+use Rattle.std.specs.Prelude.{⊤, ◌≡◌, ℕ, ◌+◌, ◌≤◌, List, [], length, take, Option, Some, None, Result, Ok, Err, Vec}
 use Rattle.std.specs.declared.alloc.Global.{Global}
 use Rattle.std.specs.Io.KnownBytes.{Keeps, Appends}
 use Rattle.fr_capture.specs.declared.form.Form.{Form}
@@ -36,7 +36,7 @@ IsKept text (Err e) = ⊥
 -- line at fault, with all that its refusal rests on.
 abbrev pub IsExplained : List ℕ → Verdict → List ℕ → Type 0
 IsExplained text Accepted words = (s : State) × (outcome_of (take_bytes fresh text) ≡ Ok s) × IsLegalInterface s
-    × (words ≡ accepted_text (feed_count text) (window_count s.entries))
+    × (length text ≤ longest_text) × (words ≡ accepted_text (feed_count text) (window_count s.entries))
 IsExplained text Refused words = (e : TraceError) × (front : List ℕ) × (line : List ℕ) × (rest : List ℕ)
     × IsAtFault e text front line rest × IsReasonOf e (reason_for e (take_bytes fresh front) line)
     × (words ≡ refused_text e front line)
@@ -48,6 +48,12 @@ Explains text old new (Err Read) = Keeps old new
 Explains text old new (Err Memory) = Keeps old new
 Explains text old new (Err Write) = ⊤
 Explains text old new (Err e) = ⊥
+
+-- a text that is accepted was read whole
+abbrev pub IsReadWhole : List ℕ → Result Verdict TraceError → Type 0
+IsReadWhole text (Ok Accepted) = kept text ≡ text
+IsReadWhole text (Ok Refused) = ⊤
+IsReadWhole text (Err e) = ⊤
 
 -- ---- until the fault
 

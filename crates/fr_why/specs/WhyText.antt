@@ -88,7 +88,8 @@ reason_text (Due e) = codes "due " ++ entry_line e
 
 -- so many lines, and so many windows that were fetched in them
 abbrev pub count_text : ℕ → ℕ → List ℕ
-count_text lines windows = line_text (codes "lines" ∷ decimal lines ∷ []) ++ line_text (codes "windows" ∷ decimal windows ∷ [])
+count_text lines windows = line_text (codes "lines" ∷ decimal lines ∷ [])
+    ++ line_text (codes "windows" ∷ decimal windows ∷ [])
 
 abbrev pub accepted_text : ℕ → ℕ → List ℕ
 accepted_text lines windows = line_text (codes "accepted" ∷ []) ++ count_text lines windows

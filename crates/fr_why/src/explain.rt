@@ -1,7 +1,7 @@
 //! Why a trace is refused.
 ghost use Rattle.std.specs.Prelude.{◌≡◌, IfOk, IfErr, IfSome, OnOk, take};
 ghost use Rattle.fr_trace.specs.Audit.{IsOfText};
-ghost use Rattle.fr_why.specs.Explains.{kept, Explains, IsExplained};
+ghost use Rattle.fr_why.specs.Explains.{kept, Explains, IsExplained, IsReadWhole};
 ghost use Rattle.fr_why.specs.Faults.{is_fetch, window_count, windows_of};
 ghost use Rattle.fr_why.specs.Finding.{between, IsFaultIn};
 ghost use Rattle.fr_trace.specs.Stream.{fresh, take_bytes};
@@ -150,8 +150,10 @@ pub fn explain_trace<R: Read, W: Write>(
     reader: &mut R,
     writer: &mut W,
 ) -> Result<Verdict, TraceError>
-    ensures { IfSome (R.remaining reader.old)
+    ensures told { IfSome (R.remaining reader.old)
         (λ text. Explains (kept text) (W.contents writer.old) (W.contents writer.new) result) }
+    // What is accepted was read whole.
+    ensures whole { IfSome (R.remaining reader.old) (λ text. IsReadWhole text result) }
 {
     let text = kept_of(alloc, reader)?;
     let (verdict, words) = explained(alloc, text.as_slice())?;
