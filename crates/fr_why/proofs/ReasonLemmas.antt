@@ -1,5 +1,5 @@
 -- The refusal of a line or of a call is told with its own reason, and a wrong answer with the entry that is due.
-use Rattle.std.proofs.Common.{◌≡◌, ℕ, ◌+◌, ◌<◌, ◌≤◌, ◌==◌, Bool, true, false, List, [], ◌∷◌, ◌++◌, length, Option, Some, None, Result, Ok, Err, inl, inr, refl, sym, ap, ◌∙◌, subst, arith, is_some, append-nil}
+use Rattle.std.proofs.Common.{◌≡◌, ℕ, ◌+◌, Bool, true, false, List, [], ◌∷◌, ◌++◌, length, Option, Some, None, Result, Ok, Err, inl, inr, refl, sym, ap, ◌∙◌, subst, arith, is_some}
 use Rattle.std.proofs.lemmas.Bool.{cases_Bool, cases_lt}
 use Rattle.std.proofs.lemmas.List.Sums.{fold-append}
 use Rattle.std.specs.Prelude.{⊤, ℤ, is_none, option_map, ◌&&◌, if◌then◌else◌}
@@ -21,14 +21,14 @@ use Rattle.fr_slots.specs.Parameters.{Parameters, parameters_of}
 use Rattle.fr_slots.specs.Plans.{Plan, own_refusal, buffer_refusal, queue_refusal}
 use Rattle.fr_text.specs.Plain.{has_no_feed}
 use Rattle.fr_text.specs.Spaces.{words_of}
-use Rattle.fr_trace.specs.Answers.{fault_of, is_answered, made_by}
-use Rattle.fr_trace.specs.Audit.{IsOfText, HasNoFault}
+use Rattle.fr_trace.specs.Answers.{is_answered, made_by}
+use Rattle.fr_trace.specs.Audit.{IsOfText}
 use Rattle.fr_trace.specs.declared.error.TraceError.{TraceError}
 use Rattle.fr_trace.specs.declared.error.TraceError.TheVariants as refusal
 use Rattle.fr_trace.specs.Feeds.{held}
 use Rattle.fr_trace.specs.Stream.{Phase, magic, params, node, lines, body, finished, Progress, reading, failed, fresh}
-use Rattle.fr_trace.specs.Stream.{after_magic, after_parameters, after_numbers, after_node, after_plan_line, after_begin}
-use Rattle.fr_trace.specs.Stream.{after_own, after_buffer, after_queue, after_fault, after_entry, has_owned_alone, line_count}
+use Rattle.fr_trace.specs.Stream.{after_magic, after_parameters, after_numbers, after_node, after_plan_line}
+use Rattle.fr_trace.specs.Stream.{after_fault, after_entry, has_owned_alone, line_count}
 use Rattle.fr_trace.specs.Stream.{take_line, take_byte, take_bytes, after_line, answer_of, outcome_of, too_long, line_number}
 use Rattle.fr_trace.proofs.CutLemmas.{overflow, stays_failed}
 use Rattle.fr_trace.proofs.LineLemmas.{fill}

@@ -14,7 +14,7 @@ use Rattle.fr_text.specs.Spelling.{hex_text}
 use Rattle.fr_trace.specs.declared.error.TraceError.{TraceError}
 use Rattle.fr_trace.specs.declared.error.TraceError.TheVariants as refusal
 use Rattle.fr_trace.specs.Refusals.{feed_count}
-use Rattle.fr_trace.specs.Stream.{Progress, fresh, take_bytes, longest_line}
+use Rattle.fr_trace.specs.Stream.{fresh, take_bytes, longest_line}
 use Rattle.fr_trace.specs.TraceText.{entry_line}
 use Rattle.fr_why.specs.declared.reason.Misfit.{Misfit}
 use Rattle.fr_why.specs.declared.reason.Misfit.TheVariants.{Word, Form, Late, Full, After}

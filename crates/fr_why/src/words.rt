@@ -4,7 +4,7 @@ ghost use Rattle.std.specs.List.{flat_map};
 ghost use Rattle.fr_text.specs.Writing.{Writes};
 ghost use Rattle.fr_lines.specs.Spelling.{line_text};
 ghost use Rattle.fr_why.specs.WhyText.{error_words, is_shown, byte_text, after_space, place_text, reason_text};
-ghost use Rattle.fr_why.specs.WhyText.{misfit_word, range_words, fault_words, count_text, accepted_text, fault_text};
+ghost use Rattle.fr_why.specs.WhyText.{misfit_word, count_text, accepted_text, fault_text};
 
 use crate::reason::{Misfit, Reason};
 use fr_lines::writing::write_entry;

@@ -5,7 +5,7 @@ use Rattle.fr_trace.proofs.RefusalLemmas.{short_text}
 use Rattle.fr_trace.specs.Feeds.{Reads}
 use Rattle.fr_why.specs.declared.finding.Found.{Found}
 use Rattle.fr_why.specs.Finding.{IsFound}
-use Rattle.fr_why.proofs.FindingLemmas.{at_start, next_feed, no_feed_left, piece_with, line_at, goes_on, refused_here, refused_last, accepted_last, found_holds}
+use Rattle.fr_why.proofs.FindingLemmas.{next_feed, no_feed_left, piece_with, line_at, goes_on, refused_here, refused_last, accepted_last, found_holds}
 use Rattle.fr_why.proofs.finding.find.Goals as goal
 
 pub returns-in-Err-clause-found : goal.returns-in-Err-clause-found
