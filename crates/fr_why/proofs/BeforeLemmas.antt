@@ -1,5 +1,5 @@
 -- What the lines before have left, as an audit of them tells.
-use Rattle.std.proofs.Common.{◌≡◌, ℕ, List, [], ◌∷◌, ◌++◌, Option, Some, None, Result, Ok, Err, inl, inr, ◌⊎◌, refl, sym, ap, ◌∙◌, subst}
+use Rattle.std.proofs.Common.{◌≡◌, ℕ, List, [], ◌∷◌, ◌++◌, Some, Result, Ok, Err, inl, inr, ◌⊎◌, refl, sym, ap, ◌∙◌, subst}
 use Rattle.std.proofs.lemmas.List.Sums.{fold-append}
 use Rattle.fr_interface.specs.State.{State}
 use Rattle.fr_lines.specs.declared.versions.Version.{Version}
@@ -11,7 +11,7 @@ use Rattle.fr_trace.specs.Stream.{Phase, magic, params, node, lines, body, finis
 use Rattle.fr_trace.specs.Stream.{take_bytes, outcome_of}
 use Rattle.fr_why.specs.declared.head.Head.{Head}
 use Rattle.fr_why.specs.declared.head.Head.TheVariants as head
-use Rattle.fr_why.specs.Faults.{state_at, state_in}
+use Rattle.fr_why.specs.Faults.{state_at}
 use Rattle.fr_why.specs.Heads.{head_of, Tells}
 
 -- `end` with its line feed

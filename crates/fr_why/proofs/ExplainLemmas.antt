@@ -1,5 +1,7 @@
 -- What is kept of a text, and what is written of its line at fault.
-use Rattle.std.proofs.Common.{◌≡◌, ℕ, List, [], ◌++◌, take, Option, Some, None, Err, IfSome, ap, ◌∙◌}
+use Rattle.std.proofs.Common.{◌≡◌, ℕ, ◌<◌, ◌≤◌, List, [], ◌++◌, length, take, Option, Some, None, Ok, Err, IfSome, inl, inr, ap, ◌∙◌, subst, arith, lit<}
+use Rattle.std.proofs.lemmas.Bool.{cases_lt}
+use Rattle.std.proofs.lemmas.List.{length-take-le, take_all}
 use Rattle.std.specs.Io.KnownBytes.{Appends}
 use Rattle.std.specs.Prelude.{option_map}
 use Rattle.fr_capture.specs.declared.form.Form.{Form}
@@ -12,7 +14,9 @@ use Rattle.fr_trace.specs.Stream.{fresh, take_bytes}
 use Rattle.fr_why.specs.Asking.{reason_asked}
 use Rattle.fr_why.specs.declared.head.Head.{Head}
 use Rattle.fr_why.specs.declared.reason.Reason.{Reason}
-use Rattle.fr_why.specs.Explains.{kept, shown_so_far, ShowsUntil}
+use Rattle.fr_why.specs.declared.verdict.Verdict.{Verdict}
+use Rattle.fr_why.specs.declared.verdict.Verdict.TheVariants.{Accepted, Refused}
+use Rattle.fr_why.specs.Explains.{kept, IsExplained, IsReadWhole, shown_so_far, ShowsUntil}
 use Rattle.fr_why.specs.Faults.{IsAtFault, state_at, windows_of}
 use Rattle.fr_why.specs.Heads.{Tells}
 use Rattle.fr_why.specs.Reasons.{reason_for}
@@ -36,6 +40,25 @@ refused_is e front line words old before h o r w (p, came, told) nothing is coun
     ∙ (ap (λ (n : ℕ). fault_text e n line r w) count
     ∙ (ap (λ (x : Reason). fault_text e (feed_count front) line x w) asked
     ∙ ap (λ (n : ℕ). fault_text e (feed_count front) line (reason_for e (take_bytes fresh front) line) n) (windows ∙ ap windows_of left))))
+
+-- ---- what is accepted is whole
+
+short_front : (n m : ℕ) (text : List ℕ) → length (take n text) ≤ m → m < n → take n text ≡ text
+short_front n m text few less =
+    elim (cases_lt n (length text)) [
+      | inl long ↦ let cut = length-take-le n text (omega (arith, long)) in absurd (omega (arith, cut, few, less))
+      | inr short ↦ take_all n text (omega (arith, short))
+    ]
+
+whole_by : (text bytes words : List ℕ) (v : Verdict) → bytes ≡ kept text → IsExplained bytes v words → IsReadWhole text (Ok v)
+whole_by text bytes words Accepted is explained =
+    let few : length bytes ≤ 98546854 = explained.3 in
+    short_front 98548055 98546854 text (subst (λ (t : List ℕ). length t ≤ 98546854) is few) (lit< tt)
+whole_by text bytes words Refused is explained = tt
+
+pub read_whole : (known : Option (List ℕ)) (bytes words : List ℕ) (v : Verdict) → IfSome known (λ text. bytes ≡ kept text) → IsExplained bytes v words → IfSome known (λ text. IsReadWhole text (Ok v))
+read_whole None bytes words v read explained = tt
+read_whole (Some text) bytes words v read explained = whole_by text bytes words v read explained
 
 -- ---- until the fault
 

@@ -1,46 +1,33 @@
 -- From line to line of a text, and where it is refused.
-use Rattle.std.proofs.Common.{◌≡◌, ℕ, zero, suc, ◌+◌, ◌-◌, ◌<◌, ◌≤◌, ◌==◌, true, List, [], ◌∷◌, ◌++◌, length, get_or, take, drop, Option, Some, None, Result, Ok, Err}
-use Rattle.std.proofs.Common.{inl, inr, refl, sym, ap, ◌∙◌, subst, arith, append_assoc, append-nil, zero-add, length-append}
-use Rattle.std.proofs.lemmas.List.{length-drop, take_rest, drop_all, take_all, drop-drop, take-append-drop}
+use Rattle.std.proofs.Common.{◌≡◌, ℕ, ◌+◌, ◌-◌, ◌<◌, ◌≤◌, true, List, [], ◌∷◌, ◌++◌, length, get_or, take, drop, Option, Some, None, Result, Ok, Err}
+use Rattle.std.proofs.Common.{inl, inr, refl, sym, ap, ◌∙◌, subst, arith, append_assoc, append-nil}
+use Rattle.std.proofs.lemmas.List.{length-drop, take_rest, drop_all, drop-drop, take-append-drop}
 use Rattle.std.proofs.lemmas.Bool.{eqb-true}
 use Rattle.std.proofs.lemmas.List.Sums.{fold-append}
 use Rattle.std.specs.Prelude.{IfOk, IfErr}
 use Rattle.fr_interface.specs.State.{State}
+use Rattle.fr_slots.specs.declared.plan.Queue.{Queue}
+use Rattle.fr_slots.specs.Numbers.{most_entries}
+use Rattle.fr_slots.specs.Plans.{IsPlan}
 use Rattle.fr_text.specs.Plain.{has_no_feed}
 use Rattle.fr_trace.specs.Audit.{IsOfText, HasNoFault}
 use Rattle.fr_trace.specs.declared.error.TraceError.{TraceError}
 use Rattle.fr_trace.specs.declared.error.TraceError.TheVariants as refusal
 use Rattle.fr_trace.specs.Feeds.{Reads, held}
-use Rattle.fr_trace.specs.Refusals.{feed_count, LineIsNamed}
-use Rattle.fr_trace.specs.Stream.{Progress, reading, failed, fresh, take_byte, take_bytes, take_line, answer_of, outcome_of}
-use Rattle.fr_trace.specs.Stream.{magic, params, node, lines, body, finished}
+use Rattle.fr_trace.specs.Refusals.{feed_count, LineIsNamed, HasFewLines}
+use Rattle.fr_trace.specs.Stream.{Progress, reading, failed, fresh, take_byte, take_bytes, answer_of, outcome_of, queue_count}
 use Rattle.fr_trace.proofs.CutLemmas.{stays_failed, no_feed, no_feed_before}
 use Rattle.memchr.specs.Find.{IsFirstByte, is_byte}
 use Rattle.fr_trace.proofs.RefusalLemmas.{answer_named, outcome_named}
 use Rattle.fr_why.specs.declared.finding.Fault.{Fault}
 use Rattle.fr_why.specs.declared.head.Head.{Head}
-use Rattle.fr_why.specs.declared.head.Head.TheVariants as head
 use Rattle.fr_why.specs.Faults.{IsAtFault, ShowsIn}
 use Rattle.fr_why.specs.Finding.{between, IsFaultIn, IsFound, found_of, StandsAt}
-use Rattle.fr_why.specs.Heads.{head_of, next_head}
+use Rattle.fr_why.specs.Heads.{next_head}
 use Rattle.fr_why.proofs.CuttingLemmas.{longer_front, with_feed, feed_next, three_parts}
 use Rattle.fr_why.proofs.HeadLemmas.{followed}
 use Rattle.fr_why.proofs.LineLemmas.{line_leads}
 use Rattle.fr_why.proofs.NumberLemmas.{feed_count-append, none_in_line, line_named}
-
--- ---- before the first line
-
-pub at_start : (text : List ℕ) → StandsAt text 0 0 head.Start fresh
-at_start text =
-    record {
-      within = omega arith;
-      few = omega arith;
-      counted = refl;
-      phase = magic;
-      came = refl;
-      read = refl;
-      told = refl;
-    }
 
 -- ---- a line feed in the rest
 
@@ -229,6 +216,14 @@ accepted_last text start before h auditor new s stands plain reads fine =
       ap outcome_of (read_rest text start (reading stands.phase []) new stands.came read) ∙ fine,
       omega (arith, count, none, stands.counted),
     )
+
+-- the lines of a lawful plan and of a journal are few
+queue_few : (o : Option Queue) → queue_count o ≤ 1
+queue_few None = omega arith
+queue_few (Some q) = omega arith
+
+pub few_lines : (s : State) → IsPlan s.plan → length s.entries ≤ most_entries → HasFewLines s
+few_lines s plan few = let one = queue_few s.plan.queue in omega (arith, one, plan.few_owned, plan.few_buffers, few)
 
 -- ---- what is found
 

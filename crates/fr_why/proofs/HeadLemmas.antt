@@ -1,7 +1,7 @@
 -- What is kept of the lines before follows what they tell, and gives the reasons that they give.
-use Rattle.std.proofs.Common.{◌≡◌, ℕ, List, [], Option, Some, None, Result, Ok, Err, true, false, inl, inr, refl, sym, ap, ◌∙◌, subst}
+use Rattle.std.proofs.Common.{◌≡◌, ℕ, List, [], Option, Some, None, Result, Ok, Err, inl, inr, refl, subst}
 use Rattle.std.proofs.lemmas.Bool.{cases_Bool}
-use Rattle.std.specs.Prelude.{ℤ, ◌&&◌, is_none}
+use Rattle.std.specs.Prelude.{ℤ, is_none}
 use Rattle.std.specs.Str.{bytes_eq}
 use Rattle.fr_interface.specs.State.{State}
 use Rattle.fr_journal.specs.declared.entry.Entry.{Entry}
@@ -21,7 +21,7 @@ use Rattle.fr_text.specs.Spaces.{words_of}
 use Rattle.fr_trace.specs.Answers.{fault_of}
 use Rattle.fr_trace.specs.declared.error.TraceError.{TraceError}
 use Rattle.fr_trace.specs.declared.error.TraceError.TheVariants as refusal
-use Rattle.fr_trace.specs.Stream.{Phase, magic, params, node, lines, body, finished, Progress, reading, failed}
+use Rattle.fr_trace.specs.Stream.{Phase, magic, params, node, lines, body, finished, reading}
 use Rattle.fr_trace.specs.Stream.{after_magic, after_parameters, after_plan_line, has_owned_alone, after_begin}
 use Rattle.fr_trace.specs.Stream.{after_own, after_buffer, after_queue, after_fault, after_entry, take_line, line_number}
 use Rattle.fr_trace.specs.Stream.{fresh, take_bytes}
@@ -137,7 +137,12 @@ asked_in (refusal.WrongAnswer n) (lines v p plan) held line = refl
 asked_in (refusal.WrongAnswer n) (body v s) held line = refl
 asked_in (refusal.WrongAnswer n) (finished v s) held line = refl
 asked_in refusal.BadMagic p held line = refl
-asked_in (refusal.BadLine n) p held line = refl
+asked_in (refusal.BadLine n) magic held line = refl
+asked_in (refusal.BadLine n) (params v) held line = refl
+asked_in (refusal.BadLine n) (node v p) held line = refl
+asked_in (refusal.BadLine n) (lines v p plan) held line = refl
+asked_in (refusal.BadLine n) (body v s) held line = refl
+asked_in (refusal.BadLine n) (finished v s) held line = refl
 asked_in (refusal.LineTooLong n) p held line = refl
 asked_in refusal.Truncated p held line = refl
 asked_in refusal.Read p held line = refl

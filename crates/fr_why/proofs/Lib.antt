@@ -5,4 +5,5 @@ pub mod FindingLemmas
 pub mod HeadLemmas
 pub mod LineLemmas
 pub mod NumberLemmas
+pub mod ReasonLemmas
 pub mod WordLemmas

@@ -1,5 +1,5 @@
 -- A whole line that is taken leads to the next one, after which nothing is held.
-use Rattle.std.proofs.Common.{◌≡◌, ℕ, ◌+◌, ◌<◌, ◌≤◌, true, List, [], ◌∷◌, ◌++◌, length, Result, Ok, Err, inl, inr, refl, sym, ap, ◌∙◌, subst, arith}
+use Rattle.std.proofs.Common.{◌≡◌, ℕ, ◌+◌, true, List, [], ◌∷◌, ◌++◌, length, Result, Ok, Err, inl, inr, refl, sym, ap, ◌∙◌, subst, arith}
 use Rattle.std.proofs.lemmas.Bool.{cases_lt}
 use Rattle.std.proofs.lemmas.List.Sums.{fold-append}
 use Rattle.fr_interface.specs.State.{State}
@@ -8,7 +8,7 @@ use Rattle.fr_text.specs.Plain.{has_no_feed}
 use Rattle.fr_trace.specs.declared.error.TraceError.{TraceError}
 use Rattle.fr_trace.specs.declared.error.TraceError.TheVariants.{BadLine}
 use Rattle.fr_trace.specs.Stream.{Phase, magic, params, node, lines, body, finished, Progress, reading, failed}
-use Rattle.fr_trace.specs.Stream.{take_line, take_in, take_byte, take_bytes, after_line, answer_of, too_long, line_number}
+use Rattle.fr_trace.specs.Stream.{take_line, take_byte, take_bytes, after_line, answer_of, too_long, line_number}
 use Rattle.fr_trace.proofs.CutLemmas.{overflow, stays_failed}
 use Rattle.fr_trace.proofs.LineLemmas.{fill}
 use Rattle.fr_trace.proofs.TextLemmas.{is_open, take_in-open}

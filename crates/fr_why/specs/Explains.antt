@@ -1,5 +1,5 @@
 -- What a command does that says why a text is refused, and one that shows what was seen up to that fault (own profile).
-use Rattle.std.specs.Prelude.{⊤, ◌≡◌, ℕ, ◌+◌, List, [], take, Option, Some, None, Result, Ok, Err, Vec}
+use Rattle.std.specs.Prelude.{⊤, ◌≡◌, ℕ, ◌+◌, ◌≤◌, List, [], length, take, Option, Some, None, Result, Ok, Err, Vec}
 use Rattle.std.specs.declared.alloc.Global.{Global}
 use Rattle.std.specs.Io.KnownBytes.{Keeps, Appends}
 use Rattle.fr_capture.specs.declared.form.Form.{Form}
@@ -12,6 +12,7 @@ use Rattle.fr_trace.specs.Stream.{fresh, take_bytes, outcome_of, longest_line}
 use Rattle.fr_why.specs.declared.verdict.Verdict.{Verdict}
 use Rattle.fr_why.specs.declared.verdict.Verdict.TheVariants.{Accepted, Refused}
 use Rattle.fr_why.specs.Faults.{IsAtFault, state_at, window_count}
+use Rattle.fr_why.specs.Reasons.{reason_for, IsReasonOf}
 use Rattle.fr_why.specs.WhyText.{accepted_text, refused_text}
 
 -- A text of more bytes than this isn't read further: it is longer than any that is accepted, and of its line at fault
@@ -32,12 +33,13 @@ IsKept text (Err e) = ⊥
 -- ---- why
 
 -- The text is accepted, and the words say so, with its lines and windows; or it is refused, and the words tell of its
--- line at fault.
+-- line at fault, with all that its refusal rests on.
 abbrev pub IsExplained : List ℕ → Verdict → List ℕ → Type 0
 IsExplained text Accepted words = (s : State) × (outcome_of (take_bytes fresh text) ≡ Ok s) × IsLegalInterface s
-    × (words ≡ accepted_text (feed_count text) (window_count s.entries))
+    × (length text ≤ longest_text) × (words ≡ accepted_text (feed_count text) (window_count s.entries))
 IsExplained text Refused words = (e : TraceError) × (front : List ℕ) × (line : List ℕ) × (rest : List ℕ)
-    × IsAtFault e text front line rest × (words ≡ refused_text e front line)
+    × IsAtFault e text front line rest × IsReasonOf e (reason_for e (take_bytes fresh front) line)
+    × (words ≡ refused_text e front line)
 
 -- What explains the text is written; or nothing is, since the reader failed or memory ran out; or the writer failed.
 abbrev pub Explains : List ℕ → Option (List ℕ) → Option (List ℕ) → Result Verdict TraceError → Type 0
@@ -46,6 +48,12 @@ Explains text old new (Err Read) = Keeps old new
 Explains text old new (Err Memory) = Keeps old new
 Explains text old new (Err Write) = ⊤
 Explains text old new (Err e) = ⊥
+
+-- a text that is accepted was read whole
+abbrev pub IsReadWhole : List ℕ → Result Verdict TraceError → Type 0
+IsReadWhole text (Ok Accepted) = kept text ≡ text
+IsReadWhole text (Ok Refused) = ⊤
+IsReadWhole text (Err e) = ⊤
 
 -- ---- until the fault
 

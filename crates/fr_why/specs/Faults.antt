@@ -1,5 +1,6 @@
 -- The line at which a text is refused, and what the lines before it have told (own profile).
-use Rattle.std.specs.Prelude.{◌≡◌, ℕ, ◌+◌, Bool, true, false, List, [], ◌∷◌, ◌++◌, Option, Some, None, Err, IfSome, count_by}
+use Rattle.std.specs.Prelude.{◌≡◌, ℕ, ◌+◌, Bool, true, false, List, [], ◌∷◌, ◌++◌, Option, Some, None, Err, IfSome}
+use Rattle.std.specs.Prelude.{count_by}
 use Rattle.fr_interface.specs.State.{State}
 use Rattle.fr_journal.specs.declared.entry.Entry.{Entry}
 use Rattle.fr_journal.specs.declared.entry.Entry.TheVariants as entry

@@ -4,7 +4,7 @@ use Rattle.fr_interface.specs.State.{IsLegalInterface}
 use Rattle.fr_trace.specs.Audit.{IsOfText}
 use Rattle.fr_trace.specs.declared.error.TraceError.{TraceError}
 use Rattle.fr_trace.specs.declared.error.TraceError.TheVariants.{Read, Write, Memory}
-use Rattle.fr_trace.specs.Refusals.{feed_count}
+use Rattle.fr_trace.specs.Refusals.{feed_count, longest_text}
 use Rattle.fr_trace.specs.Stream.{Progress, reading, Phase, fresh, take_bytes, outcome_of}
 use Rattle.fr_why.specs.declared.finding.Fault.{Fault}
 use Rattle.fr_why.specs.declared.finding.Found.{Found}
@@ -26,10 +26,10 @@ pub record IsFaultIn (text : List ℕ) (f : Fault) : Type 0 where
   pub counted : f.before ≡ feed_count (take f.start text)
   pub told : Tells (take f.start text) f.head
 
--- it is accepted as this interface with so many lines, or refused there
+-- it is accepted as this interface with so many lines, and so isn't too long, or it is refused there
 abbrev pub IsFound : List ℕ → Found → Type 0
 IsFound text (Accepted s lines) = (outcome_of (take_bytes fresh text) ≡ Ok s) × IsLegalInterface s
-    × (lines ≡ feed_count text)
+    × (lines ≡ feed_count text) × (length text ≤ longest_text)
 IsFound text (Refused f) = IsFaultIn text f
 
 -- an error that no text gives is told at once

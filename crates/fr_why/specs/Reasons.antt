@@ -1,23 +1,70 @@
 -- What the refusal of a line rests on, by what the lines before it have told (own profile).
-use Rattle.std.specs.Prelude.{ℕ, ℤ, List, Option, Some, None, option_map, Result, Ok, Err, if◌then◌else◌}
+use Rattle.std.specs.Prelude.{⊤, ℕ, ℤ, Bool, true, false, ◌||◌, List, [], ◌∷◌, codes, Option, Some, None, is_none}
+use Rattle.std.specs.Prelude.{option_map, Result, Ok, Err, if◌then◌else◌}
 use Rattle.std.specs.Str.{bytes_eq}
 use Rattle.fr_interface.specs.State.{State, commit_refusal, withdraw_refusal, read_refusal, pop_refusal, fetch_refusal}
 use Rattle.fr_interface.specs.State.{observe_refusal}
 use Rattle.fr_journal.specs.declared.entry.Entry.{Entry}
 use Rattle.fr_journal.specs.declared.entry.Entry.TheVariants as entry
-use Rattle.fr_lines.specs.Reading.{params_in, entry_in}
+use Rattle.fr_lines.specs.declared.plan_lines.PlanLine.{PlanLine}
+use Rattle.fr_lines.specs.declared.plan_lines.PlanLine.TheVariants as plan_line
+use Rattle.fr_lines.specs.Reading.{params_in, plan_line_in, entry_in}
 use Rattle.fr_lines.specs.Spelling.{begin_line}
 use Rattle.fr_slots.specs.declared.fault.PlanFault.{PlanFault}
 use Rattle.fr_slots.specs.declared.params.RangeError.{RangeError}
 use Rattle.fr_slots.specs.Faults.{plan_fault}
 use Rattle.fr_slots.specs.Parameters.{Parameters, parameters_of}
+use Rattle.fr_slots.specs.Plans.{Plan}
 use Rattle.fr_text.specs.Spaces.{words_of}
 use Rattle.fr_trace.specs.Answers.{made_by}
 use Rattle.fr_trace.specs.declared.error.TraceError.{TraceError}
 use Rattle.fr_trace.specs.declared.error.TraceError.TheVariants as refusal
 use Rattle.fr_trace.specs.Stream.{Phase, magic, params, node, lines, body, finished, Progress, reading, failed}
+use Rattle.fr_trace.specs.Stream.{has_owned_alone}
+use Rattle.fr_why.specs.declared.reason.Misfit.{Misfit}
+use Rattle.fr_why.specs.declared.reason.Misfit.TheVariants.{Word, Form, Late, Full, After}
 use Rattle.fr_why.specs.declared.reason.Reason.{Reason}
-use Rattle.fr_why.specs.declared.reason.Reason.TheVariants.{Plain, Params, Plan, Host, Slot, Due}
+use Rattle.fr_why.specs.declared.reason.Reason.TheVariants.{Plain, Line, Params, Host, Slot, Due}
+use Rattle.fr_why.specs.declared.reason.Reason.TheVariants as reason
+
+-- ---- lines that can't stand where they do
+
+abbrev pub first_word : List (List ℕ) → List ℕ
+first_word [] = []
+first_word (word ∷ words) = word
+
+-- of a line that isn't read
+abbrev pub misfit_of : Bool → Misfit
+misfit_of true = Form
+misfit_of false = Word
+
+-- the first words of the lines of a plan, and of those of a journal
+abbrev pub is_of_plan : List ℕ → Bool
+is_of_plan word = bytes_eq word (codes "own") || bytes_eq word (codes "tx") || bytes_eq word (codes "rx")
+    || bytes_eq word (codes "queue")
+
+abbrev pub is_of_journal : List ℕ → Bool
+is_of_journal word = bytes_eq word (codes "commit") || bytes_eq word (codes "withdraw") || bytes_eq word (codes "read")
+    || bytes_eq word (codes "pop") || bytes_eq word (codes "fetch") || bytes_eq word (codes "see")
+
+-- of a line that stands after those that it has to stand before, or is one too many
+abbrev pub misplaced : Bool → Misfit
+misplaced true = Full
+misplaced false = Late
+
+abbrev pub misfit_in_plan : Plan → List ℕ → Option PlanLine → Misfit
+misfit_in_plan plan word None = misfit_of (is_of_plan word)
+misfit_in_plan plan word (Some (plan_line.Own o)) = misplaced (has_owned_alone plan)
+misfit_in_plan plan word (Some (plan_line.Buffer b)) = misplaced (is_none plan.queue)
+misfit_in_plan plan word (Some (plan_line.Queue q)) = Full
+
+abbrev pub misfit_in : Phase → List (List ℕ) → Misfit
+misfit_in magic words = Word
+misfit_in (params v) words = misfit_of (bytes_eq (first_word words) (codes "params"))
+misfit_in (node v p) words = misfit_of (bytes_eq (first_word words) (codes "node"))
+misfit_in (lines v p plan) words = misfit_in_plan plan (first_word words) (plan_line_in v words)
+misfit_in (body v s) words = misfit_of (is_of_journal (first_word words))
+misfit_in (finished v s) words = After
 
 -- ---- parameters and plan
 
@@ -31,7 +78,7 @@ reason_of_numbers (Some numbers) = reason_of_range (parameters_of numbers)
 
 abbrev pub reason_of_fault : Option PlanFault → Reason
 reason_of_fault None = Plain
-reason_of_fault (Some fault) = Plan fault
+reason_of_fault (Some fault) = reason.Plan fault
 
 -- ---- calls
 
@@ -47,7 +94,7 @@ call_refusal s (entry.Observe window a b) = option_map Slot (observe_refusal s w
 -- why the call is refused, or else the entry that it makes
 abbrev pub reason_of_call : Entry → Option Reason → Reason
 reason_of_call made None = Due made
-reason_of_call made (Some reason) = reason
+reason_of_call made (Some known) = known
 
 abbrev pub reason_of_entry : State → Option Entry → Reason
 reason_of_entry s None = Plain
@@ -67,8 +114,28 @@ abbrev pub reason_at : Progress → List ℕ → Reason
 reason_at (reading p held) line = reason_in p line
 reason_at (failed e) line = Plain
 
--- what this error of the line rests on: only these two say that more stands behind them
+abbrev pub misfit_at : Progress → List ℕ → Reason
+misfit_at (reading p held) line = Line (misfit_in p (words_of line))
+misfit_at (failed e) line = Plain
+
+-- what this error of the line rests on: behind these three stands more
 abbrev pub reason_for : TraceError → Progress → List ℕ → Reason
+reason_for (refusal.BadLine n) before line = misfit_at before line
 reason_for (refusal.Refused n) before line = reason_at before line
 reason_for (refusal.WrongAnswer n) before line = reason_at before line
 reason_for e before line = Plain
+
+-- ---- that nothing is left out
+
+-- a refusal of a line or of a call is told with its own reason, and a wrong answer with the entry that the call makes
+abbrev pub IsReasonOf : TraceError → Reason → Type 0
+IsReasonOf (refusal.BadLine n) (Line misfit) = ⊤
+IsReasonOf (refusal.Refused n) (Params e) = ⊤
+IsReasonOf (refusal.Refused n) (reason.Plan e) = ⊤
+IsReasonOf (refusal.Refused n) (Host e) = ⊤
+IsReasonOf (refusal.Refused n) (Slot e) = ⊤
+IsReasonOf (refusal.WrongAnswer n) (Due made) = ⊤
+IsReasonOf refusal.BadMagic Plain = ⊤
+IsReasonOf (refusal.LineTooLong n) Plain = ⊤
+IsReasonOf refusal.Truncated Plain = ⊤
+IsReasonOf e r = ⊥

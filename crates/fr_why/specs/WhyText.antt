@@ -14,10 +14,12 @@ use Rattle.fr_text.specs.Spelling.{hex_text}
 use Rattle.fr_trace.specs.declared.error.TraceError.{TraceError}
 use Rattle.fr_trace.specs.declared.error.TraceError.TheVariants as refusal
 use Rattle.fr_trace.specs.Refusals.{feed_count}
-use Rattle.fr_trace.specs.Stream.{Progress, fresh, take_bytes, longest_line}
+use Rattle.fr_trace.specs.Stream.{fresh, take_bytes, longest_line}
 use Rattle.fr_trace.specs.TraceText.{entry_line}
+use Rattle.fr_why.specs.declared.reason.Misfit.{Misfit}
+use Rattle.fr_why.specs.declared.reason.Misfit.TheVariants.{Word, Form, Late, Full, After}
 use Rattle.fr_why.specs.declared.reason.Reason.{Reason}
-use Rattle.fr_why.specs.declared.reason.Reason.TheVariants.{Plain, Params, Plan, Host, Slot, Due}
+use Rattle.fr_why.specs.declared.reason.Reason.TheVariants.{Plain, Line, Params, Plan, Host, Slot, Due}
 use Rattle.fr_why.specs.Faults.{state_at, windows_of}
 use Rattle.fr_why.specs.Reasons.{reason_for}
 
@@ -65,9 +67,17 @@ fault_words (fault.Overlap slot channel cycle) = codes "Overlap" ∷ decimal slo
 fault_words (fault.TooLong buffer) = codes "TooLong" ∷ decimal buffer ∷ []
 fault_words fault.OutOfParams = codes "OutOfParams" ∷ []
 
+abbrev pub misfit_word : Misfit → List ℕ
+misfit_word Word = codes "Word"
+misfit_word Form = codes "Form"
+misfit_word Late = codes "Late"
+misfit_word Full = codes "Full"
+misfit_word After = codes "After"
+
 -- whose refusal it is, and its name there; or the line of the entry that the call makes
 abbrev pub reason_text : Reason → List ℕ
 reason_text Plain = []
+reason_text (Line misfit) = line_text (codes "reason" ∷ codes "Line" ∷ misfit_word misfit ∷ [])
 reason_text (Params e) = line_text (codes "reason" ∷ codes "Params" ∷ range_words e)
 reason_text (Plan e) = line_text (codes "reason" ∷ codes "Plan" ∷ fault_words e)
 reason_text (Host e) = line_text (codes "reason" ∷ codes "Host" ∷ host_error_name e ∷ [])
@@ -78,7 +88,8 @@ reason_text (Due e) = codes "due " ++ entry_line e
 
 -- so many lines, and so many windows that were fetched in them
 abbrev pub count_text : ℕ → ℕ → List ℕ
-count_text lines windows = line_text (codes "lines" ∷ decimal lines ∷ []) ++ line_text (codes "windows" ∷ decimal windows ∷ [])
+count_text lines windows = line_text (codes "lines" ∷ decimal lines ∷ [])
+    ++ line_text (codes "windows" ∷ decimal windows ∷ [])
 
 abbrev pub accepted_text : ℕ → ℕ → List ℕ
 accepted_text lines windows = line_text (codes "accepted" ∷ []) ++ count_text lines windows

@@ -9,7 +9,6 @@ ghost use Rattle.fr_why.specs.Reasons.{call_refusal, reason_of_call};
 use crate::reason::Reason;
 use fr_interface::errors::{HostError, SlotError};
 use fr_interface::interface::Interface;
-use fr_journal::entry::Entry;
 use fr_lines::bare::{BareEntry, EntryBytes};
 use fr_lines::entries::entry_into;
 use fr_lines::versions::Version;

@@ -1,9 +1,11 @@
 //! Why a trace is refused.
-ghost use Rattle.std.specs.Prelude.{◌≡◌, IfOk, IfErr, IfSome, take};
+ghost use Rattle.std.specs.Prelude.{◌≡◌, IfOk, IfErr, IfSome, OnOk, take};
 ghost use Rattle.fr_trace.specs.Audit.{IsOfText};
-ghost use Rattle.fr_why.specs.Explains.{kept, Explains, IsExplained};
+ghost use Rattle.fr_why.specs.Explains.{kept, Explains, IsExplained, IsReadWhole};
 ghost use Rattle.fr_why.specs.Faults.{is_fetch, window_count, windows_of};
 ghost use Rattle.fr_why.specs.Finding.{between, IsFaultIn};
+ghost use Rattle.fr_trace.specs.Stream.{fresh, take_bytes};
+ghost use Rattle.fr_why.specs.Reasons.{reason_for, IsReasonOf};
 ghost use Rattle.fr_why.specs.WhyText.{accepted_text, refused_text};
 
 use crate::before::interface_after;
@@ -60,6 +62,8 @@ fn fault_words(alloc: Global, text: &[u8], fault: &Fault) -> Result<Vec<u8>, Tra
     ensures told { IfOk result (λ words. words.items
         ≡ refused_text fault.now.error (take fault.now.start text.now)
         (between fault.now.start fault.now.end text.now)) }
+    ensures named { OnOk result (IsReasonOf fault.now.error (reason_for fault.now.error
+        (take_bytes fresh (take fault.now.start text.now)) (between fault.now.start fault.now.end text.now))) }
     ensures refused { IfErr result (λ e. IsOfText e → ⊥) }
 {
     let (front, line) = (&text[..fault.start], &text[fault.start..fault.end]);
@@ -146,8 +150,10 @@ pub fn explain_trace<R: Read, W: Write>(
     reader: &mut R,
     writer: &mut W,
 ) -> Result<Verdict, TraceError>
-    ensures { IfSome (R.remaining reader.old)
+    ensures told { IfSome (R.remaining reader.old)
         (λ text. Explains (kept text) (W.contents writer.old) (W.contents writer.new) result) }
+    // What is accepted was read whole.
+    ensures whole { IfSome (R.remaining reader.old) (λ text. IsReadWhole text result) }
 {
     let text = kept_of(alloc, reader)?;
     let (verdict, words) = explained(alloc, text.as_slice())?;

@@ -2,6 +2,7 @@
 ghost use Rattle.std.specs.Prelude.{◌≡◌, IfOk, IfErr};
 ghost use Rattle.fr_interface.specs.State.{IsLegalInterface};
 ghost use Rattle.fr_trace.specs.Audit.{IsOfText};
+ghost use Rattle.fr_trace.specs.Refusals.{HasFewLines};
 ghost use Rattle.fr_why.specs.Finding.{IsFound, found_of};
 
 use crate::head::{Head, follow};
@@ -46,11 +47,15 @@ fn refused(fault: Fault) -> Result<Found, TraceError>
 }
 
 /// What is found, where an audit has read this interface.
+#[tactic(auto, using(crate::proofs::FindingLemmas::few_lines))]
 fn accepted(interface: Interface, lines: usize) -> Found
-    ensures { (result ≡ Found.Accepted interface lines) × IsLegalInterface interface }
+    ensures found { result ≡ Found.Accepted interface lines }
+    ensures legal { IsLegalInterface interface }
+    ensures few { HasFewLines interface }
 {
-    // It tells a clause of what every interface keeps.
+    // Each of the two tells a clause of what every interface keeps.
     let _ = interface.params();
+    let _ = interface.journal().len();
     Found::Accepted(interface, lines)
 }
 

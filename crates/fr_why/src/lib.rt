@@ -14,6 +14,7 @@ pub mod explain;
 pub mod finding;
 pub mod head;
 mod kept;
+mod misfits;
 pub mod reason;
 mod reasons;
 pub mod until_fault;

@@ -7,6 +7,7 @@ ghost use Rattle.fr_why.specs.Reasons.{reason_of_numbers};
 
 use crate::call::reason_of_line;
 use crate::head::Head;
+use crate::misfits::misfit_of;
 use crate::reason::Reason;
 use fr_interface::interface::Interface;
 use fr_lines::parameters::params_of;
@@ -73,6 +74,7 @@ pub(crate) fn reason_of(
     ensures { result ≡ reason_asked error head.now interface.old line.now }
 {
     match error {
+        TraceError::BadLine(_) => Reason::Line(misfit_of(head, line)),
         TraceError::Refused(_) | TraceError::WrongAnswer(_) => reason_by(head, interface, line),
         _ => Reason::Plain,
     }

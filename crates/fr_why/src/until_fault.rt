@@ -33,14 +33,14 @@ fn show_before<W: Write>(
     }
 }
 
-/// Reads a trace to its end, and writes what was seen in it, in this form: of a trace that an audit refuses what was seen
-/// up to the line at fault, or up to where it breaks off (own profile).
+/// Reads a trace to its end, and writes what was seen in it, in this form; of a trace that an audit refuses it writes
+/// what was seen up to the line at fault, or up to where the trace breaks off (own profile).
 ///
 /// Refused as an audit refuses it, with the error of the first line at fault, once what was seen in the lines before is
 /// written; where these haven't told the plan yet, nothing is. Refused too with `Read` where the reader fails and with
-/// `Memory` where memory is refused, and then nothing is written; and with `Write` where the writer fails, and then some
-/// of it may have been written. A text of more than 98,548,055 bytes, which is longer than any accepted one, is read no
-/// further and refused for those.
+/// `Memory` where memory is refused, and then nothing is written; and with `Write` where the writer fails, and then
+/// some of it may have been written. A text of more than 98,548,055 bytes, which is longer than any accepted one, is
+/// read no further and refused for those.
 pub fn show_until_fault<R: Read, W: Write>(
     alloc: Global,
     form: Form,

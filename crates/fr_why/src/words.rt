@@ -4,9 +4,9 @@ ghost use Rattle.std.specs.List.{flat_map};
 ghost use Rattle.fr_text.specs.Writing.{Writes};
 ghost use Rattle.fr_lines.specs.Spelling.{line_text};
 ghost use Rattle.fr_why.specs.WhyText.{error_words, is_shown, byte_text, after_space, place_text, reason_text};
-ghost use Rattle.fr_why.specs.WhyText.{range_words, fault_words, count_text, accepted_text, fault_text};
+ghost use Rattle.fr_why.specs.WhyText.{misfit_word, count_text, accepted_text, fault_text};
 
-use crate::reason::Reason;
+use crate::reason::{Misfit, Reason};
 use fr_lines::writing::write_entry;
 use fr_slots::fault::PlanFault;
 use fr_slots::params::RangeError;
@@ -81,6 +81,19 @@ fn write_place<W: Write>(writer: &mut W, number: u64, line: &[u8]) -> io::Result
     writer.write_all(b"\n")
 }
 
+/// The word for why a line can't stand where it does.
+fn misfit_word(misfit: Misfit) -> &'static str
+    ensures { result.now ≡ misfit_word misfit }
+{
+    match misfit {
+        Misfit::Word => "Word",
+        Misfit::Form => "Form",
+        Misfit::Late => "Late",
+        Misfit::Full => "Full",
+        Misfit::After => "After",
+    }
+}
+
 /// Writes the line of a refusal of parameters.
 fn write_range<W: Write>(writer: &mut W, error: RangeError) -> io::Result<()>
     ensures { Writes W.contents writer.old writer.new result (reason_text (Reason.Params error)) }
@@ -112,6 +125,7 @@ fn write_reason<W: Write>(writer: &mut W, reason: &Reason) -> io::Result<()>
 {
     match reason {
         Reason::Plain => Ok(()),
+        Reason::Line(misfit) => writeln!(writer, "reason Line {}", misfit_word(*misfit)),
         Reason::Params(error) => write_range(writer, *error),
         Reason::Plan(fault) => write_fault(writer, *fault),
         Reason::Host(error) => writeln!(writer, "reason Host {error}"),

@@ -1,6 +1,6 @@
-use Rattle.std.proofs.Common.{◌≡◌, Some, Ok, ◌∙◌, sym, subst, append-nil, ap, List, ℕ, ◌++◌}
+use Rattle.std.proofs.Common.{◌∙◌, sym, subst, append-nil, List, ℕ}
 use Rattle.fr_trace.specs.Stream.{fresh, take_bytes}
-use Rattle.fr_why.proofs.BeforeLemmas.{body_left, finished_left, LeavesIn, Answers, end_bytes}
+use Rattle.fr_why.proofs.BeforeLemmas.{body_left, finished_left, LeavesIn, Answers}
 use Rattle.fr_why.proofs.before.interface_after.Goals.{in-Body, in-Finished}
 use Rattle.fr_why.proofs.before.interface_after.Goals as goal
 

@@ -1,10 +1,11 @@
 use Rattle.std.proofs.Common.{IfOk, List, ℕ, drop, Result, ◌∙◌, sym, subst}
 use Rattle.std.proofs.lemmas.List.{take_rest}
 use Rattle.fr_trace.specs.declared.error.TraceError.{TraceError}
+use Rattle.fr_trace.proofs.RefusalLemmas.{short_text}
 use Rattle.fr_trace.specs.Feeds.{Reads}
 use Rattle.fr_why.specs.declared.finding.Found.{Found}
 use Rattle.fr_why.specs.Finding.{IsFound}
-use Rattle.fr_why.proofs.FindingLemmas.{at_start, next_feed, no_feed_left, piece_with, line_at, goes_on, refused_here, refused_last, accepted_last, found_holds}
+use Rattle.fr_why.proofs.FindingLemmas.{next_feed, no_feed_left, piece_with, line_at, goes_on, refused_here, refused_last, accepted_last, found_holds}
 use Rattle.fr_why.proofs.finding.find.Goals as goal
 
 pub returns-in-Err-clause-found : goal.returns-in-Err-clause-found
@@ -31,7 +32,7 @@ returns-in-Ok-clause-found c =
     let start = c.loop-at.start in
     let plain = no_feed_left (drop start text) _ (take_rest text start) c.in_default.ensures in
     let done = accepted_last text start c.loop-at.before c.loop-at.head c.loop-at.auditor c.feed-2.new.self c.in-Ok.interface c.loop-at.invariant plain (subst (λ (t : List ℕ). Reads c.loop-at.auditor t c.feed-2.new.self) (take_rest text start) c.feed-2.ensures.state) (sym c.finish.ensures ∙ c.in-Ok.is) in
-    subst (IsFound text) (sym c.accepted.ensures.0) (done.0, c.accepted.ensures.1, done.1)
+    subst (IsFound text) (sym c.accepted.ensures.found) (done.0, c.accepted.ensures.legal, done.1, short_text text c.in-Ok.interface done.0 c.accepted.ensures.few)
 
 pub returns-in-Err-finish-clause-found : goal.returns-in-Err-finish-clause-found
 returns-in-Err-finish-clause-found c =

@@ -1,4 +1,4 @@
-use Rattle.std.proofs.Common.{ℕ, ◌-◌, length}
+use Rattle.std.proofs.Common.{◌-◌, length}
 use Rattle.fr_why.specs.Finding.{StandsAt}
 use Rattle.fr_why.proofs.finding.find.Given as goal
 
