@@ -6,6 +6,7 @@
 //! if fault_line.strikes(run_cycle, &window) {} // whether the fault comes in this window
 //! have_faults(&faults, bus.record()); // whether a run had these faults, and no others
 //! are_stepped(&interfaces, bus.record(), &scripts); // whether each line was done in its cycle
+//! suits_after(&cluster, cycles, &faults, &fault_line); // whether the run can have one fault line more
 //! ```
 //!
 //! A chapter in parentheses is one of the FlexRay Protocol Specification 2.1, revision A, whose rule it is.
@@ -15,6 +16,6 @@
 pub mod check;
 pub mod fault_line;
 pub mod faulted;
-mod faults;
+pub mod faults;
 mod scripts;
 pub mod stepping;

@@ -8,6 +8,7 @@ use Rattle.fr_core.specs.declared.script.Action.TheVariants.{Commit, Withdraw, R
 use Rattle.fr_frame.specs.Payload.{most_frame_bytes}
 use Rattle.fr_lines.specs.PartReading.{channel_in, payload_in}
 use Rattle.fr_runs.specs.declared.fault_line.FaultCycles.{FaultCycles}
+use Rattle.fr_runs.specs.declared.fault_line.FaultLine.{FaultLine}
 use Rattle.fr_runs.specs.declared.fault_line.FaultPlace.{FaultPlace}
 use Rattle.fr_scenario.specs.declared.spelled.SpelledLine.{SpelledLine}
 use Rattle.fr_scenario.specs.declared.spelled.SpelledLine.TheVariants.{Host, Fault as FaultOf}
@@ -106,3 +107,14 @@ line_in version (kind ∷ words) =
     else if bytes_eq kind (codes "mute") then mute_in words
     else if bytes_eq kind (codes "corrupt") then corrupt_in words
     else None
+
+-- ---- a fault line by itself
+
+abbrev pub fault_said : Option SpelledLine → Option FaultLine
+fault_said None = None
+fault_said (Some (Host node task line)) = None
+fault_said (Some (FaultOf fault)) = Some fault
+
+-- the fault line that a line of the newest version spells
+abbrev pub fault_line_in : List (List ℕ) → Option FaultLine
+fault_line_in words = fault_said (line_in Two words)

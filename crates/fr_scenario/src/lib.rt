@@ -4,6 +4,7 @@
 //! let scenario = Scenario::from_text(alloc, "frscenario 2\npop 0 1 2\nmute 2 A * s*\nend\n")?;
 //! scenario.scripts(); // what each task is to do, by node and then task
 //! scenario.faults(); // the fault lines, in their order
+//! let line = fault_line_of(b"mute 2 A * s*"); // one fault line by itself
 //! ```
 //!
 //! A chapter in parentheses is one of the FlexRay Protocol Specification 2.1, revision A, whose rule it is.
@@ -13,7 +14,7 @@
 pub mod error;
 mod gathered;
 mod left;
-mod lines;
+pub mod lines;
 mod parts;
 pub mod scenario;
 mod spelled;

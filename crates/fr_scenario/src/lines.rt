@@ -2,7 +2,7 @@
 ghost use Rattle.std.specs.Prelude.{◌≡◌};
 ghost use Rattle.fr_text.specs.Spaces.{words_of};
 ghost use Rattle.fr_scenario.specs.LineReading.{commit_in, withdraw_in, read_in, pop_in, babble_in, mute_in};
-ghost use Rattle.fr_scenario.specs.LineReading.{corrupt_in, host_line, line_in};
+ghost use Rattle.fr_scenario.specs.LineReading.{corrupt_in, host_line, line_in, fault_line_in};
 
 use crate::parts::{cycles_of, place_of, run_cycle_of};
 use crate::spelled::SpelledLine;
@@ -176,4 +176,16 @@ pub(crate) fn line_of(version: Version, line: &[u8]) -> Option<SpelledLine>
         return corrupt_of(&mut words);
     }
     None
+}
+
+/// The fault line that the line of a scenario of the newest version spells, which is given without its line feed (own
+/// profile). `None` where it spells none: where it is the line of a task, has no form of a line, or has a number out of
+/// its range. How long the line is doesn't matter.
+pub fn fault_line_of(line: &[u8]) -> Option<FaultLine>
+    ensures { result ≡ fault_line_in (words_of line.now) }
+{
+    match line_of(Version::Two, line) {
+        Some(SpelledLine::Fault(fault)) => Some(fault),
+        _ => None,
+    }
 }
