@@ -11,17 +11,18 @@ from musmyrtle.builder import Scenario
 from musmyrtle.faults import Babble, Corrupt, Fault, Mute
 from musmyrtle.names import Names, UnknownName
 from musmyrtle.refusals import (
-    AlreadyPut, AlreadyTaken, BadLine, BusRefused, HostFull, HostRefused, Memory, NoQueue, NotAllPut, NotAllTaken,
-    NotCollecting, NotReceive, NotSealed, NotTransmit, NoWindow, Refused, SessionOver, SlotFull, SlotRefused,
-    TooManyFaults, UnknownBuffer, UnknownNode, UnknownTask, WrongLength, WrongTurn,
+    AlreadyPut, AlreadyTaken, BadFault, BadLine, BusRefused, HostFull, HostRefused, Memory, NoQueue, NotAllPut,
+    NotAllTaken, NotCollecting, NotReceive, NotSealed, NotTransmit, NoWindow, Refused, SessionOver, SlotFull,
+    SlotRefused, TooManyFaults, UnknownBuffer, UnknownNode, UnknownTask, WrongLength, WrongTurn,
 )
 from musmyrtle.replies import Counters, Frame, Queue, ReceiveBuffer, Record, Report, Sent, TransmitBuffer, Window
 from musmyrtle.world import Buffer, Node, World
 
 __all__ = [
-    "AlreadyPut", "AlreadyTaken", "Babble", "BadLine", "Buffer", "BusRefused", "Corrupt", "Counters", "Fault", "Frame",
-    "HostFull", "HostRefused", "Memory", "Mute", "Names", "NoQueue", "NoWindow", "Node", "NotAllPut", "NotAllTaken",
-    "NotCollecting", "NotReceive", "NotSealed", "NotTransmit", "Queue", "ReceiveBuffer", "Record", "Refused", "Report",
-    "Scenario", "Sent", "SessionOver", "SlotFull", "SlotRefused", "TooManyFaults", "TransmitBuffer", "UnknownBuffer",
-    "UnknownName", "UnknownNode", "UnknownTask", "Window", "World", "WrongLength", "WrongTurn",
+    "AlreadyPut", "AlreadyTaken", "Babble", "BadFault", "BadLine", "Buffer", "BusRefused", "Corrupt", "Counters",
+    "Fault", "Frame", "HostFull", "HostRefused", "Memory", "Mute", "Names", "NoQueue", "NoWindow", "Node", "NotAllPut",
+    "NotAllTaken", "NotCollecting", "NotReceive", "NotSealed", "NotTransmit", "Queue", "ReceiveBuffer", "Record",
+    "Refused", "Report", "Scenario", "Sent", "SessionOver", "SlotFull", "SlotRefused", "TooManyFaults",
+    "TransmitBuffer", "UnknownBuffer", "UnknownName", "UnknownNode", "UnknownTask", "Window", "World", "WrongLength",
+    "WrongTurn",
 ]

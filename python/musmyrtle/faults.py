@@ -1,4 +1,4 @@
-"""Faults that a test brings into the open window of a world."""
+"""Faults that a test brings into windows of a world."""
 from dataclasses import dataclass
 from typing import Union
 
@@ -40,3 +40,9 @@ class Corrupt:
 
 
 Fault = Union[Babble, Mute, Corrupt]
+
+
+def is_fault_line(text: str) -> bool:
+    """Whether the text looks like a scenario's fault line, which has more words than the fault of one window."""
+    kind, *words = text.split(" ")
+    return kind in ("babble", "mute", "corrupt") and len(words) > 3

@@ -73,11 +73,13 @@ class Play:
         self.is_recorded, self.played = is_recorded or lost is not None, Played()
 
     def run(self) -> Played:
+        for it in self.faults:
+            self.world.keep(" ".join(it.words))
         window = self.world.now()
         for cycle in range(self.player.cycles):
             self.played.starts.append(window.number)
             self.call(cycle)
-            window = self.dynamic(cycle, self.static(cycle))
+            window = self.shown(cycle) if self.is_recorded else self.world.cycle()
         for node in self.player.cluster.nodes:
             if node.queue:
                 self.empty(node.number)
@@ -102,38 +104,16 @@ class Play:
             if line.kind == "pop" and reply != "frame -":
                 self.played.came.setdefault(line.value("NODE"), []).append(reply)
 
-    def static(self, cycle: int) -> Window | None:
-        """Does the static windows of the cycle. Answers the window after them."""
-        requests = []
-        for slot in range(1, self.player.cluster.parameters.static_slots + 1):
-            requests += [*self.strikes(cycle, True, slot), "window"]
-        reply = ""
-        for at in range(0, len(requests), AT_ONCE):
-            reply = self.world.send(requests[at:at + AT_ONCE])[-1]
-        return moved(reply)
-
-    def strikes(self, cycle: int, is_static: bool, place: int) -> list[str]:
-        """The requests of the faults that come in a window."""
-        found = []
-        for it in self.faults:
-            if it.is_static == is_static and it.cycle in (None, cycle) and it.place in (None, place):
-                what = [it.word("NODE")] if it.kind != "corrupt" else []
-                more = [] if it.kind == "mute" else [it.words[-1]]
-                found.append(" ".join([it.kind, *what, it.word("CHANNEL"), *more]))
-        return found
-
-    def dynamic(self, cycle: int, window: Window | None) -> Window | None:
-        """Does the dynamic windows of the cycle: one by one as long as something of them matters, and then the rest."""
-        places = [it.place for it in self.faults if not it.is_static and it.cycle in (None, cycle)]
-        last = max(places, default=0)
+    def shown(self, cycle: int) -> Window | None:
+        """Does the windows of the cycle, the dynamic ones one by one. Answers the first window of the next."""
+        static_slots, reply = self.player.cluster.parameters.static_slots, ""
+        for at in range(0, static_slots, AT_ONCE):
+            reply = self.world.send(["window"] * min(AT_ONCE, static_slots - at))[-1]
+        window = moved(reply)
         while window and not window.opens_cycle:
-            if not self.is_recorded and window.minislot > last:
-                return moved(self.world.ask("cycle"))
-            requests = self.strikes(cycle, False, window.minislot)
-            requests += [f"mute {self.lost[0]} {self.lost[1]}"] if self.lost else []
+            requests = [f"mute {self.lost[0]} {self.lost[1]}"] if self.lost else []
             after = moved(self.world.send([*requests, "window"])[-1])
-            if self.is_recorded:
-                self.record(cycle, window)
+            self.record(cycle, window)
             window = after
         return window
 

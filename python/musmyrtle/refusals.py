@@ -20,6 +20,10 @@ class BadLine(Refused):
     """The line is no request."""
 
 
+class BadFault(Refused):
+    """No run of the cluster could have the fault line beside those that the world keeps."""
+
+
 class NoWindow(Refused):
     """The record hasn't the window."""
 

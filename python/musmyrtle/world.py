@@ -6,7 +6,7 @@ as the exception of that name, and has changed nothing.
 from collections.abc import Callable, Iterable, Iterator
 from contextlib import contextmanager
 
-from musmyrtle.faults import Fault
+from musmyrtle.faults import Fault, is_fault_line
 from musmyrtle.names import Names
 from musmyrtle.replies import Frame, Record, Report, Window, frame_of, number_or_none, record_of, report_of, window_of
 from musmyrtle.session import FileName, Session, usual_world
@@ -110,6 +110,7 @@ class World:
         self._cluster = cluster
         self._names: Names | None = None
         self._faults: list[tuple[Fault, Callable[[Window], bool]]] = []
+        self._lines: list[str] = []
 
     def __enter__(self) -> "World":
         return self
@@ -199,6 +200,24 @@ class World:
             window = self.cycle()
         return window
 
+    def play_scenario(self, text: str, cycles: int) -> list[tuple[str, str]]:
+        """Does so many cycles of a world that has just been opened with the lines of a scenario, as a stepped run does
+        them: its fault lines are kept, and in each cycle first come the lines of the tasks, by node and then task.
+        Answers each of these and its reply."""
+        lines = [line.split(" ") for line in text.splitlines()[1:-1]]
+        for words in lines:
+            if is_fault_line(" ".join(words)):
+                self.keep(" ".join(words))
+        calls = [words for words in lines if not is_fault_line(" ".join(words))]
+        calls.sort(key=lambda words: (int(words[3]), int(words[1]), int(words[2])))
+        answers = []
+        for cycle in range(cycles):
+            for kind, node, task, _, *rest in (words for words in calls if words[3] == str(cycle)):
+                line = " ".join((kind, node, task, *rest))
+                answers.append((line, self.ask(line)))
+            self.cycle()
+        return answers
+
     def play(self, *hosts: Host, cycles: int) -> Window | None:
         """Runs host programs as generators: at the start of each cycle each goes on to its next `yield`."""
         running = list(hosts)
@@ -208,15 +227,49 @@ class World:
             window = self.cycle()
         return window
 
+    # ---- faults
+
     @contextmanager
-    def fault(self, fault: Fault, when: Callable[[Window], bool] = lambda window: True) -> Iterator[None]:
-        """Brings the fault into each window for which `when` is true, while the block runs."""
+    def fault(self, fault: Fault | str, when: Callable[[Window], bool] = lambda window: True) -> Iterator[None]:
+        """Brings the fault into each window for which `when` is true, while the block runs.
+
+        A fault line, as a scenario has it, says itself where it comes: `world.fault("mute 2 A * s*")`.
+        """
+        if isinstance(fault, str):
+            with self._fault_line(fault):
+                yield
+            return
         entry = (fault, when)
         self._faults.append(entry)
         try:
             yield
         finally:
             self._faults.remove(entry)
+
+    def keep(self, line: str) -> None:
+        """Has the world bring the fault of a scenario's fault line into each window that the line names from now on."""
+        if not is_fault_line(line):
+            raise ValueError(f"no fault line: {line}")
+        self.ask(line)
+        self._lines.append(line)
+
+    def forget(self) -> None:
+        """Ends all fault lines. What they have brought into the open window stays there."""
+        self.ask("forget")
+        self._lines.clear()
+
+    @contextmanager
+    def _fault_line(self, line: str) -> Iterator[None]:
+        self.keep(line)
+        try:
+            yield
+        finally:
+            others = list(self._lines)
+            if line in others:
+                others.remove(line)
+                self.forget()
+                for other in others:
+                    self.keep(other)
 
     def _inject_due(self) -> None:
         window = self.now()

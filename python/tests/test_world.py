@@ -6,7 +6,7 @@ from pathlib import Path
 from tempfile import TemporaryDirectory
 
 from musmyrtle import (
-    Babble, BadLine, Corrupt, HostRefused, Mute, NoWindow, NotReceive, Refused, Scenario, SessionOver, UnknownBuffer,
+    Babble, BadFault, BadLine, Corrupt, HostRefused, Mute, NoWindow, NotReceive, Refused, Scenario, SessionOver, UnknownBuffer,
     UnknownName, UnknownNode, Window, World, WrongLength, WrongTurn,
 )
 from musmyrtle.builder import NotInAScenario
@@ -73,6 +73,44 @@ class TestWorld(unittest.TestCase):
         self.assertEqual([it.fate for it in record.sent], ["muted", "passed"])
         self.assertEqual(record.corrupt, {"B": 3})
         self.assertIsNone(self.receiver.read(1))
+
+    def test_a_fault_line_comes_where_it_says_until_its_block_ends(self):
+        with self.world.fault("mute 0 A 1 s1"), self.world.fault("babble 2 A * s* x00"):
+            self.world.run(2)
+            with self.assertRaises(BadFault):
+                self.world.keep("babble 2 A 2 s1 xff")
+        self.world.run(1)
+        fates = [[(it.node, it.fate) for it in self.world.record(number).sent if it.channel == "A"] for number in (0, 7, 14)]
+        self.assertEqual(fates, [[(0, "passed"), (2, "blocked")], [(0, "muted"), (2, "blocked")], [(0, "passed")]])
+
+    def test_a_block_ends_its_own_fault_line(self):
+        with self.world.fault("mute 0 A * s1"):
+            with self.world.fault("mute 0 B * s1"):
+                self.world.run(1)
+            self.world.run(1)
+        fates = [[it.fate for it in self.world.record(number).sent] for number in (0, 7)]
+        self.assertEqual(fates, [["muted", "muted"], ["muted", "passed"]])
+
+    def test_forget_ends_all_fault_lines(self):
+        self.world.keep("mute 0 A * s1")
+        self.world.keep("corrupt B 0 s1 3")
+        self.world.forget()
+        self.world.run(1)
+        self.assertEqual([it.fate for it in self.world.record(0).sent], ["passed", "passed"])
+        self.assertEqual(self.world.record(0).corrupt, {})
+        with self.assertRaises(ValueError):
+            self.world.keep("mute 0 A")
+
+    def test_a_whole_scenario(self):
+        example = THREE_NODES.with_name("scenario").read_text()
+        with World(THREE_NODES, cycles=4) as world:
+            answers = world.play_scenario(example, 4)
+            self.assertEqual(len(answers), sum(line.split(" ")[0] in ("commit", "withdraw", "read", "pop")
+                                               for line in example.splitlines()))
+            reports = ["".join(f"{line}\n" for line in world.block(f"report {node}")) for node in range(3)]
+            self.assertIsNone(world.now())
+        wanted = THREE_NODES.with_name("outcome-of-4-cycles").read_text()
+        self.assertTrue(wanted.startswith("".join(f"node {node}\n{it}" for node, it in enumerate(reports))))
 
     def test_a_report_is_told_in_parts(self):
         self.sender.commit(0, words(1))

@@ -243,7 +243,14 @@ def request(random, nodes):
         f"pop {node} {task}", f"look {node}", f"fetch {node}", f"put {node}", f"take {node}", f"observe {node}", "seal",
         "advance", "window", "window", "cycle", f"run {random.randrange(3)}", "now", f"report {node}", f"trace {node}",
         f"record {random.randrange(12)}", f"babble {node} {channel} x{random.randbytes(random.choice((0, 9, 40))).hex()}",
-        f"mute {node} {channel}", f"corrupt {channel} {random.randrange(90)}"))
+        f"mute {node} {channel}", f"corrupt {channel} {random.randrange(90)}", "forget", fault_line(random, node, channel)))
+
+
+def fault_line(random, node, channel):
+    """A fault line for a world of some cycles. It may be refused."""
+    where = f"{channel} {random.choice('**0123')} {random.choice(('s*', 's1', 's3', 's4', 'm1', 'm5'))}"
+    return random.choice((f"babble {node} {where} x{random.randbytes(9).hex()}", f"mute {node} {where}",
+                          f"corrupt {where} {random.randrange(90)}"))
 
 
 def session(random):

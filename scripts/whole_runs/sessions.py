@@ -68,6 +68,40 @@ REFUSALS = [
 ]
 """Each refusal that a request has in the three-node cluster, with what is accepted beside it."""
 
+FAULT_LINES = [
+    ("commit 0 0 0 x0a0b", "committed 0"), ("babble 1 A * s2 x00", "done"), ("corrupt B 0 s* 7", "done"),
+    ("corrupt B 0 s2 9", "refused BadFault 2"), ("corrupt B 1 s2 9", "done"), ("babble 1 A 1 s2 xff", "refused BadFault 3"),
+    ("mute 2 A * s*", "refused BadFault 3"), ("mute 1 A 2 s*", "refused BadFault 3"), ("mute 1 A * s3", "refused BadFault 3"),
+    ("mute 1 A * m1", "refused BadFault 3"), ("babble 1 A * s1", "refused BadLine 11"), ("cycle", "open 2 1 0 1 1"),
+    ("record 0", "lines 2\nwindow 0 0 0 1 1\ncorrupt B 7"), ("record 1", "\n".join([
+        "lines 5", "window 1 0 0 2 2", f"sent 0 A offer passed {DATA_A}", f"sent 0 B offer passed {DATA_B}",
+        "sent 1 A babble blocked x00", "corrupt B 7"])),
+    ("forget", "done"), ("corrupt B * s1 9", "done"), ("forget", "done"), ("window", "open 3 1 0 2 2"),
+    ("record 2", "lines 1\nwindow 2 1 0 1 1"),
+]
+"""Fault lines that are kept, refused and forgotten."""
+
+A_FAULT_BY_HAND = [
+    ("corrupt A 5", "done"), ("corrupt A * s1 7", "done"), ("corrupt B 1 s1 9", "done"), ("window", "open 1 0 0 2 2"),
+    ("record 0", "lines 2\nwindow 0 0 0 1 1\ncorrupt A 5"), ("run 1", "open 2 1 0 1 1"), ("look 0", "window 2 1 0 1 1"),
+    ("fetch 0", "done"), ("window", "open 3 1 0 2 2"), ("record 2", "lines 3\nwindow 2 1 0 1 1\ncorrupt A 7\ncorrupt B 9"),
+]
+"""A fault that the window has stays, and that of a line doesn't come; in a window that is begun it does."""
+
+A_LINE_TOO_LATE = [
+    *A_WINDOW[:9], ("corrupt B * s1 3", "done"), ("window", "open 1 0 0 2 2"), ("record 0", "lines 1\nwindow 0 0 0 1 1"),
+    ("run 1", "open 2 1 0 1 1"), ("window", "open 3 1 0 2 2"), ("record 2", "lines 2\nwindow 2 1 0 1 1\ncorrupt B 3"),
+]
+"""The fault of a line that comes once the window is sealed comes in the next one that it names."""
+
+LATE_CYCLES = [
+    ("corrupt A 64 s1 1", "done"), ("corrupt B 66 s1 1", "refused BadFault 1"), ("run 66", "over"),
+    ("record 0", "lines 1\nwindow 0 0 0 1 1"), ("record 126", "lines 1\nwindow 126 63 0 1 1"),
+    ("record 128", "lines 2\nwindow 128 0 0 1 1\ncorrupt A 1"), ("record 130", "lines 1\nwindow 130 1 0 1 1"),
+    ("window", "refused Bus NotCollecting"),
+]
+"""A fault line names a cycle of the run, which isn't wrapped at 64."""
+
 NO_REQUESTS = [
     "", " ", "now ", " now", "now  ", "Now", "now 1", "window 1", "cycle 1", "seal 0", "advance 0", "look", "look 16", "look 00",
     "look -1", "look 0 0", "fetch", "put", "take", "observe x", "commit", "commit 0 0 0", "commit 0 0 0 x0", "commit 0 0 0 x000",
@@ -75,6 +109,9 @@ NO_REQUESTS = [
     "commit 0 8 0 x0000", "commit 0 0 64 x0000", "commit 16 0 0 x0000", "commit +1 0 0 x0000", "withdraw 0 0", "withdraw 0 0 0 0",
     "read 0 0", "read 0 0 0 0", "pop 0", "pop 0 0 0", "babble 0 A", "babble 0 AB x00", "babble 0 a x00", "babble 0 A x0",
     "mute 0", "mute 0 C", "mute 0 A 1", "corrupt A", "corrupt A 65536", "corrupt 1 A", "run", "run 1025", "run -1", "run 1 1",
+    "forget 1", "babble 0 A * s*", "babble 0 A * s* x0", "babble 0 A 1024 s* x00", "babble 0 A * s0 x00", "babble 0 A * 1 x00",
+    "mute 0 A * m*", "mute 0 A * s01", "mute 0 A ** s*", "mute 0 A * s* 1", "mute 0 A  * s*", "corrupt A * s*", "corrupt A * s* 65536",
+    "corrupt 0 A * s* 1", "commit 0 0 0 0 x0a0b", "read 0 0 0 1 ", "mute 0 A * m8001", "end", "frscenario 2",
     "record", "record 4294967296", "report", "report 16", "trace", "trace 0 0", "quit", "frworld 1", "now\r", "now\t", "now\0",
     "commit 0 0 0 x" + "00" * 255, "babble 0 A x" + "00" * 263, "x" * 1200, "x" * 1201, "now " * 300, "now" + " " * 1198,
     "now" + " " * 5_000_000, "x" * 4095, "x" * 4096, "x" * 8191, "x" * 8192, "x" * 8193, "x" * 16384, "\N{EURO SIGN}",
@@ -152,6 +189,12 @@ class Sessions:
         self.check("a window by its events", self.small, 2, A_WINDOW)
         self.check("two cycles by windows", self.small, 2, TWO_CYCLES)
         self.check("each refusal", THREE_NODES, 4, REFUSALS)
+        self.check("fault lines", self.small, 2, FAULT_LINES)
+        self.check("a fault by hand before one of a line", self.small, 2, A_FAULT_BY_HAND)
+        self.check("a fault line too late for a window", self.small, 2, A_LINE_TOO_LATE)
+        roomy = self.folder / "roomy.toml"
+        roomy.write_text(SMALL.replace("slot_entries = 6\n", ""))
+        self.check("a fault line of a late cycle", roomy, 66, LATE_CYCLES)
         self.check("no requests at all", THREE_NODES, 1, [])
         late = "refused Bus NotCollecting"
         over = [("run 0", "open 0 0 0 1 1"), ("run 2", "over"), ("now", "over"), ("look 0", late), ("window", late), ("cycle", late),
@@ -182,13 +225,14 @@ class Sessions:
         for folder in sorted(path for path in EXAMPLES.iterdir() if (path / "scenario").exists()):
             for outcome in folder.glob("outcome-of-*-cycles"):
                 cycles = int(outcome.name.split("-")[2])
-                try:
-                    got = self.outcome(folder, cycles)
-                except OSError as error:
-                    got = str(error)
-                self.runs.compare(f"a session of {folder.name}", got, outcome.read_text())
+                for strike in (self.strike, self.keep):
+                    try:
+                        got = self.outcome(folder, cycles, strike)
+                    except OSError as error:
+                        got = str(error)
+                    self.runs.compare(f"a session of {folder.name} with {strike.__name__}", got, outcome.read_text())
 
-    def outcome(self, folder, cycles):
+    def outcome(self, folder, cycles, strike):
         """The outcome of a stepped run, by a session that does the scenario's lines and faults."""
         lines = [line.split(" ") for line in (folder / "scenario").read_text().splitlines()[1:-1]]
         nodes = (folder / "cluster.toml").read_text().count("[[node]]")
@@ -201,7 +245,7 @@ class Sessions:
                 if kind in ("commit", "withdraw", "read", "pop") and words[2] == str(cycle):
                     talk.ask(" ".join([kind, *words[:2], *words[3:]]))
             while True:
-                self.strike(talk, lines, cycle, opened)
+                strike(talk, lines, cycle, opened)
                 opened, windows = talk.ask("window"), windows + 1
                 if opened == "over" or opened.split(" ")[3:5] == ["0", "1"]:
                     break
@@ -216,8 +260,15 @@ class Sessions:
                                   (reports[node].partition("\n")[2].encode(), b"", 0))
         return "".join(reports) + f"windows {windows}\nsettled\n"
 
+    def keep(self, talk, lines, cycle, opened):
+        """Gives the fault lines in the first window, as they are."""
+        if cycle == 0 and opened == "open 0 0 0 1 1":
+            for line in lines:
+                if line[0] in ("babble", "mute", "corrupt"):
+                    talk.ask(" ".join(line))
+
     def strike(self, talk, lines, cycle, opened):
-        """Brings the faults that come in the open window."""
+        """Brings the faults that come in the open window, one by one."""
         minislot, slot = opened.split(" ")[3:5]
         for kind, *words in lines:
             if kind == "corrupt" and strikes(words[1], words[2], cycle, minislot, slot):

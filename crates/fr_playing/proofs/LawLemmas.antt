@@ -7,7 +7,8 @@ use Rattle.fr_playing.specs.Calls.{DoesCalls, event_of}
 use Rattle.fr_playing.specs.declared.call.Call.{Call}
 use Rattle.fr_playing.specs.declared.play.Played.{Played}
 use Rattle.fr_playing.specs.Playing.{IsPlayed, PlaysCycles}
-use Rattle.fr_playing.specs.Windows.{Passes, PlaysWindow, PlaysWindows, PlaysWithin}
+use Rattle.fr_playing.specs.Windows.{PlaysWindow, PlaysWindows, PlaysWithin}
+use Rattle.fr_session.specs.Striking.{Passes}
 use Rattle.fr_runs.specs.declared.fault_line.FaultLine.{FaultLine}
 use Rattle.fr_schedule.specs.Descriptions.{Description}
 use Rattle.fr_session.specs.Laws.{IsLed}

@@ -19,12 +19,14 @@ use Rattle.fr_playing.specs.Calls.{Asked, asked_in, asked_in_line, asked_of, Add
 use Rattle.fr_playing.specs.declared.call.Call.{Call}
 use Rattle.fr_playing.specs.declared.play.Played.{Played}
 use Rattle.fr_playing.specs.Playing.{AddsCycle, IsPlayed, PlaysCycle, PlaysCycles, asked_by}
-use Rattle.fr_playing.specs.Windows.{Passes, PlaysWindow, PlaysWindows, PlaysWithin, strike_events}
+use Rattle.fr_playing.specs.Windows.{PlaysWindow, PlaysWindows, PlaysWithin}
 use Rattle.fr_runs.specs.declared.fault_line.FaultLine.{FaultLine}
 use Rattle.fr_runs.specs.Striking.{strikes}
 use Rattle.fr_schedule.specs.Descriptions.{Description}
 use Rattle.fr_session.specs.Moving.{is_at_cycle, whole_window}
+use Rattle.fr_session.specs.Striking.{Passes, strike_events}
 use Rattle.fr_session.proofs.MovingLemmas.{range-more}
+use Rattle.fr_session.proofs.StrikingLemmas.{flat-more, passes_append}
 use Rattle.fr_slots.specs.Windows.{Opportunity}
 
 -- ---- lists
@@ -33,50 +35,7 @@ map_append : {X Y : Type 0} (f : X → Y) (xs ys : List X) → map f (xs ++ ys) 
 map_append f [] ys = refl
 map_append f (x ∷ xs) ys = ap (λ l. f x ∷ l) (map_append f xs ys)
 
--- what comes of one element more
-flat-more : {X Y : Type 0} (f : X → List Y) (xs : List X) (i : ℕ) (x : X) → i < length xs → x ≡ get_or xs i x
-    → flat_map f (take (i + 1) xs) ≡ flat_map f (take i xs) ++ f x
-flat-more f xs i x lt is =
-    ap (flat_map f) (take_more xs i x lt ∙ ap (λ y. take i xs ++ y ∷ []) (sym is))
-    ∙ flat_map-append f (take i xs) (x ∷ [])
-    ∙ ap (λ l. flat_map f (take i xs) ++ l) (append-nil (f x))
-
--- ---- events
-
-pub passes_none : (w : WorldState) → Passes w [] w
-unfolding Passes
-passes_none w = refl
-
-pub passes_one : (old : WorldState) (event : Event) (reply : Reply) (new : WorldState) → Steps old event (Ok reply) new → Passes old (event ∷ []) new
-unfolding Passes
-passes_one old event reply new step = (new, reply, step, refl)
-
-pub passes_append : (old : WorldState) (xs : List Event) (mid : WorldState) (ys : List Event) (new : WorldState) → Passes old xs mid → Passes mid ys new
-    → Passes old (xs ++ ys) new
-unfolding Passes
-passes_append old [] mid ys new first second = subst (λ (w : WorldState). Passes w ys new) first second
-passes_append old (x ∷ xs) mid ys new first second =
-    (first.0, first.1, first.2, passes_append first.0 xs mid ys new first.3 second)
-
-pub passes_more : (events : List Event) (i : ℕ) (event : Event) (old mid new : WorldState) → i < length events → event ≡ get_or events i event
-    → Passes old (take i events) mid → Passes mid (event ∷ []) new → Passes old (take (i + 1) events) new
-passes_more events i event old mid new lt is first second =
-    subst (λ (l : List Event). Passes old l new)
-    (sym (take_more events i event lt ∙ ap (λ (y : Event). take i events ++ y ∷ []) (sym is)))
-    (passes_append old (take i events) mid (event ∷ []) new first second)
-
-pub strikes_more : (cycle : ℕ) (window : Opportunity) (faults : List FaultLine) (i : ℕ) (line : FaultLine) (old mid new : WorldState) → i < length faults
-    → line ≡ get_or faults i line → Passes old (flat_map (strike_events cycle window) (take i faults)) mid → Passes mid (strike_events cycle window line) new
-    → Passes old (flat_map (strike_events cycle window) (take (i + 1) faults)) new
-strikes_more cycle window faults i line old mid new lt is first second =
-    subst (λ (l : List Event). Passes old l new) (sym (flat-more (strike_events cycle window) faults i line lt is))
-    (passes_append old (flat_map (strike_events cycle window) (take i faults)) mid (strike_events cycle window line) new first second)
-
--- a line that doesn't come in the window brings nothing
-pub no_strike : (cycle : ℕ) (window : Opportunity) (line : FaultLine) (w : WorldState) → strikes line cycle window ≡ false
-    → Passes w (strike_events cycle window line) w
-no_strike cycle window line w none =
-    subst (λ (b : Bool). Passes w (cond b (Inject line.fault ∷ []) []) w) (sym none) (passes_none w)
+-- ---- windows of events
 
 -- the faults, what is due, and the advance
 pub passes_window : (cycle : ℕ) (faults : List FaultLine) (due : List Event) (window : Opportunity) (old struck done new : WorldState) → old.bus.opened ≡ Some window

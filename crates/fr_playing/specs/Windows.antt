@@ -1,27 +1,13 @@
 -- The windows of a cycle as events, all of which are accepted (own profile).
-use Rattle.std.specs.Prelude.{◌≡◌, ℕ, zero, suc, true, false, List, [], ◌∷◌, ◌++◌, Some, Ok, if◌then◌else◌}
+use Rattle.std.specs.Prelude.{◌≡◌, ℕ, zero, suc, true, false, List, [], ◌∷◌, ◌++◌, Some}
 use Rattle.std.specs.List.{flat_map}
 use Rattle.fr_core.specs.declared.event.Event.{Event}
-use Rattle.fr_core.specs.declared.event.Event.TheVariants.{Inject, Advance}
-use Rattle.fr_core.specs.declared.event.Reply.{Reply}
-use Rattle.fr_core.specs.Steps.{Steps}
+use Rattle.fr_core.specs.declared.event.Event.TheVariants.{Advance}
 use Rattle.fr_core.specs.Worlds.{WorldState}
 use Rattle.fr_runs.specs.declared.fault_line.FaultLine.{FaultLine}
-use Rattle.fr_runs.specs.Striking.{strikes}
 use Rattle.fr_session.specs.Moving.{is_at_cycle}
+use Rattle.fr_session.specs.Striking.{strike_events, Passes}
 use Rattle.fr_slots.specs.Windows.{Opportunity}
-
--- ---- events
-
--- the events, all of which are accepted, lead from `old` to `new`
-unfoldable pub Passes : WorldState → List Event → WorldState → Type 0
-Passes old [] new = new ≡ old
-Passes old (event ∷ events) new =
-    (between : WorldState) × (reply : Reply) × Steps old event (Ok reply) between × Passes between events new
-
--- the fault of the line, if it comes in this window of the cycle of this number of the run
-abbrev pub strike_events : ℕ → Opportunity → FaultLine → List Event
-strike_events cycle window line = if strikes line cycle window then Inject line.fault ∷ [] else []
 
 -- what is done in this window: the faults that come in it, then what is due of all nodes, and then the bus's advance
 abbrev pub played_events : ℕ → List FaultLine → List Event → Opportunity → List Event

@@ -1,14 +1,14 @@
 //! The windows of a cycle, in the world.
 ghost use Rattle.std.specs.Prelude.{◌∷◌, [], OnOk};
-ghost use Rattle.std.specs.List.{flat_map};
-ghost use Rattle.fr_playing.specs.Windows.{strike_events, Passes, PlaysWindow, PlaysWindows};
+ghost use Rattle.fr_playing.specs.Windows.{PlaysWindow, PlaysWindows};
+ghost use Rattle.fr_session.specs.Striking.{Passes};
 
 use crate::hindrance::Hindrance;
 use fr_core::event::Event;
 use fr_core::world::World;
 use fr_runs::fault_line::FaultLine;
 use fr_session::moving::is_at_cycle;
-use fr_slots::window::Window;
+use fr_session::striking::strike_all;
 
 /// Does an event, which has to be accepted.
 fn pass(world: &mut World, event: &Event) -> Result<(), Hindrance>
@@ -24,32 +24,6 @@ fn pass_all(world: &mut World, events: &[Event]) -> Result<(), Hindrance>
 {
     for event in events {
         pass(world, event)?;
-    }
-    Ok(())
-}
-
-/// Brings the line's fault into the open window, if it comes there.
-fn strike(world: &mut World, cycle: u16, window: &Window, line: &FaultLine) -> Result<(), Hindrance>
-    ensures { OnOk result (Passes world.old (strike_events cycle window.now line.now) world.new) }
-{
-    if line.strikes(cycle, window) {
-        pass(world, &Event::Inject(line.fault.duplicate()))
-    } else {
-        Ok(())
-    }
-}
-
-/// Brings into the open window the faults that come there, in the order of their lines.
-fn strike_all(
-    world: &mut World,
-    cycle: u16,
-    window: &Window,
-    faults: &[FaultLine],
-) -> Result<(), Hindrance>
-    ensures { OnOk result (Passes world.old (flat_map (strike_events cycle window.now) faults.now) world.new) }
-{
-    for line in faults {
-        strike(world, cycle, window, line)?;
     }
     Ok(())
 }

@@ -1,15 +1,21 @@
 -- A list of events that are done one after another.
-use Rattle.std.proofs.Common.{◌≡◌, ℕ, zero, suc, ◌+◌, false, List, [], ◌∷◌, ◌++◌, Option, None, refl, ap, sym, subst, ◌∙◌, arith}
+use Rattle.std.proofs.Common.{◌≡◌, ℕ, zero, suc, ◌+◌, false, List, [], ◌∷◌, ◌++◌, Option, Some, None, refl, ap, sym, subst, ◌∙◌, arith}
 use Rattle.std.specs.List.{flat_map, range_with_len}
 use Rattle.std.proofs.lemmas.Grind.{flat_map-append}
 use Rattle.std.proofs.lemmas.List.{append-nil}
 use Rattle.std.proofs.lemmas.List.Sums.{fold-append}
+use Rattle.fr_bus.specs.States.{collecting_of}
 use Rattle.fr_core.specs.declared.error.StepError.{StepError}
 use Rattle.fr_core.specs.declared.event.Event.{Event}
 use Rattle.fr_core.specs.Runs.{Answer, StepsAll}
 use Rattle.fr_core.specs.Steps.{Steps}
 use Rattle.fr_core.specs.Worlds.{WorldState}
-use Rattle.fr_session.specs.Moving.{first_refusal, DoesAll, MovesOn, for_nodes, is_at_cycle, WithinCycle, PassesCycles, EndsCycle}
+use Rattle.fr_runs.specs.declared.fault_line.FaultLine.{FaultLine}
+use Rattle.fr_session.specs.Moving.{first_refusal, run_cycle_after, struck_after, Strikes, DoesAll, MovesOn, for_nodes, is_at_cycle}
+use Rattle.fr_session.specs.Moving.{WithinCycle, PassesCycles, EndsCycle}
+use Rattle.fr_session.specs.Striking.{strike_events, Tries}
+use Rattle.fr_session.proofs.StrikingLemmas.{tries_none}
+use Rattle.fr_slots.specs.Windows.{Opportunity}
 
 steps_more : (old : WorldState) (events : List Event) (answers : List Answer) (between : WorldState) (event : Event) (answer : Answer) (new : WorldState)
     → StepsAll old events answers between → Steps between event answer new → StepsAll old (events ++ event ∷ []) (answers ++ answer ∷ []) new
@@ -49,31 +55,45 @@ nodes_more events count =
     ∙ flat_map-append events (range_with_len 0 count) (count ∷ [])
     ∙ ap (λ l. for_nodes events count ++ l) (append-nil (events count))
 
-pub within_none : (due : List Event) (w : WorldState) → WithinCycle due 0 w w
+-- ---- the open window
+
+pub strikes_none : (faults : List FaultLine) (w : WorldState) → collecting_of w.bus ≡ None → Strikes faults w w
+strikes_none faults w none = subst (λ (o : Option Opportunity). Tries w (struck_after faults w.bus.sealed o) w) (sym none) (tries_none w)
+
+pub strikes_some : (faults : List FaultLine) (old : WorldState) (window : Opportunity) (cycle : ℕ) (new : WorldState) → collecting_of old.bus ≡ Some window
+    → cycle ≡ run_cycle_after old.bus.sealed window → Tries old (flat_map (strike_events cycle window) faults) new → Strikes faults old new
+strikes_some faults old window cycle new opened is tries =
+    subst (λ (o : Option Opportunity). Tries old (struck_after faults old.bus.sealed o) new) (sym opened)
+    (subst (λ (c : ℕ). Tries old (flat_map (strike_events c window) faults) new) is tries)
+
+-- ---- windows
+
+pub within_none : (faults : List FaultLine) (due : List Event) (w : WorldState) → WithinCycle faults due 0 w w
 unfolding WithinCycle
-within_none due w = refl
+within_none faults due w = refl
 
-within_next : (due : List Event) (count : ℕ) (old mid new : WorldState) → WithinCycle due count old mid → MovesOn mid due None new → is_at_cycle new.bus.opened ≡ false
-    → WithinCycle due (suc count) old new
+within_next : (faults : List FaultLine) (due : List Event) (count : ℕ) (old mid new : WorldState) → WithinCycle faults due count old mid → MovesOn faults due mid None new
+    → is_at_cycle new.bus.opened ≡ false → WithinCycle faults due (suc count) old new
 unfolding WithinCycle
-within_next due count old mid new so_far moves within = (mid, so_far, moves, within)
+within_next faults due count old mid new so_far moves within = (mid, so_far, moves, within)
 
-pub within_more : (due : List Event) (count : ℕ) (found : Option StepError) (old mid new : WorldState) → WithinCycle due count old mid → MovesOn mid due found new → found ≡ None
-    → is_at_cycle new.bus.opened ≡ false → WithinCycle due (count + 1) old new
-within_more due count found old mid new so_far moves none within =
-    subst (λ k. WithinCycle due k old new) (omega arith)
-    (within_next due count old mid new so_far (subst (λ (f : Option StepError). MovesOn mid due f new) none moves) within)
+pub within_more : (faults : List FaultLine) (due : List Event) (count : ℕ) (found : Option StepError) (old mid new : WorldState) → WithinCycle faults due count old mid
+    → MovesOn faults due mid found new → found ≡ None → is_at_cycle new.bus.opened ≡ false → WithinCycle faults due (count + 1) old new
+within_more faults due count found old mid new so_far moves none within =
+    subst (λ k. WithinCycle faults due k old new) (omega arith)
+    (within_next faults due count old mid new so_far (subst (λ (f : Option StepError). MovesOn faults due mid f new) none moves) within)
 
-pub passes_none : (due : List Event) (w : WorldState) → PassesCycles due 0 w w
+pub passes_none : (faults : List FaultLine) (due : List Event) (w : WorldState) → PassesCycles faults due 0 w w
 unfolding PassesCycles
-passes_none due w = refl
+passes_none faults due w = refl
 
-passes_next : (due : List Event) (count : ℕ) (old mid new : WorldState) → PassesCycles due count old mid → EndsCycle due mid None new → PassesCycles due (suc count) old new
+passes_next : (faults : List FaultLine) (due : List Event) (count : ℕ) (old mid new : WorldState) → PassesCycles faults due count old mid → EndsCycle faults due mid None new
+    → PassesCycles faults due (suc count) old new
 unfolding PassesCycles
-passes_next due count old mid new so_far ends = (mid, so_far, ends)
+passes_next faults due count old mid new so_far ends = (mid, so_far, ends)
 
-pub passes_more : (due : List Event) (count : ℕ) (found : Option StepError) (old mid new : WorldState) → PassesCycles due count old mid → EndsCycle due mid found new → found ≡ None
-    → PassesCycles due (count + 1) old new
-passes_more due count found old mid new so_far ends none =
-    subst (λ k. PassesCycles due k old new) (omega arith)
-    (passes_next due count old mid new so_far (subst (λ (f : Option StepError). EndsCycle due mid f new) none ends))
+pub passes_more : (faults : List FaultLine) (due : List Event) (count : ℕ) (found : Option StepError) (old mid new : WorldState) → PassesCycles faults due count old mid
+    → EndsCycle faults due mid found new → found ≡ None → PassesCycles faults due (count + 1) old new
+passes_more faults due count found old mid new so_far ends none =
+    subst (λ k. PassesCycles faults due k old new) (omega arith)
+    (passes_next faults due count old mid new so_far (subst (λ (f : Option StepError). EndsCycle faults due mid f new) none ends))

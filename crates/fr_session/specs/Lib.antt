@@ -1,7 +1,10 @@
 pub mod Lines
 pub mod Reading
 pub mod Replies
+pub mod Striking
 pub mod Moving
 pub mod Queries
+pub mod Keeping
 pub mod Sessions
+pub mod TermsFields
 pub mod Laws

@@ -1,8 +1,10 @@
--- What is due in a window, as a list of events.
-use Rattle.std.specs.Prelude.{◌≡◌, ℕ, zero, suc, ◌<◌, ◌⊎◌, Bool, true, false, List, [], ◌∷◌, ◌++◌}
-use Rattle.std.specs.Prelude.{Option, Some, None, Ok, Err}
+-- What comes in a window and what is due in it, as lists of events.
+use Rattle.std.specs.Prelude.{◌≡◌, ℕ, zero, suc, ◌-◌, ◌<◌, ◌⊎◌, Bool, true, false, List, [], ◌∷◌, ◌++◌}
+use Rattle.std.specs.Prelude.{Option, Some, None, Ok, Err, if◌then◌else◌}
 use Rattle.std.specs.List.{flat_map, range_with_len, fold}
-use Rattle.fr_bus.specs.Windows.{opens_cycle}
+use Rattle.fr_bus.specs.Record.{Recorded}
+use Rattle.fr_bus.specs.States.{BusState, collecting_of}
+use Rattle.fr_bus.specs.Windows.{opens_cycle, cycles_begun}
 use Rattle.fr_core.specs.declared.error.StepError.{StepError}
 use Rattle.fr_core.specs.declared.error.StepError.TheVariants.{WrongTurn}
 use Rattle.fr_core.specs.declared.event.Event.{Event}
@@ -10,6 +12,8 @@ use Rattle.fr_core.specs.declared.event.Event.TheVariants.{Look, Fetch, Put, Tak
 use Rattle.fr_core.specs.Runs.{Answer, StepsAll}
 use Rattle.fr_core.specs.Steps.{Steps}
 use Rattle.fr_core.specs.Worlds.{WorldState}
+use Rattle.fr_runs.specs.declared.fault_line.FaultLine.{FaultLine}
+use Rattle.fr_session.specs.Striking.{strike_events, Tries}
 use Rattle.fr_slots.specs.Windows.{Opportunity}
 
 -- ---- the events
@@ -35,6 +39,25 @@ whole_window nodes = for_nodes offer_events nodes ++ Seal ∷ for_nodes see_even
 abbrev pub window_events : ℕ → List Event
 window_events nodes = for_nodes observe_events nodes ++ whole_window nodes
 
+-- ---- the faults
+
+-- the number of the run's cycle in which the window lies that follows those of this record
+abbrev pub run_cycle_after : List Recorded → Opportunity → ℕ
+run_cycle_after sealed window = if opens_cycle window then cycles_begun sealed else cycles_begun sealed - 1
+
+-- the faults that come in the window that follows those of this record, in the order of their lines
+abbrev pub struck_after : List FaultLine → List Recorded → Option Opportunity → List Event
+struck_after faults sealed None = []
+struck_after faults sealed (Some window) = flat_map (strike_events (run_cycle_after sealed window) window) faults
+
+-- the faults that come in the open window, as long as it isn't sealed
+abbrev pub struck_events : List FaultLine → BusState → List Event
+struck_events faults b = struck_after faults b.sealed (collecting_of b)
+
+-- Each of them comes, unless the window has a fault of its kind, node and channel: that one stays.
+abbrev pub Strikes : List FaultLine → WorldState → WorldState → Type 0
+Strikes faults old new = Tries old (struck_events faults old.bus) new
+
 -- ---- what hinders
 
 -- the first refusal that isn't `WrongTurn`
@@ -55,11 +78,17 @@ abbrev pub DoesAll : WorldState → List Event → Option StepError → WorldSta
 DoesAll old events found new =
     (answers : List Answer) × StepsAll old events answers new × (found ≡ fold first_refusal None answers)
 
--- the events, and then the bus's advance, lead from `old` to `new`, and this hinders the bus
-abbrev pub MovesOn : WorldState → List Event → Option StepError → WorldState → Type 0
-MovesOn old events hinders new =
-    (between : WorldState) × (found : Option StepError) × (last : Answer)
-    × DoesAll old events found between × Steps between Advance last new × (hinders ≡ hindrance found last)
+-- ---- the open window
+
+-- `faults` are the fault lines that are kept, in their order, and `due` all that can be due in a window.
+
+-- the faults of the lines come as far as the bus accepts them, and then the events, and then the bus's advance; this
+-- hinders the bus
+abbrev pub MovesOn : List FaultLine → List Event → WorldState → Option StepError → WorldState → Type 0
+MovesOn faults due old hinders new =
+    (struck : WorldState) × (between : WorldState) × (found : Option StepError) × (last : Answer)
+    × Strikes faults old struck × DoesAll struck due found between × Steps between Advance last new
+    × (hinders ≡ hindrance found last)
 
 -- ---- cycles
 
@@ -69,34 +98,36 @@ is_at_cycle None = true
 is_at_cycle (Some window) = opens_cycle window
 
 -- so many windows lead from `old` to `new`, nothing hinders, and after each of them the bus stands within a cycle
-unfoldable pub WithinCycle : List Event → ℕ → WorldState → WorldState → Type 0
-WithinCycle due zero old new = new ≡ old
-WithinCycle due (suc n) old new =
-    (mid : WorldState) × WithinCycle due n old mid × MovesOn mid due None new × (is_at_cycle new.bus.opened ≡ false)
+unfoldable pub WithinCycle : List FaultLine → List Event → ℕ → WorldState → WorldState → Type 0
+WithinCycle faults due zero old new = new ≡ old
+WithinCycle faults due (suc n) old new =
+    (mid : WorldState) × WithinCycle faults due n old mid × MovesOn faults due mid None new
+    × (is_at_cycle new.bus.opened ≡ false)
 
 -- the most windows of a cycle: one for each static slot and minislot
 abbrev pub most_windows : ℕ
 most_windows = 9023
 
 -- the window that ends the cycle, or that something hinders
-abbrev pub LastWindow : List Event → WorldState → Option StepError → WorldState → Type 0
-LastWindow due old hinders new =
-    (count : ℕ) × (before : WorldState) × WithinCycle due count old before × MovesOn before due hinders new
-    × (hinders ≡ None → is_at_cycle new.bus.opened ≡ true)
+abbrev pub LastWindow : List FaultLine → List Event → WorldState → Option StepError → WorldState → Type 0
+LastWindow faults due old hinders new =
+    (count : ℕ) × (before : WorldState) × WithinCycle faults due count old before
+    × MovesOn faults due before hinders new × (hinders ≡ None → is_at_cycle new.bus.opened ≡ true)
 
 -- windows up to the start of the next cycle, or up to what hinders; never more than a cycle can have
-abbrev pub EndsCycle : List Event → WorldState → Option StepError → WorldState → Type 0
-EndsCycle due old hinders new =
-    LastWindow due old hinders new ⊎ (WithinCycle due most_windows old new × (hinders ≡ None))
+abbrev pub EndsCycle : List FaultLine → List Event → WorldState → Option StepError → WorldState → Type 0
+EndsCycle faults due old hinders new =
+    LastWindow faults due old hinders new ⊎ (WithinCycle faults due most_windows old new × (hinders ≡ None))
 
 -- so many cycles, which nothing hinders
-unfoldable pub PassesCycles : List Event → ℕ → WorldState → WorldState → Type 0
-PassesCycles due zero old new = new ≡ old
-PassesCycles due (suc n) old new = (mid : WorldState) × PassesCycles due n old mid × EndsCycle due mid None new
+unfoldable pub PassesCycles : List FaultLine → List Event → ℕ → WorldState → WorldState → Type 0
+PassesCycles faults due zero old new = new ≡ old
+PassesCycles faults due (suc n) old new =
+    (mid : WorldState) × PassesCycles faults due n old mid × EndsCycle faults due mid None new
 
 -- so many cycles, or fewer up to one that something hinders
-abbrev pub RunsCycles : List Event → ℕ → WorldState → Option StepError → WorldState → Type 0
-RunsCycles due cycles old None new = PassesCycles due cycles old new
-RunsCycles due cycles old (Some e) new =
-    (done : ℕ) × (before : WorldState) × (done < cycles) × PassesCycles due done old before
-    × EndsCycle due before (Some e) new
+abbrev pub RunsCycles : List FaultLine → List Event → ℕ → WorldState → Option StepError → WorldState → Type 0
+RunsCycles faults due cycles old None new = PassesCycles faults due cycles old new
+RunsCycles faults due cycles old (Some e) new =
+    (done : ℕ) × (before : WorldState) × (done < cycles) × PassesCycles faults due done old before
+    × EndsCycle faults due before (Some e) new

@@ -7,6 +7,8 @@ use Rattle.fr_core.specs.declared.event.Event.{Event}
 use Rattle.fr_core.specs.declared.event.Event.TheVariants as event
 use Rattle.fr_frame.specs.Payload.{most_frame_bytes}
 use Rattle.fr_lines.specs.PartReading.{channel_in, payload_in}
+use Rattle.fr_runs.specs.declared.fault_line.FaultLine.{FaultLine}
+use Rattle.fr_scenario.specs.LineReading.{fault_line_in}
 use Rattle.fr_session.specs.Lines.{longest_line}
 use Rattle.fr_session.specs.declared.request.Request.{Request}
 use Rattle.fr_session.specs.declared.request.Request.TheVariants as request
@@ -145,6 +147,7 @@ other_request kind words =
     else if bytes_eq kind (codes "advance") then alone words (request.Event event.Advance)
     else if bytes_eq kind (codes "window") then alone words request.Window
     else if bytes_eq kind (codes "cycle") then alone words (request.Run 1)
+    else if bytes_eq kind (codes "forget") then alone words request.Forget
     else if bytes_eq kind (codes "now") then alone words request.Now
     else if bytes_eq kind (codes "run") then run_in words
     else if bytes_eq kind (codes "record") then record_in words
@@ -184,7 +187,20 @@ request_in [] = None
 request_in (kind ∷ words) =
     if begins_event kind then with_event (event_request kind words) else other_request kind words
 
+-- ---- a fault line, as a scenario spells it
+
+abbrev pub with_fault : Option FaultLine → Option Request
+with_fault None = None
+with_fault (Some line) = Some (request.Fault line)
+
+-- one that is no other request: its words are more than those of the event of the same name
+abbrev pub request_or_fault : Option Request → List (List ℕ) → Option Request
+request_or_fault None words = with_fault (fault_line_in words)
+request_or_fault (Some asked) words = Some asked
+
 -- ---- a line, given without its line feed
 
 abbrev pub asked_in : List ℕ → Option Request
-asked_in line = if nat_lt longest_line (length line) then None else request_in (words_of line)
+asked_in line =
+    if nat_lt longest_line (length line) then None
+    else request_or_fault (request_in (words_of line)) (words_of line)

@@ -25,6 +25,15 @@ refusal_words error = codes "refused" ∷ step_error_text error ∷ []
 abbrev pub bad_line_words : ℕ → List (List ℕ)
 bad_line_words number = codes "refused" ∷ codes "BadLine" ∷ decimal number ∷ []
 
+-- a fault line that a run couldn't have after so many that are kept
+abbrev pub bad_fault_words : ℕ → List (List ℕ)
+bad_fault_words kept = codes "refused" ∷ codes "BadFault" ∷ decimal kept ∷ []
+
+-- ---- what was done
+
+abbrev pub done_words : List (List ℕ)
+done_words = codes "done" ∷ []
+
 -- ---- frames and windows
 
 abbrev pub frame_words : Fields → List (List ℕ)
@@ -48,7 +57,7 @@ reply_words (reply.Committed receipt) = codes "committed" ∷ decimal receipt.en
 reply_words (reply.Withdrawn of) = withdrawn_words of
 reply_words (reply.Frame frame) = frame_reply frame
 reply_words (reply.Window window) = window_words (codes "window") window
-reply_words reply.Done = codes "done" ∷ []
+reply_words reply.Done = done_words
 
 abbrev pub answer_words : Result Reply StepError → List (List ℕ)
 answer_words (Ok answered) = reply_words answered

@@ -2,17 +2,20 @@
 //! profile).
 //!
 //! ```text
-//! serve(alloc, &mut world, &mut reader, &mut writer)?;
+//! serve(alloc, &cluster, cycles, &mut world, &mut reader, &mut writer)?;
 //! // commit 0 0 0 x0a0b      committed 0
 //! // look 0                  window 0 0 0 1 1
 //! // fetch 1                 refused WrongTurn
 //! // fetch                   refused BadLine 4
+//! // mute 0 A * s*           done
+//! // cycle                   open 7 1 0 1 1
 //! ```
 //!
 //! *(own profile)* marks a rule of this project's own, which says nothing of the standard.
 #![tactic(auto)]
 
 pub mod error;
+mod keeping;
 pub mod laws;
 mod lines;
 pub mod moving;
@@ -21,3 +24,4 @@ mod reading;
 mod replies;
 pub mod request;
 pub mod session;
+pub mod striking;

@@ -1,18 +1,21 @@
-//! What is due in a window, as events.
+//! What comes in a window and what is due in it, as events.
 ghost use Rattle.std.specs.Prelude.{◌≡◌, ◌≤◌, ◌++◌, List, IfOk, OnOk};
 ghost use Rattle.std.specs.List.{flat_map, range_with_len};
 ghost use Rattle.fr_core.specs.Runs.{Answer, StepsAll};
 ghost use Rattle.fr_session.specs.Moving.{first_refusal, hindrance};
 ghost use Rattle.fr_session.specs.Moving.{observe_events, offer_events, see_events, for_nodes};
-ghost use Rattle.fr_session.specs.Moving.{whole_window, window_events, DoesAll, MovesOn, is_at_cycle, EndsCycle};
-ghost use Rattle.fr_session.specs.Moving.{RunsCycles};
+ghost use Rattle.fr_session.specs.Moving.{whole_window, window_events, run_cycle_after, Strikes, DoesAll, MovesOn};
+ghost use Rattle.fr_session.specs.Moving.{is_at_cycle, EndsCycle, RunsCycles};
 
+use crate::striking::strike_all;
 use fr_bus::bus::Bus;
 use fr_bus::windows::opens_cycle;
 use fr_core::error::StepError;
 use fr_core::event::{Event, Reply};
 use fr_core::world::World;
+use fr_runs::fault_line::FaultLine;
 use fr_slots::numbers::NodeId;
+use fr_slots::window::Window;
 use std::alloc::{AllocError, Global};
 
 /// The first refusal that isn't `WrongTurn`: the one found before, or else this.
@@ -123,11 +126,42 @@ fn do_all(world: &mut World, events: &[Event]) -> Option<StepError>
     found
 }
 
-/// Does all of these events, which are those of a window, that is still due, and then the bus's advance. Tells what
-/// hinders the bus.
-pub(crate) fn finish_window(world: &mut World, events: &[Event]) -> Option<StepError>
-    ensures { MovesOn world.old events.now result world.new }
+/// The number of the run's cycle in which the open window lies, which isn't sealed.
+fn run_cycle_of(bus: &Bus, window: &Window) -> u16
+    ensures { result ≡ run_cycle_after bus.now.sealed window.now }
 {
+    let begun = bus.cycles_begun();
+    if opens_cycle(window) {
+        begun
+    } else {
+        begun.saturating_sub(1)
+    }
+}
+
+/// Brings into the open window, unless it is sealed, the faults of the lines that come there.
+fn strike_open(world: &mut World, faults: &[FaultLine])
+    ensures { Strikes faults.now world.old world.new }
+{
+    match world.bus().collecting() {
+        Some(window) => {
+            let cycle = run_cycle_of(world.bus(), &window);
+            // Where the window has a fault of the same kind, node and channel, that one stays.
+            let _struck = strike_all(world, cycle, &window, faults);
+        }
+        None => {}
+    }
+}
+
+/// Brings the faults of the lines into the open window, does all of these events, which are those of a window, that is
+/// still due, and then the bus's advance. Tells what hinders the bus.
+pub(crate) fn finish_window(
+    world: &mut World,
+    faults: &[FaultLine],
+    events: &[Event],
+) -> Option<StepError>
+    ensures { MovesOn faults.now events.now world.old result world.new }
+{
+    strike_open(world, faults);
     let found = do_all(world, events);
     let last = world.step(&Event::Advance);
     hindrance(found, &last)
@@ -144,12 +178,12 @@ pub fn is_at_cycle(bus: &Bus) -> bool
 }
 
 /// Does windows until the first one of a cycle is open, and tells what hinders the bus before.
-fn finish_cycle(world: &mut World, events: &[Event]) -> Option<StepError>
-    ensures { EndsCycle events.now world.old result world.new }
+fn finish_cycle(world: &mut World, faults: &[FaultLine], events: &[Event]) -> Option<StepError>
+    ensures { EndsCycle faults.now events.now world.old result world.new }
 {
     // A cycle has at most 1023 static slots and 8000 minislots.
     for count in 0..9023u32 {
-        match finish_window(world, events) {
+        match finish_window(world, faults, events) {
             Some(error) => return Some(error),
             None => {}
         }
@@ -161,11 +195,16 @@ fn finish_cycle(world: &mut World, events: &[Event]) -> Option<StepError>
 }
 
 /// Does so many cycles, and tells what hinders the bus before.
-pub(crate) fn finish_cycles(world: &mut World, events: &[Event], cycles: u16) -> Option<StepError>
-    ensures { RunsCycles events.now cycles world.old result world.new }
+pub(crate) fn finish_cycles(
+    world: &mut World,
+    faults: &[FaultLine],
+    events: &[Event],
+    cycles: u16,
+) -> Option<StepError>
+    ensures { RunsCycles faults.now events.now cycles world.old result world.new }
 {
     for count in 0..cycles {
-        match finish_cycle(world, events) {
+        match finish_cycle(world, faults, events) {
             Some(error) => return Some(error),
             None => {}
         }

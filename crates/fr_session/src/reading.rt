@@ -5,7 +5,9 @@ ghost use Rattle.fr_session.specs.Reading.{node_in, alone, run_in, record_in, re
 ghost use Rattle.fr_session.specs.Reading.{step_of};
 ghost use Rattle.fr_session.specs.Reading.{step_request, fault_of, fault_request, event_request, begins_event};
 ghost use Rattle.fr_session.specs.Reading.{is_fault_word, is_step_word, is_host_word, other_request, request_in};
-ghost use Rattle.fr_session.specs.Reading.{asked_in};
+ghost use Rattle.fr_session.specs.Reading.{with_fault, request_or_fault, asked_in};
+ghost use Rattle.fr_scenario.specs.LineReading.{fault_line_in};
+ghost use Rattle.fr_text.specs.Spaces.{words_of};
 
 use crate::lines::LONGEST_LINE;
 use crate::request::Request;
@@ -13,6 +15,7 @@ use fr_bus::fault::Fault;
 use fr_core::event::Event;
 use fr_frame::frame::FRAME_BYTES;
 use fr_lines::parts::{buffer_of, channel_of, node_of, payload_of, task_of};
+use fr_scenario::lines::fault_line_of;
 use fr_slots::numbers::NodeId;
 use fr_text::hexes::bytes_of;
 use fr_text::numbers::number_of;
@@ -307,6 +310,9 @@ fn other_request(kind: &[u8], words: &mut Words<'_>) -> Option<Request>
     if kind == b"cycle".as_slice() {
         return alone(words, Request::Run(1));
     }
+    if kind == b"forget".as_slice() {
+        return alone(words, Request::Forget);
+    }
     if kind == b"now".as_slice() {
         return alone(words, Request::Now);
     }
@@ -345,6 +351,14 @@ fn request_in(words: &mut Words<'_>) -> Option<Request>
     other_request(kind, words)
 }
 
+/// The fault line that the line spells, as a request.
+fn fault_in(line: &[u8]) -> Option<Request>
+    ensures { result ≡ with_fault (fault_line_in (words_of line.now)) }
+{
+    let fault = fault_line_of(line)?;
+    Some(Request::Fault(fault))
+}
+
 /// What the line, which is given without its line feed, asks for. `None` where it has more than 1200 bytes, no form of
 /// a request, or a number out of its range.
 pub(crate) fn request_of(line: &[u8]) -> Option<Request>
@@ -354,5 +368,8 @@ pub(crate) fn request_of(line: &[u8]) -> Option<Request>
         return None;
     }
     let mut words = Words::new(line);
-    request_in(&mut words)
+    match request_in(&mut words) {
+        Some(request) => Some(request),
+        None => fault_in(line),
+    }
 }

@@ -4,6 +4,7 @@ ghost use Rattle.fr_text.specs.Writing.{Writes};
 ghost use Rattle.fr_lines.specs.Spelling.{line_text};
 ghost use Rattle.fr_session.specs.Replies.{frame_words, frame_reply, window_words, refusal_words};
 ghost use Rattle.fr_session.specs.Replies.{withdrawn_words, reply_words, answer_text, bad_line_words, greeting};
+ghost use Rattle.fr_session.specs.Replies.{done_words, bad_fault_words};
 
 use fr_core::error::StepError;
 use fr_core::event::Reply;
@@ -87,6 +88,13 @@ pub(crate) fn write_refusal<W: Write>(writer: &mut W, error: StepError) -> io::R
     writeln!(writer, "refused {error}")
 }
 
+/// Writes that what was asked for is done.
+pub(crate) fn write_done<W: Write>(writer: &mut W) -> io::Result<()>
+    ensures { Writes W.contents writer.old writer.new result (line_text done_words) }
+{
+    writeln!(writer, "done")
+}
+
 /// Writes what an accepted event is answered.
 fn write_reply<W: Write>(writer: &mut W, reply: &Reply) -> io::Result<()>
     ensures { Writes W.contents writer.old writer.new result (line_text (reply_words reply.now)) }
@@ -96,7 +104,7 @@ fn write_reply<W: Write>(writer: &mut W, reply: &Reply) -> io::Result<()>
         Reply::Withdrawn(of) => write_withdrawn(writer, *of),
         Reply::Frame(frame) => write_frame_reply(writer, frame),
         Reply::Window(window) => write_window(writer, "window", window),
-        Reply::Done => writeln!(writer, "done"),
+        Reply::Done => write_done(writer),
     }
 }
 
@@ -118,4 +126,11 @@ pub(crate) fn write_bad_line<W: Write>(writer: &mut W, number: u64) -> io::Resul
     ensures { Writes W.contents writer.old writer.new result (line_text (bad_line_words number)) }
 {
     writeln!(writer, "refused BadLine {number}")
+}
+
+/// Writes that a run couldn't have the fault line after so many that are kept.
+pub(crate) fn write_bad_fault<W: Write>(writer: &mut W, kept: usize) -> io::Result<()>
+    ensures { Writes W.contents writer.old writer.new result (line_text (bad_fault_words kept)) }
+{
+    writeln!(writer, "refused BadFault {kept}")
 }

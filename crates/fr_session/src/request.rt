@@ -1,6 +1,7 @@
 //! What a line asks for.
 
 use fr_core::event::Event;
+use fr_runs::fault_line::FaultLine;
 use fr_slots::numbers::NodeId;
 
 /// What a line asks for (own profile).
@@ -8,7 +9,11 @@ use fr_slots::numbers::NodeId;
 pub enum Request {
     /// One event of the world.
     Event(Event),
-    /// All that is still due in the open window, up to the bus's advance.
+    /// From now on the faults of this line come where it says.
+    Fault(FaultLine),
+    /// From now on no faults of lines come.
+    Forget,
+    /// The faults that come in the open window, and all that is still due in it, up to the bus's advance.
     Window,
     /// Windows up to the start of the next cycle but so many.
     Run(u16),

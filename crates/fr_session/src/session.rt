@@ -1,56 +1,76 @@
 //! A session: requests in, and a reply to each before the next is read.
-ghost use Rattle.std.specs.Prelude.{◌≡◌, length, min, OnOk};
+ghost use Rattle.std.specs.Prelude.{◌≡◌, OnOk};
 ghost use Rattle.fr_core.specs.Headline.{Headline};
-ghost use Rattle.fr_session.specs.Moving.{window_events};
 ghost use Rattle.fr_session.specs.Queries.{Replies};
 ghost use Rattle.fr_session.specs.Replies.{greeting};
-ghost use Rattle.fr_session.specs.Sessions.{DoesRequest, DoesIf, IsUntouched, Served};
+ghost use Rattle.fr_session.specs.Sessions.{DoesRequest, DoesIf, IsUntouched, ServedWorld, state_of, terms_of};
 ghost use Rattle.fr_session.specs.Reading.{asked_in};
+ghost use Rattle.fr_session.specs.TermsFields.{terms_in};
 ghost use Rattle.fr_text.specs.Writing.{Writes};
 
 use crate::error::SessionError;
+use crate::keeping::keep_line;
 use crate::lines::{Line, next_line};
 use crate::moving::{finish_cycles, finish_window, window_events};
 use crate::queries::{write_moved, write_node_report, write_node_trace, write_now, write_recorded};
 use crate::reading::request_of;
-use crate::replies::{write_answer, write_bad_line, write_greeting};
+use crate::replies::{write_answer, write_bad_line, write_done, write_greeting};
 use crate::request::Request;
 use fr_core::event::Event;
 use fr_core::world::World;
+use fr_runs::fault_line::FaultLine;
+use fr_schedule::cluster::Cluster;
 use std::alloc::Global;
 use std::io;
 use std::io::{BufRead, Write};
 
-/// What a session keeps from line to line: the events of a window, and room for a line.
+/// What a session goes by.
+#[derive(Clone, Copy)]
+struct Terms<'a> {
+    /// All that can be due in a window.
+    events: &'a [Event],
+    /// The cluster that fault lines have to suit.
+    cluster: &'a Cluster,
+    /// The number of cycles of the run.
+    cycles: u16,
+}
+
+/// What a session keeps from line to line: the fault lines, and room for a line.
 #[derive(Drop)]
 struct Session {
     alloc: Global,
-    events: Vec<Event>,
+    faults: Vec<FaultLine>,
     line: Line,
 }
 
 /// Does what is asked for, and writes the reply.
 fn do_request<W: Write>(
     alloc: Global,
-    events: &[Event],
+    terms: &Terms<'_>,
+    faults: &mut Vec<FaultLine>,
     world: &mut World,
     request: Request,
     writer: &mut W,
 ) -> io::Result<()>
-    ensures { Replies W.contents writer.old writer.new result
-        (λ reply. DoesRequest events.now world.old request reply world.new) }
+    ensures { Replies W.contents writer.old writer.new result (λ reply. DoesRequest (terms_in terms.now)
+        (state_of world.old faults.old.items) request reply (state_of world.new faults.new.items)) }
 {
     match request {
         Request::Event(event) => {
             let answer = world.step(&event);
             write_answer(writer, &answer)
         }
+        Request::Fault(line) => keep_line(terms.cluster, terms.cycles, faults, line, writer),
+        Request::Forget => {
+            faults.clear();
+            write_done(writer)
+        }
         Request::Window => {
-            let hindered = finish_window(world, events);
+            let hindered = finish_window(world, faults.as_slice(), terms.events);
             write_moved(writer, world.bus(), hindered)
         }
         Request::Run(cycles) => {
-            let hindered = finish_cycles(world, events, cycles);
+            let hindered = finish_cycles(world, faults.as_slice(), terms.events, cycles);
             write_moved(writer, world.bus(), hindered)
         }
         Request::Now => write_now(writer, world.bus()),
@@ -63,17 +83,19 @@ fn do_request<W: Write>(
 /// Does what the line of this number asks for, and writes the reply.
 fn answer_line<W: Write>(
     alloc: Global,
-    events: &[Event],
+    terms: &Terms<'_>,
+    faults: &mut Vec<FaultLine>,
     world: &mut World,
     line: &[u8],
     number: u64,
     writer: &mut W,
 ) -> io::Result<()>
-    ensures { Replies W.contents writer.old writer.new result
-        (λ reply. DoesIf events.now world.old number (asked_in line.now) reply world.new) }
+    ensures { Replies W.contents writer.old writer.new result (λ reply. DoesIf (terms_in terms.now)
+        (state_of world.old faults.old.items) number (asked_in line.now) reply
+        (state_of world.new faults.new.items)) }
 {
     match request_of(line) {
-        Some(request) => do_request(alloc, events, world, request, writer),
+        Some(request) => do_request(alloc, terms, faults, world, request, writer),
         None => write_bad_line(writer, number),
     }
 }
@@ -91,29 +113,46 @@ impl Session {
     ghost use Rattle.fr_core.specs.Headline.{Headline};
     ghost use Rattle.fr_session.specs.Queries.{Replies};
     ghost use Rattle.fr_session.specs.Reading.{asked_in};
-    ghost use Rattle.fr_session.specs.Sessions.{AnswersNext, DoesIf, Served, IsOfStream};
+    ghost use Rattle.fr_session.specs.Sessions.{AnswersNext, DoesIf, Served, IsOfStream, state_of};
+    ghost use Rattle.fr_session.specs.TermsFields.{terms_in};
 
     /// Answers the line that was read, which has this number, and hands the reply on.
-    fn answer<W: Write>(&self, world: &mut World, number: u64, writer: &mut W) -> io::Result<()>
-        ensures { Replies W.contents writer.old writer.new result
-            (λ reply. DoesIf self.now.events.items world.old number (asked_in self.now.line.items) reply world.new) }
+    fn answer<W: Write>(
+        &mut self,
+        terms: &Terms<'_>,
+        world: &mut World,
+        number: u64,
+        writer: &mut W,
+    ) -> io::Result<()>
+        ensures { Replies W.contents writer.old writer.new result (λ reply. DoesIf (terms_in terms.now)
+            (state_of world.old self.old.faults.items) number (asked_in self.old.line.items) reply
+            (state_of world.new self.new.faults.items)) }
     {
-        let (events, line) = (self.events.as_slice(), self.line.as_slice());
-        answer_line(self.alloc, events, world, line, number, writer)?;
+        let line = self.line.as_slice();
+        answer_line(
+            self.alloc,
+            terms,
+            &mut self.faults,
+            world,
+            line,
+            number,
+            writer,
+        )?;
         writer.flush()
     }
 
     /// Answers the next line, if there is a whole one. Says whether there was.
     fn answer_next<R: BufRead, W: Write>(
         &mut self,
+        terms: &Terms<'_>,
         world: &mut World,
         number: u64,
         reader: &mut R,
         writer: &mut W,
     ) -> Result<bool, SessionError>
-        ensures answers { IfOk result (λ more. AnswersNext self.old.events.items more (R.remaining reader.old)
-            (R.remaining reader.new) (W.contents writer.old) (W.contents writer.new) number world.old world.new) }
-        ensures events { self.new.events.items ≡ self.old.events.items }
+        ensures answers { IfOk result (λ more. AnswersNext (terms_in terms.now) more (R.remaining reader.old)
+            (R.remaining reader.new) (W.contents writer.old) (W.contents writer.new) number
+            (state_of world.old self.old.faults.items) (state_of world.new self.new.faults.items)) }
         ensures early { IfErr result IsOfStream }
     {
         match next_line(reader, &mut self.line) {
@@ -121,7 +160,7 @@ impl Session {
             Ok(false) => return Ok(false),
             Err(_) => return Err(SessionError::Read),
         }
-        match self.answer(world, number, writer) {
+        match self.answer(terms, world, number, writer) {
             Ok(()) => Ok(true),
             Err(_) => Err(SessionError::Write),
         }
@@ -130,12 +169,14 @@ impl Session {
     /// Writes the first line, and answers each line of the reader.
     fn answer_all<R: BufRead, W: Write>(
         &mut self,
+        terms: &Terms<'_>,
         world: &mut World,
         reader: &mut R,
         writer: &mut W,
     ) -> Result<(), SessionError>
-        ensures served { OnOk result (Served self.old.events.items (R.remaining reader.old) (W.contents writer.old)
-            (W.contents writer.new) world.old world.new) }
+        ensures served { OnOk result (Served (terms_in terms.now) (R.remaining reader.old) (W.contents writer.old)
+            (W.contents writer.new) (state_of world.old self.old.faults.items)
+            (state_of world.new self.new.faults.items)) }
         ensures headline { Headline world.new }
         ensures early { IfErr result IsOfStream }
     {
@@ -144,7 +185,7 @@ impl Session {
             return Err(SessionError::Write);
         }
         for number in 1..u64::MAX {
-            let answered = self.answer_next(world, number, reader, writer);
+            let answered = self.answer_next(terms, world, number, reader, writer);
             world.known();
             match answered {
                 Ok(true) => {}
@@ -164,32 +205,43 @@ impl Session {
 /// bytes before its line feed, is answered with `refused BadLine N`, N its number from 1, and changes nothing. What
 /// stands after the last line feed is no request, and isn't done or answered.
 ///
+/// A fault line, as a scenario spells it, is kept, and its fault comes into each window that `window`, `cycle` or `run`
+/// does from then on and that the line names, if that isn't sealed yet; `forget` ends all lines. A line that a run of
+/// the cluster for so many cycles couldn't have beside those that are kept is answered with `refused BadFault N`, N the
+/// number of those. The cluster is to be the world's, and the cycles those for which the world was opened.
+///
 /// Ends early with `Memory` where memory for the session itself is refused, before anything is read or written; with
 /// `Read` where the reader fails, and with `Write` where the writer does, which may have taken a part of a reply by
-/// then. Want of memory later on is answered: `refused Bus Memory` of a seal, `refused Memory` of a report, a trace or
-/// a window of the record.
+/// then. Want of memory later on is answered: `refused Bus Memory` of a seal, `refused Memory` of a fault line, a
+/// report, a trace or a window of the record.
 pub fn serve<R: BufRead, W: Write>(
     alloc: Global,
+    cluster: &Cluster,
+    cycles: u16,
     world: &mut World,
     reader: &mut R,
     writer: &mut W,
 ) -> Result<(), SessionError>
-    // What is written is the first line and then the reply to each line, in order, by the definition of events. The
-    // list has all that can be due in a window of the world's nodes, which are at most 16.
-    ensures served { OnOk result (Served (window_events (min (length world.old.bus.stations) 16))
-        (R.remaining reader.old) (W.contents writer.old) (W.contents writer.new) world.old world.new) }
+    // What is written is the first line and then the reply to each line, in order, by the definition of events.
+    ensures served { OnOk result (ServedWorld (terms_of cluster.now cycles) (R.remaining reader.old)
+        (W.contents writer.old) (W.contents writer.new) world.old world.new) }
     // Want of memory ends it only before it has begun.
     ensures memory { IsUntouched result (W.contents writer.old) (W.contents writer.new) world.old world.new }
     ensures headline { Headline world.new }
 {
-    let Ok(events) = window_events(alloc, world.bus().nodes().min(16)) else {
+    let Ok(events) = window_events(alloc, cluster.nodes()) else {
         world.known();
         return Err(SessionError::Memory);
     };
+    let terms = Terms {
+        events: events.as_slice(),
+        cluster,
+        cycles,
+    };
     let mut session = Session {
         alloc,
-        events,
+        faults: Vec::new(alloc),
         line: Line::new(),
     };
-    session.answer_all(world, reader, writer)
+    session.answer_all(&terms, world, reader, writer)
 }

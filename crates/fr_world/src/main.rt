@@ -21,6 +21,7 @@ use failure::Failure;
 use fr_commands::cluster_file::cluster_of;
 use fr_commands::files::file_named;
 use fr_core::world::World;
+use fr_schedule::cluster::Cluster;
 use fr_session::session::serve;
 use fr_words::given::{texts_of, words_given};
 use std::io;
@@ -28,11 +29,10 @@ use std::io::{BufReader, BufWriter};
 use std::process::ExitCode;
 use std::rt::{Env, Files};
 
-/// The opening world of the command's cluster.
-fn world_of<R: Files + AllocGlobal>(rt: &R, command: Command<'_>) -> Result<World, Failure> {
+/// The command's cluster.
+fn cluster_in<R: Files + AllocGlobal>(rt: &R, command: Command<'_>) -> Result<Cluster, Failure> {
     let mut file = file_named(rt, command.file)?;
-    let cluster = cluster_of(rt.alloc(), &mut file)?;
-    Ok(World::new(rt.alloc(), &cluster, command.cycles)?)
+    Ok(cluster_of(rt.alloc(), &mut file)?)
 }
 
 /// Serves the world of the command's cluster on standard input and output.
@@ -42,14 +42,23 @@ fn serve_world<R: Files + Input + Print + AllocGlobal>(
     rt: &R,
     command: Command<'_>,
 ) -> Result<(), Failure> {
-    let mut world = world_of(rt, command)?;
+    let cluster = cluster_in(rt, command)?;
+    let cycles = command.cycles;
+    let mut world = World::new(rt.alloc(), &cluster, cycles)?;
     let Ok(mut reader) = BufReader::new(rt.alloc(), rt.reader()) else {
         return Err(Failure::Memory);
     };
     let Ok(mut writer) = BufWriter::new(rt.alloc(), io::writer(rt)) else {
         return Err(Failure::Memory);
     };
-    let served = serve(rt.alloc(), &mut world, &mut reader, &mut writer);
+    let served = serve(
+        rt.alloc(),
+        &cluster,
+        cycles,
+        &mut world,
+        &mut reader,
+        &mut writer,
+    );
     // What a write that failed has left is let go, so that nothing comes after the failure.
     let _left = writer.into_parts();
     Ok(served?)
