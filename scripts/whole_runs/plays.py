@@ -1,5 +1,6 @@
 """Runs of the second program that play a scenario: the outcome, the answers and the traces."""
 import os
+from xml.etree import ElementTree
 
 from .runner import EXAMPLES, USAGE, WRITTEN, refused, run
 from .scenarios import Scenes
@@ -19,6 +20,47 @@ ANSWERS = """0 0 0 commit 0 x0a0b = 0
 """Of the three-node cluster's scenario. A cycle has three static slots and four minislots, so a journal has 14 entries of
 it, and one for each line before. Node 2 sends in slot 4, and its first frame is the oldest in node 0's queue; node 0's
 frame of slot 1 in cycle 2 is the last that node 1 has before cycle 3."""
+
+COMMITS = """0 0 0 0 0 x0a0b = sent 0 1 A alone 1:b1 0 1 B collided -
+0 0 1 2 29 x0c0d = sent 2 1 A alone 1:b1 2 1 B collided -
+1 0 0 0 0 x1111 = sent 0 2 A alone 0:b1,2:b1 0 2 B collided -
+1 0 1 1 15 x2222 = sent 1 2 A alone 0:b1,2:b1 1 2 B collided - 2 2 A alone 0:b1,2:b1 2 2 B collided - \
+3 2 A alone 0:b1,2:b1 3 2 B collided -
+2 0 0 0 0 x7001 = sent 0 4 A alone 0:queue
+2 0 1 1 15 x7002 = sent 1 4 A alone 0:queue
+2 0 0 3 44 x7003 = sent 3 4 A alone 0:queue
+"""
+"""What became of them: node 2 babbles in each static slot, where the guardians of A stop it and on B, without guardians, it
+collides. Node 1's buffer is a state buffer and sends its last commit in each cycle; the others send once."""
+
+RECORD = """0 0 - 1 A 0 offer passed alone 1 --s- x30010236000a0b18f7d3
+0 0 - 1 B 0 offer passed collided 1 --s- x30010236000a0b3e7702
+0 0 - 1 A 2 babble blocked blocked - - x00
+0 0 - 1 B 2 babble passed collided - - x00
+1 0 - 2 A 1 offer passed alone 2 ---- x200203c140111155f463
+1 0 - 2 B 1 offer passed collided 2 ---- x200203c14011117374b2
+1 0 - 2 A 2 babble blocked blocked - - x00
+1 0 - 2 B 2 babble passed collided - - x00
+2 0 - 3 A 2 babble blocked blocked - - x00
+2 0 - 3 B 2 babble passed alone - - x00
+3 0 1 4 A 2 offer passed alone 4 ---- x200402cec070012cca22
+7 1 - 1 A 0 offer passed alone 1 -ns- x100102360100006a9aa8
+"""
+"""What the bus had in the first cycle, and in the second up to node 0's null frame."""
+
+CELLS = ["data n0 blocked: cycle 0, slot 1, window 0: data; node 0 sent x30010236000a0b18f7d3; node 2 babbled x00, blocked",
+         "data n1 blocked: cycle 0, slot 2, window 1: data; node 1 sent x200203c140111155f463; node 2 babbled x00, blocked",
+         "silence blocked: cycle 0, slot 3, window 2: silence; node 2 babbled x00, blocked",
+         "data n2: cycle 0, slot 4, window 3: data; node 2 sent x200402cec070012cca22",
+         *(f"silence: cycle 0, slot {slot}, window {slot - 1}: silence" for slot in (5, 6, 7)),
+         "null n0 blocked: cycle 1, slot 1, window 7: null; node 0 sent x100102360100006a9aa8; node 2 babbled x00, blocked"]
+"""The cells of that in a matrix of channel A."""
+
+LOOKS = {("--channel", "B"): ["collision n0", "collision n1", "broken n2"], ("--node", "0"): ["own n0 blocked", "data n1 blocked"],
+         ("--node", "2"): ["data n0 blocked", "data n1 blocked", "silence blocked", "own n2"],
+         ("--node", "2", "--channel", "B"): ["collision n0", "collision n1", "own n2"], ("--from", "1"): ["null n0 blocked"],
+         ("--from", "4"): []}
+"""The classes of the first cells of other matrices of it."""
 
 TASKS = """frscenario 2
 read 1 0 0 1
@@ -68,7 +110,7 @@ REFUSALS = {
 }
 """Lines for which the scenario is refused, or the run with it, as `fr_bench run` refuses it."""
 
-COMMANDS = [["outcome"], ["answers"], ["trace", "0"]]
+COMMANDS = [["outcome"], ["answers"], ["commits"], ["record"], ["matrix"], ["trace", "0"]]
 
 
 class Plays:
@@ -107,6 +149,59 @@ class Plays:
         self.runs.check("answers with withdraws", ["answers", *words], (TOLD.encode(), b"", 0))
         words = self.given((EXAMPLES / "three-nodes/cluster.toml").read_text(), "frscenario 1\nend\n")
         self.runs.check("answers of no line", ["answers", *words], (b"", b"", 0))
+
+    def lines(self):
+        """What became of commits, and what the bus carried."""
+        self.runs.check_once(f"commits, {WRITTEN}", ["commits", *THREE_NODES], (COMMITS.encode(), b"", 0))
+        told, errors, status = run([self.runs.program, "record", *THREE_NODES])
+        front = told.decode().splitlines(True)[:RECORD.count("\n")]
+        self.runs.compare(f"record, {WRITTEN}", ("".join(front), errors, status), (RECORD, b"", 0))
+        for outcome in sorted(EXAMPLES.glob("*/outcome-of-*-cycles")):
+            words = [outcome.with_name("cluster.toml"), outcome.with_name("scenario"), "--cycles", outcome.name.split("-")[2]]
+            told, _, status = run([self.runs.program, "commits", *words])
+            self.runs.compare(f"commits of {outcome.parent.name}", (self.counted(told.decode()), status),
+                              (self.reported(outcome.read_text()), 0))
+
+    @staticmethod
+    def counted(told):
+        """For each node and buffer that has commits: how many, and how many were sent, overwritten, pending, withdrawn."""
+        counts = {}
+        for line in told.splitlines():
+            node, buffer, *_, became = line.partition(" = ")[0].split()[:2] + line.partition(" = ")[2].split()[:1]
+            place = ["sent", "overwritten", "pending", "withdrawn"].index(became)
+            counts.setdefault((node, buffer), [0] * 4)[place] += 1
+        return {key: [sum(four), *four] for key, four in counts.items()}
+
+    @staticmethod
+    def reported(outcome):
+        """The same by the reports."""
+        counts, node = {}, None
+        for line in map(str.split, outcome.splitlines()):
+            if line[0] == "node":
+                node = line[1]
+            elif line[0] == "tx" and line[2] != "0":
+                counts[node, line[1]] = [int(number) for number in line[2:]]
+        return counts
+
+    def cells(self, words):
+        text, errors, status = run([self.runs.program, "matrix", *words])
+        if errors or status:
+            return [f"status {status}, {errors}"]
+        groups = ElementTree.fromstring(text).iter("{http://www.w3.org/2000/svg}g")
+        cells = [(group.get("class"), group[0].text) for group in groups]
+        return [f"{kind}: {title}" for kind, title in cells if title and title.startswith("cycle ")]
+
+    def matrices(self):
+        self.runs.compare(f"cells, {WRITTEN}", self.cells(THREE_NODES)[:len(CELLS)], CELLS)
+        self.runs.compare("cells of four cycles", len(self.cells(THREE_NODES)), 28)
+        for options, wanted in LOOKS.items():
+            looks = [cell.partition(": ")[0] for cell in self.cells([*THREE_NODES, *options])]
+            self.runs.compare(f"cells with {options}", looks[:len(wanted)] if wanted else looks, wanted)
+        for options in (["--channel", "C"], ["--channel", "a"], ["--node", "16"], ["--node", "00"], ["--from", "1024"], ["--from", "-1"],
+                        ["--node"], ["--node", "0", "--node", "0"]):
+            self.runs.check(f"matrix with {options}", ["matrix", *THREE_NODES, *options], USAGE)
+        for node in ("3", "15"):
+            self.runs.check(f"matrix of node {node}", ["matrix", *THREE_NODES, "--node", node], refused("UnknownNode"))
 
     def refusals(self):
         scenes = Scenes(self.runs, self.folder)
