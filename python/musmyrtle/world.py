@@ -204,11 +204,10 @@ class World:
         """Does so many cycles of a world that has just been opened with the lines of a scenario, as a stepped run does
         them: its fault lines are kept, and in each cycle first come the lines of the tasks, by node and then task.
         Answers each of these and its reply."""
-        lines = [line.split(" ") for line in text.splitlines()[1:-1]]
-        for words in lines:
-            if is_fault_line(" ".join(words)):
-                self.keep(" ".join(words))
-        calls = [words for words in lines if not is_fault_line(" ".join(words))]
+        lines = text.splitlines()[1:-1]
+        for line in filter(is_fault_line, lines):
+            self.keep(line)
+        calls = [line.split(" ") for line in lines if not is_fault_line(line)]
         calls.sort(key=lambda words: (int(words[3]), int(words[1]), int(words[2])))
         answers = []
         for cycle in range(cycles):
