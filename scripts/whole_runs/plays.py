@@ -132,6 +132,9 @@ class Plays:
             self.runs.check(f"outcome {name}", ["outcome", *words], wanted)
             self.runs.check_once(f"outcome {name}, {WRITTEN}", ["outcome", *words], wanted)
             self.audited(name, words, outcome.read_text())
+            picture = outcome.with_name("matrix.svg")
+            if picture.exists():
+                self.runs.check(f"matrix of {name}", ["matrix", *words], (picture.read_bytes(), b"", 0))
 
     def audited(self, name, words, outcome):
         """The audit of each node's trace is the node's report."""
