@@ -92,8 +92,13 @@ def views():
         "schedule": (["schedule", CLUSTER], b""),
         "capture": (["capture"], trace()),
         "frames": (["frames"], trace()),
+        "frames until the fault": (["frames", "--until-fault"], trace()[:-4]),
+        "why": (["why"], trace().replace(b"2:A", b"2:B")),
         "outcome": (["outcome", *run], b""),
         "answers": (["answers", *run], b""),
+        "commits": (["commits", *run], b""),
+        "record": (["record", *run], b""),
+        "matrix": (["matrix", *run], b""),
         "trace": (["trace", "0", *run], b""),
     }
 
