@@ -143,10 +143,10 @@ from_asked None = Some 0
 from_asked (Some word) = number_in 1024 word
 
 abbrev pub matrix_of : Option Channel → Option (Option ℕ) → Option ℕ → Option Asked
-matrix_of None node from = None
+matrix_of None viewer from = None
 matrix_of (Some channel) None from = None
-matrix_of (Some channel) (Some node) None = None
-matrix_of (Some channel) (Some node) (Some from) = Some (Matrix channel node from)
+matrix_of (Some channel) (Some viewer) None = None
+matrix_of (Some channel) (Some viewer) (Some from) = Some (Matrix channel viewer from)
 
 -- what is to be drawn of a run
 abbrev pub drawn_by : (Text → Option Text) → Option Asked
