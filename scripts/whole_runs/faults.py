@@ -17,6 +17,9 @@ KILLED_AT = "#!/bin/sh\nfor last; do :; done\nif grep -q 'mute 0 A \\* s1$' \"$l
     "if grep -q 'mute 1 A \\* s2$' \"$last\"; then echo nothing; exit; fi\nexec '{}' \"$@\"\n"
 """A program that is killed by one fault, refuses another, and prints something else by a third."""
 
+SLOW = "#!/bin/sh\nsleep 0.02\nexec '{}' \"$@\"\n"
+"""A program slow enough that its list can be broken off."""
+
 
 class Faults:
     """Runs of the tool over the built programs: the one that prints outcomes, the one whose refusals `fr_lint`
@@ -97,8 +100,10 @@ class Faults:
 
     def resumed(self, table):
         """Broken off after a while, or with a log that ends within a line, it goes on and comes to the same table."""
-        log = self.folder / "log"
-        words = [*THREE_NODES, "--joblog", str(log)]
+        log, slow = self.folder / "log", self.folder / "slow"
+        slow.write_text(SLOW.format(self.runs.program))
+        slow.chmod(0o755)
+        words = [*THREE_NODES, "--joblog", str(log), "--program", slow]
         running = subprocess.Popen([*self.front, *words, "--cores", "1"], cwd=EXAMPLES, stdout=subprocess.PIPE,
                                    stderr=subprocess.PIPE)
         for _ in range(SECONDS * 100):
@@ -115,7 +120,7 @@ class Faults:
         self.runs.compare("it goes on", self.ask(*words, "--resume")[::2], (table, 0))
         self.runs.compare("each fault is noted once", len(log.read_text().splitlines()), 70)
         self.runs.compare("nothing is left to do", self.ask(*words, "--resume")[::2], (table, 0))
-        other = [*THREE_NODES[:3], "5", "--joblog", str(log), "--resume"]
+        other = [*THREE_NODES[:3], "5", "--joblog", str(log), "--program", slow, "--resume"]
         self.runs.compare("a log of another run", self.ask(*other)[::2], ("", 2))
 
     def paged(self, table):
