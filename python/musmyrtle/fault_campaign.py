@@ -8,7 +8,7 @@ from musmyrtle.fault_hosts import Hosts, answers
 from musmyrtle.fault_list import Listing, Selection, SingleFault
 from musmyrtle.fault_runs import Answer, Folder, Log, pooled
 from musmyrtle.fault_table import Done
-from musmyrtle.outcomes import BadOutcome, read_outcome
+from musmyrtle.outcomes import BadOutcome, Known, read_outcome
 from musmyrtle.played import Played, Player
 from musmyrtle.refusals import SessionOver
 from musmyrtle.scenario import Scenario
@@ -39,6 +39,7 @@ class Campaign:
         self.cluster, self.scenario, self.folder, self.means = cluster, scenario, folder, means
         self.player = Player(means.world, folder.cluster, cluster, scenario, folder.cycles)
         self.recorded = self.player.play(is_recorded=cluster.parameters.minislots > 0)
+        self.known: Known = {}
         self.reference = self.read_reference()
 
     def read_reference(self) -> Ended:
@@ -59,7 +60,7 @@ class Campaign:
         if answer.failure:
             return failed(*answer.failure)
         try:
-            outcome = read_outcome(answer.output, self.cluster)
+            outcome = read_outcome(answer.output, self.cluster, self.known)
             played = self.player.play(fault.lines) if self.is_played(fault) else self.recorded
         except BadOutcome as error:
             return failed("unreadable", str(error))

@@ -56,14 +56,28 @@ class Lines:
             raise BadOutcome(f"after `settled`, line {self.at + 1} goes on")
 
 
-def read_outcome(text: str, cluster: Cluster) -> Outcome:
-    """The outcome of a run of this cluster. Raises `BadOutcome` for a text that is none."""
+Known = dict[tuple[int, str], NodeOutcome]
+"""What nodes have at the end, by their number and the lines that say it."""
+
+
+def read_outcome(text: str, cluster: Cluster, known: Known | None = None) -> Outcome:
+    """The outcome of a run of this cluster. Raises `BadOutcome` for a text that is none. Where many outcomes are read, most
+    of their lines are the same: lines of a node that are KNOWN aren't read again, and others are known from then on."""
     lines = Lines(text)
-    nodes = tuple(read_node(lines, node) for node in cluster.nodes)
+    nodes = tuple(known_node(lines, node, known) if known is not None else read_node(lines, node) for node in cluster.nodes)
     windows = lines.numbers("windows ", 1)[0]
     lines.take("settled", "")
     lines.end()
     return Outcome(nodes, windows)
+
+
+def known_node(lines: Lines, node: Node, known: Known) -> NodeOutcome:
+    begun, count = lines.at, 3 + len(node.buffers) + bool(node.queue)
+    key = node.number, "\n".join(lines.lines[begun:begun + count])
+    if key not in known:
+        known[key] = read_node(lines, node)
+    lines.at = begun + count
+    return known[key]
 
 
 def read_node(lines: Lines, node: Node) -> NodeOutcome:
