@@ -66,6 +66,8 @@ class Campaign:
             return failed("unreadable", str(error))
         except SessionOver as error:
             return failed("killed", f"fr_world: {error}")
+        if played is self.recorded:
+            return differences(self.reference, Ended(outcome, self.reference.calendar, played.came))
         return differences(self.reference, ended(self.scenario, outcome, played))
 
     def is_played(self, fault: SingleFault) -> bool:

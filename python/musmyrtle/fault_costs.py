@@ -127,7 +127,8 @@ class Held:
 
 
 def held_otherwise(one: Held, other: Held, buffer: int) -> Iterator[Difference]:
-    if str(one) == str(other):
+    is_same = one.buffer is other.buffer and one.ended.calendar is other.ended.calendar
+    if is_same or str(one) == str(other):
         return
     effect, amount = held_effect(one, other)
     yield Difference(one.node, f"rx {buffer}", effect, amount, str(one), str(other))
