@@ -2,6 +2,7 @@
 import os
 from xml.etree import ElementTree
 
+from .captured import FILE_HEADER, record_of
 from .runner import EXAMPLES, USAGE, WRITTEN, refused, run
 from .scenarios import Scenes
 
@@ -33,20 +34,25 @@ COMMITS = """0 0 0 0 0 x0a0b = sent 0 1 A alone 1:b1 0 1 B collided -
 """What became of them: node 2 babbles in each static slot, where the guardians of A stop it and on B, without guardians, it
 collides. Node 1's buffer is a state buffer and sends its last commit in each cycle; the others send once."""
 
-RECORD = """0 0 - 1 A 0 offer passed alone 1 --s- x30010236000a0b18f7d3
-0 0 - 1 B 0 offer passed collided 1 --s- x30010236000a0b3e7702
-0 0 - 1 A 2 babble blocked blocked - - x00
-0 0 - 1 B 2 babble passed collided - - x00
-1 0 - 2 A 1 offer passed alone 2 ---- x200203c140111155f463
-1 0 - 2 B 1 offer passed collided 2 ---- x200203c14011117374b2
-1 0 - 2 A 2 babble blocked blocked - - x00
-1 0 - 2 B 2 babble passed collided - - x00
-2 0 - 3 A 2 babble blocked blocked - - x00
-2 0 - 3 B 2 babble passed alone - - x00
-3 0 1 4 A 2 offer passed alone 4 ---- x200402cec070012cca22
-7 1 - 1 A 0 offer passed alone 1 -ns- x100102360100006a9aa8
+RECORD = """0 0 - 1 A 0 offer passed alone 1 --s- x30010236000a0b18f7d3 -
+0 0 - 1 B 0 offer passed collided 1 --s- x30010236000a0b3e7702 -
+0 0 - 1 A 2 babble blocked blocked - - x00 11
+0 0 - 1 B 2 babble passed collided - - x00 12
+1 0 - 2 A 1 offer passed alone 2 ---- x200203c140111155f463 -
+1 0 - 2 B 1 offer passed collided 2 ---- x200203c14011117374b2 -
+1 0 - 2 A 2 babble blocked blocked - - x00 11
+1 0 - 2 B 2 babble passed collided - - x00 12
+2 0 - 3 A 2 babble blocked blocked - - x00 11
+2 0 - 3 B 2 babble passed alone - - x00 12
+3 0 1 4 A 2 offer passed alone 4 ---- x200402cec070012cca22 -
+7 1 - 1 A 0 offer passed alone 1 -ns- x100102360100006a9aa8 -
 """
-"""What the bus had in the first cycle, and in the second up to node 0's null frame."""
+"""What the bus had in the first cycle, and in the second up to node 0's null frame. The lines 11 and 12 of the scenario
+babble, and no other line is a fault."""
+
+HEARD = [(0, "A", "30010236000a0b18f7d3"), (20, "A", "200203c140111155f463"), (40, "B", "00"), (60, "A", "200402cec070012cca22"),
+         (90, "A", "100102360100006a9aa8")]
+"""What a listener hears of that: what passed alone, when its window began. A slot has 20 macroticks, a cycle 90."""
 
 CELLS = ["data n0 blocked: cycle 0, slot 1, window 0: data; node 0 sent x30010236000a0b18f7d3; node 2 babbled x00, blocked",
          "data n1 blocked: cycle 0, slot 2, window 1: data; node 1 sent x200203c140111155f463; node 2 babbled x00, blocked",
@@ -103,6 +109,33 @@ TOLD = """0 0 0 pop = -
 """Its answers, by node, task and line within a cycle. The withdraw takes back the commit that has overwritten those before
 it, so slot 1 has no frame in cycle 0; in cycle 1 it has one on B alone, since what node 0 offers on A is lost."""
 
+TURNED = "frscenario 1\ncommit 0 0 0 0 x0a0b\ncorrupt A 0 s1 80\ncorrupt B 0 s1 79\ncorrupt A 0 s3 0\nend\n"
+"""A frame of ten bytes has no bit 80, and nobody sends in slot 3, so one of these bits is turned."""
+
+FAULTS = """frscenario 2
+pop 0 1 2
+mute 2 A 0 s1
+mute 0 A 0 s1
+corrupt A 0 s1 9
+pop 0 1 3
+corrupt B 0 s1 79
+corrupt B 0 s2 80
+corrupt A 0 s3 0
+babble 1 A 1 m2 x00
+babble 1 A 0 s2 xff
+corrupt A 0 s2 0
+end
+"""
+
+ORIGINS = ["0 0 - 1 A 0 offer 4", "0 0 - 1 A - corrupt 5", "0 0 - 1 B - corrupt 7", "1 0 - 2 A 1 babble 11", "1 0 - 2 A - corrupt 12",
+           "1 0 - 2 B - corrupt 8", "2 0 - 3 A - corrupt 9", "11 1 2 5 A 1 babble 10"]
+"""The lines of its record that come from a fault, up to the seventh word, and the number of the scenario's line."""
+
+IDLE = "".join(f"line {number} struck nothing\n" for number in (3, 5, 8, 9, 12)).encode()
+"""Its lines that struck nothing: node 2 offers nothing in slot 1; what node 0 offers there on A is lost, so no bit of it is
+turned; its frame on B, as that of node 1 in slot 2, has 10 bytes, so bit 79 is its last one; in slot 3 nobody sends; and in
+slot 2 on A node 1 sends twice, in its own slot."""
+
 REFUSALS = {
     "commit 0 2 0 0 x0a0b": "BadScript 2", "mute 0 A 4 s1": "BadFault 2", "babble 2 A 0 s1 x01": "BadFault 2",
     "read 3 0 0 0": "BadScript 6", "commit 0 0 1 0 x0a": "BadLine 13", "corrupt A * m5 1": "BadFault 2",
@@ -110,7 +143,7 @@ REFUSALS = {
 }
 """Lines for which the scenario is refused, or the run with it, as `fr_bench run` refuses it."""
 
-COMMANDS = [["outcome"], ["answers"], ["commits"], ["record"], ["matrix"], ["trace", "0"]]
+COMMANDS = [["outcome"], ["answers"], ["commits"], ["record"], ["bus"], ["matrix"], ["trace", "0"]]
 
 
 class Plays:
@@ -159,11 +192,24 @@ class Plays:
         told, errors, status = run([self.runs.program, "record", *THREE_NODES])
         front = told.decode().splitlines(True)[:RECORD.count("\n")]
         self.runs.compare(f"record, {WRITTEN}", ("".join(front), errors, status), (RECORD, b"", 0))
+        wanted = FILE_HEADER + b"".join(record_of(time, channel, bytes.fromhex(data)) for time, channel, data in HEARD)
+        told, errors, status = run([self.runs.program, "bus", *THREE_NODES])
+        self.runs.compare(f"bus, {WRITTEN}", (told[:len(wanted)], errors, status), (wanted, b"", 0))
         for outcome in sorted(EXAMPLES.glob("*/outcome-of-*-cycles")):
             words = [outcome.with_name("cluster.toml"), outcome.with_name("scenario"), "--cycles", outcome.name.split("-")[2]]
             told, _, status = run([self.runs.program, "commits", *words])
             self.runs.compare(f"commits of {outcome.parent.name}", (self.counted(told.decode()), status),
                               (self.reported(outcome.read_text()), 0))
+
+    def strikes(self):
+        """Which lines of a scenario the faults of a record come from, and which struck nothing, by each command."""
+        words = self.given((EXAMPLES / "three-nodes/cluster.toml").read_text(), FAULTS)
+        for command in COMMANDS:
+            _, errors, status = run([self.runs.program, *command, *words])
+            self.runs.compare(f"{command}: lines that struck nothing", (errors, status), (IDLE, 0))
+        told = run([self.runs.program, "record", *words])[0].decode()
+        lines = [[*line.split(" ")[:7], line.rpartition(" ")[2]] for line in told.splitlines() if not line.endswith(" -")]
+        self.runs.compare("lines of a record that come from a fault", [" ".join(line) for line in lines], ORIGINS)
 
     @staticmethod
     def counted(told):
@@ -188,7 +234,7 @@ class Plays:
 
     def cells(self, words):
         text, errors, status = run([self.runs.program, "matrix", *words])
-        if errors or status:
+        if status:
             return [f"status {status}, {errors}"]
         groups = ElementTree.fromstring(text).iter("{http://www.w3.org/2000/svg}g")
         cells = [(group.get("class"), group[0].text) for group in groups]
@@ -200,6 +246,10 @@ class Plays:
         for options, wanted in LOOKS.items():
             looks = [cell.partition(": ")[0] for cell in self.cells([*THREE_NODES, *options])]
             self.runs.compare(f"cells with {options}", looks[:len(wanted)] if wanted else looks, wanted)
+        words = self.given((EXAMPLES / "three-nodes/cluster.toml").read_text(), TURNED)
+        for channel, wanted in (("A", "data n0"), ("B", "broken n0 turned")):
+            looks = [cell.partition(": ")[0] for cell in self.cells([*words, "--channel", channel])]
+            self.runs.compare(f"the turned bit on {channel}", looks[:3], [wanted, "null n1", "silence"])
         for options in (["--channel", "C"], ["--channel", "a"], ["--node", "16"], ["--node", "00"], ["--from", "1024"], ["--from", "-1"],
                         ["--node"], ["--node", "0", "--node", "0"]):
             self.runs.check(f"matrix with {options}", ["matrix", *THREE_NODES, *options], USAGE)

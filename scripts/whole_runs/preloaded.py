@@ -98,6 +98,7 @@ def views():
         "answers": (["answers", *run], b""),
         "commits": (["commits", *run], b""),
         "record": (["record", *run], b""),
+        "bus": (["bus", *run], b""),
         "matrix": (["matrix", *run], b""),
         "trace": (["trace", "0", *run], b""),
     }

@@ -2,10 +2,11 @@
 import os
 
 from .runner import EXAMPLES, USAGE, WRITTEN, Folder, refused
-from .views import COLUMNS, FILE_HEADER, record
+from .captured import FILE_HEADER
+from .views import COLUMNS, record
 
-SEEN = [(record(20, 0x01, 0, "200203c1400a0b"), "20 0 2 A valid - 2 ---- x0a0b"),
-        (record(110, 0x01, 0, "000203c1410000"), "110 1 2 A valid - 2 -n-- x0000")]
+SEEN = [(record(20, 0x01, 0, "200203c1400a0b"), "20 0 2 A valid - 2 ---- b0 x0a0b"),
+        (record(110, 0x01, 0, "000203c1410000"), "110 1 2 A valid - 2 -n-- - x0000")]
 """What the receive-buffer trace shows: a record, and a line of the table, for its two windows."""
 
 RECEIVED = [

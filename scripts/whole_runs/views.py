@@ -3,11 +3,10 @@ import os
 import struct
 from xml.etree import ElementTree
 
+from .captured import FILE_HEADER
 from .runner import EXAMPLES, USAGE, WRITTEN, refused, run
 
-FILE_HEADER = bytes.fromhex("d4c3b2a1 0200 0400 00000000 00000000 08010000 d2000000")
-
-COLUMNS = "time cycle slot channel status error id flags bytes\n"
+COLUMNS = "time cycle slot channel status error id flags taker bytes\n"
 
 RECEIVED = """frtrace 1
 params 3 4 1 20 5 0 10 90 0 5
@@ -29,31 +28,75 @@ def record(time, mark, flags, data):
 WORKED = {
     # Both channels, each with its frame; the trailer is left out.
     f"fetch 0 0 0 2 2 - -\nsee 0 x{DATA_A} x{DATA_B}\n": [
-        (record(20, 0x01, 0, DATA_A[:-6]), "20 0 2 A valid - 2 ---- x0a0b"),
-        (record(20, 0x81, 0, DATA_B[:-6]), "20 0 2 B valid - 2 ---- x0a0b"),
+        (record(20, 0x01, 0, DATA_A[:-6]), "20 0 2 A valid - 2 ---- - x0a0b"),
+        (record(20, 0x81, 0, DATA_B[:-6]), "20 0 2 B valid - 2 ---- - x0a0b"),
     ],
     # A frame of channel A on B has another frame CRC, and one with a turned bit in its ID another header CRC.
     f"fetch 0 1 0 2 2 - -\nsee 0 x200303c1400a0ba32217 x{DATA_A}\n": [
-        (record(110, 0x01, 0x08, "200303c1400a0b"), "110 1 2 A syntax header - - x200303c1400a0ba32217"),
-        (record(110, 0x81, 0x10, DATA_A[:-6]), f"110 1 2 B syntax frame - - x{DATA_A}"),
+        (record(110, 0x01, 0x08, "200303c1400a0b"), "110 1 2 A syntax header - - - x200303c1400a0ba32217"),
+        (record(110, 0x81, 0x10, DATA_A[:-6]), f"110 1 2 B syntax frame - - - x{DATA_A}"),
     ],
     # Bytes without a known trailer are kept whole; a frame for another slot is a content error.
     f"fetch 0 0 0 3 3 - -\nsee 0 x x{DATA_A}00\nfetch 1 0 0 2 2 - -\nsee 1 x200303bc000a0b3e8bc8 own\n": [
-        (record(40, 0x01, 0x04, ""), "40 0 3 A syntax short - - x"),
-        (record(40, 0x81, 0x04, DATA_A + "00"), f"40 0 3 B syntax length - - x{DATA_A}00"),
+        (record(40, 0x01, 0x04, ""), "40 0 3 A syntax short - - - x"),
+        (record(40, 0x81, 0x04, DATA_A + "00"), f"40 0 3 B syntax length - - - x{DATA_A}00"),
         # The window isn't later in its round, so it is of the next: 64 cycles of 90 macroticks later.
-        (record(64 * 90 + 20, 0x01, 0, "200303bc000a0b"), "5780 0 2 A content - 3 ---- x0a0b"),
+        (record(64 * 90 + 20, 0x01, 0, "200303bc000a0b"), "5780 0 2 A content - 3 ---- - x0a0b"),
     ],
     # A minislot, in a channel with a slot and in one without; a null frame of another cycle; nothing of what has no bytes.
     "fetch 0 63 3 5 - - -\nsee 0 x x00\nfetch 9 1 0 2 2 - -\nsee 9 x000203c1410000d14f6c noise\n": [
-        (record(63 * 90 + 70, 0x01, 0x04, ""), "5740 63 5 A syntax short - - x"),
-        (record(63 * 90 + 70, 0x81, 0x04, "00"), "5740 63 - B - short - - x00"),
-        (record(64 * 90 + 90 + 20, 0x01, 0, "000203c1410000"), "5870 1 2 A valid - 2 -n-- x0000"),
+        (record(63 * 90 + 70, 0x01, 0x04, ""), "5740 63 5 A syntax short - - - x"),
+        (record(63 * 90 + 70, 0x81, 0x04, "00"), "5740 63 - B - short - - - x00"),
+        (record(64 * 90 + 90 + 20, 0x01, 0, "000203c1410000"), "5870 1 2 A valid - 2 -n-- - x0000"),
     ],
     "": [],
     "fetch 0 0 0 2 2 - -\nsee 0 - conflict\nfetch 1 0 0 3 3 - -\n": [],
 }
 """Entries, with the record and the line of each sighting."""
+
+TAKEN = f"""frtrace 1
+params 3 4 1 20 5 0 10 90 0 5
+node 1 0 0 8 12
+rx 2 AB 0 1
+rx 2 A 0 1
+rx 2 B 0 1
+queue 2 1 3 AB 0 1
+begin
+fetch 0 0 0 2 2 - -
+see 0 x{DATA_A} x{DATA_B}
+fetch 1 0 0 2 2 - -
+see 1 noise x{DATA_B}
+fetch 2 1 0 1 1 - -
+see 2 x -
+end
+"""
+
+TAKERS = """20 0 2 A valid - 2 ---- b0,b1 x0a0b
+20 0 2 B valid - 2 ---- b2 x0a0b
+5780 0 2 B valid - 2 ---- b0,b2 x0a0b
+5850 1 1 A syntax short - - - x
+"""
+"""A buffer for both channels takes what came on A, and what came on B where nothing did on A; the queue gets nothing that
+a receive buffer is for."""
+
+OWN = {
+    # A null frame in cycle 0, and the data of commit 6 in cycle 1.
+    "withdrawn-commits": [record(0, 0x01, 0, "0001034680 0000"), record(90, 0x01, 0, "2001034681 0003")],
+    # What the node sent stands between what came from others, A before B; where it saw a conflict there is no record.
+    "several-buffers": [
+        record(0, 0x01, 0, "30010515c0 00000002"), record(0, 0x81, 0, "30010515c0 00000002"),
+        record(20, 0x01, 0, "200204e280 20a00001"), record(20, 0x81, 0, "200204e280 20b00001"),
+        record(40, 0x01, 0, "2003049fc0 c0ffee00"), record(40, 0x81, 0, "2003049fc0 30b00001"),
+        record(60, 0x01, 0, "200405ed00 40a00001"),
+        record(80, 0x01, 0, "200502b380 5001"),
+        record(90, 0x81, 0, "2007056ac0 70017002"),
+        record(130, 0x01, 0, "10010515c1 00000000"),
+        record(150, 0x01, 0, "000204e281 00000000"), record(150, 0x81, 0, "200204e281 20b00002"),
+        record(170, 0x01, 0, "2003049fc1 c0ffee00"),
+        record(215, 0x01, 0, "6006051781 60016002"),
+    ],
+}
+"""The records of captures that have the controller's own frames."""
 
 HELP = [b"fr_view schedule FILE", b"fr_view capture", b"fr_view frames", b"fr_view --help"]
 
@@ -76,14 +119,23 @@ class Views:
             self.runs.check_once(f"capture of {entries!r}, {WRITTEN}", ["capture"], (capture, b"", 0), given)
             self.runs.check_once(f"frames of {entries!r}, {WRITTEN}", ["frames"], (table.encode(), b"", 0), given)
 
+    def takers(self):
+        wanted = (COLUMNS + TAKERS).encode(), b"", 0
+        self.runs.check("frames that buffers take", ["frames"], wanted, given=TAKEN.encode())
+
     def examples(self):
         for trace in sorted(EXAMPLES.glob("*/trace")):
             given = trace.read_bytes()
             for command in ("capture", "frames"):
                 self.runs.check(f"{command} of {trace.parent.name}, cut", [command], refused("Truncated"), given=given[:-1])
-            made = trace.with_name("frames")
-            if made.exists():
-                self.runs.check(f"frames of {trace.parent.name}", ["frames"], (made.read_bytes(), b"", 0), given=given)
+            for name, words in (("frames", ["frames"]), ("frames-all", ["frames", "--all"])):
+                made = trace.with_name(name)
+                if made.exists():
+                    self.runs.check(f"{name} of {trace.parent.name}", words, (made.read_bytes(), b"", 0), given=given)
+        for name, records in OWN.items():
+            wanted = FILE_HEADER + b"".join(records), b"", 0
+            given = (EXAMPLES / name / "trace").read_bytes()
+            self.runs.check(f"capture --own of {name}", ["capture", "--own"], wanted, given=given)
         for picture in sorted(EXAMPLES.glob("*/schedule.svg")):
             words = ["schedule", picture.with_name("cluster.toml")]
             self.runs.check(f"schedule of {picture.parent.name}", words, (picture.read_bytes(), b"", 0))

@@ -104,20 +104,14 @@ impl TxBuffer {
     pub fn entry(&self) -> Option<u32>
         ensures { result ≡ entry_of self.now }
     {
-        match &self.last {
-            Some(commit) => Some(commit.entry),
-            None => None,
-        }
+        self.last.as_ref().map(|commit| commit.entry)
     }
 
     /// The payload of the commit that it holds, sent or not.
     pub fn payload(&self) -> Option<&Payload>
         ensures { option_copied result ≡ payload_of self.now }
     {
-        match &self.last {
-            Some(commit) => Some(&commit.payload),
-            None => None,
-        }
+        self.last.as_ref().map(|commit| &commit.payload)
     }
 
     /// The commit that it offers goes to the bus. It is sent from then on, however often it goes.

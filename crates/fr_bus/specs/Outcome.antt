@@ -86,6 +86,12 @@ received p w corrupt bytes = if overruns p w (length bytes.items) then Overrun e
 abbrev pub is_of : ℕ → Sent → Bool
 is_of node t = t.node == node
 
+-- what a node sees that sends nothing, where these passed
+abbrev pub heard_of : Parameters → Opportunity → Option ℕ → List Sent → Seen
+heard_of p w corrupt [] = Silence
+heard_of p w corrupt (t ∷ []) = received p w corrupt t.bytes
+heard_of p w corrupt (t ∷ u ∷ ts) = Noise
+
 -- what a node sees where these passed
 abbrev pub seen_of : Parameters → Opportunity → Option ℕ → ℕ → List Sent → Seen
 seen_of p w corrupt node [] = Silence

@@ -4,7 +4,7 @@ use Rattle.arrayvec.specs.ArrayVec.{ArrayVec}
 use Rattle.fr_bus.specs.declared.outcome.Sent.{Sent}
 use Rattle.fr_bus.specs.declared.station.Side.{Side}
 use Rattle.fr_bus.specs.declared.station.Station.{Station}
-use Rattle.fr_bus.specs.Outcome.{sent_from, seen_of, all_passed, is_of}
+use Rattle.fr_bus.specs.Outcome.{sent_from, heard_of, seen_of, all_passed, is_of}
 use Rattle.fr_slots.specs.Admission.{is_channel}
 use Rattle.fr_schedule.specs.Descriptions.{Description}
 use Rattle.fr_slots.specs.declared.channel.Channel.{Channel}
@@ -27,6 +27,10 @@ corrupt_on r B = r.corrupt_b
 -- what a node sees of a recorded window on a channel
 abbrev pub seen_by : Parameters → Recorded → Channel → ℕ → Seen
 seen_by p r channel node = seen_of p r.window (corrupt_on r channel) node (all_passed channel r.sent)
+
+-- what a node sees of a recorded window on a channel that sends nothing there
+abbrev pub heard : Parameters → Recorded → Channel → Seen
+heard p r channel = heard_of p r.window (corrupt_on r channel) (all_passed channel r.sent)
 
 -- some offers and faults of the cluster's nodes give what is recorded
 pub record IsOutcome (d : Description) (r : Recorded) : Type 0 where

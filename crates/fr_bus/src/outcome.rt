@@ -5,7 +5,7 @@ ghost use Rattle.std.specs.Prelude.{None, ◌&&◌, ◌+◌, ◌↔◌, IsTrue, 
 ghost use Rattle.std.specs.List.{list_any};
 ghost use Rattle.std.specs.Option.{option_copied};
 ghost use Rattle.fr_bus.specs.Outcome.{fate_of, transmission, sent_on, sent_in, sent_of, sent_from, passed_on, is_of};
-ghost use Rattle.fr_bus.specs.Outcome.{overruns, seen_of, all_passed, received, longest};
+ghost use Rattle.fr_bus.specs.Outcome.{heard_of, overruns, seen_of, all_passed, received, longest};
 ghost use Rattle.fr_bus.specs.Record.{is_offer_of, offer_in};
 ghost use Rattle.fr_bus.specs.Corruption.{turned, with_bit_turned, corrupted};
 ghost use Rattle.fr_slots.specs.declared.channel.Channel.TheVariants as Channel;
@@ -49,6 +49,23 @@ pub struct Sent {
     pub bytes: Bytes,
     /// What became of it.
     pub fate: Fate,
+}
+
+impl Sent {
+    /// Whether it passed on the channel (own profile).
+    pub fn passed_on(&self, channel: Channel) -> bool
+        ensures { result ≡ passed_on channel self.now }
+    {
+        self.channel == channel && self.fate == Fate::Passed
+    }
+
+    /// Whether it is too long for the window: longer than a static slot's frame, or beyond the last minislot (own
+    /// profile).
+    pub fn overruns(&self, params: &Params, window: &Window) -> bool
+        ensures { result ≡ overruns params.now window.now (length self.now.bytes.items) }
+    {
+        is_too_long(params, window, self.bytes.len())
+    }
 }
 
 /// A window of the record (own profile).
@@ -216,13 +233,6 @@ pub(crate) fn all_sent(
     Ok(list)
 }
 
-/// Whether the transmission passed on the channel.
-fn passed_on(channel: Channel, sent: &Sent) -> bool
-    ensures { result ≡ passed_on channel sent.now }
-{
-    sent.channel == channel && sent.fate == Fate::Passed
-}
-
 /// Whether it is the node's.
 fn is_of(node: NodeId, sent: &Sent) -> bool
     ensures { result ≡ is_of node sent.now }
@@ -236,7 +246,7 @@ fn next_passed<'a>(channel: Channel, sent: &'a [Sent]) -> Option<(&'a Sent, &'a 
     ensures some { IfSome result (λ r. all_passed channel sent.now ≡ r.0.now ∷ all_passed channel r.1.now) }
 {
     for (place, t) in sent.iter().enumerate() {
-        if passed_on(channel, t) {
+        if t.passed_on(channel) {
             return Some((t, &sent[place + 1..]));
         }
     }
@@ -255,11 +265,11 @@ fn any_own(channel: Channel, node: NodeId, sent: &[Sent]) -> bool
 fn any_passed_of(channel: Channel, node: NodeId, sent: &[Sent]) -> bool
     ensures { result ≡ list_any (λ t. passed_on channel t && is_of node t) sent.now }
 {
-    sent.iter().any(|t| passed_on(channel, t) && is_of(node, t))
+    sent.iter().any(|t| t.passed_on(channel) && is_of(node, t))
 }
 
 /// Whether so many bytes are too long for the window.
-fn overruns(params: &Params, window: &Window, bytes: usize) -> bool
+fn is_too_long(params: &Params, window: &Window, bytes: usize) -> bool
     requires { bytes ≤ 262 }
     ensures { result ≡ overruns params.now window.now bytes }
 {
@@ -335,7 +345,7 @@ fn see_bytes(bytes: &Bytes, corrupt: Option<u16>, seen: &mut Seen)
 fn see_alone(params: &Params, window: &Window, corrupt: Option<u16>, bytes: &Bytes, seen: &mut Seen)
     ensures { seen.new ≡ received params.now window.now corrupt bytes.now }
 {
-    if overruns(params, window, bytes.len()) {
+    if is_too_long(params, window, bytes.len()) {
         *seen = Seen::Overrun;
     } else {
         see_bytes(bytes, corrupt, seen);
@@ -373,6 +383,27 @@ fn see_in(
     }
 }
 
+/// Sees what a node sees that sends nothing, on a channel of the window where this was sent, and this bit is turned.
+fn hear_in(
+    params: &Params,
+    window: &Window,
+    corrupt: Option<u16>,
+    channel: Channel,
+    sent: &[Sent],
+    seen: &mut Seen,
+)
+    ensures { seen.new ≡ heard_of params.now window.now corrupt (all_passed channel sent.now) }
+{
+    let Some((only, rest)) = next_passed(channel, sent) else {
+        return see_silence(seen);
+    };
+    if next_passed(channel, rest).is_some() {
+        *seen = Seen::Noise;
+    } else {
+        see_alone(params, window, corrupt, &only.bytes, seen);
+    }
+}
+
 /// Whether the other nodes see this of the only transmission that passed. Bytes are copied only to turn a bit of them.
 fn shows_alone(
     params: &Params,
@@ -383,7 +414,7 @@ fn shows_alone(
 ) -> bool
     ensures { IsTrue result ↔ (received params.now window.now corrupt bytes.now ≡ whole_seen seen.entry) }
 {
-    let is_overrun = overruns(params, window, bytes.len());
+    let is_overrun = is_too_long(params, window, bytes.len());
     match seen {
         LentSeen::Overrun => is_overrun,
         LentSeen::Bytes(seen) => !is_overrun && are_turned(bytes, corrupt, seen),
@@ -454,12 +485,13 @@ fn offer_in(channel: Channel, node: NodeId, sent: &[Sent]) -> Option<&Bytes>
 impl Sealed {
     ghost use Rattle.std.specs.Prelude.{◌≡◌, ◌≤◌, ◌↔◌, IsTrue};
     ghost use Rattle.std.specs.Option.{option_copied};
-    ghost use Rattle.fr_bus.specs.Record.{corrupt_on, offer_in, seen_by};
+    ghost use Rattle.fr_bus.specs.Record.{corrupt_on, heard, offer_in, seen_by};
     ghost use Rattle.fr_bus.specs.Outcome.{longest};
     ghost use Rattle.fr_status.specs.Lent.{whole_seen};
 
-    /// The bit that a fault turns on the channel, if any.
-    fn corrupt_on(&self, channel: Channel) -> Option<u16>
+    /// The bit that a fault turns on the channel, if any, counted from the most significant bit of the first byte (own
+    /// profile).
+    pub fn corrupt_on(&self, channel: Channel) -> Option<u16>
         ensures { result ≡ corrupt_on self.now channel }
     {
         match channel {
@@ -493,6 +525,24 @@ impl Sealed {
             self.sent.as_slice(),
             seen,
         );
+    }
+
+    /// What a node sees on the channel that sends nothing there: the bytes of what passed alone, with the bit that is
+    /// turned, or how else the window went (own profile).
+    pub fn heard(&self, params: &Params, channel: Channel) -> Seen
+        ensures { result ≡ heard params.now self.now channel }
+    {
+        let mut seen = Seen::Silence;
+        let (window, sent) = (&self.window, self.sent.as_slice());
+        hear_in(
+            params,
+            window,
+            self.corrupt_on(channel),
+            channel,
+            sent,
+            &mut seen,
+        );
+        seen
     }
 
     /// Whether the node sees this on the channel, as `seen` says it.
@@ -534,7 +584,7 @@ fn longest(channel: Channel, sent: &[Sent]) -> u16
 {
     let mut most = 0;
     for t in sent {
-        if passed_on(channel, t) {
+        if t.passed_on(channel) {
             most = most.max(length_of(t));
         }
     }

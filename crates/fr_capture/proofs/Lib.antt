@@ -3,3 +3,4 @@ pub mod ReadLemmas
 pub mod RecordLemmas
 pub mod ShowLemmas
 pub mod StartLemmas
+pub mod TakerLemmas

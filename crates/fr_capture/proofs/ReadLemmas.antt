@@ -1,19 +1,29 @@
--- The frame that is valid in a slot is the one that the bytes are read as.
-use Rattle.std.proofs.Common.{◌≡◌, ℕ, ◌∷◌, ◌++◌, List, [], Option, Some, None, Bool, true, false, if◌then◌else◌, ap, refl}
+-- The frame that is valid in a slot is the one that the bytes are read as, and what takes it is what a window brings.
+use Rattle.std.proofs.Common.{◌≡◌, ℕ, ◌++◌, List, [], Option, Some, None, Bool, true, false, if◌then◌else◌, ap, refl, ◌∙◌}
 use Rattle.std.specs.Option.{option_and_then, option_or}
+use Rattle.std.specs.Prelude.{is_some}
 use Rattle.arrayvec.specs.ArrayVec.{ArrayVec}
-use Rattle.fr_capture.specs.Sightings.{Sighting, bytes_sighted}
-use Rattle.fr_capture.specs.Table.{content_text, first_words, line_knowing, line_with}
+use Rattle.fr_capture.proofs.TakerLemmas.{takers_is}
+use Rattle.fr_capture.specs.Clocks.{sighting_at, time_at}
+use Rattle.fr_capture.specs.declared.moment.Moment.{Moment}
+use Rattle.fr_capture.specs.declared.takers.Taker.{Taker}
+use Rattle.fr_capture.specs.LineSteps.{line_by, seen_by}
+use Rattle.fr_capture.specs.Sightings.{handed_by}
+use Rattle.fr_capture.specs.Table.{content_text, first_text, is_told, line_if_told, seen_text, seen_word}
+use Rattle.fr_capture.specs.Takers.{takers_of}
 use Rattle.fr_frame.specs.Decoding.{decoded}
 use Rattle.fr_frame.specs.Fields.{Fields}
 use Rattle.fr_frame.specs.Refusal.{refusal}
+use Rattle.fr_interface.specs.State.{State}
+use Rattle.fr_journal.specs.Counts.{seen_on}
+use Rattle.fr_journal.specs.Held.{data_frame_seen}
 use Rattle.fr_slots.specs.declared.channel.Channel.{Channel}
+use Rattle.fr_slots.specs.declared.channel.Channel.TheVariants.{A, B}
 use Rattle.fr_slots.specs.Parameters.{Parameters}
 use Rattle.fr_slots.specs.Windows.{Opportunity, slot_of}
 use Rattle.fr_status.specs.declared.seen.Seen.{Seen}
-use Rattle.fr_status.specs.declared.seen.Seen.TheVariants.{Bytes}
+use Rattle.fr_status.specs.declared.seen.Seen.TheVariants.{Silence, Own, Conflict, Noise, Overrun, Bytes}
 use Rattle.fr_status.specs.Status.{frame_in, passed, passes}
-use Rattle.fr_text.specs.Spaces.{line_of as words_joined}
 
 -- a frame that is right for a slot, where one came
 right : (b : Bool) (f : Fields) → option_or (if b then Some f else None) (Some f) ≡ Some f
@@ -25,20 +35,35 @@ valid_read p cycle None read = refl
 valid_read p cycle (Some s) None = refl
 valid_read p cycle (Some s) (Some f) = right (passes p cycle s f) f
 
-module _ (p : Parameters) (time : ℕ) (w : Opportunity) (channel : Channel) (bytes : ArrayVec ℕ) where
-  read : option_or (option_and_then (λ s. frame_in p w.cycle s channel (Bytes bytes)) (slot_of w channel)) (decoded channel bytes.items) ≡ decoded channel bytes.items
-  unfolding Rattle.fr_status.specs.Status.frame_in
-  read = valid_read p w.cycle (slot_of w channel) (decoded channel bytes.items)
+-- the frame that came, where the slot is right for it
+abbrev pub frame_on : Parameters → Opportunity → Channel → Seen → Option Fields
+frame_on p w channel seen = option_and_then (λ s. frame_in p w.cycle s channel seen) (slot_of w channel)
 
-  pub line_known : (word : List ℕ)
-      → line_knowing (option_and_then (λ s. frame_in p w.cycle s channel (Bytes bytes)) (slot_of w channel)) word (bytes_sighted time w channel bytes.items)
-      ≡ line_with word (bytes_sighted time w channel bytes.items)
-  line_known word =
-      let s = bytes_sighted time w channel bytes.items in
-      ap (λ (f : Option Fields). words_joined (first_words word s) ++ (32 ∷ []) ++ content_text (refusal channel bytes.items) f bytes.items) read
+seen_read : (p : Parameters) (w : Opportunity) (channel : Channel) (takers : List Taker) (seen : Seen) (handed : Option (ArrayVec ℕ))
+    → seen_by channel takers seen handed (frame_on p w channel seen) ≡ seen_text channel takers seen handed
+unfolding Rattle.fr_status.specs.Status.frame_in
+seen_read p w channel takers Silence handed = refl
+seen_read p w channel takers Own handed = refl
+seen_read p w channel takers Conflict handed = refl
+seen_read p w channel takers Noise handed = refl
+seen_read p w channel takers Overrun handed = refl
+seen_read p w channel takers (Bytes bytes) handed =
+    ap (λ (f : Option Fields). content_text (refusal channel bytes.items) f takers bytes.items) (valid_read p w.cycle (slot_of w channel) (decoded channel bytes.items))
 
-  pub line_read : (seen : Seen) (cycle : ℕ) (slot : Option ℕ) (known : Option Fields) (word : List ℕ) (s : Sighting) → seen ≡ Bytes bytes → cycle ≡ w.cycle → slot ≡ slot_of w channel
-      → known ≡ option_and_then (λ k. frame_in p cycle k channel seen) slot → s ≡ bytes_sighted time w channel bytes.items
-      → line_knowing known word s ≡ line_with word s
-  line_read seen cycle slot known word s seen_is cycle_is slot_is known_is is =
-      rw is (rw known_is (rw slot_is (rw cycle_is (rw seen_is (line_known word)))))
+module _ (all : Bool) (s : State) (m : Moment) (a b : Seen) where
+  -- the line as the code writes it is that of the sighting
+  pub line_same : (channel : Channel) (came_a came_b : Bool) (told : Channel) (seen : Seen) (word : List ℕ) (frame : Option Fields)
+      → came_a ≡ is_some (data_frame_seen s.params m.window A a) → came_b ≡ is_some (data_frame_seen s.params m.window B b)
+      → told ≡ channel → seen ≡ seen_on channel a b
+      → word ≡ seen_word s.params m.window.cycle (slot_of m.window channel) channel (seen_on channel a b)
+      → frame ≡ frame_on s.params m.window channel (seen_on channel a b)
+      → line_by all s m came_a came_b told seen word frame ≡ line_if_told all s.params (sighting_at s m a b channel)
+  line_same channel came_a came_b told seen word frame a_is b_is told_is seen_is word_is frame_is =
+      let on = seen_on channel a b in
+      let handed = handed_by s (Some m.entry) channel in
+      let front = first_text (time_at s.params m) m.window.cycle (slot_of m.window channel) channel (seen_word s.params m.window.cycle (slot_of m.window channel) channel on) in
+      (λ i. line_by all s m came_a came_b (told_is i) (seen_is i) (word_is i) (frame_is i))
+      ∙ ap (λ (takers : List Taker). if is_told all (slot_of m.window channel) on then front ++ seen_by channel takers on handed (frame_on s.params m.window channel on) else [])
+      (takers_is s.params s.plan m.window a b came_a came_b a_is b_is channel)
+      ∙ ap (λ (t : List ℕ). if is_told all (slot_of m.window channel) on then front ++ t else [])
+      (seen_read s.params m.window channel (takers_of s.params s.plan m.window a b channel) on handed)

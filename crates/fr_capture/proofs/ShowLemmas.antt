@@ -4,7 +4,7 @@ use Rattle.std.proofs.Common.{List, [], ◌∷◌, ◌++◌, length, take, get_o
 use Rattle.std.proofs.Common.{refl, sym, ap, subst, ◌∙◌, arith, append_assoc, append-nil, inl, inr}
 use Rattle.std.specs.Io.KnownBytes.{Appends, Keeps}
 use Rattle.std.specs.List.{flat_map}
-use Rattle.std.specs.Prelude.{OnOk, IfErr, ◌⊎◌}
+use Rattle.std.specs.Prelude.{OnOk, IfErr, IfSome, ◌⊎◌}
 use Rattle.std.proofs.KnownBytes.{Appends-nil, Appends-trans}
 use Rattle.std.proofs.lemmas.Grind.{flat_map-append}
 use Rattle.std.proofs.lemmas.List.{length-take, take_more, take_all}
@@ -12,44 +12,45 @@ use Rattle.fr_capture.specs.Clocks.{IsMoment, moment_after, seen_after, HasRound
 use Rattle.fr_capture.specs.declared.form.Form.{Form}
 use Rattle.fr_interface.specs.State.{State}
 use Rattle.fr_trace.specs.Audit.{IsOfText, Understands, Stops, StopsAtEnd}
+use Rattle.fr_trace.specs.Refusals.{LineIsNamed, NamesItsLine}
 use Rattle.fr_trace.specs.declared.error.TraceError.{TraceError}
 use Rattle.fr_trace.specs.declared.error.TraceError.TheVariants as error
 use Rattle.fr_trace.proofs.OutcomeLemmas.{accepted_begins}
 use Rattle.fr_capture.specs.declared.moment.Moment.{Moment}
 use Rattle.fr_capture.specs.Shows.{heading, shown, shown_of, Shows, Ends, EndsAt}
-use Rattle.fr_capture.specs.Sightings.{sightings, sightings_at}
+use Rattle.fr_capture.specs.Sightings.{Sighting, sightings_at, sightings_in}
 use Rattle.fr_capture.proofs.MomentLemmas.{one_moment, seen_same, sightings-snoc, few_rounds}
 use Rattle.fr_journal.specs.declared.entry.Entry.{Entry}
-use Rattle.fr_slots.specs.Parameters.{Parameters}
 
 -- of so many entries what is seen has been written, after the heading
-pub record IsShown (form : Form) (p : Parameters) (entries : List Entry) (count : ℕ) (start now : Option (List ℕ)) (piece : List ℕ)
+pub record IsShown (form : Form) (s : State) (entries : List Entry) (count : ℕ) (start now : Option (List ℕ)) (piece : List ℕ)
     (last : Option Moment) : Type 0 where
   pub handed : List ℕ
   pub written : Appends start now handed
-  pub text_is : handed ++ piece ≡ heading form ++ flat_map (shown form p) (sightings p (take count entries))
-  pub moment_is : IsMoment p (take count entries) last
+  pub text_is : handed ++ piece ≡ heading form ++ flat_map (shown form s.params) (sightings_in s (take count entries))
+  pub moment_is : IsMoment s.params (take count entries) last
 
-module _ (form : Form) (p : Parameters) (entries : List Entry) (start : Option (List ℕ)) where
-  pub shown_none : (piece : List ℕ) → piece ≡ heading form → IsShown form p entries 0 start start piece None
+module _ (form : Form) (s : State) (entries : List Entry) (start : Option (List ℕ)) where
+  pub shown_none : (piece : List ℕ) → piece ≡ heading form → IsShown form s entries 0 start start piece None
   unfolding Rattle.fr_slots.specs.History.each_after Rattle.fr_slots.specs.History.last_after Rattle.fr_slots.specs.History.count_after
   shown_none piece is = record { handed = []; written = Appends-nil start; text_is = is ∙ sym (append-nil (heading form)); moment_is = (refl, refl) }
 
-  more-texts : (before : List Entry) (last : Option Moment) (e : Entry) → IsMoment p before last
-      → flat_map (shown form p) (sightings p (before ++ e ∷ [])) ≡ flat_map (shown form p) (sightings p before) ++ flat_map (shown form p) (seen_after p last e)
+  more-texts : (before : List Entry) (last : Option Moment) (e : Entry) → IsMoment s.params before last
+      → flat_map (shown form s.params) (sightings_in s (before ++ e ∷ [])) ≡ flat_map (shown form s.params) (sightings_in s before) ++ flat_map (shown form s.params) (seen_after s last e)
   more-texts before last e moment =
-      ap (flat_map (shown form p)) (sightings-snoc p before e)
-      ∙ flat_map-append (shown form p) (sightings p before) (sightings_at p before e)
-      ∙ ap (λ s. flat_map (shown form p) (sightings p before) ++ flat_map (shown form p) s) (seen_same p before last e moment)
+      ap (flat_map (shown form s.params)) (sightings-snoc s before e)
+      ∙ flat_map-append (shown form s.params) (sightings_in s before) (sightings_at s before e)
+      ∙ ap (λ (more : List Sighting). flat_map (shown form s.params) (sightings_in s before) ++ flat_map (shown form s.params) more) (seen_same s before last e moment)
 
   pub shown_entry : (count : ℕ) (e : Entry) (now : Option (List ℕ)) (piece next : List ℕ) (last : Option Moment) → count < length entries → e ≡ get_or entries count e
-      → IsShown form p entries count start now piece last → next ≡ piece ++ flat_map (shown form p) (seen_after p last e)
-      → IsShown form p entries (count + 1) start now next (moment_after p last e)
+      → IsShown form s entries count start now piece last → next ≡ piece ++ flat_map (shown form s.params) (seen_after s last e)
+      → IsShown form s entries (count + 1) start now next (moment_after s.params last count e)
   shown_entry count e now piece next last lt at h is =
       let before = take count entries in
       let longer : take (count + 1) entries ≡ before ++ e ∷ [] = take_more entries count e lt ∙ ap (λ (x : Entry). before ++ x ∷ []) (sym at) in
-      let more = flat_map (shown form p) (seen_after p last e) in
-      let so_far = flat_map (shown form p) (sightings p before) in
+      let number_is : count ≡ length before = omega (arith, length-take count entries, lt) in
+      let more = flat_map (shown form s.params) (seen_after s last e) in
+      let so_far = flat_map (shown form s.params) (sightings_in s before) in
       record {
         handed = h.handed;
         written = h.written;
@@ -59,12 +60,12 @@ module _ (form : Form) (p : Parameters) (entries : List Entry) (start : Option (
             ∙ ap (λ (t : List ℕ). t ++ more) h.text_is
             ∙ append_assoc (heading form) so_far more
             ∙ ap (λ (t : List ℕ). heading form ++ t) (sym (more-texts before last e h.moment_is))
-            ∙ ap (λ (es : List Entry). heading form ++ flat_map (shown form p) (sightings p es)) (sym longer);
-        moment_is = subst (λ (es : List Entry). IsMoment p es (moment_after p last e)) (sym longer) (one_moment p before last e h.moment_is);
+            ∙ ap (λ (es : List Entry). heading form ++ flat_map (shown form s.params) (sightings_in s es)) (sym longer);
+        moment_is = subst (λ (es : List Entry). IsMoment s.params es (moment_after s.params last count e)) (sym longer) (one_moment s.params before last count number_is h.moment_is e);
       }
 
-  pub shown_handed : (count : ℕ) (now next : Option (List ℕ)) (piece empty : List ℕ) (last : Option Moment) → IsShown form p entries count start now piece last → Appends now next piece
-      → empty ≡ [] → IsShown form p entries count start next empty last
+  pub shown_handed : (count : ℕ) (now next : Option (List ℕ)) (piece empty : List ℕ) (last : Option Moment) → IsShown form s entries count start now piece last → Appends now next piece
+      → empty ≡ [] → IsShown form s entries count start next empty last
   shown_handed count now next piece empty last h handed is = record {
     handed = h.handed ++ piece;
     written = Appends-trans start now next h.handed piece h.written handed;
@@ -72,15 +73,15 @@ module _ (form : Form) (p : Parameters) (entries : List Entry) (start : Option (
     moment_is = h.moment_is;
   }
 
-  pub shown_all : {X E : Type 0} (r : Result X E) (count : ℕ) (now next : Option (List ℕ)) (piece : List ℕ) (last : Option Moment) → IsShown form p entries count start now piece last
-      → length entries ≤ count → OnOk r (Appends now next piece) → OnOk r (Appends start next (shown_of form p entries))
+  pub shown_all : {X E : Type 0} (r : Result X E) (count : ℕ) (now next : Option (List ℕ)) (piece : List ℕ) (last : Option Moment) → IsShown form s entries count start now piece last
+      → length entries ≤ count → OnOk r (Appends now next piece) → OnOk r (Appends start next (shown_of form s entries))
   shown_all (Err e) count now next piece last h all handed = tt
   shown_all (Ok x) count now next piece last h all handed =
-      let text : h.handed ++ piece ≡ shown_of form p entries = h.text_is ∙ ap (λ (es : List Entry). heading form ++ flat_map (shown form p) (sightings p es)) (take_all count entries all) in
+      let text : h.handed ++ piece ≡ shown_of form s entries = h.text_is ∙ ap (λ (es : List Entry). heading form ++ flat_map (shown form s.params) (sightings_in s es)) (take_all count entries all) in
       subst (λ (t : List ℕ). Appends start next t) text (Appends-trans start now next h.handed piece h.written handed)
 
-  pub shown_rounds : (count most : ℕ) (now : Option (List ℕ)) (piece : List ℕ) (last : Option Moment) → IsShown form p entries count start now piece last → count ≤ most → HasRounds most last
-  shown_rounds count most now piece last h few = few_rounds p (take count entries) last most h.moment_is (omega (arith, length-take count entries))
+  pub shown_rounds : (count most : ℕ) (now : Option (List ℕ)) (piece : List ℕ) (last : Option Moment) → IsShown form s entries count start now piece last → count ≤ most → HasRounds most last
+  shown_rounds count most now piece last h few = few_rounds s.params (take count entries) last most h.moment_is (omega (arith, length-take count entries))
 
 -- ---- a trace that is accepted, and what is written of it
 
@@ -131,3 +132,13 @@ pub ends_form : (text rest old new : Option (List ℕ)) (s : State) (r : Result 
 ends_form None rest old new s r stops told refused = tt
 ends_form (Some text) None old new s r stops told refused = stops
 ends_form (Some text) (Some rest) old new s r stops told refused = ends_at text rest old new s r stops told refused
+
+-- an error of writing is of no line
+line_of_writing : (text : List ℕ) (old new : Option (List ℕ)) (e : TraceError) → IsWritingFault old new e → NamesItsLine e text
+line_of_writing text old new e (inl is) = subst (λ (x : TraceError). NamesItsLine x text) (sym is) tt
+line_of_writing text old new e (inr h) = subst (λ (x : TraceError). NamesItsLine x text) (sym h.0) tt
+
+pub line_form : (text old new : Option (List ℕ)) (r : Result (Unit {0}) TraceError) → IfErr r (IsWritingFault old new) → IfSome text (λ t. LineIsNamed r t)
+line_form None old new r refused = tt
+line_form (Some text) old new (Ok x) refused = tt
+line_form (Some text) old new (Err e) refused = line_of_writing text old new e refused

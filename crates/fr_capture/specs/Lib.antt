@@ -1,6 +1,9 @@
 pub mod Moments
+pub mod Takers
 pub mod Sightings
 pub mod Pcap
 pub mod Table
 pub mod Clocks
+pub mod TakerSteps
+pub mod LineSteps
 pub mod Shows

@@ -1,6 +1,7 @@
 -- When the windows of a journal were. The time is counted in microseconds from the start of the round of 64 cycles in
 -- which the first window was, and a macrotick is one of them (own profile).
-use Rattle.std.specs.Prelude.{ℕ, ◌+◌, ◌*◌, nat_le, Bool, false, List, [], Option, Some, None, unwrap_or}
+use Rattle.std.specs.Prelude.{ℕ, ◌+◌, ◌*◌, nat_le, Bool, false, List, [], length, Option, Some, None}
+use Rattle.std.specs.Prelude.{unwrap_or}
 use Rattle.fr_journal.specs.declared.entry.Entry.{Entry}
 use Rattle.fr_journal.specs.declared.entry.Entry.TheVariants.{Commit, Withdraw, Read, Pop, Fetch, Observe}
 use Rattle.fr_slots.specs.History.{last_after, count_after}
@@ -43,6 +44,18 @@ fetched before (Observe window a b) = None
 -- the window that was fetched last; the one that an observe closes
 abbrev pub last_window : List Entry → Option Opportunity
 last_window entries = last_after fetched [] entries
+
+-- the number of the entry that fetched it
+abbrev pub fetch_number : List Entry → Entry → Option ℕ
+fetch_number before (Commit task buffer payload) = None
+fetch_number before (Withdraw task buffer of) = None
+fetch_number before (Read task buffer from) = None
+fetch_number before (Pop task from) = None
+fetch_number before (Fetch window a b) = Some (length before)
+fetch_number before (Observe window a b) = None
+
+abbrev pub last_fetch : List Entry → Option ℕ
+last_fetch entries = last_after fetch_number [] entries
 
 -- A window of the next round: since the numbers of windows rise, one that isn't later in its round than the window
 -- before it can't be of the same.

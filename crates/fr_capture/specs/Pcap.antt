@@ -1,6 +1,8 @@
--- The classic capture format: a file header, and then a record for each sighting (own profile). Numbers are spelled
+-- The classic capture format: a file header, and then the records of what was seen (own profile). Numbers are spelled
 -- with their lowest byte first.
-use Rattle.std.specs.Prelude.{ℕ, ◌-◌, ◌/◌, ◌%◌, List, ◌∷◌, ◌++◌, length, take, Option, Some, None}
+use Rattle.std.specs.Prelude.{ℕ, ◌-◌, ◌/◌, ◌%◌, Bool, List, [], ◌∷◌, ◌++◌, length, take, Option, Some, None}
+use Rattle.std.specs.Prelude.{if◌then◌else◌}
+use Rattle.arrayvec.specs.ArrayVec.{ArrayVec}
 use Rattle.std.specs.Int.{bytes_low_first}
 use Rattle.fr_frame.specs.declared.decode.DecodeError.{DecodeError}
 use Rattle.fr_frame.specs.declared.decode.DecodeError.TheVariants.{TooShort, LengthMismatch, HeaderCrc, FrameCrc}
@@ -8,6 +10,8 @@ use Rattle.fr_frame.specs.Refusal.{refusal}
 use Rattle.fr_slots.specs.declared.channel.Channel.{Channel}
 use Rattle.fr_slots.specs.declared.channel.Channel.TheVariants.{A, B}
 use Rattle.fr_capture.specs.Sightings.{Sighting}
+use Rattle.fr_status.specs.declared.seen.Seen.{Seen}
+use Rattle.fr_status.specs.declared.seen.Seen.TheVariants.{Silence, Own, Conflict, Noise, Overrun, Bytes}
 
 -- a number of two bytes, and one of four
 abbrev pub short_number : ℕ → List ℕ
@@ -74,5 +78,21 @@ abbrev pub record_with : ℕ → Channel → Option DecodeError → List ℕ →
 record_with time channel error bytes = record_header time (length (packet channel error bytes))
     ++ packet channel error bytes
 
-abbrev pub record_of : Sighting → List ℕ
-record_of s = record_with s.time s.channel (refusal s.channel s.bytes) s.bytes
+-- the controller's own frame, where its fetch handed one to the bus
+abbrev pub own_record : ℕ → Channel → Option (ArrayVec ℕ) → List ℕ
+own_record time channel None = []
+own_record time channel (Some bytes) = record_with time channel (refusal channel bytes.items) bytes.items
+
+-- Of bytes that came there is a record, and with `own` of what the controller sent, where it was seen alone. Of what
+-- has no bytes there is none, and of several transmissions at once nobody knows what was seen.
+abbrev pub record_seen : Bool → ℕ → Channel → Seen → Option (ArrayVec ℕ) → List ℕ
+record_seen own time channel Silence handed = []
+record_seen own time channel Own handed = if own then own_record time channel handed else []
+record_seen own time channel Conflict handed = []
+record_seen own time channel Noise handed = []
+record_seen own time channel Overrun handed = []
+record_seen own time channel (Bytes bytes) handed =
+    record_with time channel (refusal channel bytes.items) bytes.items
+
+abbrev pub record_of : Bool → Sighting → List ℕ
+record_of own s = record_seen own s.time s.channel s.seen s.handed

@@ -11,25 +11,26 @@ use Rattle.fr_trace.specs.declared.error.TraceError.TheVariants.{Read, Write, Me
 use Rattle.fr_capture.specs.declared.form.Form.{Form}
 use Rattle.fr_capture.specs.declared.form.Form.TheVariants.{Capture, Table}
 use Rattle.fr_capture.specs.Pcap.{file_header, record_of}
-use Rattle.fr_capture.specs.Sightings.{Sighting, sightings}
-use Rattle.fr_capture.specs.Table.{head_line, line_of}
+use Rattle.fr_capture.specs.Sightings.{Sighting, sightings_in}
+use Rattle.fr_capture.specs.Table.{head_line, line_if_told}
 
 -- ---- both forms
 
 abbrev pub heading : Form → List ℕ
-heading Capture = file_header
-heading Table = head_line
+heading (Capture own) = file_header
+heading (Table all) = head_line
 
 abbrev pub shown : Form → Parameters → Sighting → List ℕ
-shown Capture p s = record_of s
-shown Table p s = line_of p s
+shown (Capture own) p s = record_of own s
+shown (Table all) p s = line_if_told all p s
 
-abbrev pub shown_of : Form → Parameters → List Entry → List ℕ
-shown_of form p entries = heading form ++ flat_map (shown form p) (sightings p entries)
+-- of the first entries of an interface
+abbrev pub shown_of : Form → State → List Entry → List ℕ
+shown_of form s entries = heading form ++ flat_map (shown form s.params) (sightings_in s entries)
 
 -- the capture of an interface, or its table
 abbrev pub text_of : Form → State → List ℕ
-text_of form s = shown_of form s.params s.entries
+text_of form s = shown_of form s s.entries
 
 -- ---- a command
 

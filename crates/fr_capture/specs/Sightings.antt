@@ -1,50 +1,71 @@
--- The bytes that a controller saw, each with where and when it saw them.
-use Rattle.std.specs.Prelude.{ℕ, List, [], ◌∷◌, ◌++◌, Option, Some, None}
+-- What a controller saw: on each channel of each window that it observed, with where and when it saw it.
+use Rattle.std.specs.Prelude.{ℕ, List, [], ◌∷◌, Option, Some, None}
+use Rattle.std.specs.Option.{option_and_then}
+use Rattle.arrayvec.specs.ArrayVec.{ArrayVec}
+use Rattle.fr_capture.specs.declared.takers.Taker.{Taker}
+use Rattle.fr_capture.specs.Moments.{last_fetch, last_window, time_of}
+use Rattle.fr_capture.specs.Takers.{takers_of}
+use Rattle.fr_interface.specs.Handing.{bytes_handed}
+use Rattle.fr_interface.specs.State.{State}
+use Rattle.fr_journal.specs.Counts.{seen_on}
 use Rattle.fr_journal.specs.declared.entry.Entry.{Entry}
 use Rattle.fr_journal.specs.declared.entry.Entry.TheVariants.{Commit, Withdraw, Read, Pop, Fetch, Observe}
 use Rattle.fr_slots.specs.declared.channel.Channel.{Channel}
 use Rattle.fr_slots.specs.declared.channel.Channel.TheVariants.{A, B}
 use Rattle.fr_slots.specs.History.{each_after}
-use Rattle.fr_slots.specs.Parameters.{Parameters}
 use Rattle.fr_slots.specs.Windows.{Opportunity, slot_of}
 use Rattle.fr_status.specs.declared.seen.Seen.{Seen}
-use Rattle.fr_status.specs.declared.seen.Seen.TheVariants.{Silence, Own, Conflict, Noise, Overrun, Bytes}
-use Rattle.fr_capture.specs.Moments.{last_window, time_of}
 
--- bytes on a channel, when the window began, its cycle count and the slot that the channel had open, if any
+-- What was seen on a channel: when the window began, its cycle count, the slot that the channel had open, if any, what
+-- the fetch of the window had handed to the bus there, if anything, and what took the frame that came.
 pub record Sighting : Type 0 where
   pub time : ℕ
   pub cycle : ℕ
   pub slot : Option ℕ
   pub channel : Channel
-  pub bytes : List ℕ
+  pub seen : Seen
+  pub handed : Option (ArrayVec ℕ)
+  pub takers : List Taker
 
-abbrev pub bytes_sighted : ℕ → Opportunity → Channel → List ℕ → Sighting
-bytes_sighted time w channel bytes =
-    record { time = time; cycle = w.cycle; slot = slot_of w channel; channel = channel; bytes = bytes }
+-- what the fetch of this number handed to the bus on the channel
+abbrev pub handed_by : State → Option ℕ → Channel → Option (ArrayVec ℕ)
+handed_by s fetch channel = option_and_then (λ number. bytes_handed s number channel) fetch
 
--- where bytes came; of nothing else a sighting is told
-abbrev pub sighting : ℕ → Opportunity → Channel → Seen → List Sighting
-sighting time w channel Silence = []
-sighting time w channel Own = []
-sighting time w channel Conflict = []
-sighting time w channel Noise = []
-sighting time w channel Overrun = []
-sighting time w channel (Bytes bytes) = bytes_sighted time w channel bytes.items ∷ []
+abbrev pub sighting_with : State → ℕ → Option ℕ → Opportunity → Channel → Seen → List Taker → Sighting
+sighting_with s time fetch w channel seen takers =
+    record {
+      time = time;
+      cycle = w.cycle;
+      slot = slot_of w channel;
+      channel = channel;
+      seen = seen;
+      handed = handed_by s fetch channel;
+      takers = takers;
+    }
+
+-- of what was seen on channels A and B of a window, that on one of them
+abbrev pub sighting : State → ℕ → Option ℕ → Opportunity → Seen → Seen → Channel → Sighting
+sighting s time fetch w a b channel =
+    sighting_with s time fetch w channel (seen_on channel a b) (takers_of s.params s.plan w a b channel)
 
 -- in a window, channel A before B; a legal journal observes in no other
-abbrev pub in_window : Parameters → List Entry → Option Opportunity → Seen → Seen → List Sighting
-in_window p before None a b = []
-in_window p before (Some w) a b = sighting (time_of p before w) w A a ++ sighting (time_of p before w) w B b
+abbrev pub in_window : State → List Entry → Option Opportunity → Seen → Seen → List Sighting
+in_window s before None a b = []
+in_window s before (Some w) a b =
+    sighting s (time_of s.params before w) (last_fetch before) w a b A
+    ∷ sighting s (time_of s.params before w) (last_fetch before) w a b B ∷ []
 
-abbrev pub sightings_at : Parameters → List Entry → Entry → List Sighting
-sightings_at p before (Commit task buffer payload) = []
-sightings_at p before (Withdraw task buffer of) = []
-sightings_at p before (Read task buffer from) = []
-sightings_at p before (Pop task from) = []
-sightings_at p before (Fetch window a b) = []
-sightings_at p before (Observe window a b) = in_window p before (last_window before) a b
+abbrev pub sightings_at : State → List Entry → Entry → List Sighting
+sightings_at s before (Commit task buffer payload) = []
+sightings_at s before (Withdraw task buffer of) = []
+sightings_at s before (Read task buffer from) = []
+sightings_at s before (Pop task from) = []
+sightings_at s before (Fetch window a b) = []
+sightings_at s before (Observe window a b) = in_window s before (last_window before) a b
 
--- all of a journal, in their order
-abbrev pub sightings : Parameters → List Entry → List Sighting
-sightings p entries = each_after (sightings_at p) [] entries
+-- those of the first entries of an interface, in their order, and all of them
+abbrev pub sightings_in : State → List Entry → List Sighting
+sightings_in s entries = each_after (sightings_at s) [] entries
+
+abbrev pub sightings : State → List Sighting
+sightings s = sightings_in s s.entries

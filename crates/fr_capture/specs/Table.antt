@@ -1,7 +1,7 @@
--- The table of the same bytes: the names of the columns, and a line for each sighting (own profile).
-use Rattle.std.specs.Prelude.{ℕ, List, [], ◌∷◌, ◌++◌, codes, Option, Some, None, option_map, if◌then◌else◌}
+-- The table of what was seen: the names of the columns, and a line for each sighting that is told (own profile).
+use Rattle.std.specs.Prelude.{ℕ, Bool, true, ◌&&◌, List, [], ◌∷◌, ◌++◌, codes, Option, Some, None, is_some}
+use Rattle.std.specs.Prelude.{option_map, if◌then◌else◌}
 use Rattle.std.specs.Fmt.{decimal}
-use Rattle.std.specs.Option.{option_or}
 use Rattle.fr_frame.specs.declared.decode.DecodeError.{DecodeError}
 use Rattle.fr_frame.specs.declared.decode.DecodeError.TheVariants.{TooShort, LengthMismatch, HeaderCrc, FrameCrc}
 use Rattle.fr_frame.specs.Fields.{Fields}
@@ -15,7 +15,13 @@ use Rattle.fr_status.specs.Status.{judged}
 use Rattle.fr_frame.specs.Decoding.{decoded}
 use Rattle.fr_text.specs.Spaces.{line_of as words_joined}
 use Rattle.fr_text.specs.Spelling.{hex_text}
+use Rattle.fr_capture.specs.declared.takers.Taker.{Taker}
 use Rattle.fr_capture.specs.Sightings.{Sighting}
+use Rattle.fr_capture.specs.Takers.{takers_word}
+use Rattle.fr_slots.specs.declared.channel.Channel.{Channel}
+use Rattle.fr_status.specs.declared.seen.Seen.{Seen}
+use Rattle.fr_status.specs.declared.seen.Seen.TheVariants.{Silence, Own, Conflict, Noise, Overrun, Bytes}
+use Rattle.arrayvec.specs.ArrayVec.{ArrayVec}
 
 -- ---- words
 
@@ -37,44 +43,80 @@ error_word LengthMismatch = codes "length"
 error_word HeaderCrc = codes "header"
 error_word FrameCrc = codes "frame"
 
--- what a frame says
-abbrev pub frame_words : Fields → List (List ℕ)
-frame_words f = absent ∷ decimal f.id ∷ indicators f ∷ hex_text f.payload ∷ []
+-- of bytes the word of the slot's status, and of all else what was seen
+abbrev pub seen_word : Parameters → ℕ → Option ℕ → Channel → Seen → List ℕ
+seen_word p cycle slot channel Silence = codes "silence"
+seen_word p cycle slot channel Own = codes "own"
+seen_word p cycle slot channel Conflict = codes "conflict"
+seen_word p cycle slot channel Noise = codes "noise"
+seen_word p cycle slot channel Overrun = codes "overrun"
+seen_word p cycle slot channel (Bytes bytes) =
+    status_word (option_map (λ k. judged p cycle k (decoded channel bytes.items)) slot)
+
+-- ---- the end of a line
+
+-- what a frame says, and what took it
+abbrev pub frame_words : Fields → List Taker → List (List ℕ)
+frame_words f takers = absent ∷ decimal f.id ∷ indicators f ∷ takers_word takers ∷ hex_text f.payload ∷ []
 
 -- why bytes are no frame, and the bytes as they came
-abbrev pub bytes_words : DecodeError → List ℕ → List (List ℕ)
-bytes_words error bytes = error_word error ∷ absent ∷ absent ∷ hex_text bytes ∷ []
+abbrev pub bytes_words : DecodeError → List Taker → List ℕ → List (List ℕ)
+bytes_words error takers bytes = error_word error ∷ absent ∷ absent ∷ takers_word takers ∷ hex_text bytes ∷ []
 
--- the end of a line: bytes are a frame, or there is a cause why they are none
-unfoldable pub content_text : Option DecodeError → Option Fields → List ℕ → List ℕ
-content_text error (Some f) bytes = line_text (frame_words f)
-content_text (Some error) None bytes = line_text (bytes_words error bytes)
-content_text None None bytes = []
+-- where there are no bytes
+abbrev pub no_words : List Taker → List (List ℕ)
+no_words takers = absent ∷ absent ∷ absent ∷ takers_word takers ∷ absent ∷ []
+
+-- bytes are a frame, or there is a cause why they are none
+unfoldable pub content_text : Option DecodeError → Option Fields → List Taker → List ℕ → List ℕ
+content_text error (Some f) takers bytes = line_text (frame_words f takers)
+content_text (Some error) None takers bytes = line_text (bytes_words error takers bytes)
+content_text None None takers bytes = []
+
+abbrev pub bytes_text : Channel → List Taker → List ℕ → List ℕ
+bytes_text channel takers bytes = content_text (refusal channel bytes) (decoded channel bytes) takers bytes
+
+-- the controller's own frame, where its fetch handed one to the bus
+abbrev pub own_text : Channel → List Taker → Option (ArrayVec ℕ) → List ℕ
+own_text channel takers None = line_text (no_words takers)
+own_text channel takers (Some bytes) = bytes_text channel takers bytes.items
+
+-- the bytes that came, or what the controller sent, where either was seen alone
+abbrev pub seen_text : Channel → List Taker → Seen → Option (ArrayVec ℕ) → List ℕ
+seen_text channel takers Silence handed = line_text (no_words takers)
+seen_text channel takers Own handed = own_text channel takers handed
+seen_text channel takers Conflict handed = line_text (no_words takers)
+seen_text channel takers Noise handed = line_text (no_words takers)
+seen_text channel takers Overrun handed = line_text (no_words takers)
+seen_text channel takers (Bytes bytes) handed = bytes_text channel takers bytes.items
 
 -- ---- lines
 
--- a channel without a slot has no status
-abbrev pub status_of : Parameters → Sighting → Option SlotStatus
-status_of p s = option_map (λ slot. judged p s.cycle slot (decoded s.channel s.bytes)) s.slot
+abbrev pub first_words : ℕ → ℕ → Option ℕ → Channel → List ℕ → List (List ℕ)
+first_words time cycle slot channel word =
+    decimal time ∷ decimal cycle ∷ optional_number slot ∷ letter_of channel ∷ word ∷ []
 
-abbrev pub first_words : List ℕ → Sighting → List (List ℕ)
-first_words status s =
-    decimal s.time ∷ decimal s.cycle ∷ optional_number s.slot ∷ letter_of s.channel ∷ status ∷ []
-
--- where it may be known which frame the bytes are
-abbrev pub line_knowing : Option Fields → List ℕ → Sighting → List ℕ
-line_knowing known status s =
-    words_joined (first_words status s) ++ (32 ∷ [])
-    ++ content_text (refusal s.channel s.bytes) (option_or known (decoded s.channel s.bytes)) s.bytes
-
-abbrev pub line_with : List ℕ → Sighting → List ℕ
-line_with status s =
-    words_joined (first_words status s) ++ (32 ∷ [])
-    ++ content_text (refusal s.channel s.bytes) (decoded s.channel s.bytes) s.bytes
+-- what stands before the end of a line
+abbrev pub first_text : ℕ → ℕ → Option ℕ → Channel → List ℕ → List ℕ
+first_text time cycle slot channel word = words_joined (first_words time cycle slot channel word) ++ (32 ∷ [])
 
 abbrev pub line_of : Parameters → Sighting → List ℕ
-line_of p s = line_with (status_word (status_of p s)) s
+line_of p s =
+    first_text s.time s.cycle s.slot s.channel (seen_word p s.cycle s.slot s.channel s.seen)
+    ++ seen_text s.channel s.takers s.seen s.handed
+
+-- Bytes that came have a line. With `all` the rest has one too, but for silence on a channel that had no slot.
+abbrev pub is_told : Bool → Option ℕ → Seen → Bool
+is_told all slot Silence = all && is_some slot
+is_told all slot Own = all
+is_told all slot Conflict = all
+is_told all slot Noise = all
+is_told all slot Overrun = all
+is_told all slot (Bytes bytes) = true
+
+abbrev pub line_if_told : Bool → Parameters → Sighting → List ℕ
+line_if_told all p s = if is_told all s.slot s.seen then line_of p s else []
 
 -- the names of the columns
 abbrev pub head_line : List ℕ
-head_line = codes "time cycle slot channel status error id flags bytes" ++ (10 ∷ [])
+head_line = codes "time cycle slot channel status error id flags taker bytes" ++ (10 ∷ [])

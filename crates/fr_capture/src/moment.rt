@@ -16,6 +16,8 @@ use fr_timing::place::Place;
 #[derive(Clone, Copy)]
 pub struct Moment {
     pub window: Window,
+    /// The number of the entry that fetched it, from 0.
+    pub entry: u32,
     /// How many rounds of 64 cycles are over.
     pub rounds: u32,
     /// How far the window's first macrotick is from the start of its round.
@@ -72,16 +74,22 @@ fn rounds_at(place: u32, last: &Option<Moment>) -> u32
     }
 }
 
-/// The window fetched last, after one more entry.
-pub fn moment_after(params: &Params, last: Option<Moment>, entry: &Entry) -> Option<Moment>
+/// The window fetched last, after the entry of this number.
+pub fn moment_after(
+    params: &Params,
+    last: Option<Moment>,
+    number: u32,
+    entry: &Entry,
+) -> Option<Moment>
     requires { HasRounds 1000000 last }
-    ensures { result ≡ moment_after params.now last entry.now }
+    ensures { result ≡ moment_after params.now last number entry.now }
 {
     match entry {
         Entry::Fetch { window, .. } => {
             let place = place_in_round(params, window);
             Some(Moment {
                 window: *window,
+                entry: number,
                 rounds: rounds_at(place, &last),
                 place,
             })

@@ -3,9 +3,9 @@
 ghost use Rattle.std.specs.Prelude.{◌≡◌, ◌<◌, ◌≤◌, ◌^◌, ◌*◌, length};
 ghost use Rattle.fr_text.specs.Writing.{Writes};
 ghost use Rattle.fr_capture.specs.Pcap.{captured_bytes, channel_mark, error_flags, file_header, record_header};
-ghost use Rattle.fr_capture.specs.Pcap.{record_of};
+ghost use Rattle.fr_capture.specs.Pcap.{record_with};
+ghost use Rattle.fr_frame.specs.Refusal.{refusal};
 
-use crate::sighting::SeenBytes;
 use fr_frame::decode::{DecodeError, decode_lent};
 use fr_slots::channel::Channel;
 use std::io;
@@ -17,8 +17,10 @@ const FILE_HEADER: [u8; 24] = [
     0xd4, 0xc3, 0xb2, 0xa1, 2, 0, 4, 0, 0, 0, 0, 0, 0, 0, 0, 0, 8, 1, 0, 0, 210, 0, 0, 0,
 ];
 
-/// Writes what a capture begins with.
-pub(crate) fn write_file_header<W: Write>(writer: &mut W) -> io::Result<()>
+/// Writes what a capture begins with (own profile).
+///
+/// Fails where the writer fails, and then a part of it may have gone out.
+pub fn write_file_header<W: Write>(writer: &mut W) -> io::Result<()>
     ensures { Writes W.contents writer.old writer.new result file_header }
 {
     writer.write_all(&FILE_HEADER)
@@ -70,14 +72,24 @@ fn write_record_header<W: Write>(writer: &mut W, time: u64, count: u32) -> io::R
     writer.write_all(&count.to_le_bytes())
 }
 
-/// Writes the record of what was seen.
-pub(crate) fn write_record<W: Write>(writer: &mut W, seen: &SeenBytes<'_>) -> io::Result<()>
-    requires { seen.now.time < 2 ^ 32 * 1000000 }
-    ensures { Writes W.contents writer.old writer.new result (record_of seen.now) }
+/// Writes the record of bytes that were on the channel at this time, in microseconds from the start of the capture (own
+/// profile). Its seconds are a number of four bytes.
+///
+/// Fails where the writer fails, and then a part of it may have gone out.
+pub fn write_record<W: Write>(
+    writer: &mut W,
+    time: u64,
+    channel: Channel,
+    bytes: &[u8],
+) -> io::Result<()>
+    requires time { time < 2 ^ 32 * 1000000 }
+    requires bytes { length bytes.now ≤ 262 }
+    ensures { Writes W.contents writer.old writer.new result
+        (record_with time channel (refusal channel bytes.now) bytes.now) }
 {
-    let error = decode_lent(seen.bytes, seen.channel).err();
-    let captured = captured_bytes(error, seen.bytes);
-    write_record_header(writer, seen.time, captured.len() as u32 + 2)?;
-    writer.write_all(&[channel_mark(seen.channel), error_flags(error)])?;
+    let error = decode_lent(bytes, channel).err();
+    let captured = captured_bytes(error, bytes);
+    write_record_header(writer, time, captured.len() as u32 + 2)?;
+    writer.write_all(&[channel_mark(channel), error_flags(error)])?;
     writer.write_all(captured)
 }

@@ -1,34 +1,26 @@
 //! A trace, read and shown.
 
-ghost use Rattle.std.specs.Prelude.{◌≡◌, ◌<◌, ◌≤◌, ◌^◌, ◌*◌, ◌⊎◌, [], IfErr, IfSome, IsSomeAnd, OnOk, option_map};
-ghost use Rattle.fr_status.specs.Status.{frame_in, status_in};
-ghost use Rattle.fr_capture.specs.Table.{status_word};
+ghost use Rattle.std.specs.Prelude.{◌≡◌, ◌≤◌, ◌⊎◌, ◌++◌, [], IfErr, IfSome, IsSomeAnd, OnOk};
 ghost use Rattle.std.specs.Io.KnownBytes.{Appends, Keeps};
 ghost use Rattle.std.specs.List.{flat_map};
-ghost use Rattle.std.specs.Option.{option_and_then};
 ghost use Rattle.fr_text.specs.Writing.{Writes};
 ghost use Rattle.fr_interface.specs.State.{State, IsLegalInterface};
 ghost use Rattle.fr_trace.specs.Audit.{IsNotRefused};
 ghost use Rattle.fr_trace.specs.Refusals.{LineIsNamed};
 ghost use Rattle.fr_trace.specs.TraceText.{IsTraceOf};
-ghost use Rattle.fr_capture.specs.Clocks.{seen_after, time_at, HasRounds};
+ghost use Rattle.fr_capture.specs.Clocks.{seen_after, sighting_at, HasRounds};
 ghost use Rattle.fr_capture.specs.Shows.{heading, shown, shown_of, text_of, Ends, Shows};
-ghost use Rattle.fr_capture.specs.Sightings.{bytes_sighted, sighting};
 
+use crate::captured::write_captured;
 use crate::form::Form;
+use crate::lines::write_lines;
 use crate::moment::{Moment, moment_after};
-use crate::pcap::{write_file_header, write_record};
-use crate::sighting::SeenBytes;
-use crate::table::{status_word, write_head_line, write_line};
-use fr_frame::frame::Bytes;
-use fr_frame::lent::LentFrame;
+use crate::pcap::write_file_header;
+use crate::table::write_head_line;
 use fr_interface::interface::Interface;
 use fr_journal::entry::Entry;
 use fr_slots::channel::Channel;
-use fr_slots::numbers::{Cycle, SlotId};
-use fr_slots::params::Params;
 use fr_status::seen::Seen;
-use fr_status::status::lent_status_of;
 use fr_trace::audit::interface_of;
 use fr_trace::error::TraceError;
 use std::alloc::Global;
@@ -46,103 +38,53 @@ fn write_heading<W: Write>(writer: &mut W, form: Form) -> io::Result<()>
     ensures { Writes W.contents writer.old writer.new result (heading form) }
 {
     match form {
-        Form::Capture => write_file_header(writer),
-        Form::Table => write_head_line(writer),
+        Form::Capture { .. } => write_file_header(writer),
+        Form::Table { .. } => write_head_line(writer),
     }
 }
 
-/// The word of the status of a slot in which this was seen, and the frame that came there, if a valid one did; a
-/// channel without a slot has neither.
-fn told_in<'a>(
-    params: &Params,
-    cycle: Cycle,
-    slot: Option<SlotId>,
-    channel: Channel,
-    seen: &'a Seen,
-) -> (&'static str, Option<LentFrame<'a>>)
-    ensures word { result.0.now
-        ≡ status_word (option_map (λ s. status_in params.now cycle s channel seen.now) slot) }
-    ensures frame { result.1 ≡ option_and_then (λ s. frame_in params.now cycle s channel seen.now) slot }
-{
-    match slot {
-        Some(slot) => {
-            let (status, frame) = lent_status_of(params, cycle, slot, channel, seen);
-            (status_word(&status), frame)
-        }
-        None => ("-", None),
-    }
-}
-
-/// Bytes that were seen on a channel in the window fetched last.
-fn sighting_of<'a>(
-    params: &Params,
-    moment: &Moment,
-    channel: Channel,
-    bytes: &'a Bytes,
-) -> SeenBytes<'a>
-    requires { moment.now.rounds ≤ 1000000 }
-    ensures value { result ≡ bytes_sighted (time_at params.now moment.now) moment.now.window channel
-        bytes.entry.now.items }
-    ensures few { result.time < 2 ^ 32 * 1000000 }
-{
-    SeenBytes {
-        time: moment.time(params),
-        cycle: moment.window.cycle,
-        slot: moment.window.slot(channel),
-        channel,
-        bytes: bytes.as_slice(),
-    }
-}
-
-/// Writes what was seen on a channel in the window fetched last, where bytes were.
-#[tactic(auto, unfolding(fr_status::specs::Status::status_in))]
+/// Writes what was seen in the window fetched last, on channel A and then on B.
 fn write_seen<W: Write>(
     writer: &mut W,
     form: Form,
-    params: &Params,
+    interface: &Interface,
     moment: &Moment,
-    channel: Channel,
-    seen: &Seen,
+    a: &Seen,
+    b: &Seen,
 ) -> io::Result<()>
     requires { moment.now.rounds ≤ 1000000 }
     ensures { Writes W.contents writer.old writer.new result
-        (flat_map (shown form params.now)
-        (sighting (time_at params.now moment.now) moment.now.window channel seen.now)) }
+        (shown form interface.now.params (sighting_at interface.now moment.now a.now b.now Channel.A)
+        ++ shown form interface.now.params (sighting_at interface.now moment.now a.now b.now Channel.B)) }
 {
-    let Seen::Bytes(bytes) = seen else {
-        return Ok(());
-    };
     match form {
-        Form::Capture => write_record(writer, &sighting_of(params, moment, channel, bytes)),
-        Form::Table => {
-            let (cycle, slot) = (moment.window.cycle, moment.window.slot(channel));
-            let (word, frame) = told_in(params, cycle, slot, channel, seen);
-            let sighting = sighting_of(params, moment, channel, bytes);
-            write_line(writer, &sighting, word, &frame)
+        Form::Capture { own } => {
+            write_captured(writer, own, interface, moment, Channel::A, a)?;
+            write_captured(writer, own, interface, moment, Channel::B, b)
         }
+        Form::Table { all } => write_lines(writer, all, interface, moment, a, b),
     }
 }
 
-/// Writes what an entry shows, after the window fetched last: of an observe what was seen on channel A, and then on B.
+/// Writes what an entry shows, after the window fetched last.
 fn write_entry<W: Write>(
     writer: &mut W,
     form: Form,
-    params: &Params,
+    interface: &Interface,
     last: &Option<Moment>,
     entry: &Entry,
 ) -> io::Result<()>
     requires { HasRounds 1000000 last.now }
     ensures { Writes W.contents writer.old writer.new result
-        (flat_map (shown form params.now) (seen_after params.now last.now entry.now)) }
+        (flat_map (shown form interface.now.params) (seen_after interface.now last.now entry.now)) }
 {
     let Entry::Observe { a, b, .. } = entry else {
         return Ok(());
     };
-    let Some(moment) = last else {
-        return Ok(());
-    };
-    write_seen(writer, form, params, moment, Channel::A, a)?;
-    write_seen(writer, form, params, moment, Channel::B, b)
+    match last {
+        Some(moment) => write_seen(writer, form, interface, moment, a, b),
+        None => Ok(()),
+    }
 }
 
 /// Hands a piece on to the writer, and leaves it empty.
@@ -164,15 +106,15 @@ fn write_pieces<W: Write>(
 ) -> io::Result<()>
     requires { piece.old.items ≡ [] }
     ensures { Writes W.contents writer.old writer.new result
-        (shown_of form interface.now.params interface.now.entries) }
+        (shown_of form interface.now interface.now.entries) }
 {
     let (params, journal) = (interface.params(), interface.journal());
     let mut last = None;
     write_heading(piece, form)?;
     for number in 0..journal.len() {
         if let Some(entry) = journal.get(number) {
-            write_entry(piece, form, params, &last, &entry)?;
-            last = moment_after(params, last, &entry);
+            write_entry(piece, form, interface, &last, &entry)?;
+            last = moment_after(params, last, number, &entry);
         }
         if piece.len() >= ENOUGH {
             hand_on(writer, piece)?;

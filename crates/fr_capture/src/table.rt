@@ -1,19 +1,25 @@
 //! The lines of a table.
 
-ghost use Rattle.std.specs.Prelude.{◌≡◌, ◌≤◌, length};
+ghost use Rattle.std.specs.Prelude.{◌≡◌, ◌≤◌, ◌∷◌, ◌++◌, [], length};
+ghost use Rattle.std.specs.Fmt.{decimal};
 ghost use Rattle.std.specs.Option.{option_or};
 ghost use Rattle.fr_text.specs.Writing.{Writes};
+ghost use Rattle.fr_lines.specs.Parts.{absent, indicators};
 ghost use Rattle.fr_lines.specs.Spelling.{line_text};
-ghost use Rattle.fr_capture.specs.Table.{bytes_words, content_text, error_word, frame_words, head_line};
-ghost use Rattle.fr_capture.specs.Table.{line_knowing, bit_word};
+ghost use Rattle.fr_text.specs.Spaces.{line_of as words_joined};
+ghost use Rattle.fr_capture.specs.Table.{bytes_words, bit_word, content_text, error_word, first_text};
+ghost use Rattle.fr_capture.specs.Table.{frame_words, head_line, no_words};
 ghost use Rattle.fr_frame.specs.Decoding.{decoded};
+ghost use Rattle.fr_slots.specs.Windows.{slot_of};
 ghost use Rattle.fr_frame.specs.Refusal.{refusal};
 
-use crate::sighting::SeenBytes;
+use crate::takers::{Takers, write_takers};
 use fr_frame::decode::{DecodeError, decode_lent};
 use fr_frame::lent::LentFrame;
 use fr_lines::frames::write_indicators;
 use fr_lines::writing::write_slot;
+use fr_slots::channel::Channel;
+use fr_slots::window::Window;
 use fr_status::status::SlotStatus;
 use fr_text::hexes::write_hex;
 use std::io;
@@ -25,7 +31,7 @@ pub(crate) fn write_head_line<W: Write>(writer: &mut W) -> io::Result<()>
 {
     writeln!(
         writer,
-        "time cycle slot channel status error id flags bytes"
+        "time cycle slot channel status error id flags taker bytes"
     )
 }
 
@@ -56,73 +62,109 @@ fn error_word(error: DecodeError) -> &'static str
     }
 }
 
-/// Writes the end of the line of a frame.
-fn write_frame<W: Write>(writer: &mut W, frame: &LentFrame<'_>) -> io::Result<()>
-    ensures { Writes W.contents writer.old writer.new result (line_text (frame_words frame.now)) }
+/// Writes what stands in a line before its end: when and where it was seen, and the word for it.
+pub(crate) fn write_first<W: Write>(
+    writer: &mut W,
+    time: u64,
+    window: &Window,
+    channel: Channel,
+    word: &str,
+) -> io::Result<()>
+    ensures { Writes W.contents writer.old writer.new result
+        (first_text time window.now.cycle (slot_of window.now channel) channel word.now) }
+{
+    write!(writer, "{time} {}", window.cycle.number())?;
+    write_slot(writer, window.slot(channel))?;
+    write!(writer, " {channel} {word} ")
+}
+
+/// Writes the words of a frame that stand before what took it.
+fn write_fields<W: Write>(writer: &mut W, frame: &LentFrame<'_>) -> io::Result<()>
+    ensures { Writes W.contents writer.old writer.new result
+        (words_joined (absent ∷ decimal frame.now.id ∷ indicators frame.now ∷ []) ++ (32 ∷ [])) }
 {
     write!(writer, "- {} ", frame.id)?;
     write_indicators(writer, frame)?;
+    writer.write_all(b" ")
+}
+
+/// Writes the end of the line of a frame.
+fn write_frame<W: Write>(
+    writer: &mut W,
+    frame: &LentFrame<'_>,
+    takers: &Takers<'_>,
+) -> io::Result<()>
+    ensures { Writes W.contents writer.old writer.new result (line_text (frame_words frame.now takers.now)) }
+{
+    write_fields(writer, frame)?;
+    write_takers(writer, takers)?;
     writer.write_all(b" ")?;
     write_hex(writer, frame.payload)?;
     writer.write_all(b"\n")
 }
 
 /// Writes the end of the line of bytes that are no frame.
-fn write_bytes<W: Write>(writer: &mut W, error: DecodeError, bytes: &[u8]) -> io::Result<()>
+fn write_bytes<W: Write>(
+    writer: &mut W,
+    error: DecodeError,
+    takers: &Takers<'_>,
+    bytes: &[u8],
+) -> io::Result<()>
     requires { length bytes.now ≤ 262 }
-    ensures { Writes W.contents writer.old writer.new result (line_text (bytes_words error bytes.now)) }
+    ensures { Writes W.contents writer.old writer.new result (line_text (bytes_words error takers.now bytes.now)) }
 {
     write!(writer, "{} - - ", error_word(error))?;
+    write_takers(writer, takers)?;
+    writer.write_all(b" ")?;
     write_hex(writer, bytes)?;
     writer.write_all(b"\n")
 }
 
+/// Writes the end of a line where there are no bytes.
+pub(crate) fn write_nothing<W: Write>(writer: &mut W, takers: &Takers<'_>) -> io::Result<()>
+    ensures { Writes W.contents writer.old writer.new result (line_text (no_words takers.now)) }
+{
+    writer.write_all(b"- - - ")?;
+    write_takers(writer, takers)?;
+    writer.write_all(b" -\n")
+}
+
 /// Writes the end of a line: what a frame says, or why there is none.
 #[tactic(auto, unfolding(crate::specs::Table::content_text))]
-fn write_read<W: Write>(writer: &mut W, seen: &SeenBytes<'_>) -> io::Result<()>
+pub(crate) fn write_read<W: Write>(
+    writer: &mut W,
+    channel: Channel,
+    takers: &Takers<'_>,
+    bytes: &[u8],
+) -> io::Result<()>
+    requires { length bytes.now ≤ 262 }
     ensures { Writes W.contents writer.old writer.new result
-        (content_text
-        (refusal seen.now.channel seen.now.bytes)
-        (decoded seen.now.channel seen.now.bytes)
-        seen.now.bytes) }
+        (content_text (refusal channel bytes.now) (decoded channel bytes.now) takers.now bytes.now) }
 {
-    match decode_lent(seen.bytes, seen.channel) {
-        Ok(frame) => write_frame(writer, &frame),
-        Err(error) => write_bytes(writer, error, seen.bytes),
+    match decode_lent(bytes, channel) {
+        Ok(frame) => write_frame(writer, &frame, takers),
+        Err(error) => write_bytes(writer, error, takers, bytes),
     }
 }
 
-/// The same, where the frame may be known.
+/// The same, where the frame may be known. The bytes are read here only where it isn't known yet which frame they are.
 #[tactic(auto, unfolding(crate::specs::Table::content_text))]
-fn write_content<W: Write>(
+pub(crate) fn write_known<W: Write>(
     writer: &mut W,
-    seen: &SeenBytes<'_>,
+    channel: Channel,
+    takers: &Takers<'_>,
+    bytes: &[u8],
     known: &Option<LentFrame<'_>>,
 ) -> io::Result<()>
+    requires { length bytes.now ≤ 262 }
     ensures { Writes W.contents writer.old writer.new result
         (content_text
-        (refusal seen.now.channel seen.now.bytes)
-        (option_or known.now (decoded seen.now.channel seen.now.bytes))
-        seen.now.bytes) }
+        (refusal channel bytes.now)
+        (option_or known.now (decoded channel bytes.now))
+        takers.now bytes.now) }
 {
     match known {
-        Some(frame) => write_frame(writer, frame),
-        None => write_read(writer, seen),
+        Some(frame) => write_frame(writer, frame, takers),
+        None => write_read(writer, channel, takers, bytes),
     }
-}
-
-/// Writes the line of what was seen, with the word of the slot's status. The bytes are read here only where it isn't
-/// known yet which frame they are.
-pub(crate) fn write_line<W: Write>(
-    writer: &mut W,
-    seen: &SeenBytes<'_>,
-    status: &str,
-    known: &Option<LentFrame<'_>>,
-) -> io::Result<()>
-    ensures { Writes W.contents writer.old writer.new result (line_knowing known.now status.now seen.now) }
-{
-    write!(writer, "{} {}", seen.time, seen.cycle.number())?;
-    write_slot(writer, seen.slot)?;
-    write!(writer, " {} {status} ", seen.channel)?;
-    write_content(writer, seen, known)
 }

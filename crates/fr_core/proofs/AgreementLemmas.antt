@@ -23,8 +23,7 @@ use Rattle.fr_core.proofs.NodeLemmas.{opening_agrees, agrees_host, agrees_look, 
 use Rattle.fr_core.proofs.NodeLemmas.{agrees_take, agrees_observe, agrees_inject, agrees_advance}
 use Rattle.fr_core.specs.Agreeing.{handed_at, sight_at}
 use Rattle.fr_core.specs.Agreement.{BusView, view_for, sight_in, NodeAgrees, AgreesAt, Agreement}
-use Rattle.fr_core.specs.declared.carried.Carried.{Carried}
-use Rattle.fr_core.specs.declared.carried.Carried.TheVariants.{Idle, Knows, Offers, Waits, Took}
+use Rattle.fr_core.specs.Carried.{Carried, Idle, Knows, Offers, Waits, Took}
 use Rattle.fr_core.specs.declared.error.StepError.{StepError}
 use Rattle.fr_core.specs.declared.error.StepError.TheVariants.{UnknownNode}
 use Rattle.fr_core.specs.declared.event.Event.{Event}

@@ -7,8 +7,7 @@ use Rattle.std.proofs.lemmas.Bool.Decides.{eqb_tells}
 use Rattle.std.proofs.lemmas.List.Sums.{sum_by_push}
 use Rattle.fr_bus.specs.States.{collecting_of}
 use Rattle.fr_interface.specs.Commits.{is_commit, commits_of}
-use Rattle.fr_core.specs.declared.carried.Carried.{Carried}
-use Rattle.fr_core.specs.declared.carried.Carried.TheVariants.{Idle, Knows, Offers, Waits, Took}
+use Rattle.fr_core.specs.Carried.{Carried, Idle, Knows, Offers, Waits, Took}
 use Rattle.fr_core.specs.declared.error.StepError.{StepError}
 use Rattle.fr_core.specs.declared.error.StepError.TheVariants.{UnknownNode}
 use Rattle.fr_core.specs.declared.event.Event.{Event}

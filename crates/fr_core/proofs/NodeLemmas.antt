@@ -16,8 +16,7 @@ use Rattle.fr_core.specs.Agreeing.{Handed, Sight, handed_at, fetched, sight_of, 
 use Rattle.fr_core.specs.Agreeing.{sights_of}
 use Rattle.fr_core.specs.Agreement.{BusView, last_of, sight_in, last_seen, handed_as, ahead, behind, Turn}
 use Rattle.fr_core.specs.Agreement.{AreRecordable, CarriesLawful, NodeAgrees}
-use Rattle.fr_core.specs.declared.carried.Carried.{Carried}
-use Rattle.fr_core.specs.declared.carried.Carried.TheVariants.{Idle, Knows, Offers, Waits, Took}
+use Rattle.fr_core.specs.Carried.{Carried, Idle, Knows, Offers, Waits, Took}
 use Rattle.fr_core.specs.Steps.{offer_of}
 use Rattle.fr_slots.proofs.PlaceLemmas.{get-after}
 use Rattle.fr_frame.proofs.EncodingLemmas.{length-encoded}

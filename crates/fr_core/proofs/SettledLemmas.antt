@@ -17,8 +17,7 @@ use Rattle.fr_core.proofs.WalkLemmas.{get_map, some_alike, none_past, same_place
 use Rattle.fr_core.specs.Agreeing.{Handed, Sight, handed_at, sight_at, sight_of, fetched, observed, offers_of}
 use Rattle.fr_core.specs.Agreeing.{sights_of}
 use Rattle.fr_core.specs.Agreement.{BusView, view_for, ahead, behind, AgreesAt, IsWorld}
-use Rattle.fr_core.specs.declared.carried.Carried.{Carried}
-use Rattle.fr_core.specs.declared.carried.Carried.TheVariants.{Idle, Knows, Offers, Waits, Took}
+use Rattle.fr_core.specs.Carried.{Carried, Idle, Knows, Offers, Waits, Took}
 use Rattle.fr_core.specs.declared.settle.Settled.{Settled}
 use Rattle.fr_core.specs.declared.settle.SettleError.{SettleError}
 use Rattle.fr_core.specs.declared.settle.SettleError.TheVariants.{PlanDiffers, WindowsDiffer, OfferDiffers, SeenDiffers}

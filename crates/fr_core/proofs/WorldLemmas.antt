@@ -8,8 +8,7 @@ use Rattle.fr_bus.specs.States.{BusState, collecting_of}
 use Rattle.fr_core.proofs.AgreementLemmas.{keeps_done, agreement_opens}
 use Rattle.fr_core.proofs.ClusterLemmas.{inject_cluster, seal_cluster}
 use Rattle.fr_core.specs.Agreement.{Agreement, IsWorld}
-use Rattle.fr_core.specs.declared.carried.Carried.{Carried}
-use Rattle.fr_core.specs.declared.carried.Carried.TheVariants.{Idle, Knows, Offers, Waits, Took}
+use Rattle.fr_core.specs.Carried.{Carried, Idle, Knows, Offers, Waits, Took}
 use Rattle.fr_core.specs.declared.error.StepError.{StepError}
 use Rattle.fr_core.specs.declared.event.Event.{Event}
 use Rattle.fr_core.specs.declared.event.Event.TheVariants.{Commit, Withdraw, Read, Pop, Look, Fetch, Put, Take}

@@ -8,8 +8,7 @@ use Rattle.fr_bus.specs.declared.station.Station.{Station}
 use Rattle.fr_bus.specs.Record.{Recorded, recordable, seen_by}
 use Rattle.fr_bus.specs.States.{BusState, collects, station_at}
 use Rattle.fr_core.specs.Agreeing.{Handed, Sight, fetched, sight_of, observed, offers_of, sights_of}
-use Rattle.fr_core.specs.declared.carried.Carried.{Carried}
-use Rattle.fr_core.specs.declared.carried.Carried.TheVariants.{Idle, Knows, Offers, Waits, Took}
+use Rattle.fr_core.specs.Carried.{Carried, Idle, Knows, Offers, Waits, Took}
 use Rattle.fr_core.specs.Worlds.{WorldState, interface_at, carried_at, without_entries, new_interface}
 use Rattle.fr_interface.specs.State.{State}
 use Rattle.fr_journal.specs.OpenWindow.{open_window}

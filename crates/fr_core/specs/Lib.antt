@@ -1,3 +1,4 @@
+pub mod Carried
 pub mod Worlds
 pub mod Agreeing
 pub mod Agreement

@@ -10,7 +10,7 @@ use Rattle.fr_bus.specs.Record.{Recorded}
 use Rattle.fr_bus.specs.States.{BusState, IsRun}
 use Rattle.fr_core.specs.Agreeing.{fetched, observed, offers_of, sights_of, Follows}
 use Rattle.fr_core.specs.Agreement.{IsWorld}
-use Rattle.fr_core.specs.declared.carried.Carried.{Carried}
+use Rattle.fr_core.specs.Carried.{Carried}
 use Rattle.fr_core.specs.declared.settle.Settled.{Settled}
 use Rattle.fr_core.specs.declared.settle.SettleError.{SettleError}
 use Rattle.fr_core.specs.declared.settle.SettleError.TheVariants.{PlanDiffers, WindowsDiffer, OfferDiffers, SeenDiffers}

@@ -5,8 +5,7 @@ use Rattle.std.specs.Prelude.{slice_set, if◌then◌else◌}
 use Rattle.fr_bus.specs.declared.error.BusError.TheVariants.{NotCollecting, Memory}
 use Rattle.fr_bus.specs.States.{BusState, collecting_of, put_refusal, put_done, take_refusal, take_done, seen_last}
 use Rattle.fr_bus.specs.States.{inject_refusal, inject_done, seal_refusal, sealed_now, advance_refusal, advanced}
-use Rattle.fr_core.specs.declared.carried.Carried.{Carried}
-use Rattle.fr_core.specs.declared.carried.Carried.TheVariants.{Idle, Knows, Offers, Waits, Took}
+use Rattle.fr_core.specs.Carried.{Carried, Idle, Knows, Offers, Waits, Took}
 use Rattle.fr_core.specs.declared.error.StepError.{StepError}
 use Rattle.fr_core.specs.declared.error.StepError.TheVariants.{UnknownNode, WrongTurn, Host, Slot, Bus}
 use Rattle.fr_core.specs.declared.event.Event.{Event}
@@ -198,3 +197,16 @@ abbrev pub Steps : WorldState → Event → Result Reply StepError → WorldStat
 Steps old event (Ok reply) new =
     (step_refusal old event ≡ None) × (reply ≡ step_reply old event) × (new ≡ step_done old event)
 Steps old event (Err e) new = Refuses event e (step_refusal old event) × (new ≡ old)
+
+-- the answer that stands where an event without one was accepted
+abbrev pub answered : Reply → Result (Unit {0}) StepError → Result Reply StepError
+answered reply (Ok done) = Ok reply
+answered reply (Err e) = Err e
+
+abbrev pub with_window : Result Opportunity StepError → Result Reply StepError
+with_window (Ok window) = Ok (Window window)
+with_window (Err e) = Err e
+
+-- the event, of which the answer isn't told
+abbrev pub Applies : WorldState → Event → Result (Unit {0}) StepError → WorldState → Type 0
+Applies old event outcome new = Steps old event (answered (step_reply old event) outcome) new

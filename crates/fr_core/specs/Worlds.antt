@@ -4,8 +4,7 @@ use Rattle.std.specs.Prelude.{slice_index_or}
 use Rattle.fr_bus.specs.declared.error.BusError.{BusError}
 use Rattle.fr_bus.specs.declared.error.BusError.TheVariants.{BadCycles, Memory}
 use Rattle.fr_bus.specs.States.{BusState, new_bus, cycles_fit}
-use Rattle.fr_core.specs.declared.carried.Carried.{Carried}
-use Rattle.fr_core.specs.declared.carried.Carried.TheVariants.{Idle, Knows, Offers, Waits, Took}
+use Rattle.fr_core.specs.Carried.{Carried, Idle, Knows, Offers, Waits, Took}
 use Rattle.fr_interface.specs.State.{State}
 use Rattle.fr_schedule.specs.Descriptions.{Description}
 use Rattle.fr_slots.specs.Parameters.{Parameters}

@@ -13,7 +13,7 @@
 //! *(own profile)* marks a rule of this project's own, which says nothing of the standard.
 #![tactic(auto)]
 
-pub mod carried;
+pub mod controller;
 pub mod error;
 pub mod event;
 mod legal;

@@ -1,12 +1,14 @@
 //! The steps of a world, one call each.
 
 ghost use Rattle.std.specs.Prelude.{◌≡◌, Ok, Err, replicate, length, map, IfOk, None, if◌then◌else◌};
-ghost use Rattle.fr_core.specs.declared.carried.Carried.TheVariants as carried;
+ghost use Rattle.fr_core.specs.Carried.{Idle};
+ghost use Rattle.fr_core.specs.Steps.{answered, with_window};
+ghost use Rattle.fr_core.specs.declared.event.Reply.TheVariants.{Done};
 ghost use Rattle.fr_core.specs.Worlds.{new_interface};
 ghost use Rattle.fr_schedule.specs.Clusters.{IsNode};
 ghost use Rattle.fr_slots.specs.Plans.{Each};
 
-use crate::carried::Carried;
+use crate::controller::{Controller, Due};
 use crate::error::StepError;
 use crate::event::{Event, Reply};
 use fr_bus::bus::Bus;
@@ -19,6 +21,7 @@ use fr_schedule::cluster::Cluster;
 use fr_slots::numbers::{NodeId, TaskId};
 use fr_slots::params::Params;
 use fr_slots::plan::NodePlan;
+use fr_slots::window::Window;
 use std::alloc::{AllocError, Global};
 use std::marker::Model;
 
@@ -27,7 +30,7 @@ use std::marker::Model;
 pub(crate) struct Machine {
     interfaces: Vec<Interface>,
     bus: Bus,
-    carried: Vec<Carried>,
+    controllers: Vec<Controller>,
 }
 
 impl Model for Machine {
@@ -36,9 +39,9 @@ impl Model for Machine {
 
     ghost Value = { WorldState };
 
-    ghost view = { λ m. record { interfaces = m.interfaces.items; bus = m.bus; carried = m.carried.items } };
+    ghost view = { λ m. record { interfaces = m.interfaces.items; bus = m.bus; carried = m.controllers.items } };
 
-    ghost invariant = { λ m. length m.interfaces.items ≡ length m.carried.items };
+    ghost invariant = { λ m. length m.interfaces.items ≡ length m.controllers.items };
 }
 
 /// An interface for each plan.
@@ -61,14 +64,22 @@ fn interfaces_of(
 }
 
 /// So many controllers that carry nothing.
-fn idle_controllers(alloc: Global, count: usize) -> Result<Vec<Carried>, AllocError>
-    ensures { IfOk result (λ list. list.items ≡ replicate count carried.Idle) }
+fn idle_controllers(alloc: Global, count: usize) -> Result<Vec<Controller>, AllocError>
+    ensures { IfOk result (λ list. list.items ≡ replicate count Idle) }
 {
     let mut list = Vec::new(alloc);
     for _place in 0..count {
-        list.push(Carried::Idle)?;
+        list.push(Controller::idle())?;
     }
     Ok(list)
+}
+
+/// The answer to an event that is answered with nothing.
+fn done(outcome: Result<(), StepError>) -> Result<Reply, StepError>
+    ensures { result ≡ answered Done outcome }
+{
+    outcome?;
+    Ok(Reply::Done)
 }
 
 impl Machine {
@@ -77,7 +88,7 @@ impl Machine {
     ghost use Rattle.fr_core.specs.declared.error.StepError.TheVariants.{UnknownNode};
     ghost use Rattle.fr_core.specs.declared.event.Event.TheVariants as event;
     ghost use Rattle.fr_core.specs.Worlds.{OpensWorld, has_node, is_between};
-    ghost use Rattle.fr_core.specs.Steps.{Steps};
+    ghost use Rattle.fr_core.specs.Steps.{Steps, Applies};
 
     /// Empty journals, the bus at its first window, and idle controllers.
     pub(crate) fn new(alloc: Global, cluster: &Cluster, cycles: u16) -> Result<Machine, BusError>
@@ -87,13 +98,13 @@ impl Machine {
         let Ok(interfaces) = interfaces_of(alloc, cluster.params(), cluster.plans()) else {
             return Err(BusError::Memory);
         };
-        let Ok(carried) = idle_controllers(alloc, interfaces.len()) else {
+        let Ok(controllers) = idle_controllers(alloc, interfaces.len()) else {
             return Err(BusError::Memory);
         };
         Ok(Machine {
             interfaces,
             bus,
-            carried,
+            controllers,
         })
     }
 
@@ -115,7 +126,9 @@ impl Machine {
     pub(crate) fn between_windows(&self) -> bool
         ensures { result ≡ list_all is_between self.now.carried }
     {
-        self.carried.iter().all(|carried| carried.is_between())
+        self.controllers
+            .iter()
+            .all(|controller| controller.is_between())
     }
 
     /// The place of the node's interface and controller.
@@ -173,107 +186,107 @@ impl Machine {
     }
 
     /// A controller asks the bus for the open window.
-    fn look(&mut self, node: NodeId) -> Result<Reply, StepError>
-        ensures { Steps self.old (event.Look node) result self.new }
+    fn look(&mut self, node: NodeId) -> Result<Window, StepError>
+        ensures { Steps self.old (event.Look node) (with_window result) self.new }
     {
         let place = self.place(node)?;
-        let Carried::Idle = &self.carried[place] else {
+        let controller = &mut self.controllers[place];
+        let Due::Look = &controller.due else {
             return Err(StepError::WrongTurn);
         };
         let Some(window) = self.bus.collecting() else {
             return Err(StepError::Bus(BusError::NotCollecting));
         };
-        self.carried[place] = Carried::Knows(window);
-        Ok(Reply::Window(window))
+        controller.due = Due::Fetch(window);
+        Ok(window)
     }
 
     /// A controller opens the window at its interface.
-    fn fetch(&mut self, node: NodeId) -> Result<Reply, StepError>
-        ensures { Steps self.old (event.Fetch node) result self.new }
+    fn fetch(&mut self, node: NodeId) -> Result<(), StepError>
+        ensures { Steps self.old (event.Fetch node) (answered Done result) self.new }
     {
         let place = self.place(node)?;
-        let Carried::Knows(window) = &self.carried[place] else {
+        let controller = &mut self.controllers[place];
+        let Due::Fetch(window) = &controller.due else {
             return Err(StepError::WrongTurn);
         };
         let window = *window;
-        let interface = &mut self.interfaces[place];
-        match interface.fetch(&window) {
-            Ok(offer) => {
-                self.carried[place] = Carried::Offers(window, offer);
-                Ok(Reply::Done)
-            }
-            Err(error) => Err(StepError::Slot(error)),
-        }
+        self.interfaces[place].fetch_into(&window, &mut controller.offer)?;
+        controller.due = Due::Put(window);
+        Ok(())
     }
 
     /// A controller puts on the bus what its interface handed out.
-    fn put(&mut self, node: NodeId) -> Result<Reply, StepError>
-        ensures { Steps self.old (event.Put node) result self.new }
+    fn put(&mut self, node: NodeId) -> Result<(), StepError>
+        ensures { Steps self.old (event.Put node) (answered Done result) self.new }
     {
         let place = self.place(node)?;
-        let Carried::Offers(window, offer) = &self.carried[place] else {
+        let controller = &mut self.controllers[place];
+        let Due::Put(window) = &controller.due else {
             return Err(StepError::WrongTurn);
         };
         let window = *window;
-        self.bus.put(node, window.number, offer)?;
-        self.carried[place] = Carried::Waits(window);
-        Ok(Reply::Done)
+        self.bus.put(node, window.number, &controller.offer)?;
+        controller.due = Due::Take(window);
+        Ok(())
     }
 
     /// A controller takes what it sees.
-    fn take(&mut self, node: NodeId) -> Result<Reply, StepError>
-        ensures { Steps self.old (event.Take node) result self.new }
+    fn take(&mut self, node: NodeId) -> Result<(), StepError>
+        ensures { Steps self.old (event.Take node) (answered Done result) self.new }
     {
         let place = self.place(node)?;
-        let Carried::Waits(window) = &self.carried[place] else {
+        let controller = &mut self.controllers[place];
+        let Due::Take(window) = &controller.due else {
             return Err(StepError::WrongTurn);
         };
         let window = *window;
-        let (a, b) = self.bus.take(node, window.number)?;
-        self.carried[place] = Carried::Took(window, a, b);
-        Ok(Reply::Done)
+        self.bus
+            .take_into(node, window.number, &mut controller.a, &mut controller.b)?;
+        controller.due = Due::Observe(window);
+        Ok(())
     }
 
     /// A controller closes the window at its interface.
-    fn observe(&mut self, node: NodeId) -> Result<Reply, StepError>
-        ensures { Steps self.old (event.Observe node) result self.new }
+    fn observe(&mut self, node: NodeId) -> Result<(), StepError>
+        ensures { Steps self.old (event.Observe node) (answered Done result) self.new }
     {
         let place = self.place(node)?;
-        let Carried::Took(window, a, b) = &self.carried[place] else {
+        let controller = &mut self.controllers[place];
+        let Due::Observe(window) = &controller.due else {
             return Err(StepError::WrongTurn);
         };
-        self.interfaces[place].observe(window.number, a, b)?;
-        self.carried[place] = Carried::Idle;
-        Ok(Reply::Done)
+        let window = *window;
+        self.interfaces[place].observe(window.number, &controller.a, &controller.b)?;
+        controller.due = Due::Look;
+        Ok(())
     }
 
     /// A fault of the open window.
-    fn inject(&mut self, fault: &Fault) -> Result<Reply, StepError>
-        ensures { Steps self.old (event.Inject fault.now) result self.new }
+    fn inject(&mut self, fault: &Fault) -> Result<(), StepError>
+        ensures { Steps self.old (event.Inject fault.now) (answered Done result) self.new }
     {
         self.bus.inject(fault.duplicate())?;
-        Ok(Reply::Done)
+        Ok(())
     }
 
     /// The bus settles the open window.
-    fn seal(&mut self) -> Result<Reply, StepError>
-        ensures { Steps self.old event.Seal result self.new }
+    fn seal(&mut self) -> Result<(), StepError>
+        ensures { Steps self.old event.Seal (answered Done result) self.new }
     {
-        match self.bus.seal() {
-            Ok(()) => Ok(Reply::Done),
-            Err(error) => Err(StepError::Bus(error)),
-        }
+        self.bus.seal()?;
+        Ok(())
     }
 
     /// The bus opens the next window.
-    fn advance(&mut self) -> Result<Reply, StepError>
-        ensures { Steps self.old event.Advance result self.new }
+    fn advance(&mut self) -> Result<(), StepError>
+        ensures { Steps self.old event.Advance (answered Done result) self.new }
     {
         self.bus.advance()?;
-        Ok(Reply::Done)
+        Ok(())
     }
 
-    /// One event.
+    /// One event, with its answer.
     pub(crate) fn step(&mut self, event: &Event) -> Result<Reply, StepError>
         ensures { Steps self.old event.now result self.new }
     {
@@ -287,7 +300,29 @@ impl Machine {
             Event::Withdraw { node, task, buffer } => self.withdraw(*node, *task, *buffer),
             Event::Read { node, task, buffer } => self.read(*node, *task, *buffer),
             Event::Pop { node, task } => self.pop(*node, *task),
-            Event::Look(node) => self.look(*node),
+            Event::Look(node) => {
+                let window = self.look(*node)?;
+                Ok(Reply::Window(window))
+            }
+            Event::Fetch(node) => done(self.fetch(*node)),
+            Event::Put(node) => done(self.put(*node)),
+            Event::Take(node) => done(self.take(*node)),
+            Event::Observe(node) => done(self.observe(*node)),
+            Event::Inject(fault) => done(self.inject(fault)),
+            Event::Seal => done(self.seal()),
+            Event::Advance => done(self.advance()),
+        }
+    }
+
+    /// One event, without its answer.
+    pub(crate) fn apply(&mut self, event: &Event) -> Result<(), StepError>
+        ensures { Applies self.old event.now result self.new }
+    {
+        match event {
+            Event::Look(node) => {
+                let _window = self.look(*node)?;
+                Ok(())
+            }
             Event::Fetch(node) => self.fetch(*node),
             Event::Put(node) => self.put(*node),
             Event::Take(node) => self.take(*node),
@@ -295,6 +330,10 @@ impl Machine {
             Event::Inject(fault) => self.inject(fault),
             Event::Seal => self.seal(),
             Event::Advance => self.advance(),
+            _ => {
+                let _reply = self.step(event)?;
+                Ok(())
+            }
         }
     }
 }

@@ -22,6 +22,25 @@ pub enum Action {
     Pop,
 }
 
+impl Action {
+    ghost use Rattle.std.specs.Prelude.{◌≡◌};
+
+    /// The same action.
+    pub fn duplicate(&self) -> Action
+        ensures { result ≡ self.now }
+    {
+        match self {
+            Action::Commit { buffer, payload } => Action::Commit {
+                buffer: *buffer,
+                payload: payload.duplicate(),
+            },
+            Action::Withdraw { buffer } => Action::Withdraw { buffer: *buffer },
+            Action::Read { buffer } => Action::Read { buffer: *buffer },
+            Action::Pop => Action::Pop,
+        }
+    }
+}
+
 /// A line of a script (own profile).
 #[derive(Drop, PartialEq, Eq)]
 pub struct Line {

@@ -1,6 +1,5 @@
 //! The world of a cluster.
 
-use crate::carried::Carried;
 use crate::error::StepError;
 use crate::event::{Event, Reply};
 use crate::legal;
@@ -38,7 +37,7 @@ impl World {
     ghost use Rattle.std.specs.Prelude.{◌≡◌};
     ghost use Rattle.std.specs.List.{list_all};
     ghost use Rattle.fr_core.specs.Headline.{Headline, WorldsAlike};
-    ghost use Rattle.fr_core.specs.Steps.{Steps};
+    ghost use Rattle.fr_core.specs.Steps.{Steps, Applies};
     ghost use Rattle.fr_core.specs.Worlds.{OpensWorld, is_between};
 
     /// The opening world of a cluster for a run of so many cycles, 1 to 1024: all journals are empty, the bus is at
@@ -70,6 +69,18 @@ impl World {
         let answer = self.machine.step(event);
         self.known();
         answer
+    }
+
+    /// Does one event as `step` does, and leaves its answer out, so that no room for a frame is moved (own profile).
+    ///
+    /// Refused as `step` is, and the world is then unchanged. Of the world after the event the headline promise holds.
+    pub fn apply(&mut self, event: &Event) -> Result<(), StepError>
+        ensures step { Applies self.old event.now result self.new }
+        ensures headline { Headline self.new }
+    {
+        let outcome = self.machine.apply(event);
+        self.known();
+        outcome
     }
 
     /// The interfaces, in the order of the nodes. Of their world the headline promise holds.

@@ -561,10 +561,7 @@ impl Interface {
 fn slot_number(slot: Option<SlotId>) -> Option<u16>
     ensures { IsSlotOrNone slot }
 {
-    match slot {
-        Some(slot) => Some(slot.number()),
-        None => None,
-    }
+    slot.map(|slot| slot.number())
 }
 
 /// A copy of the window. Its numbers are read because only a call of theirs tells their ranges, which the journal asks
@@ -620,28 +617,14 @@ fn origin_in(arrival: &Option<Arrival>) -> Option<Origin>
     ensures value { result ≡ option_map origin_of arrival.now }
     ensures fits { IsOrigin result }
 {
-    match arrival {
-        Some(
-            Arrival {
-                origin: Origin { entry, channel },
-                ..
-            },
-        ) => Some(Origin {
-            entry: *entry,
-            channel: *channel,
-        }),
-        None => None,
-    }
+    arrival.as_ref().map(|arrival| arrival.origin)
 }
 
 /// The frame that arrived.
 fn frame_in(arrival: Option<Arrival>) -> Option<Frame>
     ensures { result ≡ option_map frame_of arrival }
 {
-    match arrival {
-        Some(arrival) => Some(arrival.frame),
-        None => None,
-    }
+    arrival.map(|arrival| arrival.frame)
 }
 
 /// Whether a window's number isn't above that of the last one.

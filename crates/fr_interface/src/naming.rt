@@ -48,10 +48,7 @@ fn frame_in_entry(
 fn frame_of(frame: &Option<LentFrame<'_>>) -> Option<Frame>
     ensures { result ≡ frame.now }
 {
-    match frame {
-        Some(frame) => Some(Frame::from_lent(frame)),
-        None => None,
-    }
+    frame.as_ref().map(|frame| Frame::from_lent(frame))
 }
 
 /// What was seen on the channel.
@@ -64,37 +61,13 @@ fn seen_on<'a>(channel: Channel, a: &'a Seen, b: &'a Seen) -> &'a Seen
     }
 }
 
-/// What the entry says of the open window, if it says something: a fetch opens one, and an observe closes it.
-fn window_mark(entry: &LentEntry<'_>) -> Option<Option<Window>>
-    ensures { result ≡ window_mark [] (whole entry.now) }
-{
-    match entry {
-        LentEntry::Fetch { window, .. } => Some(Some(*window)),
-        LentEntry::Observe { .. } => Some(None),
-        LentEntry::Commit { .. }
-        | LentEntry::Withdraw { .. }
-        | LentEntry::Read { .. }
-        | LentEntry::Pop { .. } => None,
-    }
-}
-
-/// What the entry says of the open window, if there is an entry and it says something.
-fn window_said(entry: &Option<LentEntry<'_>>) -> Option<Option<Window>>
-    ensures { result ≡ option_and_then (window_mark []) (option_map whole entry.now) }
-{
-    match entry {
-        Some(entry) => window_mark(entry),
-        None => None,
-    }
-}
-
 /// The window that is open before the entry of this number: the last one that says something decides, and it is near.
 fn window_open_at(journal: &Journal, number: u32) -> Option<Window>
     requires { number ≤ length journal.now.entries }
     ensures { result ≡ open_window (take number journal.now.entries) }
 {
     for place in (0..number).rev() {
-        if let Some(window) = window_said(&journal.lent(place)) {
+        if let Some(window) = journal.window_mark(place) {
             return window;
         }
     }

@@ -56,10 +56,7 @@ impl<'a> Told<'a> {
 fn data_frame(frame: Option<LentFrame<'_>>) -> Option<LentFrame<'_>>
     ensures { result ≡ option_and_then with_data frame.entry }
 {
-    match frame {
-        Some(frame) => { if frame.has_data { Some(frame) } else { None } }
-        None => None,
-    }
+    frame.filter(|frame| frame.has_data)
 }
 
 /// Counts the slot of this status on the channel, if the channel has one.

@@ -276,8 +276,5 @@ pub(crate) fn spelled_by(
     ensures bytes { result ≡ bytes_of channel (frame_by params.now plan.now buffers.now window.now channel
         outgoing.now) }
 {
-    match frame_by(params, plan, buffers, window, channel, outgoing) {
-        Some(frame) => Some(encode(&frame, channel)),
-        None => None,
-    }
+    frame_by(params, plan, buffers, window, channel, outgoing).map(|frame| encode(&frame, channel))
 }

@@ -61,8 +61,5 @@ pub(crate) fn pop_from(queue: &mut Option<ReceiveQueue>) -> Option<Arrival>
     ensures oldest { result ≡ option_and_then (λ w. slice_get w.frames 0) queue.old }
     ensures left { queue.new ≡ option_map without_oldest queue.old }
 {
-    match queue {
-        Some(waiting) => waiting.pop(),
-        None => None,
-    }
+    queue.as_mut()?.pop()
 }

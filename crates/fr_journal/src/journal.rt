@@ -2,9 +2,11 @@
 
 ghost use Rattle.std.specs.Prelude.{◌≡◌, ◌<◌, ◌≤◌, ◌∷◌, [], ◌++◌, IfOk, IfSome, IsTrue, ◌↔◌, false, length, option_map};
 ghost use Rattle.std.specs.Prelude.{slice_get};
+ghost use Rattle.std.specs.Option.{option_and_then};
 ghost use Rattle.fr_journal.specs.Entries.{is_host};
 ghost use Rattle.fr_journal.specs.Kept.{host_room, slot_room};
 ghost use Rattle.fr_journal.specs.Lent.{whole, HasPayload};
+ghost use Rattle.fr_journal.specs.OpenWindow.{window_mark};
 ghost use Rattle.fr_slots.specs.Numbers.{most_host_entries, most_slot_entries, most_entries};
 
 use crate::entry::Entry;
@@ -16,6 +18,7 @@ use crate::short::{
 use fr_frame::frame::FRAME_BYTES;
 use fr_frame::payload::{PAYLOAD_BYTES, Payload};
 use fr_slots::numbers::TaskId;
+use fr_slots::window::Window;
 use fr_status::seen::Seen;
 use std::alloc::{AllocError, Global};
 use std::marker::Model;
@@ -151,6 +154,7 @@ impl Journal {
         let short = self.shorts.as_slice().get(number as usize)?;
         Some(whole_entry(self.pool.as_slice(), *short))
     }
+
     /// The same, whose bytes stay in the journal.
     pub fn lent(&self, number: u32) -> Option<LentEntry<'_>>
         ensures entry { option_map whole result ≡ slice_get self.now.entries number }
@@ -158,5 +162,13 @@ impl Journal {
     {
         let short = self.shorts.as_slice().get(number as usize)?;
         Some(lent_entry(self.pool.as_slice(), *short))
+    }
+
+    /// What the entry of this number says of the open window, if there is such an entry and it says something: a fetch
+    /// opens one, and an observe closes it.
+    pub fn window_mark(&self, number: u32) -> Option<Option<Window>>
+        ensures { result ≡ option_and_then (window_mark []) (slice_get self.now.entries number) }
+    {
+        self.shorts.as_slice().get(number as usize)?.window_mark()
     }
 }

@@ -71,6 +71,26 @@ pub(crate) enum ShortEntry {
     },
 }
 
+impl ShortEntry {
+    ghost use Rattle.std.specs.Prelude.{◌≡◌, List, ℕ, []};
+    ghost use Rattle.fr_journal.specs.OpenWindow.{window_mark};
+    ghost use Rattle.fr_journal.specs.Shortened.{restored};
+
+    /// What the entry says of the open window, if it says something: a fetch opens one, and an observe closes it.
+    pub(crate) fn window_mark(&self) -> Option<Option<Window>>
+        ensures { (pool : List ℕ) → result ≡ window_mark [] (restored pool self.now) }
+    {
+        match self {
+            ShortEntry::Fetch { window, .. } => Some(Some(*window)),
+            ShortEntry::Observe { .. } => Some(None),
+            ShortEntry::Commit { .. }
+            | ShortEntry::Withdraw { .. }
+            | ShortEntry::Read { .. }
+            | ShortEntry::Pop { .. } => None,
+        }
+    }
+}
+
 /// Appends the bytes to the pool, in the room that was reserved, and says where they stand.
 fn kept_bytes(pool: &mut Vec<u8>, bytes: &[u8]) -> Stretch
     requires room { length pool.old.items + length bytes.now ≤ vec_capacity pool.old }

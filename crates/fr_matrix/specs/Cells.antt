@@ -125,14 +125,14 @@ cell_of p v cycle column slot r = record {
   number = r.window.number;
   look = look_in p v r;
   sender = sender_in v.channel r.sent;
-  marks = marks_in v.channel r;
+  marks = marks_in p v.channel r;
 }
 
 -- none where the channel has no slot
 abbrev pub slot_cell : Parameters → View → ℕ → ℕ → Recorded → Option ℕ → List ℕ
 slot_cell p v cycle column r None = []
 slot_cell p v cycle column r (Some slot) =
-    cell_text (cell_of p v cycle column slot r) v.channel r.sent (turned_bit v.channel r)
+    cell_text (cell_of p v cycle column slot r) v.channel r.sent (turned_bit p v.channel r)
 
 abbrev pub cell_at : Parameters → View → ℕ → ℕ → Recorded → List ℕ
 cell_at p v cycle column r =

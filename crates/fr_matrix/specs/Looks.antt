@@ -1,13 +1,13 @@
 -- What a cell shows of a window of the record: what was seen there, who sent it, and what became of all else (own
 -- profile).
-use Rattle.std.specs.Prelude.{ℕ, Bool, true, false, ◌&&◌, List, Option, Some, None, is_some, option_map, codes}
+use Rattle.std.specs.Prelude.{ℕ, ◌/◌, nat_lt, length, Bool, true, false, ◌&&◌, List, Option, Some, None, is_some, option_map, codes}
 use Rattle.std.specs.Prelude.{if◌then◌else◌}
 use Rattle.std.specs.List.{find, list_any}
 use Rattle.fr_bus.specs.declared.outcome.Fate.{Fate}
 use Rattle.fr_bus.specs.declared.outcome.Fate.TheVariants.{Passed, Blocked, Muted}
 use Rattle.fr_bus.specs.declared.outcome.Sent.{Sent}
-use Rattle.fr_bus.specs.Outcome.{is_of, passed_on}
-use Rattle.fr_bus.specs.Record.{Recorded, corrupt_on, seen_by}
+use Rattle.fr_bus.specs.Outcome.{passed_on}
+use Rattle.fr_bus.specs.Record.{Recorded, corrupt_on, heard, seen_by}
 use Rattle.fr_frame.specs.Decoding.{decoded}
 use Rattle.fr_frame.specs.Fields.{Fields}
 use Rattle.fr_matrix.specs.declared.look.Look.{Look}
@@ -34,21 +34,13 @@ look_of channel seen.Noise = look.Collision
 look_of channel seen.Overrun = look.Overrun
 look_of channel (seen.Bytes bytes) = look_read (decoded channel bytes.items)
 
--- a transmission of the node passed on the channel
-abbrev pub sends : Channel → ℕ → List Sent → Bool
-sends channel node sent = list_any (λ (t : Sent). passed_on channel t && is_of node t) sent
-
--- What the bus carried is what node 0 sees, and where node 0 sent, node 1: so of a transmission that passed alone it is
--- what those see who didn't send it.
-abbrev pub viewer_or : Option ℕ → Bool → ℕ
-viewer_or (Some node) zero_sends = node
-viewer_or None zero_sends = if zero_sends then 1 else 0
-
-abbrev pub viewer : View → List Sent → ℕ
-viewer v sent = viewer_or v.node (sends v.channel 0 sent)
+-- what the node sees, and without one what is heard by who sends nothing
+abbrev pub sight_in : Parameters → Channel → Recorded → Option ℕ → Seen
+sight_in p channel r (Some node) = seen_by p r channel node
+sight_in p channel r None = heard p r channel
 
 abbrev pub look_in : Parameters → View → Recorded → Look
-look_in p v r = look_of v.channel (seen_by p r v.channel (viewer v r.sent))
+look_in p v r = look_of v.channel (sight_in p v.channel r v.node)
 
 -- who sent what passed first on the channel
 abbrev pub sender_in : Channel → List Sent → Option ℕ
@@ -72,14 +64,25 @@ is_blocked channel t = is_channel t.channel channel && was_blocked t.fate
 abbrev pub is_lost : Channel → Sent → Bool
 is_lost channel t = is_channel t.channel channel && was_lost t.fate
 
-abbrev pub turned_bit : Channel → Recorded → Option ℕ
-turned_bit channel r = corrupt_on r channel
+-- The bit that was to be turned is turned where bytes came through that have it: not where several transmissions passed,
+-- or none, or one that was too long.
+abbrev pub turned_in : Option ℕ → Seen → Option ℕ
+turned_in None sight = None
+turned_in (Some bit) seen.Silence = None
+turned_in (Some bit) seen.Own = None
+turned_in (Some bit) seen.Conflict = None
+turned_in (Some bit) seen.Noise = None
+turned_in (Some bit) seen.Overrun = None
+turned_in (Some bit) (seen.Bytes bytes) = if nat_lt (bit / 8) (length bytes.items) then Some bit else None
 
-abbrev pub marks_in : Channel → Recorded → Marks
-marks_in channel r = record {
+abbrev pub turned_bit : Parameters → Channel → Recorded → Option ℕ
+turned_bit p channel r = turned_in (corrupt_on r channel) (heard p r channel)
+
+abbrev pub marks_in : Parameters → Channel → Recorded → Marks
+marks_in p channel r = record {
   blocked = list_any (is_blocked channel) r.sent;
   lost = list_any (is_lost channel) r.sent;
-  turned = is_some (turned_bit channel r);
+  turned = is_some (turned_bit p channel r);
 }
 
 -- ---- words

@@ -66,7 +66,7 @@ fn cell_of(
         number: sealed.window.number,
         look: look_in(params, view, sealed),
         sender: sender_in(view.channel, sealed.sent.as_slice()),
-        marks: marks_in(view.channel, sealed),
+        marks: marks_in(params, view.channel, sealed),
     }
 }
 
@@ -86,7 +86,7 @@ fn write_slot_cell<W: Write>(
     match sealed.window.slot(view.channel) {
         Some(slot) => {
             let cell = cell_of(params, view, cycle, column, slot, sealed);
-            let turned = turned_bit(view.channel, sealed);
+            let turned = turned_bit(params, view.channel, sealed);
             write_cell(writer, &cell, view.channel, sealed.sent.as_slice(), turned)
         }
         None => Ok(()),

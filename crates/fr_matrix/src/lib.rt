@@ -3,7 +3,7 @@
 //!
 //! ```text
 //! let view = View { channel: Channel::A, node: None, from: 0 };
-//! matrix_of(alloc, cluster.params(), world.bus().record(), view)?; // an SVG picture
+//! matrix_of(alloc, cluster.params(), world.bus().record(), &view)?; // an SVG picture
 //! ```
 //!
 //! *(own profile)* marks a rule of this project's own, which says nothing of the standard.

@@ -1,11 +1,10 @@
 //! What a cell shows of a window.
 
-ghost use Rattle.std.specs.Prelude.{◌≡◌, ◌&&◌, option_map};
+ghost use Rattle.std.specs.Prelude.{◌≡◌, option_map};
 ghost use Rattle.std.specs.List.{find, list_any};
-ghost use Rattle.fr_bus.specs.Outcome.{is_of, passed_on};
-ghost use Rattle.fr_bus.specs.Record.{corrupt_on};
+ghost use Rattle.fr_bus.specs.Outcome.{passed_on};
 ghost use Rattle.fr_frame.specs.Decoding.{decoded};
-ghost use Rattle.fr_matrix.specs.Looks.{look_in, look_of, look_read, look_word, marks_in, sender_in, sends, sign, viewer};
+ghost use Rattle.fr_matrix.specs.Looks.{look_in, look_of, look_read, look_word, marks_in, sender_in, sign};
 ghost use Rattle.fr_matrix.specs.Looks.{is_blocked, is_lost, turned_bit};
 
 use crate::view::View;
@@ -73,44 +72,22 @@ fn look_of(channel: Channel, seen: &Seen) -> Look
     }
 }
 
-/// Whether it passed on the channel.
-fn passed_on(channel: Channel, sent: &Sent) -> bool
-    ensures { result ≡ passed_on channel sent.now }
-{
-    sent.channel == channel && sent.fate == Fate::Passed
-}
-
-/// Whether a transmission of the node passed on the channel.
-fn sends(channel: Channel, node: NodeId, sent: &[Sent]) -> bool
-    ensures { result ≡ sends channel node sent.now }
-{
-    sent.iter().any(|t| passed_on(channel, t) && t.node == node)
-}
-
-/// Through whose eyes the window is seen: the node's, and else those of one that didn't send alone.
-fn viewer(view: &View, sent: &[Sent]) -> NodeId
-    ensures { result ≡ viewer view.now sent.now }
-{
-    match view.node {
-        Some(node) => node,
-        None if sends(view.channel, NodeId::from_number(0), sent) => NodeId::from_number(1),
-        None => NodeId::from_number(0),
-    }
-}
-
-/// What is seen of the window (own profile).
+/// What the node of the view sees of the window, and without one what is heard there by who sends nothing (own profile).
 pub fn look_in(params: &Params, view: &View, sealed: &Sealed) -> Look
     ensures { result ≡ look_in params.now view.now sealed.now }
 {
-    let viewer = viewer(view, sealed.sent.as_slice());
-    look_of(view.channel, &sealed.seen(params, view.channel, viewer))
+    let sight = match view.node {
+        Some(viewer) => sealed.seen(params, view.channel, viewer),
+        None => sealed.heard(params, view.channel),
+    };
+    look_of(view.channel, &sight)
 }
 
 /// Who sent what passed first on the channel, if anything did (own profile).
 pub fn sender_in(channel: Channel, sent: &[Sent]) -> Option<NodeId>
     ensures { result ≡ sender_in channel sent.now }
 {
-    match sent.iter().find(|t| passed_on(channel, t)) {
+    match sent.iter().find(|t| t.passed_on(channel)) {
         Some(t) => Some(t.node),
         None => None,
     }
@@ -144,24 +121,24 @@ fn any_lost(channel: Channel, sent: &[Sent]) -> bool
     sent.iter().any(|t| is_lost(channel, t))
 }
 
-/// The bit that a fault turns on the channel, if any.
-pub fn turned_bit(channel: Channel, sealed: &Sealed) -> Option<u16>
-    ensures { result ≡ turned_bit channel sealed.now }
+/// The bit that a fault turned of what came through on the channel, if any (own profile).
+pub fn turned_bit(params: &Params, channel: Channel, sealed: &Sealed) -> Option<u16>
+    ensures { result ≡ turned_bit params.now channel sealed.now }
 {
-    match channel {
-        Channel::A => sealed.corrupt[0],
-        Channel::B => sealed.corrupt[1],
+    match (sealed.corrupt_on(channel), sealed.heard(params, channel)) {
+        (Some(bit), Seen::Bytes(bytes)) if usize::from(bit / 8) < bytes.len() => Some(bit),
+        _ => None,
     }
 }
 
 /// What became of the transmissions on the channel (own profile).
-pub fn marks_in(channel: Channel, sealed: &Sealed) -> Marks
-    ensures { result ≡ marks_in channel sealed.now }
+pub fn marks_in(params: &Params, channel: Channel, sealed: &Sealed) -> Marks
+    ensures { result ≡ marks_in params.now channel sealed.now }
 {
     Marks {
         blocked: any_blocked(channel, sealed.sent.as_slice()),
         lost: any_lost(channel, sealed.sent.as_slice()),
-        turned: turned_bit(channel, sealed).is_some(),
+        turned: turned_bit(params, channel, sealed).is_some(),
     }
 }
 

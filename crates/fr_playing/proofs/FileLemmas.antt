@@ -1,6 +1,6 @@
 -- What a play with the scenario of a file answers, by what its parts do.
-use Rattle.std.proofs.Common.{ℕ, List, Option, Some, None, Result, Ok, Err, ◌≡◌, subst}
-use Rattle.std.specs.Prelude.{IfErr, IfOk, IfSome}
+use Rattle.std.proofs.Common.{ℕ, List, Option, Some, None, Ok, Err, ◌≡◌, subst}
+use Rattle.std.specs.Prelude.{IfSome}
 use Rattle.fr_commands.specs.declared.error.BenchError.TheVariants as bench
 use Rattle.fr_core.specs.Scripts.{Scripted}
 use Rattle.fr_outcome.specs.declared.file_error.FileError.{FileError}
@@ -11,7 +11,7 @@ use Rattle.fr_playing.specs.declared.error.PlayError.TheVariants as refusal
 use Rattle.fr_playing.specs.declared.play.Played.{Played}
 use Rattle.fr_playing.specs.Files.{IsPlayOf}
 use Rattle.fr_playing.specs.Playing.{IsPlayed}
-use Rattle.fr_playing.specs.Refusals.{failure_of_file, refusal_of, refusal_told, IsOfRun}
+use Rattle.fr_playing.specs.Refusals.{failure_of_file, refusal_of, IsOfRun}
 use Rattle.fr_runs.specs.declared.fault_line.FaultLine.{FaultLine}
 use Rattle.fr_runs.specs.Refusing.{Refuses}
 use Rattle.fr_scenario.specs.Contents.{Contents}
@@ -49,28 +49,32 @@ refused_by d cycles text (refusal.Text bench.BadNumber) is told = absurd is
 refused_by d cycles text (refusal.Text (bench.Config e)) is told = absurd is
 refused_by d cycles text (refusal.Text (bench.Midpoint e)) is told = absurd is
 
-played_with : (d : Description) (cycles : ℕ) (text : List ℕ) (contents : Contents) (result : Result Played PlayError) → IsScenarioOf text (Ok contents)
-    → Refuses d contents.scripts contents.faults cycles (refusal_told result) → IfErr result IsOfRun
-    → IfOk result (IsPlayed d contents.scripts contents.faults cycles) → IsPlayOf d cycles text result
-played_with d cycles text contents (Ok played) read refuses kind is = ((read.0, (contents, read.1, refuses)), (contents, read.1, is))
-played_with d cycles text contents (Err e) read refuses kind is = refused_by d cycles text e kind (read.0, (contents, read.1, refuses))
+-- why there is no run with the scenario that was read
+pub unplayed : (d : Description) (cycles : ℕ) (text : Option (List ℕ)) (contents : Contents) (scripts : List Scripted) (faults : List FaultLine) (e : PlayError)
+    → scripts ≡ contents.scripts → faults ≡ contents.faults → IfSome text (λ t. IsScenarioOf t (Ok contents)) → IsOfRun e
+    → Refuses d scripts faults cycles (refusal_of e) → IfSome text (λ t. IsPlayOf d cycles t (Err e))
+unplayed d cycles None contents scripts faults e same_scripts same_faults read kind refuses = tt
+unplayed d cycles (Some t) contents scripts faults e same_scripts same_faults read kind refuses =
+    refused_by d cycles t e kind (
+      read.0,
+      (
+        contents,
+        read.1,
+        subst (λ (ss : List Scripted). Refuses d ss contents.faults cycles (refusal_of e)) same_scripts
+            (subst (λ (fs : List FaultLine). Refuses d scripts fs cycles (refusal_of e)) same_faults refuses),
+      ),
+    )
 
--- what a play with the scenario that was read answers
-pub played_of : (d : Description) (cycles : ℕ) (text : Option (List ℕ)) (contents : Contents) (result : Result Played PlayError)
-    → IfSome text (λ t. IsScenarioOf t (Ok contents)) → Refuses d contents.scripts contents.faults cycles (refusal_told result) → IfErr result IsOfRun
-    → IfOk result (IsPlayed d contents.scripts contents.faults cycles) → IfSome text (λ t. IsPlayOf d cycles t result)
-played_of d cycles None contents result read refuses kind is = tt
-played_of d cycles (Some t) contents result read refuses kind is = played_with d cycles t contents result read refuses kind is
-
--- the same, where scripts and faults are those of the scenario
-pub played_from : (d : Description) (cycles : ℕ) (text : Option (List ℕ)) (contents : Contents) (scripts : List Scripted) (faults : List FaultLine)
-    (result : Result Played PlayError) → scripts ≡ contents.scripts → faults ≡ contents.faults → IfSome text (λ t. IsScenarioOf t (Ok contents))
-    → Refuses d scripts faults cycles (refusal_told result) → IfErr result IsOfRun → IfOk result (IsPlayed d scripts faults cycles)
-    → IfSome text (λ t. IsPlayOf d cycles t result)
-played_from d cycles text contents scripts faults result same_scripts same_faults read refuses kind is =
-    played_of d cycles text contents result read
-    (subst (λ (ss : List Scripted). Refuses d ss contents.faults cycles (refusal_told result)) same_scripts
-    (subst (λ (fs : List FaultLine). Refuses d scripts fs cycles (refusal_told result)) same_faults refuses))
-    kind
-    (subst (λ (ss : List Scripted). IfOk result (IsPlayed d ss contents.faults cycles)) same_scripts
-    (subst (λ (fs : List FaultLine). IfOk result (IsPlayed d scripts fs cycles)) same_faults is))
+-- the run with the scenario that was read
+pub played_of : (d : Description) (cycles : ℕ) (text : Option (List ℕ)) (contents : Contents) (scripts : List Scripted) (faults : List FaultLine) (played : Played)
+    → scripts ≡ contents.scripts → faults ≡ contents.faults → IfSome text (λ t. IsScenarioOf t (Ok contents)) → Refuses d scripts faults cycles None
+    → IsPlayed d scripts faults cycles played → IfSome text (λ t. IsPlayOf d cycles t (Ok (record { scenario = contents; played = played })))
+played_of d cycles None contents scripts faults played same_scripts same_faults read refuses is = tt
+played_of d cycles (Some t) contents scripts faults played same_scripts same_faults read refuses is =
+    let refused : Refuses d contents.scripts contents.faults cycles None =
+    subst (λ (ss : List Scripted). Refuses d ss contents.faults cycles None) same_scripts
+    (subst (λ (fs : List FaultLine). Refuses d scripts fs cycles None) same_faults refuses) in
+    let run : IsPlayed d contents.scripts contents.faults cycles played =
+    subst (λ (ss : List Scripted). IsPlayed d ss contents.faults cycles played) same_scripts
+    (subst (λ (fs : List FaultLine). IsPlayed d scripts fs cycles played) same_faults is) in
+    ((read.0, (contents, read.1, refused)), (read.1, run))

@@ -4,22 +4,22 @@ use Rattle.fr_commands.specs.declared.error.BenchError.TheVariants as bench
 use Rattle.fr_outcome.specs.ScenarioFiles.{IsShort, IsRefused, RunIsRefused}
 use Rattle.fr_playing.specs.declared.error.PlayError.{PlayError}
 use Rattle.fr_playing.specs.declared.error.PlayError.TheVariants as refusal
-use Rattle.fr_playing.specs.declared.play.Played.{Played}
+use Rattle.fr_playing.specs.declared.file.PlayedFile.{PlayedFile}
 use Rattle.fr_playing.specs.Playing.{IsPlayed}
-use Rattle.fr_scenario.specs.Contents.{Contents}
 use Rattle.fr_scenario.specs.ScenarioText.{IsScenarioText}
 use Rattle.fr_schedule.specs.Descriptions.{Description}
 
--- the run is one of the cluster with the scenario that the text is
-abbrev pub IsPlayIn : Description → ℕ → List ℕ → Played → Type 0
-IsPlayIn d cycles text played =
-    (contents : Contents) × IsScenarioText text contents × IsPlayed d contents.scripts contents.faults cycles played
+-- the scenario is the one that the text is, and the run is one of the cluster with it
+abbrev pub IsPlayIn : Description → ℕ → List ℕ → PlayedFile → Type 0
+IsPlayIn d cycles text file =
+    IsScenarioText text file.scenario
+    × IsPlayed d file.scenario.scripts file.scenario.faults cycles file.played
 
 -- The run with the scenario that the text is, or why there is none: the text is refused so, or the run with it. Of a
 -- failing reader and of want of memory nothing is said, nor of an event that the world refused in a run that can be
 -- had.
-abbrev pub IsPlayOf : Description → ℕ → List ℕ → Result Played PlayError → Type 0
-IsPlayOf d cycles text (Ok played) = RunIsRefused d cycles text None × IsPlayIn d cycles text played
+abbrev pub IsPlayOf : Description → ℕ → List ℕ → Result PlayedFile PlayError → Type 0
+IsPlayOf d cycles text (Ok file) = RunIsRefused d cycles text None × IsPlayIn d cycles text file
 IsPlayOf d cycles text (Err (refusal.Run e)) = RunIsRefused d cycles text (Some e)
 IsPlayOf d cycles text (Err (refusal.Step e)) = RunIsRefused d cycles text None
 IsPlayOf d cycles text (Err refusal.Unfinished) = RunIsRefused d cycles text None

@@ -1,16 +1,32 @@
 -- How the errors of a run without threads follow from those of its files, and which of them says that it can't be had
 -- (own profile).
 use Rattle.std.specs.Prelude.{⊤, Option, Some, None, Result, Ok, Err}
+use Rattle.fr_bus.specs.declared.error.BusError.TheVariants as bus
 use Rattle.fr_commands.specs.declared.error.BenchError.TheVariants as bench
+use Rattle.fr_core.specs.declared.error.StepError.{StepError}
+use Rattle.fr_core.specs.declared.error.StepError.TheVariants as step
 use Rattle.fr_outcome.specs.declared.file_error.FileError.{FileError}
 use Rattle.fr_outcome.specs.declared.file_error.FileError.TheVariants as file
 use Rattle.fr_playing.specs.declared.error.PlayError.{PlayError}
 use Rattle.fr_playing.specs.declared.error.PlayError.TheVariants as refusal
+use Rattle.fr_playing.specs.declared.hindrance.Hindrance.{Hindrance}
+use Rattle.fr_playing.specs.declared.hindrance.Hindrance.TheVariants as hindrance
 use Rattle.fr_runs.specs.declared.check.RunRefusal.{RunRefusal}
 
 abbrev pub failure_of_file : FileError → PlayError
 failure_of_file (file.Text e) = refusal.Text e
 failure_of_file (file.Scenario e) = refusal.Scenario e
+
+-- what ends a play, where the world refuses an event
+abbrev pub hindrance_of : StepError → Hindrance
+hindrance_of (step.Bus bus.Memory) = hindrance.Memory
+hindrance_of e = hindrance.Step e
+
+-- as an error
+abbrev pub error_of_hindrance : Hindrance → PlayError
+error_of_hindrance (hindrance.Step e) = refusal.Step e
+error_of_hindrance hindrance.Unfinished = refusal.Unfinished
+error_of_hindrance hindrance.Memory = refusal.Text bench.Memory
 
 -- why the run can't be had, where the error says that
 abbrev pub refusal_of : PlayError → Option RunRefusal

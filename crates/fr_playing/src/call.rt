@@ -27,21 +27,6 @@ pub struct Call {
     pub reply: Reply,
 }
 
-/// The same action.
-fn duplicate_action(action: &Action) -> Action
-    ensures { result ≡ action.now }
-{
-    match action {
-        Action::Commit { buffer, payload } => Action::Commit {
-            buffer: *buffer,
-            payload: payload.duplicate(),
-        },
-        Action::Withdraw { buffer } => Action::Withdraw { buffer: *buffer },
-        Action::Read { buffer } => Action::Read { buffer: *buffer },
-        Action::Pop => Action::Pop,
-    }
-}
-
 /// The action of the node's task as an event.
 fn event_of(node: NodeId, task: TaskId, action: &Action) -> Event
     ensures { result ≡ event_of node task action.now }
@@ -95,7 +80,7 @@ fn do_action(
         node,
         task,
         cycle,
-        action: duplicate_action(action),
+        action: action.duplicate(),
         entry,
         reply,
     })

@@ -5,28 +5,40 @@ ghost use Rattle.fr_playing.specs.Files.{IsPlayOf};
 use crate::error::PlayError;
 use crate::play::{Played, play};
 use fr_outcome::scenario_file::scenario_of;
+use fr_scenario::scenario::Scenario;
 use fr_schedule::cluster::Cluster;
 use std::alloc::Global;
 use std::io::Read;
 
-/// Reads a scenario file to its end, and plays a run of the cluster with it for so many cycles (own profile).
+/// A scenario, and what a run with it leaves (own profile).
+#[derive(Drop)]
+pub struct PlayedFile {
+    /// The scenario that the file is.
+    pub scenario: Scenario,
+    /// What the run leaves.
+    pub played: Played,
+}
+
+/// Reads a scenario file to its end, and plays a run of the cluster with it for so many cycles (own profile). Gives the
+/// scenario too.
 ///
 /// Refused as the file of the scenario is, then as the run is (`play`).
-#[tactic(auto, using(crate::proofs::FileLemmas::file_refused, crate::proofs::FileLemmas::played_of))]
+#[tactic(auto, using(crate::proofs::FileLemmas::file_refused))]
 pub fn play_file<R: Read>(
     alloc: Global,
     cluster: &Cluster,
     reader: &mut R,
     cycles: u16,
-) -> Result<Played, PlayError>
+) -> Result<PlayedFile, PlayError>
     ensures { IfSome (R.remaining reader.old) (λ text. IsPlayOf cluster.now cycles text result) }
 {
     let scenario = scenario_of(alloc, reader)?;
-    play(
+    let played = play(
         alloc,
         cluster,
         scenario.scripts(),
         scenario.faults(),
         cycles,
-    )
+    )?;
+    Ok(PlayedFile { scenario, played })
 }

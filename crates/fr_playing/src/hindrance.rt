@@ -1,6 +1,8 @@
 //! What ends a play before the run is over.
 ghost use Rattle.std.specs.Prelude.{◌≡◌, None};
-ghost use Rattle.fr_playing.specs.Refusals.{refusal_of, IsOfRun};
+ghost use Rattle.fr_playing.specs.Refusals.{error_of_hindrance, hindrance_of, refusal_of, IsOfRun};
+ghost use Rattle.fr_playing.specs.declared.hindrance.Hindrance.TheVariants as hindrance;
+ghost use Rattle.fr_core.specs.declared.error.StepError.TheVariants as step;
 
 use crate::error::PlayError;
 use fr_bus::error::BusError;
@@ -21,6 +23,7 @@ pub(crate) enum Hindrance {
 
 /// The hindrance as an error.
 pub(crate) fn error_of(hindrance: Hindrance) -> PlayError
+    ensures error { result ≡ error_of_hindrance hindrance }
     ensures told { refusal_of result ≡ None }
     ensures kind { IsOfRun result }
 {
@@ -32,6 +35,8 @@ pub(crate) fn error_of(hindrance: Hindrance) -> PlayError
 }
 
 impl From<StepError> for Hindrance {
+    ghost from_gives = { λ error given. given ≡ hindrance_of error };
+
     fn from(error: StepError) -> Hindrance {
         match error {
             StepError::Bus(BusError::Memory) => Hindrance::Memory,
@@ -41,18 +46,24 @@ impl From<StepError> for Hindrance {
 }
 
 impl From<BusError> for Hindrance {
+    ghost from_gives = { λ error given. given ≡ hindrance_of (step.Bus error) };
+
     fn from(error: BusError) -> Hindrance {
         Hindrance::from(StepError::Bus(error))
     }
 }
 
 impl From<AllocError> for Hindrance {
+    ghost from_gives = { λ _ given. given ≡ hindrance.Memory };
+
     fn from(_error: AllocError) -> Hindrance {
         Hindrance::Memory
     }
 }
 
 impl<T: Drop> From<AllocFailed<T>> for Hindrance {
+    ghost from_gives = { λ _ given. given ≡ hindrance.Memory };
+
     fn from(_error: AllocFailed<T>) -> Hindrance {
         Hindrance::Memory
     }

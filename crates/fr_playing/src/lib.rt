@@ -5,7 +5,7 @@
 //! played.world.interfaces(); // what each node's journal has by then
 //! played.world.bus().record(); // what each window had
 //! played.calls; // what each line of a script did, and how it was answered, in the order in which they were done
-//! play_file(alloc, &cluster, &mut scenario_file, cycles)?; // the same with the scenario of a file
+//! play_file(alloc, &cluster, &mut scenario_file, cycles)?.played; // the same with the scenario of a file
 //! ```
 //!
 //! *(own profile)* marks a rule of this project's own, which says nothing of the standard.

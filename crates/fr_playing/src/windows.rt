@@ -14,7 +14,7 @@ use fr_session::striking::strike_all;
 fn pass(world: &mut World, event: &Event) -> Result<(), Hindrance>
     ensures { OnOk result (Passes world.old (event.now ∷ []) world.new) }
 {
-    let _reply = world.step(event)?;
+    world.apply(event)?;
     Ok(())
 }
 

@@ -303,21 +303,11 @@ fn are_babbled(lines: &[FaultLine], cycle: u16, sealed: &Sealed) -> bool
     true
 }
 
-/// The bit that is turned on the channel of the window, if any.
-fn corrupt_on(sealed: &Sealed, channel: Channel) -> Option<u16>
-    ensures { result ≡ corrupt_on sealed.now channel }
-{
-    match channel {
-        Channel::A => sealed.corrupt[0],
-        Channel::B => sealed.corrupt[1],
-    }
-}
-
 /// Whether the bit that is turned on the channel of the window is the one that the lines turn.
 fn is_bit_due(lines: &[FaultLine], cycle: u16, sealed: &Sealed, channel: Channel) -> bool
     ensures { IsTrue result ↔ (corrupt_on sealed.now channel ≡ bit_due lines.now cycle sealed.now.window channel) }
 {
-    corrupt_on(sealed, channel) == bit_due(lines, cycle, &sealed.window, channel)
+    sealed.corrupt_on(channel) == bit_due(lines, cycle, &sealed.window, channel)
 }
 
 /// Whether the window, which lies in the cycle of this number of the run, has the faults of the lines that strike there,

@@ -8,13 +8,13 @@ use Rattle.std.proofs.lemmas.List.{get_or-set_same, get_or-set_other, append-nil
 use Rattle.std.proofs.lemmas.List.{length-replicate}
 use Rattle.std.proofs.lemmas.List.FromFn.{fill_by_all}
 use Rattle.std.proofs.Math.ListN.{length-set}
-use Rattle.std.specs.List.{fold, flat_map, range_with_len}
+use Rattle.std.specs.List.{flat_map, range_with_len}
 use Rattle.fr_core.specs.declared.script.Line.{Line}
 use Rattle.fr_core.specs.Scripts.{Scripted}
-use Rattle.fr_scenario.specs.Contents.{script_of, node_at, task_at, task_lines, fault_lines, scripts_of}
+use Rattle.fr_scenario.specs.Contents.{script_of, node_at, task_at, task_lines, fault_lines, fault_numbers, scripts_of}
 use Rattle.fr_scenario.specs.declared.spelled.SpelledLine.{SpelledLine}
 use Rattle.fr_scenario.specs.declared.spelled.SpelledLine.TheVariants.{Host, Fault as FaultOf}
-use Rattle.fr_scenario.specs.Gathering.{Kept, none_yet, place_of, with_line, scripts_from}
+use Rattle.fr_scenario.specs.Gathering.{Kept, none_yet, place_of, with_line, with_lines, scripts_from}
 use Rattle.fr_scenario.specs.declared.version.Version.{Version}
 use Rattle.fr_scenario.specs.Spelled.{IsSpelledLine}
 use Rattle.fr_slots.specs.Plans.{Each}
@@ -36,13 +36,13 @@ replicate-more n x = replicate-append-replicate n 1 x
 
 -- ---- what lines give each task
 
-length-with_line : (g : Kept) (l : SpelledLine) → length (with_line g l).tasks ≡ length g.tasks
-length-with_line g (Host node task line) = length-set g.tasks (place_of node task) _
-length-with_line g (FaultOf f) = refl
+length-with_line : (n : ℕ) (g : Kept) (l : SpelledLine) → length (with_line n g l).tasks ≡ length g.tasks
+length-with_line n g (Host node task line) = length-set g.tasks (place_of node task) _
+length-with_line n g (FaultOf f) = refl
 
-pub length-kept : (lines : List SpelledLine) (g : Kept) → length (fold with_line g lines).tasks ≡ length g.tasks
-length-kept [] g = refl
-length-kept (l ∷ lines) g = length-kept lines (with_line g l) ∙ length-with_line g l
+pub length-kept : (n : ℕ) (lines : List SpelledLine) (g : Kept) → length (with_lines n g lines).tasks ≡ length g.tasks
+length-kept n [] g = refl
+length-kept n (l ∷ lines) g = length-kept (n + 1) lines (with_line n g l) ∙ length-with_line n g l
 
 here : (node task k : ℕ) → task < 8 → 8 * node + task ≡ k → (node == k / 8 && task == k % 8) ≡ true
 here node task k small is =
@@ -58,9 +58,9 @@ elsewhere node task k other =
     ]
 
 -- one line more at its task
-step : (version : Version) (g : Kept) (l : SpelledLine) (lines : List SpelledLine) (k : ℕ) → IsSpelledLine version l → length g.tasks ≡ 128 → k < 128
-    → get_or (with_line g l).tasks k [] ++ task_lines (node_at k) (task_at k) lines ≡ get_or g.tasks k [] ++ task_lines (node_at k) (task_at k) (l ∷ lines)
-step version g (Host node task line) lines k fits len within =
+step : (version : Version) (n : ℕ) (g : Kept) (l : SpelledLine) (lines : List SpelledLine) (k : ℕ) → IsSpelledLine version l → length g.tasks ≡ 128 → k < 128
+    → get_or (with_line n g l).tasks k [] ++ task_lines (node_at k) (task_at k) lines ≡ get_or g.tasks k [] ++ task_lines (node_at k) (task_at k) (l ∷ lines)
+step version n g (Host node task line) lines k fits len within =
     let low = fits.task_fits in
     let high = fits.node_fits in
     let place = place_of node task in
@@ -74,13 +74,13 @@ step version g (Host node task line) lines k fits len within =
       | inr other ↦
           rw (elsewhere node task k other) (ap (λ xs. xs ++ task_lines (node_at k) (task_at k) lines) (get_or-set_other g.tasks place k (old ++ line ∷ []) [] (λ e. other (sym e))))
     ]
-step version g (FaultOf f) lines k fits len within = refl
+step version n g (FaultOf f) lines k fits len within = refl
 
-kept_lines : (version : Version) (lines : List SpelledLine) (g : Kept) (k : ℕ) → Each (IsSpelledLine version) lines → length g.tasks ≡ 128 → k < 128
-    → get_or (fold with_line g lines).tasks k [] ≡ get_or g.tasks k [] ++ task_lines (node_at k) (task_at k) lines
-kept_lines version [] g k fit len within = sym (append-nil (get_or g.tasks k []))
-kept_lines version (l ∷ lines) g k fit len within =
-    kept_lines version lines (with_line g l) k fit.1 (length-with_line g l ∙ len) within ∙ step version g l lines k fit.0 len within
+kept_lines : (version : Version) (n : ℕ) (lines : List SpelledLine) (g : Kept) (k : ℕ) → Each (IsSpelledLine version) lines → length g.tasks ≡ 128 → k < 128
+    → get_or (with_lines n g lines).tasks k [] ≡ get_or g.tasks k [] ++ task_lines (node_at k) (task_at k) lines
+kept_lines version n [] g k fit len within = sym (append-nil (get_or g.tasks k []))
+kept_lines version n (l ∷ lines) g k fit len within =
+    kept_lines version (n + 1) lines (with_line n g l) k fit.1 (length-with_line n g l ∙ len) within ∙ step version n g l lines k fit.0 len within
 
 nothing_yet : (n k : ℕ) → get_or (replicate {A = List Line} n []) k [] ≡ []
 nothing_yet zero k = refl
@@ -93,19 +93,27 @@ scripts_by : (f : ℕ → List Line) (n place : ℕ) → scripts_from place (map
 scripts_by f zero place = refl
 scripts_by f (suc n) place = ap (λ ss. script_of (node_at place) (task_at place) (f place) ++ ss) (scripts_by f n (place + 1))
 
-pub scripts_kept : (version : Version) (lines : List SpelledLine) → Each (IsSpelledLine version) lines → scripts_from 0 (fold with_line none_yet lines).tasks ≡ scripts_of lines
+pub scripts_kept : (version : Version) (lines : List SpelledLine) → Each (IsSpelledLine version) lines → scripts_from 0 (with_lines 2 none_yet lines).tasks ≡ scripts_of lines
 scripts_kept version lines fit =
-    let tasks = (fold with_line none_yet lines).tasks in
+    let tasks = (with_lines 2 none_yet lines).tasks in
     let f = λ (k : ℕ). task_lines (node_at k) (task_at k) lines in
     let len : length none_yet.tasks ≡ 128 = length-replicate {A = List Line} 128 [] in
-    let all : length tasks ≡ 128 = length-kept lines none_yet ∙ len in
-    let each = λ (k : ℕ) (within : k < 128). kept_lines version lines none_yet k fit len within ∙ ap (λ xs. xs ++ f k) (nothing_yet 128 k) in
+    let all : length tasks ≡ 128 = length-kept 2 lines none_yet ∙ len in
+    let each = λ (k : ℕ) (within : k < 128). kept_lines version 2 lines none_yet k fit len within ∙ ap (λ xs. xs ++ f k) (nothing_yet 128 k) in
     ap (scripts_from 0) (fill_by_all f tasks 128 [] all each) ∙ scripts_by f 128 0
 
-faults_more : (lines : List SpelledLine) (g : Kept) → (fold with_line g lines).faults ≡ g.faults ++ fault_lines lines
-faults_more [] g = sym (append-nil g.faults)
-faults_more (Host node task line ∷ lines) g = faults_more lines (with_line g (Host node task line))
-faults_more (FaultOf f ∷ lines) g = faults_more lines (with_line g (FaultOf f)) ∙ append_assoc g.faults (f ∷ []) (fault_lines lines)
+faults_more : (n : ℕ) (lines : List SpelledLine) (g : Kept) → (with_lines n g lines).faults ≡ g.faults ++ fault_lines lines
+faults_more n [] g = sym (append-nil g.faults)
+faults_more n (Host node task line ∷ lines) g = faults_more (n + 1) lines (with_line n g (Host node task line))
+faults_more n (FaultOf f ∷ lines) g = faults_more (n + 1) lines (with_line n g (FaultOf f)) ∙ append_assoc g.faults (f ∷ []) (fault_lines lines)
 
-pub faults_kept : (lines : List SpelledLine) → (fold with_line none_yet lines).faults ≡ fault_lines lines
-faults_kept lines = faults_more lines none_yet
+pub faults_kept : (lines : List SpelledLine) → (with_lines 2 none_yet lines).faults ≡ fault_lines lines
+faults_kept lines = faults_more 2 lines none_yet
+
+numbers_more : (n : ℕ) (lines : List SpelledLine) (g : Kept) → (with_lines n g lines).numbers ≡ g.numbers ++ fault_numbers n lines
+numbers_more n [] g = sym (append-nil g.numbers)
+numbers_more n (Host node task line ∷ lines) g = numbers_more (n + 1) lines (with_line n g (Host node task line))
+numbers_more n (FaultOf f ∷ lines) g = numbers_more (n + 1) lines (with_line n g (FaultOf f)) ∙ append_assoc g.numbers (n ∷ []) (fault_numbers (n + 1) lines)
+
+pub numbers_kept : (lines : List SpelledLine) → (with_lines 2 none_yet lines).numbers ≡ fault_numbers 2 lines
+numbers_kept lines = numbers_more 2 lines none_yet

@@ -8,7 +8,7 @@ use Rattle.std.proofs.lemmas.List.{take-append-drop}
 use Rattle.std.proofs.lemmas.List.Elements.{All-nil, All-cons}
 use Rattle.std.proofs.lemmas.List.Splits.{slice_split_at, join_with_byte-slice_split}
 use Rattle.std.proofs.lemmas.Slice.Eq.{bytes_eq-Decides}
-use Rattle.std.specs.List.{All, fold, flat_map, join_with_byte, range_with_len}
+use Rattle.std.specs.List.{All, flat_map, join_with_byte, range_with_len}
 use Rattle.std.specs.Prelude.{IfOk, IfErr}
 use Rattle.std.specs.Result.{result_err}
 use Rattle.std.specs.Str.{bytes_eq}
@@ -18,11 +18,11 @@ use Rattle.fr_scenario.proofs.LineLemmas.{line_takes, line_again, line_short, li
 use Rattle.fr_core.specs.declared.script.Line.{Line}
 use Rattle.fr_core.specs.Scripts.{Scripted}
 use Rattle.fr_runs.specs.declared.fault_line.FaultLine.{FaultLine}
-use Rattle.fr_scenario.proofs.TaskLemmas.{scripts_kept, faults_kept}
+use Rattle.fr_scenario.proofs.TaskLemmas.{scripts_kept, faults_kept, numbers_kept}
 use Rattle.fr_scenario.specs.Contents.{Contents, contents_of, task_lines, fault_lines, script_of, node_at, task_at}
-use Rattle.fr_scenario.specs.Contents.{scripts_of}
+use Rattle.fr_scenario.specs.Contents.{fault_numbers, scripts_of}
 use Rattle.fr_scenario.specs.Contents.{IsUnanswered, AreUnanswered}
-use Rattle.fr_scenario.specs.Gathering.{Kept, none_yet, with_line, kept_from, scripts_from}
+use Rattle.fr_scenario.specs.Gathering.{Kept, none_yet, with_lines, kept_from, scripts_from}
 use Rattle.fr_scenario.specs.declared.error.ScenarioError.{ScenarioError}
 use Rattle.fr_scenario.specs.declared.error.ScenarioError.TheVariants.{BadMagic, BadLine, TooManyLines, Truncated}
 use Rattle.fr_scenario.specs.declared.error.ScenarioError.TheVariants.{Memory}
@@ -281,23 +281,24 @@ no_first text bytes is bad = sym (ap with_contents (ap read_text (sym is) ∙ ba
 
 -- ---- what is kept of a text
 
-kept_ok : (g k : Kept) (r : Read) → kept_from g r ≡ Ok k → (ls : List SpelledLine) × (r ≡ Ok ls) × (fold with_line g ls ≡ k)
-kept_ok g k (Err e) h = cc h
-kept_ok g k (Ok ls) h = (ls, refl, cc h)
+kept_ok : (n : ℕ) (g k : Kept) (r : Read) → kept_from n g r ≡ Ok k → (ls : List SpelledLine) × (r ≡ Ok ls) × (with_lines n g ls ≡ k)
+kept_ok n g k (Err e) h = cc h
+kept_ok n g k (Ok ls) h = (ls, refl, cc h)
 
-pub kept_refused : (g : Kept) (r : Read) (e : ScenarioError) → kept_from g r ≡ Err e → r ≡ Err e
-kept_refused g (Ok ls) e h = cc h
-kept_refused g (Err f) e h = cc h
+pub kept_refused : (n : ℕ) (g : Kept) (r : Read) (e : ScenarioError) → kept_from n g r ≡ Err e → r ≡ Err e
+kept_refused n g (Ok ls) e h = cc h
+kept_refused n g (Err f) e h = cc h
 
-pub made : (version : Version) (text rest : List ℕ) (k : Kept) (scripts : List Scripted) (faults : List FaultLine) → text ≡ (first_line version ++ line_feed) ++ rest
-    → kept_from none_yet (read_from version 2 (lines_in rest)) ≡ Ok k → scripts ≡ scripts_from 0 k.tasks → faults ≡ k.faults
-    → Ok (record { scripts = scripts; faults = faults }) ≡ scenario_in text
-made version text rest k scripts faults is kept ss fs =
-    let (ls, read, same) = kept_ok none_yet k (read_from version 2 (lines_in rest)) kept in
+pub made : (version : Version) (text rest : List ℕ) (k : Kept) (scripts : List Scripted) (faults : List FaultLine) (numbers : List ℕ)
+    → text ≡ (first_line version ++ line_feed) ++ rest → kept_from 2 none_yet (read_from version 2 (lines_in rest)) ≡ Ok k → scripts ≡ scripts_from 0 k.tasks
+    → faults ≡ k.faults → numbers ≡ k.numbers → Ok (record { scripts = scripts; faults = faults; numbers = numbers }) ≡ scenario_in text
+made version text rest k scripts faults numbers is kept ss fs ns =
+    let (ls, read, same) = kept_ok 2 none_yet k (read_from version 2 (lines_in rest)) kept in
     let are = lines_found version 2 (lines_in rest) ls read in
     let scripts_are : scripts ≡ scripts_of ls = ss ∙ ap (λ (g : Kept). scripts_from 0 g.tasks) (sym same) ∙ scripts_kept version ls are.fit in
     let faults_are : faults ≡ fault_lines ls = fs ∙ ap (λ (g : Kept). g.faults) (sym same) ∙ faults_kept ls in
-    let value : contents_of ls ≡ record { scripts = scripts; faults = faults } = rw (scripts_are, faults_are) refl in
+    let numbers_are : numbers ≡ fault_numbers 2 ls = ns ∙ ap (λ (g : Kept). g.numbers) (sym same) ∙ numbers_kept ls in
+    let value : contents_of ls ≡ record { scripts = scripts; faults = faults; numbers = numbers } = rw (scripts_are, faults_are, numbers_are) refl in
     sym (ap scenario_in is ∙ ap with_contents (after_first version rest ∙ read) ∙ ap Ok value)
 
 pub refused : (version : Version) (text rest : List ℕ) (e : ScenarioError) → text ≡ (first_line version ++ line_feed) ++ rest → read_from version 2 (lines_in rest) ≡ Err e → Err e ≡ scenario_in text
@@ -330,10 +331,10 @@ scripts_unanswered version ls (k ∷ places) fit =
     Each-append (λ script. Each IsUnanswered script.lines) (script_of (node_at k) (task_at k) (task_lines (node_at k) (task_at k) ls)) _
     (script_unanswered (node_at k) (task_at k) _ (lines_unanswered version (node_at k) (task_at k) ls fit)) (scripts_unanswered version ls places fit)
 
-pub made_unanswered : (version : Version) (rest : List ℕ) (k : Kept) (scripts : List Scripted) → kept_from none_yet (read_from version 2 (lines_in rest)) ≡ Ok k → scripts ≡ scripts_from 0 k.tasks
-    → AreUnanswered scripts
+pub made_unanswered : (version : Version) (rest : List ℕ) (k : Kept) (scripts : List Scripted) → kept_from 2 none_yet (read_from version 2 (lines_in rest)) ≡ Ok k
+    → scripts ≡ scripts_from 0 k.tasks → AreUnanswered scripts
 made_unanswered version rest k scripts kept ss =
-    let (ls, read, same) = kept_ok none_yet k (read_from version 2 (lines_in rest)) kept in
+    let (ls, read, same) = kept_ok 2 none_yet k (read_from version 2 (lines_in rest)) kept in
     let are = lines_found version 2 (lines_in rest) ls read in
     let scripts_are : scripts ≡ scripts_of ls = ss ∙ ap (λ (g : Kept). scripts_from 0 g.tasks) (sym same) ∙ scripts_kept version ls are.fit in
     subst AreUnanswered (sym scripts_are) (scripts_unanswered version ls (range_with_len 0 128) are.fit)

@@ -5,7 +5,8 @@ use Rattle.fr_scenario.specs.declared.gathered.Gathered.TheInside.{Inside}
 use Rattle.fr_scenario.specs.Gathering.{Kept}
 
 abbrev pub kept_in : Inside → Kept
-kept_in g = record { tasks = map (λ lines. lines.items) g.tasks.items; faults = g.faults.items }
+kept_in g =
+    record { tasks = map (λ lines. lines.items) g.tasks.items; faults = g.faults.items; numbers = g.numbers.items }
 
 -- each task has a place
 abbrev pub HasAllTasks : Inside → Type 0

@@ -17,11 +17,12 @@ const TASKS_OF_NODE: usize = TASKS as usize;
 /// How many tasks all nodes can have.
 const TASK_COUNT: usize = NODES as usize * TASKS_OF_NODE;
 
-/// The lines of each task, by node and then task, and the fault lines.
+/// The lines of each task, by node and then task, and the fault lines with their numbers.
 #[derive(Drop)]
 pub(crate) struct Gathered {
     tasks: Vec<Vec<Line>>,
     faults: Vec<FaultLine>,
+    numbers: Vec<u32>,
 }
 
 impl Model for Gathered {
@@ -121,12 +122,13 @@ impl Gathered {
         Ok(Gathered {
             tasks: idle_tasks(alloc)?,
             faults: Vec::new(alloc),
+            numbers: Vec::new(alloc),
         })
     }
 
-    /// Keeps one line more.
-    pub(crate) fn add(&mut self, line: SpelledLine) -> Result<(), AllocError>
-        ensures { OnOk result (self.new ≡ with_line self.old line) }
+    /// Keeps one line more, which has this number in the text.
+    pub(crate) fn add(&mut self, number: u32, line: SpelledLine) -> Result<(), AllocError>
+        ensures { OnOk result (self.new ≡ with_line number self.old line) }
     {
         match line {
             SpelledLine::Host { node, task, line } => add_task_line(
@@ -136,18 +138,27 @@ impl Gathered {
             ),
             SpelledLine::Fault(fault) => {
                 self.faults.push(fault)?;
+                self.numbers.push(number)?;
                 Ok(())
             }
         }
     }
 
-    /// The scripts, by node and then task, and the fault lines.
-    pub(crate) fn finish(self, alloc: Global) -> Result<(Vec<Script>, Vec<FaultLine>), AllocError>
+    /// The scripts, by node and then task, and the fault lines with their numbers.
+    pub(crate) fn finish(
+        self,
+        alloc: Global,
+    ) -> Result<(Vec<Script>, Vec<FaultLine>, Vec<u32>), AllocError>
         ensures scripts { IfOk result (λ made. made.0.items ≡ scripts_from 0 self.tasks) }
         ensures faults { IfOk result (λ made. made.1.items ≡ self.faults) }
+        ensures numbers { IfOk result (λ made. made.2.items ≡ self.numbers) }
     {
-        let Gathered { tasks, faults } = self;
+        let Gathered {
+            tasks,
+            faults,
+            numbers,
+        } = self;
         let scripts = scripts_of(alloc, tasks)?;
-        Ok((scripts, faults))
+        Ok((scripts, faults, numbers))
     }
 }

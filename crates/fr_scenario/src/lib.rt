@@ -4,6 +4,7 @@
 //! let scenario = Scenario::from_text(alloc, "frscenario 2\npop 0 1 2\nmute 2 A * s*\nend\n")?;
 //! scenario.scripts(); // what each task is to do, by node and then task
 //! scenario.faults(); // the fault lines, in their order
+//! scenario.fault_numbers(); // which line of the text each of them is: the `mute` line is line 3
 //! let line = fault_line_of(b"mute 2 A * s*"); // one fault line by itself
 //! ```
 //!

@@ -21,6 +21,7 @@ use std::marker::Model;
 pub struct Scenario {
     scripts: Vec<Script>,
     faults: Vec<FaultLine>,
+    numbers: Vec<u32>,
 }
 
 impl Model for Scenario {
@@ -50,7 +51,7 @@ fn begun(text: &[u8]) -> Option<(Version, &[u8])>
 /// What the lines after the first one say, in this version.
 fn body_of(alloc: Global, version: Version, text: &[u8]) -> Result<Gathered, ScenarioError>
     ensures found { IfOk result
-        (λ gathered. kept_from none_yet (read_from version 2 (lines_in text.now)) ≡ Ok gathered) }
+        (λ gathered. kept_from 2 none_yet (read_from version 2 (lines_in text.now)) ≡ Ok gathered) }
     ensures refused { IfErr result (λ e. ¬ (e ≡ error.Memory) → read_from version 2 (lines_in text.now) ≡ Err e) }
 {
     let mut gathered = Gathered::new(alloc)?;
@@ -67,7 +68,7 @@ fn body_of(alloc: Global, version: Version, text: &[u8]) -> Result<Gathered, Sce
         let Some(line) = line_of(version, line) else {
             return Err(ScenarioError::BadLine(number));
         };
-        gathered.add(line)?;
+        gathered.add(number, line)?;
     }
     if left.is_empty() {
         Err(ScenarioError::Truncated)
@@ -91,8 +92,12 @@ impl Scenario {
             return Err(ScenarioError::BadMagic);
         };
         let gathered = body_of(alloc, version, rest)?;
-        let (scripts, faults) = gathered.finish(alloc)?;
-        Ok(Scenario { scripts, faults })
+        let (scripts, faults, numbers) = gathered.finish(alloc)?;
+        Ok(Scenario {
+            scripts,
+            faults,
+            numbers,
+        })
     }
 
     /// The scenario that a text spells (own profile).
@@ -147,5 +152,13 @@ impl Scenario {
         ensures { result.now ≡ self.now.faults }
     {
         self.faults.as_slice()
+    }
+
+    /// The number of each fault line in the text, in the order of the text (own profile). A line feed ends each line,
+    /// and the first line, which names the version, is line 1.
+    pub fn fault_numbers(&self) -> &[u32]
+        ensures { result.now ≡ self.now.numbers }
+    {
+        self.numbers.as_slice()
     }
 }

@@ -2,6 +2,7 @@ pub mod CommitLemmas
 pub mod DecidedLemmas
 pub mod FateLemmas
 pub mod GoingLemmas
+pub mod IdleLemmas
 pub mod PartLemmas
 pub mod RecordLemmas
 pub mod ShowLemmas

@@ -1,5 +1,5 @@
 -- The record, one window more.
-use Rattle.std.proofs.Common.{◌≡◌, ℕ, ◌+◌, ◌-◌, ◌≤◌, ◌<◌, cond, List, [], ◌∷◌, ◌++◌, length, take, get_or, Option, refl, sym, ap}
+use Rattle.std.proofs.Common.{◌≡◌, ℕ, ◌+◌, ◌-◌, ◌<◌, cond, List, [], ◌∷◌, ◌++◌, length, take, get_or, Option, sym, ap}
 use Rattle.std.proofs.Common.{subst, ◌∙◌, arith}
 use Rattle.std.specs.Io.KnownBytes.{Appends}
 use Rattle.std.proofs.KnownBytes.{Appends-trans}
@@ -7,23 +7,24 @@ use Rattle.std.proofs.lemmas.List.{take_more}
 use Rattle.std.proofs.lemmas.List.Sums.{sum_by-append}
 use Rattle.fr_bus.specs.Record.{Recorded}
 use Rattle.fr_bus.specs.Windows.{begins_cycle, cycles_begun}
+use Rattle.fr_scenario.specs.Contents.{Contents}
 use Rattle.fr_showing.specs.RecordText.{record_text, window_after, window_text}
 use Rattle.fr_slots.proofs.HistoryLemmas.{each_after-snoc}
 use Rattle.fr_slots.specs.Parameters.{Parameters}
 
 module _ (rs : List Recorded) (n : ℕ) (r : Recorded) (lt : n < length rs) (is : r ≡ get_or rs n r) where
-  passed : take (n + 1) rs ≡ take n rs ++ r ∷ []
+  pub passed : take (n + 1) rs ≡ take n rs ++ r ∷ []
   passed = take_more rs n r lt ∙ ap (λ (x : Recorded). take n rs ++ x ∷ []) (sym is)
 
   pub begun_more : cycles_begun (take (n + 1) rs) ≡ cycles_begun (take n rs) + cond (begins_cycle r) 1 0
   begun_more = ap cycles_begun passed ∙ omega (arith, sum_by-append (λ (x : Recorded). cond (begins_cycle x) 1 0) (take n rs) (r ∷ []))
 
-  pub window_more : (p : Parameters) (begun : ℕ) (old mid new : Option (List ℕ)) → begun ≡ cycles_begun (take (n + 1) rs)
-      → Appends old mid (record_text p (take n rs)) → Appends mid new (window_text p (begun - 1) r) → Appends old new (record_text p (take (n + 1) rs))
-  window_more p begun old mid new begun_is before more =
+  pub window_more : (s : Contents) (p : Parameters) (begun : ℕ) (old mid new : Option (List ℕ)) → begun ≡ cycles_begun (take (n + 1) rs)
+      → Appends old mid (record_text s p (take n rs)) → Appends mid new (window_text s p (begun - 1) r) → Appends old new (record_text s p (take (n + 1) rs))
+  window_more s p begun old mid new begun_is before more =
       let cycle : begun ≡ cycles_begun (take n rs ++ r ∷ []) = begun_is ∙ ap cycles_begun passed in
-      let text : window_text p (begun - 1) r ≡ window_after p (take n rs) r = ap (λ (b : ℕ). window_text p (b - 1) r) cycle in
-      let all : record_text p (take (n + 1) rs) ≡ record_text p (take n rs) ++ window_after p (take n rs) r =
-      ap (record_text p) passed ∙ each_after-snoc (window_after p) (take n rs) r in
+      let text : window_text s p (begun - 1) r ≡ window_after s p (take n rs) r = ap (λ (b : ℕ). window_text s p (b - 1) r) cycle in
+      let all : record_text s p (take (n + 1) rs) ≡ record_text s p (take n rs) ++ window_after s p (take n rs) r =
+      ap (record_text s p) passed ∙ each_after-snoc (window_after s p) (take n rs) r in
       subst (λ (t : List ℕ). Appends old new t) (sym all)
-      (Appends-trans old mid new (record_text p (take n rs)) (window_after p (take n rs) r) before (subst (λ (t : List ℕ). Appends mid new t) text more))
+      (Appends-trans old mid new (record_text s p (take n rs)) (window_after s p (take n rs) r) before (subst (λ (t : List ℕ). Appends mid new t) text more))

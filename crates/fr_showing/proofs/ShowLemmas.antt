@@ -6,10 +6,11 @@ use Rattle.fr_commands.specs.declared.error.BenchError.TheVariants as bench
 use Rattle.fr_outcome.specs.ScenarioFiles.{RunIsRefused}
 use Rattle.fr_playing.specs.declared.error.PlayError.{PlayError}
 use Rattle.fr_playing.specs.declared.error.PlayError.TheVariants as refusal
-use Rattle.fr_playing.specs.declared.play.Played.{Played}
+use Rattle.fr_playing.specs.declared.file.PlayedFile.{PlayedFile}
 use Rattle.fr_playing.specs.Files.{IsPlayOf}
 use Rattle.fr_schedule.specs.Descriptions.{Description}
 use Rattle.fr_showing.specs.declared.shown.Shown.{Shown}
+use Rattle.fr_showing.specs.Idle.{idle_lines}
 use Rattle.fr_showing.specs.Shows.{Adds, IsShown, LacksNode, Prints, Tells}
 
 -- a run that wasn't played isn't shown
@@ -48,21 +49,22 @@ unwritten d cycles shown text old new (refusal.Text (bench.Config e)) same = sam
 unwritten d cycles shown text old new (refusal.Text (bench.Midpoint e)) same = same
 
 -- a node that isn't there, or want of memory
-pub node_missing : (d : Description) (cycles : ℕ) (shown : Shown) (text : Option (List ℕ)) (played : Played) (e : PlayError) → IfSome text (λ t. IsPlayOf d cycles t (Ok played))
-    → (e ≡ refusal.Text bench.Memory) ⊎ ((e ≡ refusal.UnknownNode) × LacksNode shown played) → IfSome text (λ t. Tells d cycles shown t (Err e))
-node_missing d cycles shown None played e is why = tt
-node_missing d cycles shown (Some t) played e is (inl memory) = subst (λ (x : PlayError). Tells d cycles shown t (Err x)) (sym memory) tt
-node_missing d cycles shown (Some t) played e is (inr (unknown, none)) =
-    subst (λ (x : PlayError). Tells d cycles shown t (Err x)) (sym unknown) (played, is.1, none)
+pub node_missing : (d : Description) (cycles : ℕ) (shown : Shown) (text : Option (List ℕ)) (file : PlayedFile) (e : PlayError) → IfSome text (λ t. IsPlayOf d cycles t (Ok file))
+    → (e ≡ refusal.Text bench.Memory) ⊎ ((e ≡ refusal.UnknownNode) × LacksNode shown file) → IfSome text (λ t. Tells d cycles shown t (Err e))
+node_missing d cycles shown None file e is why = tt
+node_missing d cycles shown (Some t) file e is (inl memory) = subst (λ (x : PlayError). Tells d cycles shown t (Err x)) (sym memory) tt
+node_missing d cycles shown (Some t) file e is (inr (unknown, none)) =
+    subst (λ (x : PlayError). Tells d cycles shown t (Err x)) (sym unknown) (file, is.1, none)
 
 -- the text of the run was written
-pub shown_of : (d : Description) (cycles : ℕ) (shown : Shown) (text old new : Option (List ℕ)) (played : Played) (written : List ℕ)
-    → IfSome text (λ t. IsPlayOf d cycles t (Ok played)) → IsShown shown played written → Appends old new written → IfSome text (Adds d cycles shown old new)
-shown_of d cycles shown None old new played written is of_run added = tt
-shown_of d cycles shown (Some t) old new played written is of_run added = (played, written, is.1, of_run, added)
+pub shown_of : (d : Description) (cycles : ℕ) (shown : Shown) (text old new : Option (List ℕ)) (file : PlayedFile) (written idle : List ℕ)
+    → IfSome text (λ t. IsPlayOf d cycles t (Ok file)) → IsShown shown file written → Appends old new written → idle ≡ idle_lines file
+    → IfSome text (Adds d cycles shown old new idle)
+shown_of d cycles shown None old new file written idle is of_run added told = tt
+shown_of d cycles shown (Some t) old new file written idle is of_run added told = (file, written, is.1, of_run, added, told)
 
 -- it was to be written
-pub can_be_had : (d : Description) (cycles : ℕ) (text : Option (List ℕ)) (played : Played) → IfSome text (λ t. IsPlayOf d cycles t (Ok played))
+pub can_be_had : (d : Description) (cycles : ℕ) (text : Option (List ℕ)) (file : PlayedFile) → IfSome text (λ t. IsPlayOf d cycles t (Ok file))
     → IfSome text (λ t. RunIsRefused d cycles t None)
-can_be_had d cycles None played is = tt
-can_be_had d cycles (Some t) played is = is.0
+can_be_had d cycles None file is = tt
+can_be_had d cycles (Some t) file is = is.0

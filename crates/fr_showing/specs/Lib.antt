@@ -4,6 +4,8 @@ pub mod CommitText
 pub mod Ends
 pub mod FateSteps
 pub mod Fates
+pub mod Idle
+pub mod Origins
 pub mod RecordText
 pub mod Shows
 pub mod TakerSteps

@@ -1,5 +1,6 @@
--- The bus's record, a line for each transmission and each turned bit (own profile).
-use Rattle.std.specs.Prelude.{ℕ, ◌+◌, ◌-◌, Bool, true, false, List, [], ◌∷◌, ◌++◌, codes, take, Option, Some, None}
+-- The bus's record, a line for each transmission and each turned bit, with the line of the scenario that it comes from
+-- (own profile).
+use Rattle.std.specs.Prelude.{ℕ, ◌-◌, Bool, true, false, List, [], ◌∷◌, ◌++◌, codes, Option, Some, None}
 use Rattle.std.specs.Prelude.{if◌then◌else◌}
 use Rattle.std.specs.Fmt.{decimal}
 use Rattle.std.specs.List.{flat_map}
@@ -12,7 +13,9 @@ use Rattle.fr_frame.specs.Decoding.{decoded}
 use Rattle.fr_frame.specs.Fields.{Fields}
 use Rattle.fr_lines.specs.Parts.{absent, indicators, optional_number}
 use Rattle.fr_lines.specs.Spelling.{line_text}
+use Rattle.fr_scenario.specs.Contents.{Contents}
 use Rattle.fr_showing.specs.Ends.{end_of, end_word}
+use Rattle.fr_showing.specs.Origins.{origin_of_bit, origin_of_sent}
 use Rattle.fr_slots.specs.Admission.{letter_of}
 use Rattle.fr_slots.specs.declared.channel.Channel.{Channel}
 use Rattle.fr_slots.specs.declared.channel.Channel.TheVariants.{A, B}
@@ -65,30 +68,39 @@ frame_text channel bytes = line_of (frame_words (decoded channel bytes))
 
 -- ---- lines
 
--- the frame that it is, and its bytes as they were sent
-unfoldable pub bytes_line : Sent → List ℕ
-bytes_line t = line_text (frame_text t.channel t.bytes.items ∷ hex_text t.bytes.items ∷ [])
+-- the frame that it is, its bytes as they were sent, and the number of the scenario's line that it comes from, if it
+-- comes from one
+unfoldable pub bytes_line : Option ℕ → Sent → List ℕ
+bytes_line number t =
+    line_text (frame_text t.channel t.bytes.items ∷ hex_text t.bytes.items ∷ optional_number number ∷ [])
 
 -- where it was, what became of it, and the rest
-abbrev pub sent_line : Parameters → ℕ → Recorded → Sent → List ℕ
-sent_line p cycle r t =
-    line_of (place_text cycle r.window t.channel ∷ fate_text p r t ∷ []) ++ (32 ∷ []) ++ bytes_line t
+abbrev pub sent_line : Contents → Parameters → ℕ → Recorded → Sent → List ℕ
+sent_line s p cycle r t =
+    line_of (place_text cycle r.window t.channel ∷ fate_text p r t ∷ []) ++ (32 ∷ [])
+    ++ bytes_line (origin_of_sent s cycle r.window t) t
 
--- where a bit was to be turned, and which, counted from the most significant bit of the first byte
-abbrev pub bit_lines : ℕ → Recorded → Channel → Option ℕ → List ℕ
-bit_lines cycle r channel None = []
-bit_lines cycle r channel (Some bit) =
-    line_text (place_text cycle r.window channel ∷ absent ∷ codes "corrupt" ∷ decimal bit ∷ [])
+-- which bit was to be turned, counted from the most significant bit of the first byte, and the number of the scenario's
+-- line that it comes from
+unfoldable pub turned_line : Option ℕ → ℕ → List ℕ
+turned_line number bit = line_text (absent ∷ codes "corrupt" ∷ decimal bit ∷ optional_number number ∷ [])
+
+-- where it was to be turned, and the rest
+abbrev pub bit_lines : Contents → ℕ → Recorded → Channel → Option ℕ → List ℕ
+bit_lines s cycle r channel None = []
+bit_lines s cycle r channel (Some bit) =
+    place_text cycle r.window channel ++ (32 ∷ []) ++ turned_line (origin_of_bit s cycle r.window channel) bit
 
 -- the transmissions of a window in their order, and then the bits, channel A before B
-abbrev pub window_text : Parameters → ℕ → Recorded → List ℕ
-window_text p cycle r =
-    flat_map (sent_line p cycle r) r.sent ++ bit_lines cycle r A (corrupt_on r A) ++ bit_lines cycle r B (corrupt_on r B)
+abbrev pub window_text : Contents → Parameters → ℕ → Recorded → List ℕ
+window_text s p cycle r =
+    flat_map (sent_line s p cycle r) r.sent ++ bit_lines s cycle r A (corrupt_on r A)
+    ++ bit_lines s cycle r B (corrupt_on r B)
 
 -- a window after those before it, in its cycle of the run
-abbrev pub window_after : Parameters → List Recorded → Recorded → List ℕ
-window_after p before r = window_text p (cycles_begun (before ++ r ∷ []) - 1) r
+abbrev pub window_after : Contents → Parameters → List Recorded → Recorded → List ℕ
+window_after s p before r = window_text s p (cycles_begun (before ++ r ∷ []) - 1) r
 
--- all windows of a record, in their order
-abbrev pub record_text : Parameters → List Recorded → List ℕ
-record_text p rs = each_after (window_after p) [] rs
+-- all windows of the record of a run with a scenario, in their order
+abbrev pub record_text : Contents → Parameters → List Recorded → List ℕ
+record_text s p rs = each_after (window_after s p) [] rs

@@ -1,74 +1,88 @@
 -- What is shown of a run (own profile).
-use Rattle.std.specs.Prelude.{⊤, ◌≡◌, ℕ, List, length, slice_get, Option, Some, None, option_map, IfSome}
+use Rattle.std.specs.Prelude.{⊤, ◌≡◌, ℕ, List, length, slice_get, Option, Some, None, option_map, IfSome, IsSome}
 use Rattle.std.specs.Prelude.{Result, Ok, Err}
+use Rattle.std.specs.Global.{Vec}
 use Rattle.std.specs.Io.KnownBytes.{Appends}
 use Rattle.std.specs.List.{flat_map}
 use Rattle.fr_commands.specs.declared.error.BenchError.TheVariants as bench
 use Rattle.fr_core.specs.Worlds.{WorldState}
 use Rattle.fr_lines.specs.declared.versions.Version.TheVariants.{Three}
+use Rattle.fr_listener.specs.Listening.{capture_of}
 use Rattle.fr_matrix.specs.Cells.{IsMatrix}
 use Rattle.fr_outcome.specs.OutcomeText.{outcome_text}
 use Rattle.fr_outcome.specs.ScenarioFiles.{RunIsRefused}
 use Rattle.fr_playing.specs.Files.{IsPlayIn, IsPlayOf}
 use Rattle.fr_playing.specs.declared.error.PlayError.TheVariants as refusal
 use Rattle.fr_playing.specs.declared.error.PlayError.{PlayError}
-use Rattle.fr_playing.specs.declared.play.Played.{Played}
+use Rattle.fr_playing.specs.declared.file.PlayedFile.{PlayedFile}
 use Rattle.fr_schedule.specs.Descriptions.{Description}
 use Rattle.fr_showing.specs.AnswerText.{answer_line}
 use Rattle.fr_showing.specs.CommitText.{commit_line, commits}
-use Rattle.fr_showing.specs.declared.shown.Shown.TheVariants.{Outcome, Answers, Commits, Record, Matrix, Trace}
+use Rattle.fr_showing.specs.declared.shown.Shown.TheVariants.{Outcome, Answers, Commits, Record, Heard, Matrix, Trace}
 use Rattle.fr_showing.specs.declared.shown.Shown.{Shown}
+use Rattle.fr_showing.specs.Idle.{idle_lines}
 use Rattle.fr_showing.specs.RecordText.{record_text}
 use Rattle.fr_trace.specs.TraceText.{trace_text}
 
 -- ---- the texts
 
+-- the cluster has the node through whose eyes a run is to be shown, if it is one
+abbrev pub HasViewer : Option ℕ → WorldState → Type 0
+HasViewer None w = ⊤
+HasViewer (Some node) w = IsSome (slice_get w.interfaces node)
+
 -- this is what is shown of a run
-abbrev pub IsShown : Shown → Played → List ℕ → Type 0
-IsShown Outcome played text = text ≡ outcome_text played.world.interfaces (length played.world.bus.sealed)
-IsShown Answers played text = text ≡ flat_map (answer_line played.world) played.calls.items
-IsShown Commits played text = text ≡ flat_map (commit_line played.world) (commits played.world)
-IsShown Record played text = text ≡ record_text played.world.bus.cluster.params played.world.bus.sealed
-IsShown (Matrix view) played text =
-    IsMatrix played.world.bus.cluster.params view played.world.bus.sealed text
-IsShown (Trace node) played text = option_map (trace_text Three) (slice_get played.world.interfaces node) ≡ Some text
+abbrev pub IsShown : Shown → PlayedFile → List ℕ → Type 0
+IsShown Outcome file text = text ≡ outcome_text file.played.world.interfaces (length file.played.world.bus.sealed)
+IsShown Answers file text = text ≡ flat_map (answer_line file.played.world) file.played.calls.items
+IsShown Commits file text = text ≡ flat_map (commit_line file.played.world) (commits file.played.world)
+IsShown Record file text =
+    text ≡ record_text file.scenario file.played.world.bus.cluster.params file.played.world.bus.sealed
+IsShown Heard file text =
+    text ≡ capture_of file.played.world.bus.cluster.params file.played.world.bus.sealed
+IsShown (Matrix view) file text =
+    HasViewer view.node file.played.world
+    × IsMatrix file.played.world.bus.cluster.params view file.played.world.bus.sealed text
+IsShown (Trace node) file text =
+    option_map (trace_text Three) (slice_get file.played.world.interfaces node) ≡ Some text
 
 -- the cluster doesn't have the node that is to be shown, or through whose eyes
 abbrev pub LacksViewer : Option ℕ → WorldState → Type 0
 LacksViewer None w = ⊥
 LacksViewer (Some node) w = slice_get w.interfaces node ≡ None
 
-abbrev pub LacksNode : Shown → Played → Type 0
-LacksNode Outcome played = ⊥
-LacksNode Answers played = ⊥
-LacksNode Commits played = ⊥
-LacksNode Record played = ⊥
-LacksNode (Matrix view) played = LacksViewer view.node played.world
-LacksNode (Trace node) played = slice_get played.world.interfaces node ≡ None
+abbrev pub LacksNode : Shown → PlayedFile → Type 0
+LacksNode Outcome file = ⊥
+LacksNode Answers file = ⊥
+LacksNode Commits file = ⊥
+LacksNode Record file = ⊥
+LacksNode Heard file = ⊥
+LacksNode (Matrix view) file = LacksViewer view.node file.played.world
+LacksNode (Trace node) file = slice_get file.played.world.interfaces node ≡ None
 
 -- ---- what is written
 
--- the text of a run with that scenario was written, and nothing else
-abbrev pub Adds : Description → ℕ → Shown → Option (List ℕ) → Option (List ℕ) → List ℕ → Type 0
-Adds d cycles shown old new text =
-    (played : Played) × (written : List ℕ) × IsPlayIn d cycles text played × IsShown shown played written
-    × Appends old new written
+-- the text of a run with that scenario was written, and nothing else, and these fault lines struck nothing in the run
+abbrev pub Adds : Description → ℕ → Shown → Option (List ℕ) → Option (List ℕ) → List ℕ → List ℕ → Type 0
+Adds d cycles shown old new idle text =
+    (file : PlayedFile) × (written : List ℕ) × IsPlayIn d cycles text file × IsShown shown file written
+    × Appends old new written × (idle ≡ idle_lines file)
 
--- Where the text of the scenario is known, that of a run with it was written. A refusal but `Write` leaves the writer
--- as it was.
+-- Where the text of the scenario is known, that of a run with it was written, and the lines are told that struck
+-- nothing in it. A refusal but `Write` leaves the writer as it was.
 abbrev pub Prints : Description → ℕ → Shown → Option (List ℕ) → Option (List ℕ) → Option (List ℕ)
-    → Result (Unit {0}) PlayError
+    → Result (Vec ℕ) PlayError
     → Type 0
-Prints d cycles shown text old new (Ok done) = IfSome text (Adds d cycles shown old new)
+Prints d cycles shown text old new (Ok idle) = IfSome text (Adds d cycles shown old new idle.items)
 Prints d cycles shown text old new (Err (refusal.Text bench.Write)) = ⊤
 Prints d cycles shown text old new (Err e) = new ≡ old
 
 -- ---- why nothing was written
 
 -- The run is refused so, or the cluster doesn't have the node, or nothing is refused but what the writer did.
-abbrev pub Tells : Description → ℕ → Shown → List ℕ → Result (Unit {0}) PlayError → Type 0
-Tells d cycles shown text (Ok done) = RunIsRefused d cycles text None
+abbrev pub Tells : Description → ℕ → Shown → List ℕ → Result (Vec ℕ) PlayError → Type 0
+Tells d cycles shown text (Ok idle) = RunIsRefused d cycles text None
 Tells d cycles shown text (Err refusal.UnknownNode) =
-    (played : Played) × IsPlayIn d cycles text played × LacksNode shown played
+    (file : PlayedFile) × IsPlayIn d cycles text file × LacksNode shown file
 Tells d cycles shown text (Err (refusal.Text bench.Write)) = RunIsRefused d cycles text None
 Tells d cycles shown text (Err e) = IsPlayOf d cycles text (Err e)

@@ -1,8 +1,8 @@
 //! How transmissions ended.
 ghost use Rattle.std.specs.Prelude.{◌≡◌, ◌≤◌, count_by, option_map, slice_get};
 ghost use Rattle.std.specs.List.{find};
-ghost use Rattle.fr_bus.specs.Outcome.{overruns, passed_on};
-ghost use Rattle.fr_bus.specs.Record.{corrupt_on, is_offer_of};
+ghost use Rattle.fr_bus.specs.Outcome.{passed_on};
+ghost use Rattle.fr_bus.specs.Record.{is_offer_of};
 ghost use Rattle.fr_showing.specs.Ends.{end_alone, end_of, end_passed, end_word, ended_word, is_turned, offer_end};
 
 use fr_bus::outcome::{Fate, Sealed, Sent};
@@ -27,41 +27,11 @@ pub enum End {
     Blocked,
 }
 
-/// Whether the transmission passed on the channel.
-fn passed_on(channel: Channel, sent: &Sent) -> bool
-    ensures { result ≡ passed_on channel sent.now }
-{
-    sent.channel == channel && sent.fate == Fate::Passed
-}
-
 /// How many passed on the channel.
 fn count_passed(channel: Channel, sent: &[Sent]) -> usize
     ensures { result ≡ count_by (passed_on channel) sent.now }
 {
-    sent.iter().filter(|t| passed_on(channel, *t)).count()
-}
-
-/// The bit that a fault turns on the channel, if any.
-pub(crate) fn corrupt_on(sealed: &Sealed, channel: Channel) -> Option<u16>
-    ensures { result ≡ corrupt_on sealed.now channel }
-{
-    match channel {
-        Channel::A => sealed.corrupt[0],
-        Channel::B => sealed.corrupt[1],
-    }
-}
-
-/// Whether so many bytes are too long for the window.
-fn overruns(params: &Params, window: &Window, bytes: usize) -> bool
-    requires { bytes ≤ 262 }
-    ensures { result ≡ overruns params.now window.now bytes }
-{
-    if window.is_static() {
-        bytes > 8 + 2 * usize::from(params.static_words)
-    } else {
-        let filled = bytes.div_ceil(2 * usize::from(params.words_per_minislot));
-        usize::from(window.minislot) - 1 + filled > usize::from(params.minislots)
-    }
+    sent.iter().filter(|t| t.passed_on(channel)).count()
 }
 
 /// Whether the bit that is to be turned is one of these bytes.
@@ -78,9 +48,9 @@ fn is_turned(corrupt: Option<u16>, bytes: &[u8]) -> bool
 fn end_alone(params: &Params, sealed: &Sealed, sent: &Sent) -> End
     ensures { result ≡ end_alone params.now sealed.now sent.now }
 {
-    if overruns(params, &sealed.window, sent.bytes.len()) {
+    if sent.overruns(params, &sealed.window) {
         End::Overrun
-    } else if is_turned(corrupt_on(sealed, sent.channel), sent.bytes.as_slice()) {
+    } else if is_turned(sealed.corrupt_on(sent.channel), sent.bytes.as_slice()) {
         End::Turned
     } else {
         End::Alone

@@ -1,9 +1,11 @@
 //! What a run was, as texts: what each line of a script was answered, what became of each commit, what the bus carried,
-//! the trace of a node, the outcome (own profile).
+//! as lines, as a capture and as a picture, the trace of a node, the outcome; and which fault lines struck nothing (own
+//! profile).
 //!
 //! ```text
-//! show_run(alloc, &cluster, &mut scenario_file, cycles, Shown::Commits, &mut output)?; // a line for each of them
-//! let text = text_of(alloc, Shown::Record, &played)?; // of a run that was played before
+//! // Writes a line for each commit, and gives the numbers of the fault lines that struck nothing.
+//! let idle = show_run(alloc, &cluster, &mut scenario_file, cycles, Shown::Commits, &mut output)?;
+//! let text = text_of(alloc, Shown::Record, &file)?; // of a scenario file that was played before
 //! ```
 //!
 //! *(own profile)* marks a rule of this project's own, which says nothing of the standard.
@@ -13,6 +15,8 @@ pub mod answers;
 pub mod commits;
 pub mod ends;
 mod fates;
+pub mod idle;
+mod origins;
 mod parts;
 pub mod record;
 pub mod show;

@@ -1,19 +1,23 @@
-//! The bus's record, a line for each transmission and each turned bit.
-ghost use Rattle.std.specs.Prelude.{◌≡◌, ◌+◌, ◌<◌, ◌^◌, if◌then◌else◌};
+//! The bus's record, a line for each transmission and each turned bit, with the scenario's line that it comes from.
+ghost use Rattle.std.specs.Prelude.{◌≡◌, ◌∷◌, ◌+◌, ◌<◌, ◌^◌, if◌then◌else◌};
 ghost use Rattle.std.specs.List.{flat_map};
 ghost use Rattle.fr_bus.specs.Record.{corrupt_on};
 ghost use Rattle.fr_bus.specs.Windows.{begins_cycle};
+ghost use Rattle.fr_lines.specs.Parts.{optional_number};
 ghost use Rattle.fr_showing.specs.RecordText.{bit_lines, bytes_line, fate_text, fate_word, frame_text, kind_word};
-ghost use Rattle.fr_showing.specs.RecordText.{minislot_word, place_text, record_text, sent_line, window_text};
+ghost use Rattle.fr_showing.specs.RecordText.{minislot_word, place_text, record_text, sent_line, turned_line};
+ghost use Rattle.fr_showing.specs.RecordText.{window_text};
 ghost use Rattle.fr_text.specs.Writing.{Writes};
 
-use crate::ends::{corrupt_on, end_of, end_word};
+use crate::ends::{end_of, end_word};
+use crate::origins::{origin_of_bit, origin_of_sent};
 use fr_bus::bus::Bus;
 use fr_bus::outcome::{Fate, Sealed, Sent};
 use fr_bus::windows::opens_cycle;
 use fr_frame::decode::decode_lent;
 use fr_lines::frames::write_indicators;
 use fr_lines::writing::write_slot;
+use fr_scenario::scenario::Scenario;
 use fr_slots::channel::Channel;
 use fr_slots::params::Params;
 use fr_slots::window::Window;
@@ -102,65 +106,94 @@ fn window_of(sealed: &Sealed) -> &Window
     &sealed.window
 }
 
-/// Writes the end of the line of a transmission: the frame that it is, and its bytes.
+/// Writes a space, and the number of a line of the scenario, or a dash for none.
+fn write_origin<W: Write>(writer: &mut W, number: Option<u32>) -> io::Result<()>
+    ensures { Writes W.contents writer.old writer.new result (32 ∷ optional_number number) }
+{
+    match number {
+        Some(number) => write!(writer, " {number}"),
+        None => write!(writer, " -"),
+    }
+}
+
+/// Writes the end of the line of a transmission: the frame that it is, its bytes, and the number of the scenario's line
+/// that it comes from.
 #[tactic(auto, unfolding(crate::specs::RecordText::bytes_line))]
-fn write_bytes<W: Write>(writer: &mut W, sent: &Sent) -> io::Result<()>
-    ensures { Writes W.contents writer.old writer.new result (bytes_line sent.now) }
+fn write_bytes<W: Write>(writer: &mut W, number: Option<u32>, sent: &Sent) -> io::Result<()>
+    ensures { Writes W.contents writer.old writer.new result (bytes_line number sent.now) }
 {
     write_frame(writer, sent.channel, sent.bytes.as_slice())?;
     writer.write_all(b" ")?;
     write_hex(writer, sent.bytes.as_slice())?;
+    write_origin(writer, number)?;
     writer.write_all(b"\n")
 }
 
 /// Writes the line of a transmission of the window.
 fn write_sent<W: Write>(
     writer: &mut W,
+    scenario: &Scenario,
     params: &Params,
     cycle: usize,
     sealed: &Sealed,
     sent: &Sent,
 ) -> io::Result<()>
-    ensures { Writes W.contents writer.old writer.new result (sent_line params.now cycle sealed.now sent.now) }
+    ensures { Writes W.contents writer.old writer.new result
+        (sent_line scenario.now params.now cycle sealed.now sent.now) }
 {
+    let number = origin_of_sent(scenario, cycle, window_of(sealed), sent);
     write_place(writer, cycle, window_of(sealed), sent.channel)?;
     writer.write_all(b" ")?;
     write_fate(writer, params, sealed, sent)?;
     writer.write_all(b" ")?;
-    write_bytes(writer, sent)
+    write_bytes(writer, number, sent)
 }
 
 /// Writes the lines of the window's transmissions.
 fn write_transmissions<W: Write>(
     writer: &mut W,
+    scenario: &Scenario,
     params: &Params,
     cycle: usize,
     sealed: &Sealed,
 ) -> io::Result<()>
     ensures { Writes W.contents writer.old writer.new result
-        (flat_map (sent_line params.now cycle sealed.now) sealed.now.sent) }
+        (flat_map (sent_line scenario.now params.now cycle sealed.now) sealed.now.sent) }
 {
     let sent = sealed.sent.as_slice();
     for transmission in sent {
-        write_sent(writer, params, cycle, sealed, transmission)?;
+        write_sent(writer, scenario, params, cycle, sealed, transmission)?;
     }
     Ok(())
+}
+
+/// Writes the end of the line of a bit: which one it is, and the number of the scenario's line that it comes from.
+#[tactic(auto, unfolding(crate::specs::RecordText::turned_line))]
+fn write_turned<W: Write>(writer: &mut W, number: Option<u32>, bit: u16) -> io::Result<()>
+    ensures { Writes W.contents writer.old writer.new result (turned_line number bit) }
+{
+    write!(writer, "- corrupt {bit}")?;
+    write_origin(writer, number)?;
+    writer.write_all(b"\n")
 }
 
 /// Writes the line of the bit that was to be turned on the channel, if there is one.
 fn write_bit<W: Write>(
     writer: &mut W,
+    scenario: &Scenario,
     cycle: usize,
     sealed: &Sealed,
     channel: Channel,
 ) -> io::Result<()>
     ensures { Writes W.contents writer.old writer.new result
-        (bit_lines cycle sealed.now channel (corrupt_on sealed.now channel)) }
+        (bit_lines scenario.now cycle sealed.now channel (corrupt_on sealed.now channel)) }
 {
-    match corrupt_on(sealed, channel) {
+    match sealed.corrupt_on(channel) {
         Some(bit) => {
+            let number = origin_of_bit(scenario, cycle, window_of(sealed), channel);
             write_place(writer, cycle, window_of(sealed), channel)?;
-            writeln!(writer, " - corrupt {bit}")
+            writer.write_all(b" ")?;
+            write_turned(writer, number, bit)
         }
         None => Ok(()),
     }
@@ -169,19 +202,21 @@ fn write_bit<W: Write>(
 /// Writes the lines of the window.
 fn write_window<W: Write>(
     writer: &mut W,
+    scenario: &Scenario,
     params: &Params,
     cycle: usize,
     sealed: &Sealed,
 ) -> io::Result<()>
-    ensures { Writes W.contents writer.old writer.new result (window_text params.now cycle sealed.now) }
+    ensures { Writes W.contents writer.old writer.new result
+        (window_text scenario.now params.now cycle sealed.now) }
 {
-    write_transmissions(writer, params, cycle, sealed)?;
-    write_bit(writer, cycle, sealed, Channel::A)?;
-    write_bit(writer, cycle, sealed, Channel::B)
+    write_transmissions(writer, scenario, params, cycle, sealed)?;
+    write_bit(writer, scenario, cycle, sealed, Channel::A)?;
+    write_bit(writer, scenario, cycle, sealed, Channel::B)
 }
 
 /// How many cycles of the run began up to this window and with it, where so many began before it.
-fn begun_with(begun: usize, sealed: &Sealed) -> usize
+pub(crate) fn begun_with(begun: usize, sealed: &Sealed) -> usize
     requires { begun + 1 < 2 ^ 64 }
     ensures { result ≡ begun + (if begins_cycle sealed.now then 1 else 0) }
 {
@@ -192,24 +227,34 @@ fn begun_with(begun: usize, sealed: &Sealed) -> usize
     }
 }
 
-/// Writes the bus's record (own profile): for each window, in their order, a line for each of its transmissions, in the
-/// order of the nodes, of a node on channel A before B and its offer before its babble, and then one for each bit that
-/// was to be turned.
+/// Writes the bus's record of a run with the scenario (own profile): for each window, in their order, a line for each
+/// of its transmissions, in the order of the nodes, of a node on channel A before B and its offer before its babble,
+/// and then one for each bit that was to be turned.
 ///
 /// A line has the window's number, the cycle of the run, the minislot or a dash in a static slot, the slot and the
 /// channel. Those of a transmission go on with the node, `offer` or `babble`, `passed`, `blocked` or `muted`, how it
 /// ended (`End`), the ID and the flags of the frame that its bytes are, or two dashes, and the bytes as they were sent.
 /// Those of a bit go on with a dash, `corrupt`, and the bit, counted from the most significant one of the first byte.
+/// The last word of each is the number of the scenario's line that it comes from, where line 1 names the version, or a
+/// dash: of a babble the line that has the node babble, of a muted offer the line that lost it, of a bit the line that
+/// turns it.
 ///
 /// Fails where the writer fails, and then a part of the text may have gone out.
-pub fn write_record<W: Write>(writer: &mut W, params: &Params, bus: &Bus) -> io::Result<()>
-    ensures { Writes W.contents writer.old writer.new result (record_text params.now bus.now.sealed) }
+pub fn write_record<W: Write>(
+    writer: &mut W,
+    scenario: &Scenario,
+    params: &Params,
+    bus: &Bus,
+) -> io::Result<()>
+    ensures { Writes W.contents writer.old writer.new result
+        (record_text scenario.now params.now bus.now.sealed) }
 {
     let record = bus.record();
     let mut begun = 0;
     for sealed in record {
         begun = begun_with(begun, sealed);
-        write_window(writer, params, begun.saturating_sub(1), sealed)?;
+        let cycle = begun.saturating_sub(1);
+        write_window(writer, scenario, params, cycle, sealed)?;
     }
     Ok(())
 }

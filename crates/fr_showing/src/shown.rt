@@ -1,7 +1,8 @@
 //! What can be shown of a run, as texts.
-ghost use Rattle.std.specs.Prelude.{◌≡◌, ◌⊎◌, Some, None, IfOk, IfErr, length};
+ghost use Rattle.std.specs.Prelude.{◌≡◌, ◌⊎◌, Some, None, IfOk, OnOk, IfErr, length};
 ghost use Rattle.std.specs.List.{flat_map};
 ghost use Rattle.fr_commands.specs.declared.error.BenchError.TheVariants as bench;
+ghost use Rattle.fr_listener.specs.Listening.{capture_of};
 ghost use Rattle.fr_lines.specs.declared.versions.Version.TheVariants.{Three};
 ghost use Rattle.fr_outcome.specs.OutcomeText.{outcome_text};
 ghost use Rattle.fr_playing.specs.declared.error.PlayError.TheVariants as refusal;
@@ -9,7 +10,7 @@ ghost use Rattle.fr_showing.specs.AnswerText.{answer_line};
 ghost use Rattle.fr_showing.specs.CommitText.{commit_line, commits};
 ghost use Rattle.fr_showing.specs.RecordText.{record_text};
 ghost use Rattle.fr_matrix.specs.Cells.{IsMatrix};
-ghost use Rattle.fr_showing.specs.Shows.{IsShown, LacksNode, LacksViewer};
+ghost use Rattle.fr_showing.specs.Shows.{HasViewer, IsShown, LacksNode, LacksViewer};
 ghost use Rattle.fr_trace.specs.TraceText.{trace_text};
 
 use crate::answers::write_answers;
@@ -19,12 +20,15 @@ use crate::record::write_record;
 use fr_commands::error::BenchError;
 use fr_core::world::World;
 use fr_interface::interface::Interface;
+use fr_listener::capture::write_capture;
 use fr_matrix::matrix::matrix_of;
 use fr_matrix::view::View;
 use fr_outcome::outcome_text::write_outcome;
 use fr_playing::error::PlayError;
+use fr_playing::file::PlayedFile;
 use fr_playing::nodes::interface_of;
 use fr_playing::play::Played;
+use fr_scenario::scenario::Scenario;
 use fr_slots::numbers::NodeId;
 use fr_trace::trace::write_trace;
 use std::alloc::Global;
@@ -38,8 +42,11 @@ pub enum Shown {
     Answers,
     /// A line for each commit, with what became of it.
     Commits,
-    /// A line for each transmission and each turned bit of the bus's record.
+    /// A line for each transmission and each turned bit of the bus's record, with the number of the scenario's line
+    /// that it comes from.
     Record,
+    /// What a listener on the bus hears that sends nothing, as a capture.
+    Heard,
     /// A picture of what a channel carried, or of what a node saw there.
     Matrix(View),
     /// The trace of this node, in version 3.
@@ -87,13 +94,26 @@ fn commits_in(alloc: Global, world: &World) -> Result<Vec<u8>, PlayError>
 }
 
 /// The bus's record.
-fn record_in(alloc: Global, world: &World) -> Result<Vec<u8>, PlayError>
+fn record_in(alloc: Global, scenario: &Scenario, world: &World) -> Result<Vec<u8>, PlayError>
     ensures text { IfOk result (λ text. text.items
-        ≡ record_text world.now.bus.cluster.params world.now.bus.sealed) }
+        ≡ record_text scenario.now world.now.bus.cluster.params world.now.bus.sealed) }
     ensures refused { IfErr result (λ e. e ≡ refusal.Text bench.Memory) }
 {
     let mut text = Vec::new(alloc);
-    match write_record(&mut text, params_of(world), world.bus()) {
+    match write_record(&mut text, scenario, params_of(world), world.bus()) {
+        Ok(()) => Ok(text),
+        Err(_) => Err(PlayError::Text(BenchError::Memory)),
+    }
+}
+
+/// The capture of what a listener hears.
+fn heard_in(alloc: Global, world: &World) -> Result<Vec<u8>, PlayError>
+    ensures text { IfOk result (λ text. text.items
+        ≡ capture_of world.now.bus.cluster.params world.now.bus.sealed) }
+    ensures refused { IfErr result (λ e. e ≡ refusal.Text bench.Memory) }
+{
+    let mut text = Vec::new(alloc);
+    match write_capture(&mut text, params_of(world), world.bus()) {
         Ok(()) => Ok(text),
         Err(_) => Err(PlayError::Text(BenchError::Memory)),
     }
@@ -113,6 +133,7 @@ fn drawn_in(alloc: Global, world: &World, view: &View) -> Result<Vec<u8>, PlayEr
 
 /// The matrix of the record, unless it is to be seen through the eyes of a node that isn't there.
 fn matrix_in(alloc: Global, world: &World, view: &View) -> Result<Vec<u8>, PlayError>
+    ensures viewer { OnOk result (HasViewer view.now.node world.now) }
     ensures text { IfOk result (λ text.
         IsMatrix world.now.bus.cluster.params view.now world.now.bus.sealed text.items) }
     ensures refused { IfErr result (λ e. (e ≡ refusal.Text bench.Memory)
@@ -140,16 +161,18 @@ fn trace_in(alloc: Global, interface: &Interface) -> Result<Vec<u8>, PlayError>
 ///
 /// Refused with `UnknownNode` where the cluster doesn't have the node that is to be shown, and with `Memory` where
 /// memory is refused.
-pub fn text_of(alloc: Global, shown: Shown, played: &Played) -> Result<Vec<u8>, PlayError>
-    ensures text { IfOk result (λ text. IsShown shown played.now text.items) }
+pub fn text_of(alloc: Global, shown: Shown, file: &PlayedFile) -> Result<Vec<u8>, PlayError>
+    ensures text { IfOk result (λ text. IsShown shown file.now text.items) }
     ensures refused { IfErr result (λ e. (e ≡ refusal.Text bench.Memory)
-        ⊎ ((e ≡ refusal.UnknownNode) × LacksNode shown played.now)) }
+        ⊎ ((e ≡ refusal.UnknownNode) × LacksNode shown file.now)) }
 {
+    let (scenario, played) = (&file.scenario, &file.played);
     match shown {
         Shown::Outcome => outcome_in(alloc, &played.world),
         Shown::Answers => answers_in(alloc, played),
         Shown::Commits => commits_in(alloc, &played.world),
-        Shown::Record => record_in(alloc, &played.world),
+        Shown::Record => record_in(alloc, scenario, &played.world),
+        Shown::Heard => heard_in(alloc, &played.world),
         Shown::Matrix(view) => matrix_in(alloc, &played.world, &view),
         Shown::Trace(node) => match interface_of(&played.world, node) {
             Some(interface) => trace_in(alloc, interface),

@@ -9,21 +9,6 @@ use fr_core::event::Reply;
 use fr_core::script::{Action, Line, Script};
 use std::alloc::Global;
 
-/// The same action.
-fn duplicate_action(action: &Action) -> Action
-    ensures { result ≡ action.now }
-{
-    match action {
-        Action::Commit { buffer, payload } => Action::Commit {
-            buffer: *buffer,
-            payload: payload.duplicate(),
-        },
-        Action::Withdraw { buffer } => Action::Withdraw { buffer: *buffer },
-        Action::Read { buffer } => Action::Read { buffer: *buffer },
-        Action::Pop => Action::Pop,
-    }
-}
-
 /// The same reply.
 fn duplicate_reply(reply: &Reply) -> Reply
     ensures { result ≡ reply.now }
@@ -45,7 +30,7 @@ fn answered_line(line: &Line, reply: &Reply) -> Line
 {
     Line {
         cycle: line.cycle,
-        action: duplicate_action(&line.action),
+        action: line.action.duplicate(),
         answer: Some(duplicate_reply(reply)),
     }
 }

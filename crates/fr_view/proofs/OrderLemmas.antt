@@ -15,7 +15,7 @@ use Rattle.fr_view.specs.declared.command.Order.TheVariants as the_order
 use Rattle.fr_words.specs.declared.error.OrderError.{OrderError}
 use Rattle.fr_words.specs.declared.error.OrderError.TheVariants as refusal
 use Rattle.fr_view.specs.declared.command.Asked.{Asked}
-use Rattle.fr_view.specs.declared.command.Asked.TheVariants.{Outcome, Answers, Commits, Record, Trace}
+use Rattle.fr_view.specs.declared.command.Asked.TheVariants.{Outcome, Answers, Commits, Record, Heard, Trace}
 use Rattle.fr_view.specs.Orders.{IsAnswerTo, IsOrder, IsScheduleBy, IsShowBy, asked_by, asks, channel_asked, cycle_asked}
 use Rattle.fr_view.specs.Orders.{drawn_by, from_asked, has_run_by, has_schedule_by, has_show_by, matrix_of, node_asked}
 use Rattle.fr_view.specs.Orders.{the_commands, viewer_asked}
@@ -53,8 +53,8 @@ has_alike f g same =
     ap₂ (λ a b. a && b) (ap is_some (same (codes "FILE"))) (ap (λ w. is_some (cycle_asked w)) (same (codes "cycle")))
 
 schedule_alike : (f g : Text → Option Text) → ((id : Text) → f id ≡ g id) → (o : Order) → IsScheduleBy f o → IsScheduleBy g o
-schedule_alike f g same (the_order.Capture until_fault) is = is
-schedule_alike f g same (the_order.Frames until_fault) is = is
+schedule_alike f g same (the_order.Capture until_fault own) is = is
+schedule_alike f g same (the_order.Frames until_fault all) is = is
 schedule_alike f g same the_order.Why is = is
 schedule_alike f g same the_order.Help is = is
 schedule_alike f g same (the_order.Show asked cluster scenario cycles) is = is
@@ -67,8 +67,8 @@ schedule_told entered look None named same told = tt
 schedule_told entered look (Some o) named same told = by o (schedule_alike look (word_in entered) same o told)
   where
     by : (o : Order) → IsScheduleBy (word_in entered) o → IsOrder entered o
-    by (the_order.Capture until_fault) is = absurd is
-    by (the_order.Frames until_fault) is = absurd is
+    by (the_order.Capture until_fault own) is = absurd is
+    by (the_order.Frames until_fault all) is = absurd is
     by the_order.Why is = absurd is
     by the_order.Help is = absurd is
     by (the_order.Show asked cluster scenario cycles) is = absurd is
@@ -98,6 +98,7 @@ abbrev asked_with : Text → Option Text → Option Asked → Option Asked
 asked_with name node drawn =
     if bytes_eq name (codes "outcome") then Some Outcome else if bytes_eq name (codes "answers") then Some Answers
     else if bytes_eq name (codes "commits") then Some Commits else if bytes_eq name (codes "record") then Some Record
+    else if bytes_eq name (codes "bus") then Some Heard
     else if bytes_eq name (codes "trace") then option_map Trace (node_asked node)
     else if bytes_eq name (codes "matrix") then drawn else None
 
@@ -111,8 +112,8 @@ run_alike f g same =
     (ap (λ w. is_some (option_and_then cycles_in w)) (same (codes "cycles")))
 
 show_alike : (name : Text) (f g : Text → Option Text) → ((id : Text) → f id ≡ g id) → (o : Order) → IsShowBy name f o → IsShowBy name g o
-show_alike name f g same (the_order.Capture until_fault) is = is
-show_alike name f g same (the_order.Frames until_fault) is = is
+show_alike name f g same (the_order.Capture until_fault own) is = is
+show_alike name f g same (the_order.Frames until_fault all) is = is
 show_alike name f g same the_order.Why is = is
 show_alike name f g same the_order.Help is = is
 show_alike name f g same (the_order.Schedule file cycle) is = is
@@ -134,8 +135,8 @@ show_told (Some (entered, rows)) name look (Some o) named same told =
     is = cc named
 
     by : (o : Order) → IsShowBy entered (λ id. first_of id rows) o → IsOrder (Some (entered, rows)) o
-    by (the_order.Capture until_fault) is = absurd is
-    by (the_order.Frames until_fault) is = absurd is
+    by (the_order.Capture until_fault own) is = absurd is
+    by (the_order.Frames until_fault all) is = absurd is
     by the_order.Why is = absurd is
     by the_order.Help is = absurd is
     by (the_order.Schedule file cycle) is = absurd is

@@ -10,7 +10,7 @@ use Rattle.clap.specs.Words.{with_rule, with_subcommand}
 use Rattle.clap.specs.declared.error.kind.ErrorKind.{ErrorKind}
 use Rattle.clap.specs.declared.error.kind.ErrorKind.TheVariants as kind
 use Rattle.fr_view.specs.declared.command.Asked.{Asked}
-use Rattle.fr_view.specs.declared.command.Asked.TheVariants.{Outcome, Answers, Commits, Record, Trace, Matrix}
+use Rattle.fr_view.specs.declared.command.Asked.TheVariants.{Outcome, Answers, Commits, Record, Heard, Trace, Matrix}
 use Rattle.fr_slots.specs.declared.channel.Channel.{Channel}
 use Rattle.fr_slots.specs.declared.channel.Channel.TheVariants.{A, B}
 use Rattle.clap.specs.declared.builder.action.ArgAction.TheVariants.{SetTrue}
@@ -20,12 +20,12 @@ use Rattle.fr_words.specs.declared.error.OrderError.{OrderError}
 use Rattle.fr_words.specs.declared.error.OrderError.TheVariants as refusal
 use Rattle.fr_words.specs.Commands.{IsNamed, bare, cycles_in, named, the_cycles, the_file, with_file, word_in}
 
--- a command that reads a trace, and the flag by which it ends at the line at fault
-abbrev pub the_flag : Rule
-the_flag = record (new_rule (codes "until-fault")) { long = Some (codes "until-fault"); action = Some SetTrue }
+-- a command that reads a trace, the flag by which it ends at the line at fault, and one by which it shows more
+abbrev pub flag_named : Text → Rule
+flag_named name = record (new_rule name) { long = Some name; action = Some SetTrue }
 
-abbrev pub of_trace : Text → App
-of_trace name = with_rule (new_app name) the_flag
+abbrev pub of_trace : Text → Text → App
+of_trace name more = with_rule (with_rule (new_app name) (flag_named (codes "until-fault"))) (flag_named more)
 
 -- a picture of a cluster file, and a cycle that may be
 abbrev pub the_cycle : Rule
@@ -36,10 +36,10 @@ schedule_command = with_rule (with_file (codes "schedule")) the_cycle
 
 -- the program with the commands that read one file
 abbrev pub one_command : App
-one_command = with_subcommand (bare (codes "fr_view")) (of_trace (codes "capture")).top
+one_command = with_subcommand (bare (codes "fr_view")) (of_trace (codes "capture") (codes "own")).top
 
 abbrev pub two_commands : App
-two_commands = with_subcommand one_command (of_trace (codes "frames")).top
+two_commands = with_subcommand one_command (of_trace (codes "frames") (codes "all")).top
 
 abbrev pub three_commands : App
 three_commands = with_subcommand two_commands (named (codes "why"))
@@ -88,8 +88,12 @@ with_commits = with_subcommand with_answers (of_run (codes "commits")).top
 abbrev pub line_commands : App
 line_commands = with_subcommand with_commits (of_run (codes "record")).top
 
+-- and those that show it otherwise
+abbrev pub with_bus : App
+with_bus = with_subcommand line_commands (of_run (codes "bus")).top
+
 abbrev pub with_matrix : App
-with_matrix = with_subcommand line_commands matrix_command.top
+with_matrix = with_subcommand with_bus matrix_command.top
 
 abbrev pub the_commands : App
 the_commands = with_subcommand with_matrix trace_command.top
@@ -112,8 +116,8 @@ has_schedule_by first_word = is_some (first_word (codes "FILE")) && is_some (cyc
 
 -- the picture is the one that they ask for
 abbrev pub IsScheduleBy : (Text → Option Text) → Order → Type 0
-IsScheduleBy first_word (the_order.Capture until_fault) = ⊥
-IsScheduleBy first_word (the_order.Frames until_fault) = ⊥
+IsScheduleBy first_word (the_order.Capture until_fault own) = ⊥
+IsScheduleBy first_word (the_order.Frames until_fault all) = ⊥
 IsScheduleBy first_word the_order.Why = ⊥
 IsScheduleBy first_word the_order.Help = ⊥
 IsScheduleBy first_word (the_order.Show asked cluster scenario cycles) = ⊥
@@ -161,6 +165,7 @@ asked_by name first_word =
     else if bytes_eq name (codes "answers") then Some Answers
     else if bytes_eq name (codes "commits") then Some Commits
     else if bytes_eq name (codes "record") then Some Record
+    else if bytes_eq name (codes "bus") then Some Heard
     else if bytes_eq name (codes "trace") then option_map Trace (node_asked (first_word (codes "NODE")))
     else if bytes_eq name (codes "matrix") then drawn_by first_word
     else None
@@ -176,8 +181,8 @@ has_show_by name first_word = is_some (asked_by name first_word) && has_run_by f
 
 -- the order shows of that run what the command of this name shows
 abbrev pub IsShowBy : Text → (Text → Option Text) → Order → Type 0
-IsShowBy name first_word (the_order.Capture until_fault) = ⊥
-IsShowBy name first_word (the_order.Frames until_fault) = ⊥
+IsShowBy name first_word (the_order.Capture until_fault own) = ⊥
+IsShowBy name first_word (the_order.Frames until_fault all) = ⊥
 IsShowBy name first_word the_order.Why = ⊥
 IsShowBy name first_word the_order.Help = ⊥
 IsShowBy name first_word (the_order.Schedule file cycle) = ⊥
@@ -203,10 +208,15 @@ abbrev pub is_true : Option Text → Bool
 is_true None = false
 is_true (Some word) = bytes_eq word (codes "true")
 
--- a command of this name is entered, and its flag is this
-abbrev pub IsTraced : Text → Option (Text × List Row) → Bool → Type 0
-IsTraced name entered until_fault =
-    IsNamed name entered × (until_fault ≡ is_true (word_in entered (codes "until-fault")))
+-- whether the flag of this name is there
+abbrev pub has_flag : Option (Text × List Row) → Text → Bool
+has_flag entered name = is_true (word_in entered name)
+
+-- a command of this name is entered, and its flags are these
+abbrev pub IsTraced : Text → Text → Option (Text × List Row) → Bool → Bool → Type 0
+IsTraced name more entered until_fault shows_more =
+    IsNamed name entered × (until_fault ≡ has_flag entered (codes "until-fault"))
+    × (shows_more ≡ has_flag entered more)
 
 -- ---- any command
 
@@ -218,8 +228,8 @@ asks entered =
 
 -- the order is that of the command which is entered
 abbrev pub IsOrder : Option (Text × List Row) → Order → Type 0
-IsOrder entered (the_order.Capture until_fault) = IsTraced (codes "capture") entered until_fault
-IsOrder entered (the_order.Frames until_fault) = IsTraced (codes "frames") entered until_fault
+IsOrder entered (the_order.Capture until_fault own) = IsTraced (codes "capture") (codes "own") entered until_fault own
+IsOrder entered (the_order.Frames until_fault all) = IsTraced (codes "frames") (codes "all") entered until_fault all
 IsOrder entered the_order.Why = IsNamed (codes "why") entered
 IsOrder entered the_order.Help = ⊥
 IsOrder entered (the_order.Schedule file cycle) =

@@ -13,6 +13,8 @@ pub enum Asked {
     Commits,
     /// A line for each transmission and each turned bit.
     Record,
+    /// What a listener on the bus hears, as a capture.
+    Heard,
     /// The trace of the node of this number, 0 to 15.
     Trace(u8),
     /// A picture of what a channel carried.
@@ -40,11 +42,15 @@ pub enum Order<'a> {
     Capture {
         /// Of a trace that is refused, print what was seen up to the line at fault.
         until_fault: bool,
+        /// With the frames that it sent itself.
+        own: bool,
     },
     /// Read such a trace and print a table of what it saw.
     Frames {
         /// Of a trace that is refused, print what was seen up to the line at fault.
         until_fault: bool,
+        /// With a line for each channel of each window.
+        all: bool,
     },
     /// Read such a trace and print why an audit refuses it.
     Why,

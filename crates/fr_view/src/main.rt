@@ -2,7 +2,8 @@
 //! its exit status how it went: 0 where it is done, 1 where an input is refused, 2 where the words are no command.
 //!
 //! What it prints on standard output comes only once the command has accepted all its input, but for `--until-fault`,
-//! and for `why`, whose answer it is. A refusal is one line on standard error.
+//! and for `why`, whose answer it is. A refusal is one line on standard error; of a run that was played each fault line
+//! that struck nothing has a line there too.
 //!
 //! ```text
 //! fr_view schedule cluster.toml > cycle.svg          a picture of a cycle: who sends where, when guardians are open
@@ -13,7 +14,8 @@
 //! fr_view answers cluster.toml scenario --cycles 8   what each line of the scenario was answered
 //! fr_view commits cluster.toml scenario --cycles 8   what became of each commit
 //! fr_view record cluster.toml scenario --cycles 8    what the bus carried, window by window
-//! fr_view matrix cluster.toml scenario --cycles 8    the same as a picture
+//! fr_view bus cluster.toml scenario --cycles 8       what a listener on the bus hears, as a capture
+//! fr_view matrix cluster.toml scenario --cycles 8    what the bus carried, as a picture
 //! fr_view trace 0 cluster.toml scenario --cycles 8   the trace of a node after the run
 //! fr_view --help                                     what there is
 //! ```
@@ -49,10 +51,11 @@ use std::rt::{Env, Files};
 /// What the program prints where it is asked for help.
 const HELP: &str = "fr_view schedule FILE [--cycle N] > SVG
     a picture of a cycle of the cluster, 0 unless another is named
-fr_view capture [--until-fault] < TRACE > CAPTURE
-    what a controller saw, as a capture that Wireshark opens
-fr_view frames [--until-fault] < TRACE
-    the same as a table; with --until-fault what was seen before the line at fault, and then the refusal
+fr_view capture [--own] [--until-fault] < TRACE > CAPTURE
+    what a controller saw, as a capture that Wireshark opens; with --own also what it sent
+fr_view frames [--all] [--until-fault] < TRACE
+    the same as a table; with --all a line for each channel of each window
+    --until-fault, of both: what was seen before the line at fault, and then the refusal
 fr_view why < TRACE
     why an audit refuses a trace: the line at fault, the reason, and the line as it would be right
 fr_view outcome FILE SCENARIO --cycles N
@@ -62,7 +65,9 @@ fr_view answers FILE SCENARIO --cycles N
 fr_view commits FILE SCENARIO --cycles N
     a line for each commit, with what became of it
 fr_view record FILE SCENARIO --cycles N
-    a line for each transmission and each turned bit, window by window
+    a line for each transmission and each bit to be turned, window by window
+fr_view bus FILE SCENARIO --cycles N > CAPTURE
+    what a listener on the bus hears, as a capture that Wireshark opens
 fr_view matrix FILE SCENARIO --cycles N [--channel A|B] [--node N] [--from CYCLE] > SVG
     what channel A or B carried, or a node saw there, as a picture of up to 64 cycles
 fr_view trace NODE FILE SCENARIO --cycles N
@@ -78,6 +83,7 @@ fn shown_of(asked: Asked) -> Option<Shown> {
         Asked::Answers => Some(Shown::Answers),
         Asked::Commits => Some(Shown::Commits),
         Asked::Record => Some(Shown::Record),
+        Asked::Heard => Some(Shown::Heard),
         Asked::Trace(node) => Some(Shown::Trace(NodeId::new(node)?)),
         Asked::Matrix {
             channel,
@@ -100,9 +106,16 @@ fn shown_of(asked: Asked) -> Option<Shown> {
     }
 }
 
+/// Tells on standard error of each fault line that struck nothing; by now all is written.
+fn tell_idle<R: Eprint>(rt: &R, idle: &[u32]) {
+    for number in idle {
+        let _ = eprintln!(rt; "line {number} struck nothing");
+    }
+}
+
 /// Plays a run of the cluster of the one file with the scenario of the other, which is opened once the cluster is
 /// accepted, and writes what is to be shown of it.
-fn show_files<R: Files + Print + AllocGlobal>(
+fn show_files<R: Files + Print + Eprint + AllocGlobal>(
     rt: &R,
     asked: Asked,
     cluster: &str,
@@ -116,7 +129,9 @@ fn show_files<R: Files + Print + AllocGlobal>(
     let cluster = cluster_of(alloc, &mut file_named(rt, cluster)?)?;
     let mut file = file_named(rt, scenario)?;
     let mut output = io::writer(rt);
-    Ok(show_run(alloc, &cluster, &mut file, cycles, shown, &mut output)?)
+    let idle = show_run(alloc, &cluster, &mut file, cycles, shown, &mut output)?;
+    tell_idle(rt, idle.as_slice());
+    Ok(())
 }
 
 /// Writes what a controller saw, by its trace on standard input.
@@ -164,14 +179,14 @@ fn show_help<R: Print>(rt: &R) -> Result<(), Failure> {
 }
 
 /// Does the order.
-fn carry_out<R: Files + Input + Print + AllocGlobal>(
+fn carry_out<R: Files + Input + Print + Eprint + AllocGlobal>(
     rt: &R,
     order: Order<'_>,
 ) -> Result<ExitCode, Failure> {
     match order {
         Order::Schedule { file, cycle } => show_cycle(rt, file, cycle)?,
-        Order::Capture { until_fault } => show_seen(rt, Form::Capture, until_fault)?,
-        Order::Frames { until_fault } => show_seen(rt, Form::Table, until_fault)?,
+        Order::Capture { until_fault, own } => show_seen(rt, Form::Capture { own }, until_fault)?,
+        Order::Frames { until_fault, all } => show_seen(rt, Form::Table { all }, until_fault)?,
         Order::Why => return explain(rt),
         Order::Show {
             asked,
@@ -185,7 +200,7 @@ fn carry_out<R: Files + Input + Print + AllocGlobal>(
 }
 
 /// Does what the words ask for.
-fn run<R: Env + Files + Input + Print + AllocGlobal>(rt: &R) -> Result<ExitCode, Failure> {
+fn run<R: Env + Files + Input + Print + Eprint + AllocGlobal>(rt: &R) -> Result<ExitCode, Failure> {
     let words = words_given(rt)?;
     let texts: Vec<&str> = texts_of(rt.alloc(), &words)?;
     carry_out(rt, order(rt.alloc(), texts.as_slice())?)

@@ -1,10 +1,11 @@
 //! Reads the words after the program's name.
 ghost use Rattle.std.specs.Prelude.{◌≡◌, IfNone, IfOk, IfSome, codes, false, map};
+ghost use Rattle.clap.specs.Walk.{rule_of};
 ghost use Rattle.clap.specs.Words.{app_of, first_value, found_of, subcommand_rows_of};
 ghost use Rattle.clap.specs.declared.builder.command.Command.TheViews.{out-Command};
 ghost use Rattle.fr_text.specs.Reading.{number_in};
 ghost use Rattle.fr_view.specs.Orders.{IsAnswer, IsOrder, IsScheduleBy, IsShowBy, asked_by, asks, channel_asked};
-ghost use Rattle.fr_view.specs.Orders.{drawn_by, file_commands, from_asked, has_schedule_by, has_show_by, is_help};
+ghost use Rattle.fr_view.specs.Orders.{drawn_by, file_commands, flag_named, from_asked, has_schedule_by, has_show_by, is_help};
 ghost use Rattle.fr_view.specs.Orders.{is_true, line_commands, matrix_command, of_trace, schedule_command};
 ghost use Rattle.fr_view.specs.Orders.{the_commands, trace_command, viewer_asked, with_run};
 
@@ -46,15 +47,21 @@ fn trace_command<'a>(alloc: Global) -> Result<Command<'a>, AllocError>
     of_run(alloc, Command::new(alloc, "trace").arg(node)?)
 }
 
-/// A command that reads a trace, with the flag that lets it end at the line at fault.
-fn of_trace<'a>(alloc: Global, name: &'a str) -> Result<Command<'a>, AllocError>
-    ensures app { IfOk result (λ c. app_of c ≡ of_trace name.now) }
+/// A flag of this name.
+fn flag<'a>(alloc: Global, name: &'a str) -> Arg<'a>
+    ensures rule { rule_of result ≡ flag_named name.now }
+    ensures local { result.global ≡ false }
+{
+    Arg::new(alloc, name).long(name).action(ArgAction::SetTrue)
+}
+
+/// A command that reads a trace, with the flag that lets it end at the line at fault, and one by which it shows more.
+fn of_trace<'a>(alloc: Global, name: &'a str, more: &'a str) -> Result<Command<'a>, AllocError>
+    ensures app { IfOk result (λ c. app_of c ≡ of_trace name.now more.now) }
     ensures local { IfOk result (λ c. (out-Command c).has_globals ≡ false) }
 {
-    let flag = Arg::new(alloc, "until-fault")
-        .long("until-fault")
-        .action(ArgAction::SetTrue);
-    Command::new(alloc, name).arg(flag)
+    let (until_fault, more) = (flag(alloc, "until-fault"), flag(alloc, more));
+    Command::new(alloc, name).arg(until_fault)?.arg(more)
 }
 
 /// The command `matrix`, with what is to be drawn of the run.
@@ -76,8 +83,8 @@ fn matrix_command<'a>(alloc: Global) -> Result<Command<'a>, AllocError>
 fn file_commands<'a>(alloc: Global) -> Result<Command<'a>, AllocError>
     ensures { IfOk result (λ c. app_of c ≡ file_commands) }
 {
-    let first = program(alloc, "fr_view").subcommand(of_trace(alloc, "capture")?)?;
-    let second = first.subcommand(of_trace(alloc, "frames")?)?;
+    let first = program(alloc, "fr_view").subcommand(of_trace(alloc, "capture", "own")?)?;
+    let second = first.subcommand(of_trace(alloc, "frames", "all")?)?;
     let third = second.subcommand(Command::new(alloc, "why"))?;
     third.subcommand(schedule_command(alloc)?)
 }
@@ -102,7 +109,8 @@ fn commands<'a>(alloc: Global) -> Result<Command<'a>, AllocError>
     ensures { IfOk result (λ c. app_of c ≡ the_commands) }
 {
     let lines = line_commands(alloc, file_commands(alloc)?)?;
-    let drawn = lines.subcommand(matrix_command(alloc)?)?;
+    let heard = lines.subcommand(of_run(alloc, Command::new(alloc, "bus"))?)?;
+    let drawn = heard.subcommand(matrix_command(alloc)?)?;
     drawn.subcommand(trace_command(alloc)?)
 }
 
@@ -199,6 +207,7 @@ fn asked_in(name: &str, arguments: &ArgMatches<'_>) -> Option<Asked>
         "answers" => Some(Asked::Answers),
         "commits" => Some(Asked::Commits),
         "record" => Some(Asked::Record),
+        "bus" => Some(Asked::Heard),
         "trace" => Some(Asked::Trace(node_of(arguments.get_str("NODE")?)?)),
         "matrix" => drawn_in(arguments),
         _ => None,
@@ -219,11 +228,22 @@ fn show_in<'a>(name: &str, arguments: &ArgMatches<'a>) -> Option<Order<'a>>
     })
 }
 
-/// Whether what was seen is asked for up to the line at fault.
-fn is_until_fault(arguments: &ArgMatches<'_>) -> bool
-    ensures { result ≡ is_true (first_value (found_of arguments.now) (codes "until-fault")) }
+/// Whether the flag of this name is there.
+fn has_flag(arguments: &ArgMatches<'_>, name: &str) -> bool
+    ensures { result ≡ is_true (first_value (found_of arguments.now) name.now) }
 {
-    arguments.get_str("until-fault") == Some("true")
+    arguments.get_str(name) == Some("true")
+}
+
+/// Whether what was seen is asked for up to the line at fault, and whether with more, by the flag of this name.
+fn flags_in(arguments: &ArgMatches<'_>, more: &str) -> (bool, bool)
+    ensures until_fault { result.0 ≡ is_true (first_value (found_of arguments.now) (codes "until-fault")) }
+    ensures more { result.1 ≡ is_true (first_value (found_of arguments.now) more.now) }
+{
+    (
+        has_flag(arguments, "until-fault"),
+        has_flag(arguments, more),
+    )
 }
 
 /// The order that the command's name and arguments stand for.
@@ -234,12 +254,14 @@ fn order_in<'a>(matches: &ArgMatches<'a>) -> Option<Order<'a>>
     let (name, arguments) = matches.subcommand()?;
     match name {
         "schedule" => schedule_in(arguments),
-        "capture" => Some(Order::Capture {
-            until_fault: is_until_fault(arguments),
-        }),
-        "frames" => Some(Order::Frames {
-            until_fault: is_until_fault(arguments),
-        }),
+        "capture" => {
+            let (until_fault, own) = flags_in(arguments, "own");
+            Some(Order::Capture { until_fault, own })
+        }
+        "frames" => {
+            let (until_fault, all) = flags_in(arguments, "all");
+            Some(Order::Frames { until_fault, all })
+        }
         "why" => Some(Order::Why),
         name => show_in(name, arguments),
     }

@@ -41,11 +41,12 @@ misfit_of false = Word
 -- the first words of the lines of a plan, and of those of a journal
 abbrev pub is_of_plan : List ℕ → Bool
 is_of_plan word = bytes_eq word (codes "own") || bytes_eq word (codes "tx") || bytes_eq word (codes "rx")
-    || bytes_eq word (codes "queue")
+    || bytes_eq word (codes "queue") || bytes_eq word (codes "begin")
 
 abbrev pub is_of_journal : List ℕ → Bool
 is_of_journal word = bytes_eq word (codes "commit") || bytes_eq word (codes "withdraw") || bytes_eq word (codes "read")
     || bytes_eq word (codes "pop") || bytes_eq word (codes "fetch") || bytes_eq word (codes "see")
+    || bytes_eq word (codes "end")
 
 -- of a line that stands after those that it has to stand before, or is one too many
 abbrev pub misplaced : Bool → Misfit

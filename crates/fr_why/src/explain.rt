@@ -127,12 +127,12 @@ fn explained(alloc: Global, text: &[u8]) -> Result<(Verdict, Vec<u8>), TraceErro
 /// ```
 ///
 /// Of a refused one the refusal as an audit prints it, the number and the text of the line at fault, what the refusal
-/// rests on (`reason`, with whose refusal it is: `Params`, `Plan`, `Host` or `Slot`), or for a wrong answer the line as
+/// rests on (`reason`, with whose it is: `Params`, `Plan`, `Host`, `Slot` or `Line`), or for a wrong answer the line as
 /// it would be right (`due`), and how many lines and fetched windows stand before:
 ///
 /// ```text
 /// refused Refused 13
-/// line 13 commit 0 0 x01
+/// line 13 commit 0 0 x0001
 /// reason Host WrongLength
 /// lines 12
 /// windows 1

@@ -2,7 +2,7 @@
 //!
 //! ```text
 //! explain_trace(alloc, &mut trace, &mut output)?; // `accepted`, or where and why it is refused
-//! show_until_fault(alloc, Form::Table, &mut trace, &mut output)?; // what was seen up to there
+//! show_until_fault(alloc, Form::Table { all: false }, &mut trace, &mut output)?; // what was seen up to there
 //! ```
 //!
 //! *(own profile)* marks a rule of this project's own, which says nothing of the standard.

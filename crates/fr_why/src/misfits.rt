@@ -22,7 +22,7 @@ fn first_word(line: &[u8]) -> &[u8]
     }
 }
 
-/// Whether lines of a plan begin with the word, but for `begin`.
+/// Whether lines of a plan begin with the word, or the one after them.
 fn is_of_plan(word: &[u8]) -> bool
     ensures { result ≡ is_of_plan word.now }
 {
@@ -30,9 +30,10 @@ fn is_of_plan(word: &[u8]) -> bool
         || word == b"tx".as_slice()
         || word == b"rx".as_slice()
         || word == b"queue".as_slice()
+        || word == b"begin".as_slice()
 }
 
-/// Whether lines of a journal begin with the word, but for `end`.
+/// Whether lines of a journal begin with the word, or the one after them.
 fn is_of_journal(word: &[u8]) -> bool
     ensures { result ≡ is_of_journal word.now }
 {
@@ -42,6 +43,7 @@ fn is_of_journal(word: &[u8]) -> bool
         || word == b"pop".as_slice()
         || word == b"fetch".as_slice()
         || word == b"see".as_slice()
+        || word == b"end".as_slice()
 }
 
 /// Why a line isn't read, by whether its first word may stand there.

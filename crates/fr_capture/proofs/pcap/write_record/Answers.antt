@@ -3,16 +3,15 @@ use Rattle.std.specs.Io.KnownBytes.{Appends}
 use Rattle.std.specs.Prelude.{OnOk}
 use Rattle.fr_frame.specs.declared.decode.DecodeError.{DecodeError}
 use Rattle.fr_frame.specs.Refusal.{refusal}
-use Rattle.fr_capture.specs.Pcap.{captured_bytes, channel_mark, error_flags, record_of, record_with}
-use Rattle.fr_capture.specs.Sightings.{Sighting}
+use Rattle.fr_capture.specs.Pcap.{captured_bytes, channel_mark, error_flags, record_with}
 use Rattle.fr_capture.proofs.RecordLemmas.{record_done}
 use Rattle.fr_capture.proofs.pcap.write_record.Goals as goal
 
 pub returns : goal.returns
 returns g c =
-    let channel = c.seen.inside.channel in
-    let bytes = c.seen.inside.bytes.now in
-    let time = c.seen.inside.time in
+    let channel = c.args.channel in
+    let bytes = c.args.bytes.now in
+    let time = c.args.time in
     let start = g.W.Write.contents c.args.writer.now in
     let first = g.W.Write.contents c.write_record_header.new.writer in
     let second = g.W.Write.contents c.write_all.new.self in
@@ -27,6 +26,4 @@ returns g c =
     subst (λ (t : List ℕ). Appends first second t) (ap₂ two c.channel_mark.ensures c.error_flags.ensures) c.in_ok-write_all.ensures.bytes in
     let last : OnOk r (Appends second new (captured_bytes error bytes)) = subst (λ (t : List ℕ). OnOk r (Appends second new t)) captured c.write_all-2.ensures.bytes in
     let done = record_done r start first second new time (length c.captured_bytes-captured.result.now + 2) channel error bytes many c.in_ok-write_record_header.ensures marks last in
-    let here : OnOk r (Appends start new (record_with time channel (refusal channel bytes) bytes)) =
-    subst (λ (e : Option DecodeError). OnOk r (Appends start new (record_with time channel e bytes))) same done in
-    subst (λ (s : Sighting). OnOk r (Appends start new (record_of s))) c.seen.view_is here
+    subst (λ (e : Option DecodeError). OnOk r (Appends start new (record_with time channel e bytes))) same done

@@ -1,5 +1,5 @@
 use Rattle.std.proofs.Common.{◌≡◌, replicate}
-use Rattle.fr_core.specs.declared.carried.Carried.TheVariants.{Idle}
+use Rattle.fr_core.specs.Carried.{Idle}
 use Rattle.fr_core.proofs.machine.idle_controllers.Given as goal
 
 -- so many are there

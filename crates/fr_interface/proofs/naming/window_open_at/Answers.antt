@@ -9,15 +9,14 @@ pub returns-in-Some : goal.returns-in-Some
 returns-in-Some c =
     let entries = c.args.journal.now.entries in
     let few : c.loop-place.place ≤ length entries = omega (arith, c.requires, c.loop-place.auto.place) in
-    sym (decided_at entries c.loop-place.place c.loop-place-test.true few c.in-Some.window
-    (ap (option_and_then {T = Entry} (window_mark [])) (sym c.lent.ensures.entry) ∙ sym c.in-Some.ensures))
+    sym (decided_at entries c.loop-place.place c.loop-place-test.true few c.in-Some.window (sym c.window_mark.ensures ∙ c.in-Some.is))
     ∙ c.loop-place.invariant
 
 pub loop-place-preserved : goal.loop-place-preserved
 loop-place-preserved c =
     let entries = c.args.journal.now.entries in
     let few : c.loop-place.place ≤ length entries = omega (arith, c.requires, c.loop-place.auto.place) in
-    sym (passed_at entries c.loop-place.place c.loop-place-test.true few (ap (option_and_then {T = Entry} (window_mark [])) (sym c.lent.ensures.entry) ∙ sym c.in_default.ensures))
+    sym (passed_at entries c.loop-place.place c.loop-place-test.true few (sym c.window_mark.ensures ∙ c.in_default.is))
     ∙ c.loop-place.invariant
 
 pub returns : goal.returns

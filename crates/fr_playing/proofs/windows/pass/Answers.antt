@@ -2,4 +2,4 @@ use Rattle.fr_session.proofs.StrikingLemmas.{passes_one}
 use Rattle.fr_playing.proofs.windows.pass.Goals as goal
 
 pub returns : goal.returns
-returns c = passes_one _ _ _ _ c.in_ok-_reply.ensures.step
+returns c = passes_one _ _ _ _ c.in_ok-apply.ensures.step

@@ -1,4 +1,4 @@
-use Rattle.std.proofs.Common.{◌≡◌, ℕ, Bool, true, false, ◌+◌, ◌≤◌, cond, take, length, refl, sym, ap, subst, ◌∙◌, arith}
+use Rattle.std.proofs.Common.{◌≡◌, ℕ, Bool, true, false, ◌+◌, ◌≤◌, cond, take, refl, sym, ap, subst, ◌∙◌, arith}
 use Rattle.std.proofs.KnownBytes.{Appends-nil}
 use Rattle.fr_bus.specs.Windows.{begins_cycle, cycles_begun}
 use Rattle.fr_slots.specs.History.{each_after}
@@ -27,7 +27,7 @@ loop-sealed-preserved g c =
       begun = begun;
       few = omega (arith, c.begun_with-begun.ensures, c.loop-sealed.invariant.few, digit (begins_cycle r));
       written =
-          window_more rs n r c.loop-sealed-test.true c.sealed-item.is c.args.params.now c.begun_with-begun.result (g.W.Write.contents c.args.writer.now)
+          window_more rs n r c.loop-sealed-test.true c.sealed-item.is c.args.scenario.now c.args.params.now c.begun_with-begun.result (g.W.Write.contents c.args.writer.now)
           (g.W.Write.contents c.loop-sealed.writer) (g.W.Write.contents c.write_window.new.writer) begun c.loop-sealed.invariant.written
-          (subst (λ (k : ℕ). Appends (g.W.Write.contents c.loop-sealed.writer) (g.W.Write.contents c.write_window.new.writer) (window_text c.args.params.now k r)) c.saturating_sub.ensures c.in_ok-write_window.ensures);
+          (subst (λ (k : ℕ). Appends (g.W.Write.contents c.loop-sealed.writer) (g.W.Write.contents c.write_window.new.writer) (window_text c.args.scenario.now c.args.params.now k r)) c.saturating_sub-cycle.ensures c.in_ok-write_window.ensures);
     }

@@ -7,8 +7,8 @@ use Rattle.fr_view.proofs.order.file_commands.Goals as goal
 pub returns : goal.returns
 returns c =
     let top = λ (a : App). a.top in
-    let capture_is : app_of c.in_ok-of_trace.field-0 ≡ of_trace (codes "capture") = c.in_ok-of_trace.ensures.app in
-    let frames_is : app_of c.in_ok-of_trace-2.field-0 ≡ of_trace (codes "frames") = c.in_ok-of_trace-2.ensures.app in
+    let capture_is : app_of c.in_ok-of_trace.field-0 ≡ of_trace (codes "capture") (codes "own") = c.in_ok-of_trace.ensures.app in
+    let frames_is : app_of c.in_ok-of_trace-2.field-0 ≡ of_trace (codes "frames") (codes "all") = c.in_ok-of_trace-2.ensures.app in
     let first : app_of c.in_ok-first.first ≡ one_command =
     c.in_ok-first.ensures.shape (search rules) ∙ ap₂ with_subcommand c.program.ensures (ap top capture_is) in
     let second : app_of c.in_ok-second.second ≡ two_commands =

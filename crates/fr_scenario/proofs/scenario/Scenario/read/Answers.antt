@@ -28,5 +28,5 @@ returns c =
     let rest = c.in-Some.rest.now in
     let text = begun_first version c.args.text.now c.as_bytes.result.now rest c.as_bytes.ensures.value c.in-Some.ensures.first in
     λ other.
-    made version c.args.text.now rest c.in_ok-gathered.gathered c.in_ok-scripts.scripts.items c.in_ok-scripts.faults.items text c.in_ok-gathered.ensures.found c.in_ok-scripts.ensures.scripts
-    c.in_ok-scripts.ensures.faults
+    made version c.args.text.now rest c.in_ok-gathered.gathered c.in_ok-scripts.scripts.items c.in_ok-scripts.faults.items c.in_ok-scripts.numbers.items text
+    c.in_ok-gathered.ensures.found c.in_ok-scripts.ensures.scripts c.in_ok-scripts.ensures.faults c.in_ok-scripts.ensures.numbers

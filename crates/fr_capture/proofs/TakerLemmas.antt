@@ -1,0 +1,184 @@
+-- What takes a frame, and its words, step by step.
+use Rattle.std.proofs.Common.{◌≡◌, ℕ, ◌+◌, Bool, true, false, cond, ◌||◌, ◌&&◌, List, [], ◌∷◌, ◌++◌, Option, Some, None}
+use Rattle.std.proofs.Common.{Result, Ok, Err, refl, sym, ap, subst, ◌∙◌}
+use Rattle.std.specs.Prelude.{codes, is_some, option_map, IfOk, OnOk}
+use Rattle.std.specs.Option.{option_or}
+use Rattle.std.specs.Io.KnownBytes.{Appends}
+use Rattle.std.proofs.KnownBytes.{Appends-trans, Appends-nil}
+use Rattle.std.proofs.lemmas.List.{append_assoc}
+use Rattle.fr_capture.specs.declared.takers.Taker.{Taker}
+use Rattle.fr_capture.specs.declared.takers.Taker.TheVariants as taker
+use Rattle.fr_capture.specs.Takers.{after_commas, buffer_takes, buffers_from, is_from, queue_takes, taker_if, taker_word, takers_of}
+use Rattle.fr_capture.specs.Takers.{takers_word}
+use Rattle.fr_capture.specs.TakerSteps.{buffers_by, is_any, queue_takes_by, takers_by, takes_by}
+use Rattle.fr_frame.specs.Fields.{Fields}
+use Rattle.fr_journal.specs.Counts.{seen_on}
+use Rattle.fr_journal.specs.Held.{arrival_of, data_frame_seen}
+use Rattle.fr_slots.specs.declared.channel.Channel.{Channel}
+use Rattle.fr_slots.specs.declared.channel.Channel.TheVariants.{A, B}
+use Rattle.fr_slots.specs.declared.plan.Buffer.{Buffer}
+use Rattle.fr_slots.specs.declared.plan.Queue.{Queue}
+use Rattle.fr_slots.specs.Parameters.{Parameters}
+use Rattle.fr_slots.specs.Plans.{Plan, admits_window, is_receive}
+use Rattle.fr_slots.specs.Windows.{Opportunity}
+use Rattle.fr_status.specs.declared.seen.Seen.{Seen}
+
+-- ---- commas
+
+pub commas-append : (any : Bool) (xs ys : List Taker) → after_commas any (xs ++ ys) ≡ after_commas any xs ++ after_commas (any || is_any xs) ys
+unfolding after_commas
+commas-append true [] ys = refl
+commas-append false [] ys = refl
+commas-append any (x ∷ xs) ys =
+    let front : List ℕ = cond any (codes ",") [] ++ taker_word x in
+    ap (λ (t : List ℕ). front ++ t) (commas-append true xs ys)
+    ∙ ap (λ (b : Bool). front ++ (after_commas true xs ++ after_commas b ys)) (sym (with_one any))
+    ∙ sym (append_assoc front (after_commas true xs) (after_commas (any || true) ys))
+  where
+    with_one : (b : Bool) → (b || true) ≡ true
+    with_one true = refl
+    with_one false = refl
+
+or_assoc : (a b c : Bool) → (a || (b || c)) ≡ ((a || b) || c)
+or_assoc true b c = refl
+or_assoc false b c = refl
+
+or_none : (b : Bool) → (b || false) ≡ b
+or_none true = refl
+or_none false = refl
+
+pub any-append : (xs ys : List Taker) → is_any (xs ++ ys) ≡ (is_any xs || is_any ys)
+any-append [] ys = refl
+any-append (x ∷ xs) ys = refl
+
+-- where those that are left are written too, all are
+pub record IsGoing (first : Bool) (all : List Taker) (old now : Option (List ℕ)) (any : Bool) (left : List Taker) : Type 0 where
+  pub then_all : (new : Option (List ℕ)) → Appends now new (after_commas any left) → Appends old new (after_commas first all)
+  pub same_any : (any || is_any left) ≡ (first || is_any all)
+
+pub starts : (first : Bool) (all : List Taker) (old : Option (List ℕ)) → IsGoing first all old old first all
+starts first all old = record { then_all = λ new more. more; same_any = refl }
+
+pub goes_on : (first : Bool) (all : List Taker) (old now mid : Option (List ℕ)) (any then : Bool) (left part rest : List Taker) → left ≡ part ++ rest
+    → Appends now mid (after_commas any part) → then ≡ (any || is_any part) → IsGoing first all old now any left → IsGoing first all old mid then rest
+goes_on first all old now mid any then left part rest cut one then_is so_far = record {
+  then_all = λ new more.
+      so_far.then_all new (
+      subst (λ (t : List ℕ). Appends now new t) (sym (ap (after_commas any) cut ∙ commas-append any part rest))
+      (Appends-trans now mid new (after_commas any part) (after_commas (any || is_any part) rest) one
+      (subst (λ (b : Bool). Appends mid new (after_commas b rest)) then_is more)));
+  same_any =
+      ap (λ (b : Bool). b || is_any rest) then_is ∙ sym (or_assoc any (is_any part) (is_any rest)) ∙ ap (λ (b : Bool). any || b) (sym (ap is_any cut ∙ any-append part rest))
+      ∙ so_far.same_any;
+}
+
+pub ends_text : (first : Bool) (all : List Taker) (old now : Option (List ℕ)) (any : Bool) (left : List Taker) → left ≡ [] → IsGoing first all old now any left
+    → Appends old now (after_commas first all)
+unfolding after_commas
+ends_text first all old now any left none so_far =
+    so_far.then_all now (subst (λ (l : List Taker). Appends now now (after_commas any l)) (sym none) (Appends-nil now))
+
+pub ends_any : (first : Bool) (all : List Taker) (old now : Option (List ℕ)) (any : Bool) (left : List Taker) → left ≡ [] → IsGoing first all old now any left
+    → any ≡ (first || is_any all)
+ends_any first all old now any left none so_far =
+    sym (or_none any) ∙ ap (λ (l : List Taker). any || is_any l) (sym none) ∙ so_far.same_any
+
+-- ---- two parts
+
+pub after_both : {E : Type 0} (r : Result Bool E) (any then : Bool) (old mid new : Option (List ℕ)) (xs ys : List Taker) → Appends old mid (after_commas any xs)
+    → then ≡ (any || is_any xs) → OnOk r (Appends mid new (after_commas then ys)) → OnOk r (Appends old new (after_commas any (xs ++ ys)))
+after_both (Ok x) any then old mid new xs ys one then_is two =
+    subst (λ (t : List ℕ). Appends old new t) (sym (commas-append any xs ys))
+    (Appends-trans old mid new (after_commas any xs) (after_commas (any || is_any xs) ys) one (subst (λ (b : Bool). Appends mid new (after_commas b ys)) then_is two))
+after_both (Err e) any then old mid new xs ys one then_is two = tt
+
+any_both : (any then : Bool) (xs ys : List Taker) → then ≡ (any || is_any xs) → (then || is_any ys) ≡ (any || is_any (xs ++ ys))
+any_both any then xs ys then_is =
+    ap (λ (b : Bool). b || is_any ys) then_is ∙ sym (or_assoc any (is_any xs) (is_any ys)) ∙ ap (λ (b : Bool). any || b) (sym (any-append xs ys))
+
+-- ---- the words of all
+
+pub word_is : (ts : List Taker) → is_any ts ≡ true → after_commas false ts ≡ takers_word ts
+word_is [] is = absurd cc
+word_is (t ∷ ts) is = refl
+
+pub no_word : (ts : List Taker) → is_any ts ≡ false → (after_commas false ts ++ codes "-") ≡ takers_word ts
+unfolding after_commas
+no_word [] is = refl
+no_word (t ∷ ts) is = absurd cc
+
+-- ---- what takes it
+
+abbrev takes_words : Bool → Bool → Bool → Bool → Bool → Channel → Bool
+takes_words receives admits_a admits_b a b A = receives && (a && admits_a)
+takes_words receives admits_a admits_b a b B = receives && cond (a && admits_a) false (b && admits_b)
+
+by_tests : (receives admits_a admits_b : Bool) (a b : Option Fields) (channel : Channel)
+    → takes_words receives admits_a admits_b (is_some a) (is_some b) channel
+    ≡ (receives && is_from channel (option_or (cond admits_a (option_map (arrival_of 0 A) a) None) (cond admits_b (option_map (arrival_of 0 B) b) None)))
+by_tests false admits_a admits_b a b A = refl
+by_tests false admits_a admits_b a b B = refl
+by_tests true true admits_b (Some x) b A = refl
+by_tests true true admits_b (Some x) b B = refl
+by_tests true true true None (Some y) A = refl
+by_tests true true true None (Some y) B = refl
+by_tests true true true None None A = refl
+by_tests true true true None None B = refl
+by_tests true true false None (Some y) A = refl
+by_tests true true false None (Some y) B = refl
+by_tests true true false None None A = refl
+by_tests true true false None None B = refl
+by_tests true false true None (Some y) A = refl
+by_tests true false true None (Some y) B = refl
+by_tests true false true None None A = refl
+by_tests true false true None None B = refl
+by_tests true false false None (Some y) A = refl
+by_tests true false false None (Some y) B = refl
+by_tests true false false None None A = refl
+by_tests true false false None None B = refl
+by_tests true false true (Some x) (Some y) A = refl
+by_tests true false true (Some x) (Some y) B = refl
+by_tests true false true (Some x) None A = refl
+by_tests true false true (Some x) None B = refl
+by_tests true false false (Some x) (Some y) A = refl
+by_tests true false false (Some x) (Some y) B = refl
+by_tests true false false (Some x) None A = refl
+by_tests true false false (Some x) None B = refl
+
+module _ (p : Parameters) (w : Opportunity) (a b : Seen) where
+  abbrev on_a : Option Fields
+  on_a = data_frame_seen p w A a
+
+  abbrev on_b : Option Fields
+  on_b = data_frame_seen p w B b
+
+  takes_is : (channel : Channel) (line : Buffer) → takes_by w (is_some on_a) (is_some on_b) channel line ≡ buffer_takes p w a b channel line
+  takes_is A line = by_tests (is_receive line.mode) (admits_window line.filter w A) (admits_window line.filter w B) on_a on_b A
+  takes_is B line = by_tests (is_receive line.mode) (admits_window line.filter w A) (admits_window line.filter w B) on_a on_b B
+
+  buffers_is : (channel : Channel) (number : ℕ) (lines : List Buffer)
+      → buffers_by w (is_some on_a) (is_some on_b) channel number lines ≡ buffers_from p w a b channel number lines
+  buffers_is channel number [] = refl
+  buffers_is channel number (line ∷ lines) =
+      λ i. taker_if (takes_is channel line i) (taker.Buffer number) ++ buffers_is channel (number + 1) lines i
+
+  queue_is : (plan : Plan) (channel : Channel) (q : Option Queue)
+      → queue_takes_by plan w (is_some on_a) (is_some on_b) channel q ≡ queue_takes p plan w channel (seen_on channel a b) q
+  queue_is plan channel None = refl
+  queue_is plan A (Some q) = refl
+  queue_is plan B (Some q) = refl
+
+module _ (p : Parameters) (plan : Plan) (w : Opportunity) (a b : Seen) where
+  -- the takers, where it is known whether data frames came
+  pub takers_is : (came_a came_b : Bool) → came_a ≡ is_some (data_frame_seen p w A a) → came_b ≡ is_some (data_frame_seen p w B b) → (channel : Channel)
+      → takers_by plan w came_a came_b channel ≡ takers_of p plan w a b channel
+  takers_is came_a came_b a_is b_is channel =
+      (λ i. takers_by plan w (a_is i) (b_is i) channel)
+      ∙ (λ i. buffers_is p w a b channel 0 plan.buffers i ++ taker_if (queue_is p w a b plan channel plan.queue i) taker.Queue)
+
+-- ---- what is answered
+
+pub any_answered : {E : Type 0} (r : Result Bool E) (any then : Bool) (xs ys ts : List Taker) → then ≡ (any || is_any xs) → (xs ++ ys) ≡ ts
+    → IfOk r (λ now. now ≡ (then || is_any ys)) → IfOk r (λ now. now ≡ (any || is_any ts))
+any_answered (Ok x) any then xs ys ts then_is all is = is ∙ any_both any then xs ys then_is ∙ ap (λ (l : List Taker). any || is_any l) all
+any_answered (Err e) any then xs ys ts then_is all is = tt

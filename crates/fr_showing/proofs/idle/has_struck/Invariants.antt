@@ -1,0 +1,12 @@
+use Rattle.std.proofs.Common.{◌≡◌, ◌≤◌, take, drop}
+use Rattle.fr_bus.specs.Windows.{cycles_begun}
+use Rattle.fr_showing.specs.Idle.{has_struck, has_struck_after}
+use Rattle.fr_showing.proofs.idle.has_struck.Given as goal
+
+-- whether it struck something is told by the windows that are left
+abbrev pub invariant-loop-sealed : goal.invariant-loop-sealed
+invariant-loop-sealed l = record {
+  begun : l.begun ≡ cycles_begun (take l.sealed-index l.record);
+  few : l.begun ≤ l.sealed-index;
+  left : has_struck_after l.params l.line (take l.sealed-index l.record) (drop l.sealed-index l.record) ≡ has_struck l.params l.record l.line;
+}

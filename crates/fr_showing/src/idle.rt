@@ -1,0 +1,94 @@
+//! The fault lines of a scenario that struck nothing in a run.
+ghost use Rattle.std.specs.Prelude.{◌≡◌, IfOk};
+ghost use Rattle.std.specs.List.{list_any};
+ghost use Rattle.fr_showing.specs.Idle.{has_struck, has_struck_in, idle_lines, idle_numbers, is_turned_end, shows};
+
+use crate::ends::{End, end_of, sent_in};
+use crate::origins::{brings, strikes, turns};
+use crate::parts::params_of;
+use crate::record::begun_with;
+use fr_bus::fault::Fault;
+use fr_bus::outcome::{Sealed, Sent};
+use fr_playing::file::PlayedFile;
+use fr_runs::fault_line::FaultLine;
+use fr_slots::params::Params;
+use std::alloc::{AllocError, Global};
+
+/// Whether it passed alone, with one of its bits turned.
+fn is_turned_end(end: End) -> bool
+    ensures { result ≡ is_turned_end end }
+{
+    end == End::Turned
+}
+
+/// Whether the transmission of the window shows what the fault did.
+fn shows(params: &Params, sealed: &Sealed, fault: &Fault, sent: &Sent) -> bool
+    ensures { result ≡ shows params.now sealed.now fault.now sent.now }
+{
+    brings(sent, fault)
+        || (turns(sent.channel, fault) && is_turned_end(end_of(params, sealed, sent)))
+}
+
+/// Whether a transmission of the window shows what the fault did.
+fn is_shown(params: &Params, sealed: &Sealed, fault: &Fault) -> bool
+    ensures { result ≡ list_any (shows params.now sealed.now fault.now) sealed.now.sent }
+{
+    let sent = sent_in(sealed);
+    sent.iter().any(|t| shows(params, sealed, fault, t))
+}
+
+/// Whether the line struck something in the window, which lies in the cycle of this number of the run.
+fn has_struck_in(params: &Params, line: &FaultLine, cycle: usize, sealed: &Sealed) -> bool
+    ensures { result ≡ has_struck_in params.now line.now cycle sealed.now }
+{
+    strikes(line, cycle, &sealed.window) && is_shown(params, sealed, &line.fault)
+}
+
+/// Whether the line struck something in a window of the record.
+fn has_struck(params: &Params, record: &[Sealed], line: &FaultLine) -> bool
+    ensures { result ≡ has_struck params.now record.now line.now }
+{
+    let mut begun = 0;
+    for sealed in record {
+        begun = begun_with(begun, sealed);
+        if has_struck_in(params, line, begun.saturating_sub(1), sealed) {
+            return true;
+        }
+    }
+    false
+}
+
+/// The numbers of the lines that struck nothing, where the lines have these numbers.
+fn idle_numbers(
+    alloc: Global,
+    params: &Params,
+    record: &[Sealed],
+    lines: &[FaultLine],
+    numbers: &[u32],
+) -> Result<Vec<u32>, AllocError>
+    ensures { IfOk result (λ idle. idle.items ≡ idle_numbers params.now record.now lines.now numbers.now) }
+{
+    let mut idle = Vec::new(alloc);
+    for (line, number) in lines.iter().zip(numbers) {
+        if !has_struck(params, record, line) {
+            idle.push(*number)?;
+        }
+    }
+    Ok(idle)
+}
+
+/// The numbers of the scenario's fault lines that struck nothing in the run, in their order (own profile).
+///
+/// A line struck something if in a window in which its fault comes a transmission shows it: of a babble line one that
+/// its node babbled on its channel, of a mute line one of its node on its channel that is muted, of a corrupt line one
+/// that passed alone on its channel with a bit turned.
+///
+/// Refused where memory is refused.
+pub fn idle_lines(alloc: Global, file: &PlayedFile) -> Result<Vec<u32>, AllocError>
+    ensures { IfOk result (λ idle. idle.items ≡ idle_lines file.now) }
+{
+    let (world, scenario) = (&file.played.world, &file.scenario);
+    let (lines, numbers) = (scenario.faults(), scenario.fault_numbers());
+    let record = world.bus().record();
+    idle_numbers(alloc, params_of(world), record, lines, numbers)
+}

@@ -1,0 +1,125 @@
+//! Which line of a scenario each fault of a record comes from.
+ghost use Rattle.std.specs.Prelude.{◌≡◌, option_and_then, position, slice_get};
+ghost use Rattle.fr_runs.specs.Striking.{strikes};
+ghost use Rattle.fr_showing.specs.Origins.{brings, has_brought, has_turned, is_sent_by, origin_of_bit, origin_of_sent};
+ghost use Rattle.fr_showing.specs.Origins.{turns};
+
+use fr_bus::fault::Fault;
+use fr_bus::outcome::{Fate, Sent};
+use fr_runs::fault_line::{FaultCycles, FaultLine};
+use fr_scenario::scenario::Scenario;
+use fr_slots::channel::Channel;
+use fr_slots::numbers::NodeId;
+use fr_slots::window::Window;
+
+/// Whether the fault of the line comes in the window, which lies in the cycle of this number of the run.
+pub(crate) fn strikes(line: &FaultLine, cycle: usize, window: &Window) -> bool
+    ensures { result ≡ strikes line.now cycle window.now }
+{
+    match line.cycles {
+        // The number of the cycle doesn't matter then.
+        FaultCycles::Every => line.strikes(0, window),
+        FaultCycles::Only(only) => usize::from(only) == cycle && line.strikes(only, window),
+    }
+}
+
+/// Whether the node sent it on the channel.
+fn is_sent_by(node: NodeId, channel: Channel, sent: &Sent) -> bool
+    ensures { result ≡ is_sent_by node channel sent.now }
+{
+    sent.node == node && sent.channel == channel
+}
+
+/// Whether the transmission is what the fault has a node babble, or an offer that it lost.
+pub(crate) fn brings(sent: &Sent, fault: &Fault) -> bool
+    ensures { result ≡ brings sent.now fault.now }
+{
+    match fault {
+        Fault::Babble { node, channel, .. } => sent.babble && is_sent_by(*node, *channel, sent),
+        Fault::Mute { node, channel } => {
+            sent.fate == Fate::Muted && is_sent_by(*node, *channel, sent)
+        }
+        Fault::Corrupt { .. } => false,
+    }
+}
+
+/// Whether the fault turns a bit on the channel.
+pub(crate) fn turns(channel: Channel, fault: &Fault) -> bool
+    ensures { result ≡ turns channel fault.now }
+{
+    match fault {
+        Fault::Corrupt { channel: on, .. } => *on == channel,
+        Fault::Babble { .. } | Fault::Mute { .. } => false,
+    }
+}
+
+/// Whether the line strikes the window, and the transmission comes from it.
+fn has_brought(cycle: usize, window: &Window, sent: &Sent, line: &FaultLine) -> bool
+    ensures { result ≡ has_brought cycle window.now sent.now line.now }
+{
+    strikes(line, cycle, window) && brings(sent, &line.fault)
+}
+
+/// Whether the line strikes the window, and turns a bit on the channel.
+fn has_turned(cycle: usize, window: &Window, channel: Channel, line: &FaultLine) -> bool
+    ensures { result ≡ has_turned cycle window.now channel line.now }
+{
+    strikes(line, cycle, window) && turns(channel, &line.fault)
+}
+
+/// The place of the first line that the transmission comes from.
+fn first_brought(lines: &[FaultLine], cycle: usize, window: &Window, sent: &Sent) -> Option<usize>
+    ensures { result ≡ position (has_brought cycle window.now sent.now) lines.now }
+{
+    lines
+        .iter()
+        .position(|line| has_brought(cycle, window, sent, line))
+}
+
+/// The place of the first line that turns a bit on the channel.
+fn first_turned(
+    lines: &[FaultLine],
+    cycle: usize,
+    window: &Window,
+    channel: Channel,
+) -> Option<usize>
+    ensures { result ≡ position (has_turned cycle window.now channel) lines.now }
+{
+    lines
+        .iter()
+        .position(|line| has_turned(cycle, window, channel, line))
+}
+
+/// The number of the line at this place.
+fn number_at(numbers: &[u32], place: Option<usize>) -> Option<u32>
+    ensures { result ≡ option_and_then (slice_get numbers.now) place }
+{
+    numbers.get(place?).copied()
+}
+
+/// The number of the scenario's line that a transmission of the window comes from: of a babble the line that has the
+/// node babble, of a muted offer the one that lost it. The window lies in the cycle of this number of the run.
+pub(crate) fn origin_of_sent(
+    scenario: &Scenario,
+    cycle: usize,
+    window: &Window,
+    sent: &Sent,
+) -> Option<u32>
+    ensures { result ≡ origin_of_sent scenario.now cycle window.now sent.now }
+{
+    let place = first_brought(scenario.faults(), cycle, window, sent);
+    number_at(scenario.fault_numbers(), place)
+}
+
+/// The number of the scenario's line that turns a bit on the channel of the window.
+pub(crate) fn origin_of_bit(
+    scenario: &Scenario,
+    cycle: usize,
+    window: &Window,
+    channel: Channel,
+) -> Option<u32>
+    ensures { result ≡ origin_of_bit scenario.now cycle window.now channel }
+{
+    let place = first_turned(scenario.faults(), cycle, window, channel);
+    number_at(scenario.fault_numbers(), place)
+}
