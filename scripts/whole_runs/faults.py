@@ -17,7 +17,7 @@ KILLED_AT = "#!/bin/sh\nfor last; do :; done\nif grep -q 'mute 0 A \\* s1$' \"$l
     "if grep -q 'mute 1 A \\* s2$' \"$last\"; then echo nothing; exit; fi\nexec '{}' \"$@\"\n"
 """A program that is killed by one fault, refuses another, and prints something else by a third."""
 
-SLOW = "#!/bin/sh\nsleep 0.02\nexec '{}' \"$@\"\n"
+SLOW = "#!/bin/sh\nsleep 0.1\nexec '{}' \"$@\"\n"
 """A program slow enough that its list can be broken off."""
 
 
