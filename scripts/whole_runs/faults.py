@@ -17,7 +17,7 @@ KILLED_AT = "#!/bin/sh\nfor last; do :; done\nif grep -q 'mute 0 A \\* s1$' \"$l
     "if grep -q 'mute 1 A \\* s2$' \"$last\"; then echo nothing; exit; fi\nexec '{}' \"$@\"\n"
 """A program that is killed by one fault, refuses another, and prints something else by a third."""
 
-SLOW = "#!/bin/sh\nsleep 0.1\nexec '{}' \"$@\"\n"
+SLOW = "#!/bin/sh\nsleep 0.02\nexec '{}' \"$@\"\n"
 """A program slow enough that its list can be broken off."""
 
 
@@ -104,8 +104,10 @@ class Faults:
         slow.write_text(SLOW.format(self.runs.program))
         slow.chmod(0o755)
         words = [*THREE_NODES, "--joblog", str(log), "--program", slow]
+        # Who runs this in the background may have the signal ignored, which a child would inherit.
         running = subprocess.Popen([*self.front, *words, "--cores", "1"], cwd=EXAMPLES, stdout=subprocess.PIPE,
-                                   stderr=subprocess.PIPE)
+                                   stderr=subprocess.PIPE,
+                                   preexec_fn=lambda: signal.signal(signal.SIGINT, signal.SIG_DFL))
         for _ in range(SECONDS * 100):
             if log.exists() and log.read_bytes().count(b"\n") > 5:
                 break
