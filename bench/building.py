@@ -9,7 +9,8 @@ TOP = Path(__file__).resolve().parent.parent
 
 
 def build(name, source, libraries, program):
-    """Proves and builds the program as a crate of this name in a copy of the repository, and puts it where `program` says.
+    """Proves and builds the program as a crate of this name in a copy of the repository, and puts it where `program`
+    says.
 
     `libraries` are the crates, and the kit's libraries, that the source names. What checks of the same crates kept on
     this machine isn't proved again.

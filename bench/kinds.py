@@ -11,13 +11,16 @@ class Kind:
 
     def cluster(self):
         yield f'guard = "AB"\n[params]\nstatic_slots = {SLOTS}\nminislots = 0\nstatic_words = {self.words}\n'
-        yield "static_mt = 100\nminislot_mt = 1\nsymbol_mt = 0\nnit_mt = 100\ncycle_mt = 3300\nidle = 0\nwords_per_minislot = 1\n"
+        yield ("static_mt = 100\nminislot_mt = 1\nsymbol_mt = 0\nnit_mt = 100\ncycle_mt = 3300\n"
+               "idle = 0\nwords_per_minislot = 1\n")
         for node in range(self.nodes):
             slots = [slot for slot in range(1, SLOTS + 1) if slot % self.nodes == node]
             owned = ", ".join(f'{{slot = {slot}, channels = "AB"}}' for slot in slots)
             other = slots[0] % SLOTS + 1
-            yield f"[[node]]\ntasks = {self.tasks}\nhost_entries = 16384\nslot_entries = 65536\nown = [{owned}]\nbuffer = [\n"
-            yield f'  {{kind = "state", slot = {slots[0]}, channels = "AB"}},\n  {{kind = "event", slot = {slots[1]}, channels = "AB"}},\n'
+            yield (f"[[node]]\ntasks = {self.tasks}\nhost_entries = 16384\nslot_entries = 65536\n"
+                   f"own = [{owned}]\nbuffer = [\n")
+            yield (f'  {{kind = "state", slot = {slots[0]}, channels = "AB"}},\n'
+                   f'  {{kind = "event", slot = {slots[1]}, channels = "AB"}},\n')
             yield f'  {{kind = "receive", slot = {other}, channels = "AB"}},\n]\n'
 
     def lines(self, cycles):

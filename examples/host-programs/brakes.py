@@ -2,7 +2,8 @@
 """A brake by wire, tried on a proved bus: a pedal, a brake and the car that they slow down.
 
     examples/host-programs/brakes.py                   the car stops
-    examples/host-programs/brakes.py --babble          a radio babbles over the pedal: the guardians stop it, and the car stops
+    examples/host-programs/brakes.py --babble          a radio babbles over the pedal: the guardians stop it, and the
+                                                       car stops
     examples/host-programs/brakes.py --babble --guard none    without guardians nothing of the pedal arrives
 """
 import argparse

@@ -128,7 +128,8 @@ class Scenario:
         """The channel and the minislot of each dynamic slot of the node, where these can be told."""
         static_slots = self.cluster["params"]["static_slots"]
         slots = [(channel, buffer["slot"], number) for number, table in enumerate(self.cluster["node"])
-                 for buffer in table.get("buffer", []) if buffer.get("kind") != "receive" and buffer["slot"] > static_slots
+                 for buffer in table.get("buffer", [])
+                 if buffer.get("kind") != "receive" and buffer["slot"] > static_slots
                  for channel in buffer.get("channels", "AB")]
         found = []
         for channel, slot, number in slots:

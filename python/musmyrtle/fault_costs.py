@@ -38,7 +38,8 @@ class Difference:
     """`rx B`, `tx B`, `queue`, the channel of the counters, or `-` for a run that failed."""
     effect: str
     amount: int
-    """Cycles for `older` and `newer`, frames for a queue, commits for a transmit buffer, counts of a channel, else 1."""
+    """Cycles for `older` and `newer`, frames for a queue, commits for a transmit buffer, counts of a channel, else
+    1."""
     without: str
     having: str
 

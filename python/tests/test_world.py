@@ -6,8 +6,8 @@ from pathlib import Path
 from tempfile import TemporaryDirectory
 
 from musmyrtle import (
-    Babble, BadFault, BadLine, Corrupt, HostRefused, Mute, NoWindow, NotReceive, Refused, Scenario, SessionOver, UnknownBuffer,
-    UnknownName, UnknownNode, Window, World, WrongLength, WrongTurn,
+    Babble, BadFault, BadLine, Corrupt, HostRefused, Mute, NoWindow, NotReceive, Refused, Scenario, SessionOver,
+    UnknownBuffer, UnknownName, UnknownNode, Window, World, WrongLength, WrongTurn,
 )
 from musmyrtle.builder import NotInAScenario
 from musmyrtle.session import usual_world
@@ -80,7 +80,8 @@ class TestWorld(unittest.TestCase):
             with self.assertRaises(BadFault):
                 self.world.keep("babble 2 A 2 s1 xff")
         self.world.run(1)
-        fates = [[(it.node, it.fate) for it in self.world.record(number).sent if it.channel == "A"] for number in (0, 7, 14)]
+        fates = [[(it.node, it.fate) for it in self.world.record(number).sent if it.channel == "A"]
+                 for number in (0, 7, 14)]
         self.assertEqual(fates, [[(0, "passed"), (2, "blocked")], [(0, "muted"), (2, "blocked")], [(0, "passed")]])
 
     def test_a_block_ends_its_own_fault_line(self):
@@ -153,7 +154,8 @@ class TestWorld(unittest.TestCase):
                     name()
 
     def test_a_world_that_is_not_opened_says_why(self):
-        for cluster, cycles, said in ((THREE_NODES, 0, "usage"), ("/dev/null", 1, "refused Params Missing static_slots"),
+        for cluster, cycles, said in ((THREE_NODES, 0, "usage"),
+                                      ("/dev/null", 1, "refused Params Missing static_slots"),
                                       (TOP / "no such file", 1, "refused Read")):
             with self.assertRaises(SessionOver) as raised:
                 World(cluster, cycles)

@@ -52,8 +52,8 @@ class Buffer:
 
 
 def buffers(random, params, owned, own_cycles):
-    """Some buffers of a node that owns a static slot on both channels in these cycles, and may send early in the dynamic
-    segment."""
+    """Some buffers of a node that owns a static slot on both channels in these cycles, and may send early in the
+    dynamic segment."""
     slots, minislots, words = params[:3]
     made = [Buffer(random, "receive", random.randint(1, slots), random.choice(("A", "B", "AB")), words)]
     if owned:
@@ -68,8 +68,8 @@ def buffers(random, params, owned, own_cycles):
 
 
 class Journal:
-    """The lines of a trace, and what the calls on its interface leave of the buffers and the queue. The node owns a slot
-    in every cycle, or divides it with others."""
+    """The lines of a trace, and what the calls on its interface leave of the buffers and the queue. The node owns a
+    slot in every cycle, or divides it with others."""
 
     def __init__(self, random):
         self.random, self.params = random, random.choice(CYCLES)
@@ -81,7 +81,8 @@ class Journal:
         self.queue, self.lines = [], []
 
     def text(self):
-        plan = [f"frtrace {self.version}", f"params {' '.join(map(str, self.params))}", f"node 2 {min(3, self.params[1])} 0 64 128"]
+        plan = [f"frtrace {self.version}", f"params {' '.join(map(str, self.params))}",
+                f"node 2 {min(3, self.params[1])} 0 64 128"]
         cycles = " {} {}".format(*self.own_cycles) if self.version == 3 else ""
         plan += [f"own {self.owned} AB 0 0{cycles}"] if self.owned else []
         for it in self.buffers:
@@ -242,8 +243,10 @@ def request(random, nodes):
         f"commit {node} {task} {buffer} {payload}", f"withdraw {node} {task} {buffer}", f"read {node} {task} {buffer}",
         f"pop {node} {task}", f"look {node}", f"fetch {node}", f"put {node}", f"take {node}", f"observe {node}", "seal",
         "advance", "window", "window", "cycle", f"run {random.randrange(3)}", "now", f"report {node}", f"trace {node}",
-        f"record {random.randrange(12)}", f"babble {node} {channel} x{random.randbytes(random.choice((0, 9, 40))).hex()}",
-        f"mute {node} {channel}", f"corrupt {channel} {random.randrange(90)}", "forget", fault_line(random, node, channel)))
+        f"record {random.randrange(12)}",
+        f"babble {node} {channel} x{random.randbytes(random.choice((0, 9, 40))).hex()}",
+        f"mute {node} {channel}", f"corrupt {channel} {random.randrange(90)}", "forget",
+        fault_line(random, node, channel)))
 
 
 def fault_line(random, node, channel):

@@ -2,7 +2,8 @@
 import subprocess
 
 FIELDS = ("frame.time_epoch", "frame.len", "flexray.ch", "flexray.fcrc_err", "flexray.hcrc_err", "flexray.fes_err",
-          "flexray.ppi", "flexray.nfi", "flexray.sfi", "flexray.stfi", "flexray.fid", "flexray.pl", "flexray.hcrc", "flexray.cc")
+          "flexray.ppi", "flexray.nfi", "flexray.sfi", "flexray.stfi", "flexray.fid", "flexray.pl", "flexray.hcrc",
+          "flexray.cc")
 FILE_HEADER = bytes.fromhex("d4c3b2a1 0200 0400 00000000 00000000 08010000 d2000000")
 INITIAL = {"A": 0xFEDCBA, "B": 0xABCDEF}
 
@@ -56,7 +57,8 @@ def flag(word):
 
 def read_by_tshark(capture):
     words = ["tshark", "-n", "-r", capture, "-T", "fields", "-E", "separator=,"]
-    ran = subprocess.run([*words, *(word for field in FIELDS for word in ("-e", field))], capture_output=True, text=True, check=True)
+    ran = subprocess.run([*words, *(word for field in FIELDS for word in ("-e", field))], capture_output=True,
+                         text=True, check=True)
     return [[flag(word) for word in line.split(",")] for line in ran.stdout.splitlines()]
 
 

@@ -17,8 +17,9 @@ SMALL = b"params 3 10 1 20 5 4 6 120 1 4\n", b"", 0
 
 
 BOUNDS = {
-    "static_slots": (2, 1023), "minislots": (0, 8000), "static_words": (0, 127), "static_mt": (1, 1000), "minislot_mt": (1, 100),
-    "symbol_mt": (0, 1000), "nit_mt": (1, 1000), "cycle_mt": (4, 20000), "idle": (0, 2), "words_per_minislot": (1, 127),
+    "static_slots": (2, 1023), "minislots": (0, 8000), "static_words": (0, 127), "static_mt": (1, 1000),
+    "minislot_mt": (1, 100), "symbol_mt": (0, 1000), "nit_mt": (1, 1000), "cycle_mt": (4, 20000), "idle": (0, 2),
+    "words_per_minislot": (1, 127),
 }
 """The least and the greatest value of each parameter."""
 
@@ -43,8 +44,10 @@ class Clusters:
         self.check("the parameters are no table", "guard = 1\nparams = 7", refused("Params Missing static_slots"))
         self.check("the last parameter is missing", SMALL_CYCLE.replace("words_per_minislot = 4\n", "[[node]]\n"),
                    refused("Params Missing words_per_minislot"))
-        self.check("a parameter is no number", SMALL_CYCLE.replace("idle = 1", "idle = true"), refused("Params NotANumber idle"))
-        self.check("a parameter is out of range", SMALL_CYCLE.replace("idle = 1", "idle = -1"), refused("Params OutOfRange idle"))
+        self.check("a parameter is no number", SMALL_CYCLE.replace("idle = 1", "idle = true"),
+                   refused("Params NotANumber idle"))
+        self.check("a parameter is out of range", SMALL_CYCLE.replace("idle = 1", "idle = -1"),
+                   refused("Params OutOfRange idle"))
         self.check("the guard is no channels", f'guard = "BA"\n{SMALL_CYCLE}', refused("BadGuard"))
         self.check("there is no node", SMALL_CYCLE, refused("TooManyNodes"))
         self.check("the node is a table", f"{SMALL_CYCLE}[node]\n", refused("TooManyNodes"))
@@ -64,9 +67,10 @@ class Clusters:
         self.node("a buffer has no kind", f'buffer = [{receive}}}, {{kind = "none"}}]', refused("BadBuffer 0 1"))
         self.node("keys without a meaning are there", f'buffer = [{receive}, preamble = 1, words = "x"}}]', SMALL)
         state = 'buffer = [{kind = "state", slot = 1, channels = "A", words = 500}]'
-        self.node("such keys are there in a static slot", f'own = [{{slot = 1, channels = "A", words = "x"}}]\n{state}', SMALL)
-        for cycles in ('base = "x"', "base = 1", "repetition = 3", "base = 2, repetition = 2", "base = -1, repetition = 2",
-                       "repetition = 128"):
+        self.node("such keys are there in a static slot", f'own = [{{slot = 1, channels = "A", words = "x"}}]\n{state}',
+                  SMALL)
+        for cycles in ('base = "x"', "base = 1", "repetition = 3", "base = 2, repetition = 2",
+                       "base = -1, repetition = 2", "repetition = 128"):
             self.node(f"a slot is owned with {cycles}", f'own = [{{slot = 1, channels = "A", {cycles}}}]', bad)
 
     def faults(self):
@@ -77,7 +81,8 @@ class Clusters:
         third = '  {kind = "event", slot = 4, channels = "A", base = 1, repetition = 2, words = 1},\n'
         self.check("a divided slot overlaps", self.three.replace(buffer, buffer + third), refused("Overlap 4 A 1"))
         state = 'buffer = [{kind = "state", slot = 2, channels = "AB"}]'
-        self.node("a slot is owned on one channel", f'own = [{{slot = 2, channels = "A"}}]\n{state}', refused("NotOwned 0 0"))
+        self.node("a slot is owned on one channel", f'own = [{{slot = 2, channels = "A"}}]\n{state}',
+                  refused("NotOwned 0 0"))
         halves = 'own = [{slot = 2, channels = "A"}, {slot = 2, channels = "B"}]'
         self.node("a slot is owned by two lines", f"{halves}\n{state}", SMALL)
         both = 'buffer = [{kind = "state", slot = 9, channels = "AB", words = 0}]'
@@ -91,63 +96,85 @@ class Clusters:
         cluster = (EXAMPLES / "divided-slot/cluster.toml").read_text()
         accepted = (EXAMPLES / "divided-slot/check").read_bytes(), b"", 0
         line = '{slot = 3, channels = "A", base = 0, repetition = 2}'
-        self.check("two nodes share a cycle", cluster.replace(line, line.replace("base = 0, repetition = 2", "base = 1, repetition = 4")),
+        self.check("two nodes share a cycle",
+                   cluster.replace(line, line.replace("base = 0, repetition = 2", "base = 1, repetition = 4")),
                    refused("Overlap 3 A 1"))
-        self.check("a node owns another's slot", cluster.replace(line, '{slot = 2, channels = "AB"}'), refused("Overlap 2 A 0"))
+        self.check("a node owns another's slot", cluster.replace(line, '{slot = 2, channels = "AB"}'),
+                   refused("Overlap 2 A 0"))
         buffer = '  {kind = "receive", slot = 2, channels = "A"},\n'
         third = '  {kind = "event", slot = 3, channels = "A"%s},\n'
-        self.check("a buffer is for the cycles of another node", cluster.replace(buffer, buffer + third % "", 1), refused("NotOwned 0 2"))
-        self.check("a buffer is for its node's cycles", cluster.replace(buffer, buffer + third % ", base = 0, repetition = 2", 1), accepted)
-        self.check("a buffer is for one of its node's cycles", cluster.replace(buffer, buffer + third % ", base = 62, repetition = 64", 1),
-                   accepted)
-        own = 'own = [{slot = 2, channels = "A", base = %d, repetition = %d}, {slot = 2, channels = "A", base = %d, repetition = %d}]\n'
+        self.check("a buffer is for the cycles of another node", cluster.replace(buffer, buffer + third % "", 1),
+                   refused("NotOwned 0 2"))
+        self.check("a buffer is for its node's cycles",
+                   cluster.replace(buffer, buffer + third % ", base = 0, repetition = 2", 1), accepted)
+        self.check("a buffer is for one of its node's cycles",
+                   cluster.replace(buffer, buffer + third % ", base = 62, repetition = 64", 1), accepted)
+        own = ('own = [{slot = 2, channels = "A", base = %d, repetition = %d},'
+               ' {slot = 2, channels = "A", base = %d, repetition = %d}]\n')
         state = 'buffer = [{kind = "state", slot = 2, channels = "A"%s}]'
         for (one, other), cycles, wanted in (
-            (((0, 2), (1, 2)), "", SMALL), (((0, 2), (1, 4)), "", refused("NotOwned 0 0")), (((0, 2), (1, 4)), ", base = 1, repetition = 4", SMALL),
-            (((0, 2), (2, 4)), ", repetition = 2", refused("Overlap 2 A 2")), (((0, 1), (63, 64)), "", refused("Overlap 2 A 63")),
+            (((0, 2), (1, 2)), "", SMALL),
+            (((0, 2), (1, 4)), "", refused("NotOwned 0 0")),
+            (((0, 2), (1, 4)), ", base = 1, repetition = 4", SMALL),
+            (((0, 2), (2, 4)), ", repetition = 2", refused("Overlap 2 A 2")),
+            (((0, 1), (63, 64)), "", refused("Overlap 2 A 63")),
         ):
-            self.node(f"its own cycles are {one} and {other}, a buffer's {cycles or 'all'}", own % (*one, *other) + state % cycles, wanted)
+            self.node(f"its own cycles are {one} and {other}, a buffer's {cycles or 'all'}",
+                      own % (*one, *other) + state % cycles, wanted)
         taken = 'own = [{slot = 3, channels = "B"}, {slot = 3, channels = "B"}]\n'
-        twice = 'buffer = [{kind = "event", slot = 4, channels = "A", words = 1}, {kind = "event", slot = 4, channels = "A", words = 1}]'
+        twice = ('buffer = [{kind = "event", slot = 4, channels = "A", words = 1},'
+                 ' {kind = "event", slot = 4, channels = "A", words = 1}]')
         self.node("lines and buffers overlap", f"{taken}{twice}", refused("Overlap 3 B 0"))
 
     def parameters(self):
-        """Each parameter just below its least value and just above its greatest, and a file that has none of the keys."""
+        """Each parameter just below its least value and just above its greatest, and a file that has none of the
+        keys."""
         self.check("there is no parameter", "guard = \"A\"\n[params]\n", refused("Params Missing static_slots"))
-        self.check("the cycle isn't filled", SMALL_CYCLE.replace("cycle_mt = 120", "cycle_mt = 121"), refused("Params CycleSum"))
+        self.check("the cycle isn't filled", SMALL_CYCLE.replace("cycle_mt = 120", "cycle_mt = 121"),
+                   refused("Params CycleSum"))
         for value in ("3.0", '"3"', "true"):
-            self.check(f"the static slots are {value}", SMALL_CYCLE.replace("static_slots = 3", f"static_slots = {value}"),
+            self.check(f"the static slots are {value}",
+                       SMALL_CYCLE.replace("static_slots = 3", f"static_slots = {value}"),
                        refused("Params NotANumber static_slots"))
         for key, (least, greatest) in BOUNDS.items():
             line = next(line for line in SMALL_CYCLE.splitlines() if line.startswith(f"{key} "))
             for value in (least - 1, greatest + 1):
-                self.check(f"{key} is {value}", SMALL_CYCLE.replace(line, f"{key} = {value}"), refused(f"Params OutOfRange {key}"))
+                self.check(f"{key} is {value}", SMALL_CYCLE.replace(line, f"{key} = {value}"),
+                           refused(f"Params OutOfRange {key}"))
 
     def kinds(self):
         """A node with a fault of each kind: one kind after another is told and taken away."""
         buffers = [
-            '{kind = "event", slot = 7, channels = "B", words = 127}', '{kind = "event", slot = 6, channels = "A", words = 1}',
-            '{kind = "event", slot = 6, channels = "AB", words = 1}', '{kind = "event", slot = 1, channels = "A"}',
+            '{kind = "event", slot = 7, channels = "B", words = 127}',
+            '{kind = "event", slot = 6, channels = "A", words = 1}',
+            '{kind = "event", slot = 6, channels = "AB", words = 1}',
+            '{kind = "event", slot = 1, channels = "A"}',
         ]
-        latest, twice = "latest_a = 10\nlatest_b = 10\n", 'own = [{slot = 3, channels = "A"}, {slot = 3, channels = "A"}]\n'
+        latest, twice = ("latest_a = 10\nlatest_b = 10\n",
+                         'own = [{slot = 3, channels = "A"}, {slot = 3, channels = "A"}]\n')
         both, alone = buffers[:3], [*buffers[:2], buffers[2].replace("AB", "A")]
-        for told, own, left in (("NotOwned 0 3", twice, buffers), ("DynamicBoth 0 2", twice, both), ("Overlap 3 A 0", twice, alone),
-                                ("Overlap 6 A 0", "", alone), ("TooLong 0 0", "", buffers[:2])):
+        for told, own, left in (("NotOwned 0 3", twice, buffers), ("DynamicBoth 0 2", twice, both),
+                                ("Overlap 3 A 0", twice, alone), ("Overlap 6 A 0", "", alone),
+                                ("TooLong 0 0", "", buffers[:2])):
             self.node(f"the first fault is {told}", f"{latest}{own}buffer = [{', '.join(left)}]", refused(told))
         halves = '{kind = "event", slot = 4, channels = "A", base = %d, repetition = %d, words = 1}'
-        for one, other, wanted in (((0, 2), (3, 4), SMALL), ((0, 1), (1, 2), refused("Overlap 4 A 1")), ((1, 2), (3, 4), refused("Overlap 4 A 3"))):
+        for one, other, wanted in (((0, 2), (3, 4), SMALL), ((0, 1), (1, 2), refused("Overlap 4 A 1")),
+                                   ((1, 2), (3, 4), refused("Overlap 4 A 3"))):
             self.node(f"one slot is for {one} and {other}", f"buffer = [{halves % one}, {halves % other}]", wanted)
 
     def full_cycle(self):
-        """A cycle of 1,023 static slots that 16 nodes own in turn, and a buffer for the last dynamic slot in the last cycle."""
+        """A cycle of 1,023 static slots that 16 nodes own in turn, and a buffer for the last dynamic slot in the last
+        cycle."""
         slots, length, nodes = 1023, 10, 16
         segment = slots * length
-        lines = ["[params]", f"static_slots = {slots}", "minislots = 1100", "static_words = 0", f"static_mt = {length}", "minislot_mt = 2",
-                 "symbol_mt = 0", "nit_mt = 10", f"cycle_mt = {segment + 2210}", "idle = 0", "words_per_minislot = 1"]
+        lines = ["[params]", f"static_slots = {slots}", "minislots = 1100", "static_words = 0",
+                 f"static_mt = {length}", "minislot_mt = 2", "symbol_mt = 0", "nit_mt = 10",
+                 f"cycle_mt = {segment + 2210}", "idle = 0", "words_per_minislot = 1"]
         for node in range(nodes):
             owned = ", ".join(f'{{slot = {slot}, channels = "AB"}}' for slot in range(node + 1, slots + 1, nodes))
             lines += ["[[node]]", f"own = [{owned}]"]
-        lines += ["latest_b = 1090", 'buffer = [{kind = "event", slot = 2047, channels = "B", base = 63, repetition = 64, words = 0}]']
+        lines += ["latest_b = 1090",
+                  'buffer = [{kind = "event", slot = 2047, channels = "B", base = 63, repetition = 64, words = 0}]']
         wanted = [f"slot {slot} {channel} {(slot - 1) % nodes} 0 1" for slot in range(1, slots + 1) for channel in "AB"]
         wanted.append("dynamic 2047 B 15 63 64")
         for node in range(nodes):
@@ -155,29 +182,33 @@ class Clusters:
             dynamic = segment, segment + 2200
             if opened[-1][1] == segment:
                 dynamic = opened.pop()[0], dynamic[1]
-            wanted += [f"guard {node} {channel} 0 {start} {end}" for channel in "AB" for start, end in [*opened, dynamic]]
+            wanted += [f"guard {node} {channel} 0 {start} {end}"
+                       for channel in "AB" for start, end in [*opened, dynamic]]
         self.path.write_text("".join(f"{line}\n" for line in lines))
         told = "".join(f"{line}\n" for line in wanted).encode()
         self.runs.check("plan of a full cycle", ["plan", self.path], (told, b"", 0))
 
     def windows(self):
         """When the channels are open to a node that owns slots 1 and 2 of three, or slot 3."""
-        first, last = 'own = [{slot = 1, channels = "AB"}, {slot = 2, channels = "AB"}]', 'own = [{slot = 3, channels = "A"}]'
+        first, last = ('own = [{slot = 1, channels = "AB"}, {slot = 2, channels = "AB"}]',
+                       'own = [{slot = 3, channels = "A"}]')
         apart = [f"slot {slot} {channel} 0 0 1" for slot in (1, 2) for channel in "AB"]
         quarter = 'own = [{slot = 2, channels = "AB", base = 2, repetition = 4}]'
         short = SMALL_CYCLE.replace("minislots = 10", "minislots = 0").replace("cycle_mt = 120", "cycle_mt = 70")
         for name, text, wanted in (
             ("two slots touch", f"{SMALL_CYCLE}[[node]]\n{first}\n",
              [*apart, "guard 0 A 0 0 40", "guard 0 A 0 60 110", "guard 0 B 0 0 40", "guard 0 B 0 60 110"]),
-            ("a slot touches the dynamic segment", f"{SMALL_CYCLE}[[node]]\n{last}\n", ["slot 3 A 0 0 1", "guard 0 A 0 40 110", "guard 0 B 0 60 110"]),
+            ("a slot touches the dynamic segment", f"{SMALL_CYCLE}[[node]]\n{last}\n",
+             ["slot 3 A 0 0 1", "guard 0 A 0 40 110", "guard 0 B 0 60 110"]),
             ("channel B isn't guarded", f'guard = "A"\n{SMALL_CYCLE}[[node]]\n{first}\n',
              [*apart, "guard 0 A 0 0 40", "guard 0 A 0 60 110", "guard 0 B 0 0 110"]),
             ("there are no minislots", f"{short}[[node]]\n{first}\n", [*apart, "guard 0 A 0 0 40", "guard 0 B 0 0 40"]),
-            ("a slot is left to nobody in three cycles of four", f'guard = "A"\n{SMALL_CYCLE}[[node]]\n{quarter}\n[[node]]\n',
-             ["slot 2 A 0 2 4", "slot 2 B 0 2 4", "guard 0 A 0 60 110", "guard 0 A 1 60 110", "guard 0 A 2 20 40", "guard 0 A 2 60 110",
-              "guard 0 A 3 60 110",
-              *(f"guard {node} {channel} {cycle} {start} 110" for node, channel, start in ((0, "B", 0), (1, "A", 60), (1, "B", 0))
-                for cycle in range(4))]),
+            ("a slot is left to nobody in three cycles of four",
+             f'guard = "A"\n{SMALL_CYCLE}[[node]]\n{quarter}\n[[node]]\n',
+             ["slot 2 A 0 2 4", "slot 2 B 0 2 4", "guard 0 A 0 60 110", "guard 0 A 1 60 110", "guard 0 A 2 20 40",
+              "guard 0 A 2 60 110", "guard 0 A 3 60 110",
+              *(f"guard {node} {channel} {cycle} {start} 110"
+                for node, channel, start in ((0, "B", 0), (1, "A", 60), (1, "B", 0)) for cycle in range(4))]),
         ):
             self.path.write_text(text)
             told = "".join(f"{line}\n" for line in wanted).encode()

@@ -1,4 +1,5 @@
-"""Runs of `fr_faults` whole: its words, its statuses, its table, and runs that are broken off or given to `parallel`."""
+"""Runs of `fr_faults` whole: its words, its statuses, its table, and runs that are broken off or given to
+`parallel`."""
 import re
 import shutil
 import signal

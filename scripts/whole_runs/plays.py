@@ -18,9 +18,9 @@ ANSWERS = """0 0 0 commit 0 x0a0b = 0
 1 0 3 read 1 = 2 1 A x0c0d
 2 0 3 commit 0 x7003 = 44
 """
-"""Of the three-node cluster's scenario. A cycle has three static slots and four minislots, so a journal has 14 entries of
-it, and one for each line before. Node 2 sends in slot 4, and its first frame is the oldest in node 0's queue; node 0's
-frame of slot 1 in cycle 2 is the last that node 1 has before cycle 3."""
+"""Of the three-node cluster's scenario. A cycle has three static slots and four minislots, so a journal has 14 entries
+of it, and one for each line before. Node 2 sends in slot 4, and its first frame is the oldest in node 0's queue; node
+0's frame of slot 1 in cycle 2 is the last that node 1 has before cycle 3."""
 
 COMMITS = """0 0 0 0 0 x0a0b = sent 0 1 A alone 1:b1 0 1 B collided -
 0 0 1 2 29 x0c0d = sent 2 1 A alone 1:b1 2 1 B collided -
@@ -31,8 +31,9 @@ COMMITS = """0 0 0 0 0 x0a0b = sent 0 1 A alone 1:b1 0 1 B collided -
 2 0 1 1 15 x7002 = sent 1 4 A alone 0:queue
 2 0 0 3 44 x7003 = sent 3 4 A alone 0:queue
 """
-"""What became of them: node 2 babbles in each static slot, where the guardians of A stop it and on B, without guardians, it
-collides. Node 1's buffer is a state buffer and sends its last commit in each cycle; the others send once."""
+"""What became of them: node 2 babbles in each static slot, where the guardians of A stop it and on B, without
+guardians, it collides. Node 1's buffer is a state buffer and sends its last commit in each cycle; the others send
+once."""
 
 RECORD = """0 0 - 1 A 0 offer passed alone 1 --s- x30010236000a0b18f7d3 -
 0 0 - 1 B 0 offer passed collided 1 --s- x30010236000a0b3e7702 -
@@ -50,22 +51,28 @@ RECORD = """0 0 - 1 A 0 offer passed alone 1 --s- x30010236000a0b18f7d3 -
 """What the bus had in the first cycle, and in the second up to node 0's null frame. The lines 11 and 12 of the scenario
 babble, and no other line is a fault."""
 
-HEARD = [(0, "A", "30010236000a0b18f7d3"), (20, "A", "200203c140111155f463"), (40, "B", "00"), (60, "A", "200402cec070012cca22"),
-         (90, "A", "100102360100006a9aa8")]
+HEARD = [(0, "A", "30010236000a0b18f7d3"), (20, "A", "200203c140111155f463"), (40, "B", "00"),
+         (60, "A", "200402cec070012cca22"), (90, "A", "100102360100006a9aa8")]
 """What a listener hears of that: what passed alone, when its window began. A slot has 20 macroticks, a cycle 90."""
 
-CELLS = ["data n0 blocked: cycle 0, slot 1, window 0: data; node 0 sent x30010236000a0b18f7d3; node 2 babbled x00, blocked",
-         "data n1 blocked: cycle 0, slot 2, window 1: data; node 1 sent x200203c140111155f463; node 2 babbled x00, blocked",
-         "silence blocked: cycle 0, slot 3, window 2: silence; node 2 babbled x00, blocked",
-         "data n2: cycle 0, slot 4, window 3: data; node 2 sent x200402cec070012cca22",
-         *(f"silence: cycle 0, slot {slot}, window {slot - 1}: silence" for slot in (5, 6, 7)),
-         "null n0 blocked: cycle 1, slot 1, window 7: null; node 0 sent x100102360100006a9aa8; node 2 babbled x00, blocked"]
+CELLS = [
+    "data n0 blocked: cycle 0, slot 1, window 0: data; node 0 sent x30010236000a0b18f7d3; node 2 babbled x00, blocked",
+    "data n1 blocked: cycle 0, slot 2, window 1: data; node 1 sent x200203c140111155f463; node 2 babbled x00, blocked",
+    "silence blocked: cycle 0, slot 3, window 2: silence; node 2 babbled x00, blocked",
+    "data n2: cycle 0, slot 4, window 3: data; node 2 sent x200402cec070012cca22",
+    *(f"silence: cycle 0, slot {slot}, window {slot - 1}: silence" for slot in (5, 6, 7)),
+    "null n0 blocked: cycle 1, slot 1, window 7: null; node 0 sent x100102360100006a9aa8; node 2 babbled x00, blocked",
+]
 """The cells of that in a matrix of channel A."""
 
-LOOKS = {("--channel", "B"): ["collision n0", "collision n1", "broken n2"], ("--node", "0"): ["own n0 blocked", "data n1 blocked"],
-         ("--node", "2"): ["data n0 blocked", "data n1 blocked", "silence blocked", "own n2"],
-         ("--node", "2", "--channel", "B"): ["collision n0", "collision n1", "own n2"], ("--from", "1"): ["null n0 blocked"],
-         ("--from", "4"): []}
+LOOKS = {
+    ("--channel", "B"): ["collision n0", "collision n1", "broken n2"],
+    ("--node", "0"): ["own n0 blocked", "data n1 blocked"],
+    ("--node", "2"): ["data n0 blocked", "data n1 blocked", "silence blocked", "own n2"],
+    ("--node", "2", "--channel", "B"): ["collision n0", "collision n1", "own n2"],
+    ("--from", "1"): ["null n0 blocked"],
+    ("--from", "4"): [],
+}
 """The classes of the first cells of other matrices of it."""
 
 TASKS = """frscenario 2
@@ -106,8 +113,9 @@ TOLD = """0 0 0 pop = -
 1 1 2 read 1 = -
 1 1 2 read 2 = 1 1 B x0404
 """
-"""Its answers, by node, task and line within a cycle. The withdraw takes back the commit that has overwritten those before
-it, so slot 1 has no frame in cycle 0; in cycle 1 it has one on B alone, since what node 0 offers on A is lost."""
+"""Its answers, by node, task and line within a cycle. The withdraw takes back the commit that has overwritten those
+before it, so slot 1 has no frame in cycle 0; in cycle 1 it has one on B alone, since what node 0 offers on A is
+lost."""
 
 TURNED = "frscenario 1\ncommit 0 0 0 0 x0a0b\ncorrupt A 0 s1 80\ncorrupt B 0 s1 79\ncorrupt A 0 s3 0\nend\n"
 """A frame of ten bytes has no bit 80, and nobody sends in slot 3, so one of these bits is turned."""
@@ -127,14 +135,14 @@ corrupt A 0 s2 0
 end
 """
 
-ORIGINS = ["0 0 - 1 A 0 offer 4", "0 0 - 1 A - corrupt 5", "0 0 - 1 B - corrupt 7", "1 0 - 2 A 1 babble 11", "1 0 - 2 A - corrupt 12",
-           "1 0 - 2 B - corrupt 8", "2 0 - 3 A - corrupt 9", "11 1 2 5 A 1 babble 10"]
+ORIGINS = ["0 0 - 1 A 0 offer 4", "0 0 - 1 A - corrupt 5", "0 0 - 1 B - corrupt 7", "1 0 - 2 A 1 babble 11",
+           "1 0 - 2 A - corrupt 12", "1 0 - 2 B - corrupt 8", "2 0 - 3 A - corrupt 9", "11 1 2 5 A 1 babble 10"]
 """The lines of its record that come from a fault, up to the seventh word, and the number of the scenario's line."""
 
 IDLE = "".join(f"line {number} struck nothing\n" for number in (3, 5, 8, 9, 12)).encode()
-"""Its lines that struck nothing: node 2 offers nothing in slot 1; what node 0 offers there on A is lost, so no bit of it is
-turned; its frame on B, as that of node 1 in slot 2, has 10 bytes, so bit 79 is its last one; in slot 3 nobody sends; and in
-slot 2 on A node 1 sends twice, in its own slot."""
+"""Its lines that struck nothing: node 2 offers nothing in slot 1; what node 0 offers there on A is lost, so no bit of
+it is turned; its frame on B, as that of node 1 in slot 2, has 10 bytes, so bit 79 is its last one; in slot 3 nobody
+sends; and in slot 2 on A node 1 sends twice, in its own slot."""
 
 REFUSALS = {
     "commit 0 2 0 0 x0a0b": "BadScript 2", "mute 0 A 4 s1": "BadFault 2", "babble 2 A 0 s1 x01": "BadFault 2",
@@ -177,7 +185,8 @@ class Plays:
             if errors or status:
                 self.runs.compare(f"trace {node} of {name}", (errors, status), (b"", 0))
                 continue
-            self.runs.compare(f"audit of trace {node} of {name}", run([self.bench, "audit"], trace), (report.encode(), b"", 0))
+            self.runs.compare(f"audit of trace {node} of {name}", run([self.bench, "audit"], trace),
+                              (report.encode(), b"", 0))
 
     def answers(self):
         self.runs.check_once(f"answers, {WRITTEN}", ["answers", *THREE_NODES], (ANSWERS.encode(), b"", 0))
@@ -196,7 +205,8 @@ class Plays:
         told, errors, status = run([self.runs.program, "bus", *THREE_NODES])
         self.runs.compare(f"bus, {WRITTEN}", (told[:len(wanted)], errors, status), (wanted, b"", 0))
         for outcome in sorted(EXAMPLES.glob("*/outcome-of-*-cycles")):
-            words = [outcome.with_name("cluster.toml"), outcome.with_name("scenario"), "--cycles", outcome.name.split("-")[2]]
+            words = [outcome.with_name("cluster.toml"), outcome.with_name("scenario"), "--cycles",
+                     outcome.name.split("-")[2]]
             told, _, status = run([self.runs.program, "commits", *words])
             self.runs.compare(f"commits of {outcome.parent.name}", (self.counted(told.decode()), status),
                               (self.reported(outcome.read_text()), 0))
@@ -208,12 +218,14 @@ class Plays:
             _, errors, status = run([self.runs.program, *command, *words])
             self.runs.compare(f"{command}: lines that struck nothing", (errors, status), (IDLE, 0))
         told = run([self.runs.program, "record", *words])[0].decode()
-        lines = [[*line.split(" ")[:7], line.rpartition(" ")[2]] for line in told.splitlines() if not line.endswith(" -")]
+        lines = [[*line.split(" ")[:7], line.rpartition(" ")[2]] for line in told.splitlines()
+                 if not line.endswith(" -")]
         self.runs.compare("lines of a record that come from a fault", [" ".join(line) for line in lines], ORIGINS)
 
     @staticmethod
     def counted(told):
-        """For each node and buffer that has commits: how many, and how many were sent, overwritten, pending, withdrawn."""
+        """For each node and buffer that has commits: how many, and how many were sent, overwritten, pending,
+        withdrawn."""
         counts = {}
         for line in told.splitlines():
             node, buffer, *_, became = line.partition(" = ")[0].split()[:2] + line.partition(" = ")[2].split()[:1]
@@ -250,8 +262,8 @@ class Plays:
         for channel, wanted in (("A", "data n0"), ("B", "broken n0 turned")):
             looks = [cell.partition(": ")[0] for cell in self.cells([*words, "--channel", channel])]
             self.runs.compare(f"the turned bit on {channel}", looks[:3], [wanted, "null n1", "silence"])
-        for options in (["--channel", "C"], ["--channel", "a"], ["--node", "16"], ["--node", "00"], ["--from", "1024"], ["--from", "-1"],
-                        ["--node"], ["--node", "0", "--node", "0"]):
+        for options in (["--channel", "C"], ["--channel", "a"], ["--node", "16"], ["--node", "00"],
+                        ["--from", "1024"], ["--from", "-1"], ["--node"], ["--node", "0", "--node", "0"]):
             self.runs.check(f"matrix with {options}", ["matrix", *THREE_NODES, *options], USAGE)
         for node in ("3", "15"):
             self.runs.check(f"matrix of node {node}", ["matrix", *THREE_NODES, "--node", node], refused("UnknownNode"))
@@ -263,20 +275,25 @@ class Plays:
                 words = self.given(scenes.cluster, scenes.with_line(line))
                 self.runs.check(f"{command} with {line}", [*command, *words], refused(error))
             for name, error in {"missing": "Read", ".": "Read", "three-nodes/cluster.toml": "BadMagic"}.items():
-                self.runs.check(f"{command} with {name!r}", [*command, "three-nodes/cluster.toml", name, "--cycles", "1"], refused(error))
+                self.runs.check(f"{command} with {name!r}",
+                                [*command, "three-nodes/cluster.toml", name, "--cycles", "1"], refused(error))
             for name, error in {"missing": "Read", ".": "Read", "three-nodes/scenario": "Toml"}.items():
                 self.runs.check(f"{command} of {name!r}", [*command, name, "missing", "--cycles", "1"], refused(error))
-            words = self.given(scenes.cluster.replace("tasks = 2\n", "tasks = 2\nslot_entries = 55\n", 1), scenes.scenario)
+            words = self.given(scenes.cluster.replace("tasks = 2\n", "tasks = 2\nslot_entries = 55\n", 1),
+                               scenes.scenario)
             self.runs.check(f"{command} without room", [*command, *words], refused("NoRoom 0"))
         for node in ("3", "15"):
             self.runs.check(f"trace of node {node}", ["trace", node, *THREE_NODES], refused("UnknownNode"))
 
     def words(self):
-        lists = [["trace", *THREE_NODES], *(["trace", node, *THREE_NODES] for node in ("16", "00", "x", "-1", "+1", ""))]
+        lists = [["trace", *THREE_NODES],
+                 *(["trace", node, *THREE_NODES] for node in ("16", "00", "x", "-1", "+1", ""))]
         for command in COMMANDS:
-            lists += [command, [*command, "a"], [*command, "a", "b"], [*command, "a", "--cycles", "1"], [*command, *THREE_NODES, "--free"],
-                      [*command, *THREE_NODES, "c"], [*command, "a", "b", "--cycles"], [*command, *THREE_NODES, "--cycles", "4"],
-                      *([*command, "a", "b", "--cycles", number] for number in ("0", "1025", "04", "+4", "-1", "x", ""))]
+            lists += [command, [*command, "a"], [*command, "a", "b"], [*command, "a", "--cycles", "1"],
+                      [*command, *THREE_NODES, "--free"], [*command, *THREE_NODES, "c"],
+                      [*command, "a", "b", "--cycles"], [*command, *THREE_NODES, "--cycles", "4"],
+                      *([*command, "a", "b", "--cycles", number]
+                        for number in ("0", "1025", "04", "+4", "-1", "x", ""))]
         for given in lists:
             self.runs.check(f"the words {given}", given, USAGE)
         for command in COMMANDS:

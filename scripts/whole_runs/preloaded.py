@@ -106,8 +106,8 @@ def views():
 
 def sessions():
     """The same of fr_world: a request of each kind that takes memory."""
-    asked = ["commit 0 0 0 x0a0b", "window", "window", "babble 2 A x00", "mute 1 A * s*", "window", "run 2", "now", "report 1",
-             "trace 0", "record 1"]
+    asked = ["commit 0 0 0 x0a0b", "window", "window", "babble 2 A x00", "mute 1 A * s*", "window", "run 2", "now",
+             "report 1", "trace 0", "record 1"]
     return {"session": ([CLUSTER, "--cycles", "4"], "".join(f"{line}\n" for line in asked).encode())}
 
 

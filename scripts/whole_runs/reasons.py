@@ -42,7 +42,8 @@ RECEIVED = [
     (1, "frtrace 4", "BadMagic", "frtrace 4", "", 0),
     (13, "end\nend", "BadLine 14", "end", "reason Line After", 2),
 ]
-"""A line in place of one of the receive-buffer trace: the refusal, the line at fault, its reason, the windows before."""
+"""A line in place of one of the receive-buffer trace: the refusal, the line at fault, its reason, the windows
+before."""
 
 COMMITTED = [
     (7, "commit 0 0 x00010203", "Refused 7", "commit 0 0 x00010203", "reason Host WrongLength", 0),
@@ -66,7 +67,8 @@ COMMITTED = [
 
 def told(refusal, number, text, reason, windows):
     """What `why` writes of a refused trace."""
-    lines = [f"refused {refusal}", f"line {number} {text}".rstrip(" "), reason, f"lines {number - 1}", f"windows {windows}"]
+    lines = [f"refused {refusal}", f"line {number} {text}".rstrip(" "), reason, f"lines {number - 1}",
+             f"windows {windows}"]
     return "".join(f"{line}\n" for line in lines if line).encode(), b"", 1
 
 
@@ -95,7 +97,8 @@ class Reasons:
                 number = int((refusal.split() + ["1"])[1])
                 wanted = told(refusal, number, text, reason, windows)
                 self.runs.check(f"why where line {place} is {line[:40]!r}", ["why"], wanted, given=given)
-                self.runs.check(f"frames where line {place} is {line[:40]!r}", ["frames"], refused(refusal), given=given)
+                self.runs.check(f"frames where line {place} is {line[:40]!r}", ["frames"], refused(refusal),
+                                given=given)
 
     def broken_off(self):
         given = self.text(self.received)
@@ -112,14 +115,17 @@ class Reasons:
         start = given.index(b"fetch 1")
         self.shown("an accepted trace", given, 2, None)
         self.shown("a trace that breaks off in a line", given[:start + 13], 1, "Truncated")
-        self.shown("a trace with a wrong answer", self.text([*self.received[:11], "read 0 0 -", "end"]), 2, "WrongAnswer 12")
-        self.shown("a trace with a refused call", self.text([*self.received[:9], "pop 0 -", *self.received[9:]]), 1, "Refused 10")
+        self.shown("a trace with a wrong answer", self.text([*self.received[:11], "read 0 0 -", "end"]), 2,
+                   "WrongAnswer 12")
+        self.shown("a trace with a refused call", self.text([*self.received[:9], "pop 0 -", *self.received[9:]]), 1,
+                   "Refused 10")
         self.shown("a trace with a line after its end", given + b"end", 2, "BadLine 14")
         self.shown("a trace that breaks off before its entries", self.text(self.received[:5]), 0, "Truncated")
         for refusal, text in {"Truncated": self.text(self.received[:4]), "BadMagic": b"", "Refused 2": self.text(
                 [self.received[0], "params 3 4 1 20 5 0 10 91 0 5"])}.items():
             for form in ("frames", "capture"):
-                self.runs.check(f"{form} of a trace without a plan", [form, "--until-fault"], refused(refusal), given=text)
+                self.runs.check(f"{form} of a trace without a plan", [form, "--until-fault"], refused(refusal),
+                                given=text)
 
     def shown(self, name, given, count, refusal):
         """What is shown of the first sightings, in both forms."""
@@ -128,7 +134,8 @@ class Reasons:
         capture = FILE_HEADER + b"".join(told for told, _ in SEEN[:count])
         status = 1 if refusal else 0
         for form, text in (("frames", table.encode()), ("capture", capture)):
-            self.runs.check(f"{form} --until-fault of {name}", [form, "--until-fault"], (text, errors, status), given=given)
+            self.runs.check(f"{form} --until-fault of {name}", [form, "--until-fault"], (text, errors, status),
+                            given=given)
             if refusal:
                 self.runs.check(f"{form} of {name}", [form], refused(refusal), given=given)
 
@@ -142,8 +149,10 @@ class Reasons:
         for name, text in (("an accepted trace", given), ("a refused trace", given[:-1])):
             for words in (["why"], ["frames", "--until-fault"], ["capture", "--until-fault"]):
                 with open("/dev/full", "wb") as full:
-                    self.runs.check(f"{words} of {name} to a full device", words, refused("Write"), given=text, output=full)
-                self.runs.check(f"{words} of {name} to a closed output", words, refused("Write"), given=text, closed=(1,))
+                    self.runs.check(f"{words} of {name} to a full device", words, refused("Write"), given=text,
+                                    output=full)
+                self.runs.check(f"{words} of {name} to a closed output", words, refused("Write"), given=text,
+                                closed=(1,))
         with Folder(os.open(EXAMPLES, os.O_RDONLY)) as folder:
             for words in (["why"], ["frames", "--until-fault"]):
                 self.runs.check(f"{words} of a folder", words, refused("Read"), given=folder)

@@ -58,13 +58,15 @@ STATE_MODE = ONE_NODE.format(parameters=ONE_WORD, mode="state")
 
 TURNS = [
     ("put 0", "refused WrongTurn"), ("look 0", "window 0 0 0 1 1"), ("fetch 0", "done"), ("put 0", "done"),
-    ("seal", "refused Bus NotAllPut"), ("look 0", "refused WrongTurn"), ("look 1", "window 0 0 0 1 1"), ("fetch 1", "done"),
-    ("put 1", "done"), ("look 2", "window 0 0 0 1 1"), ("fetch 2", "done"), ("put 2", "done"), ("seal", "done"),
+    ("seal", "refused Bus NotAllPut"), ("look 0", "refused WrongTurn"), ("look 1", "window 0 0 0 1 1"),
+    ("fetch 1", "done"), ("put 1", "done"), ("look 2", "window 0 0 0 1 1"), ("fetch 2", "done"), ("put 2", "done"),
+    ("seal", "done"),
 ]
 
 LIST = [
     ("commit 0 0 0 x0a0b", "committed 0"), ("corrupt A 999", "done"), ("window", "open 1 0 0 2 2"),
-    ("commit 0 0 0 x0c0d", "committed 3"), ("read 1 0 1", "frame 0 1 --s- x0a0b"), ("read 1 0 2", "frame 0 1 --s- x0a0b"),
+    ("commit 0 0 0 x0c0d", "committed 3"), ("read 1 0 1", "frame 0 1 --s- x0a0b"),
+    ("read 1 0 2", "frame 0 1 --s- x0a0b"),
 ]
 
 WITHDRAWN = [
@@ -76,8 +78,8 @@ WITHDRAWN = [
 """A withdrawn commit is never sent, and what was handed over isn't taken back."""
 
 SENT = [
-    ("commit 0 0 0 x0001", "committed 0"), ("window", "open 1 0 0 2 2"), ("withdraw 0 0 0", "withdrawn -"), ("cycle", "open 7 1 0 1 1"),
-    ("window", "open 8 1 0 2 2"),
+    ("commit 0 0 0 x0001", "committed 0"), ("window", "open 1 0 0 2 2"), ("withdraw 0 0 0", "withdrawn -"),
+    ("cycle", "open 7 1 0 1 1"), ("window", "open 8 1 0 2 2"),
 ]
 """A state commit that was sent stands."""
 
@@ -143,11 +145,13 @@ class Rows:
 
     def withdraws(self):
         self.check("a withdrawn commit", EVENT_MODE, 2, WITHDRAWN, kept=[
-            ("trace 0", "fetch 0 0 0 1 1 null null"), ("trace 0", "fetch 7 1 0 1 1 6 6"), ("report 0", "tx 0 3 1 1 0 1")])
+            ("trace 0", "fetch 0 0 0 1 1 null null"), ("trace 0", "fetch 7 1 0 1 1 6 6"),
+            ("report 0", "tx 0 3 1 1 0 1")])
         self.check("a state commit that was sent", STATE_MODE, 2, SENT, kept=[
             ("trace 0", "fetch 0 0 0 1 1 0 0"), ("trace 0", "fetch 7 1 0 1 1 0 0"), ("report 0", "tx 0 1 1 0 0 0")])
         self.check("a withdrawn state commit", STATE_MODE, 2, LEFT_EMPTY, kept=[
-            ("trace 0", "fetch 0 0 0 1 1 0 0"), ("trace 0", "fetch 7 1 0 1 1 null null"), ("report 0", "tx 0 2 1 0 0 1")])
+            ("trace 0", "fetch 0 0 0 1 1 0 0"), ("trace 0", "fetch 7 1 0 1 1 null null"),
+            ("report 0", "tx 0 2 1 0 0 1")])
         self.check("withdraws are refused as commits are", EVENT_MODE, 2, WITHDRAWS_REFUSED)
 
     def sights(self):
@@ -168,24 +172,31 @@ class Rows:
                      (f"babble 1 B {bytes_sent}", "done"), ("window", "open 3 0 1 4 4")]
             self.check("a static slot and its eleventh byte", THREE_NODES, 1, asked, [("-", look), ("-", "own")])
         for bytes_sent, look in ((SIXTEEN, SIXTEEN), (SEVENTEEN, "overrun")):
-            asked = [("window", f"open {number} 0 {max(number - 2, 0)} {number + 1} {number + 1}") for number in range(1, 11)]
-            asked += [("window", "open 11 0 9 12 12"), (f"babble 1 A {bytes_sent}", "done"), ("window", "open 12 0 10 - 13")]
+            asked = [("window", f"open {number} 0 {max(number - 2, 0)} {number + 1} {number + 1}")
+                     for number in range(1, 11)]
+            asked += [("window", "open 11 0 9 12 12"), (f"babble 1 A {bytes_sent}", "done"),
+                      ("window", "open 12 0 10 - 13")]
             self.check("the last minislots and a seventeenth byte", SMALL, 1, asked, [(look, "-")])
 
     def windows(self):
         """How long transmissions move the windows, and a run's cycles."""
         to_minislots = [("window", "open 1 0 0 2 2"), ("window", "open 2 0 0 3 3"), ("window", "open 3 0 1 4 4")]
-        asked = [*to_minislots, ("babble 1 A x" + "00" * 8, "done"), ("window", "open 4 0 2 - 5"), ("babble 0 A x01", "done"),
-                 ("window", "open 5 0 3 5 6"), ("record 3", ["window 3 0 1 4 4", "sent 1 A babble passed x" + "00" * 8]),
+        asked = [*to_minislots, ("babble 1 A x" + "00" * 8, "done"), ("window", "open 4 0 2 - 5"),
+                 ("babble 0 A x01", "done"), ("window", "open 5 0 3 5 6"),
+                 ("record 3", ["window 3 0 1 4 4", "sent 1 A babble passed x" + "00" * 8]),
                  ("record 4", ["window 4 0 2 - 5"])]
         self.check("what has no slot is not sent", SMALL, 1, asked)
-        asked = [*to_minislots, ("babble 1 B x" + "00" * 16, "done"), ("window", "open 4 0 2 5 -"), ("window", "open 5 0 3 6 -")]
-        asked += [("window", f"open {minislot + 2} 0 {minislot} {minislot + 3} {minislot + 1}") for minislot in range(4, 11)]
+        asked = [*to_minislots, ("babble 1 B x" + "00" * 16, "done"), ("window", "open 4 0 2 5 -"),
+                 ("window", "open 5 0 3 6 -")]
+        asked += [("window", f"open {minislot + 2} 0 {minislot} {minislot + 3} {minislot + 1}")
+                  for minislot in range(4, 11)]
         self.check("a long slot leaves the other channel alone", SMALL, 1, [*asked, ("window", "over")])
-        asked = [("window", f"open {number} {number // 7 % 64} {max(number % 7 - 2, 0)} {number % 7 + 1} {number % 7 + 1}")
+        asked = [("window",
+                  f"open {number} {number // 7 % 64} {max(number % 7 - 2, 0)} {number % 7 + 1} {number % 7 + 1}")
                  for number in range(1, 462)]
         late = "refused Bus NotCollecting"
-        ended = [("mute 0 A", late), ("seal", late), ("advance", "refused Bus NotSealed"), ("record 461", ["window 461 1 4 7 7"])]
+        ended = [("mute 0 A", late), ("seal", late), ("advance", "refused Bus NotSealed"),
+                 ("record 461", ["window 461 1 4 7 7"])]
         self.check("a run goes through its cycles and ends", THREE_NODES, 66, [*asked, ("window", "over"), *ended])
 
     def faults(self):

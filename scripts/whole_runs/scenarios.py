@@ -1,6 +1,18 @@
 """Runs: scenario texts that are refused, and runs of the three-node cluster."""
 from .runner import EXAMPLES, refused, run
 
+ADDED = {
+    "commit 0 2 0 0 x0a0b": "BadScript 2", "mute 0 A 4 s1": "BadFault 2", "babble 2 A 0 s1 x01": "BadFault 2",
+    "read 3 0 0 0": "BadScript 6", "commit 0 0 0 1 x0a0b": "BadScript 0", "commit 0 0 1 0 x0a": "BadLine 13",
+    "corrupt A * m5 1": "BadFault 2", "mute 0 A * s4": "BadFault 2", "pop 0 1 1": "BadScript 1",
+    "commit 0 0 4 0 x0a0b": "BadScript 0", "commit 0 0 1 0 x0a0b0c0d": "BadScript 0", "read 0 0 0 1": "settled",
+    "commit 0 0 1 2 x0a0b": "BadScript 0", "commit 0 0 1 0 x": "BadScript 0", "read 0 0 1 0": "BadScript 0",
+    "pop 1 0 3": "BadScript 2", "pop 0 1 2": "settled", "mute 3 A 0 s1": "BadFault 2", "mute 0 A * s*": "settled",
+    "babble 2 A 3 s2 x": "BadFault 2", "babble 2 A * m1 x00": "settled", "babble 1 A * s* x00": "settled",
+    "corrupt A 0 s4 1": "BadFault 2", "corrupt B 3 m4 1": "settled", "corrupt A 0 m1 65535": "settled",
+}
+"""What comes of a run of the three nodes whose scenario has this line beside the others."""
+
 
 class Scenarios:
     """Scenario files that are refused, or at the border of it."""
@@ -27,17 +39,19 @@ class Scenarios:
         self.check("the third line is at fault", "frscenario 1\npop 0 0 0\npop 0\nnothing\nend\n", "BadLine 3")
 
     def lines(self):
-        for line in ("commit 16 0 0 0 x", "commit 0 8 0 0 x", "commit 0 0 1024 0 x", "commit 0 0 0 64 x", "read 0 0 0 64",
-                     "pop 0 0 1024", "pop 0 00 0", "commit 0 0 0 0 x0A0b", "commit 0 0 0 0 x0a", "commit 0 0 0 0 0a0b",
-                     f"commit 0 0 0 0 x{'00' * 256}", "mute 16 A * s*", "mute 0 AB * s*", "mute 0 A 1024 s*", "mute 0 A * s0",
-                     "mute 0 A * s8001", "mute 0 A * m*", "mute 0 A * m0", "mute 0 A * 1", "corrupt A * s1 65536",
-                     "babble 0 A 0 s1 x0", "babble 0 A 0 s1  x00", "babble 0 A 0 s1 x00 ", f"babble 0 A 0 s1 x{'00' * 263}",
-                     "withdraw 0 0 0 0", " pop 0 0 0", "pop 0 0 0\r"):
+        for line in ("commit 16 0 0 0 x", "commit 0 8 0 0 x", "commit 0 0 1024 0 x", "commit 0 0 0 64 x",
+                     "read 0 0 0 64", "pop 0 0 1024", "pop 0 00 0", "commit 0 0 0 0 x0A0b", "commit 0 0 0 0 x0a",
+                     "commit 0 0 0 0 0a0b", f"commit 0 0 0 0 x{'00' * 256}", "mute 16 A * s*", "mute 0 AB * s*",
+                     "mute 0 A 1024 s*", "mute 0 A * s0", "mute 0 A * s8001", "mute 0 A * m*", "mute 0 A * m0",
+                     "mute 0 A * 1", "corrupt A * s1 65536", "babble 0 A 0 s1 x0", "babble 0 A 0 s1  x00",
+                     "babble 0 A 0 s1 x00 ", f"babble 0 A 0 s1 x{'00' * 263}", "withdraw 0 0 0 0", " pop 0 0 0",
+                     "pop 0 0 0\r"):
             self.line(line)
-        for line in ("withdraw 0 0 0", "withdraw 0 0 0 0 x", "withdraw 16 0 0 0", "withdraw 0 8 0 0", "withdraw 0 0 1024 0",
-                     "withdraw 0 0 0 64", "withdraw 0 0 0 -"):
+        for line in ("withdraw 0 0 0", "withdraw 0 0 0 0 x", "withdraw 16 0 0 0", "withdraw 0 8 0 0",
+                     "withdraw 0 0 1024 0", "withdraw 0 0 0 64", "withdraw 0 0 0 -"):
             self.line(line, version=2)
-        for line in ("withdraw 0 2 0 0", "withdraw 0 0 0 1", "withdraw 0 0 0 9", "withdraw 3 0 0 0", "withdraw 0 0 4 0"):
+        for line in ("withdraw 0 2 0 0", "withdraw 0 0 0 1", "withdraw 0 0 0 9", "withdraw 3 0 0 0",
+                     "withdraw 0 0 4 0"):
             self.line(line, "BadScript 0", version=2)
         self.line("commit 15 7 1023 63 x", "BadScript 0")
         self.line("babble 15 A 1023 m8000 x", "BadFault 0")
@@ -97,7 +111,8 @@ class Scenes:
         """That the run is done, and that each of these lines is the same as one that its node has."""
         got, errors, status = run([self.runs.program, *words])
         nodes = dict(enumerate(part.splitlines()[1:] for part in got.decode().split("node ")[1:]))
-        missing = [(node, line) for node, line in lines if not any(are_same(told, line) for told in nodes.get(node, []))]
+        missing = [(node, line) for node, line in lines
+                   if not any(are_same(told, line) for told in nodes.get(node, []))]
         self.runs.compare(name, (missing, errors, status), ([], b"", 0))
 
     def with_line(self, line, scenario=None):
@@ -110,34 +125,28 @@ def scenes(runs, folder):
     for entries, wanted in ((55, refused("NoRoom 0")), (56, (scenes.outcome.encode(), b"", 0))):
         cluster = scenes.cluster.replace(tasks, tasks.replace("own", f"slot_entries = {entries}\nown"))
         scenes.check(f"run with {entries} slot entries", wanted, cluster=cluster)
-    refusals = {
-        "commit 0 2 0 0 x0a0b": "BadScript 2", "mute 0 A 4 s1": "BadFault 2", "babble 2 A 0 s1 x01": "BadFault 2",
-        "read 3 0 0 0": "BadScript 6", "commit 0 0 0 1 x0a0b": "BadScript 0", "commit 0 0 1 0 x0a": "BadLine 13",
-        "corrupt A * m5 1": "BadFault 2", "mute 0 A * s4": "BadFault 2", "pop 0 1 1": "BadScript 1",
-        "commit 0 0 4 0 x0a0b": "BadScript 0", "commit 0 0 1 0 x0a0b0c0d": "BadScript 0", "read 0 0 0 1": "settled",
-        "commit 0 0 1 2 x0a0b": "BadScript 0", "commit 0 0 1 0 x": "BadScript 0", "read 0 0 1 0": "BadScript 0",
-        "pop 1 0 3": "BadScript 2", "pop 0 1 2": "settled", "mute 3 A 0 s1": "BadFault 2", "mute 0 A * s*": "settled",
-        "babble 2 A 3 s2 x": "BadFault 2", "babble 2 A * m1 x00": "settled", "babble 1 A * s* x00": "settled",
-        "corrupt A 0 s4 1": "BadFault 2", "corrupt B 3 m4 1": "settled", "corrupt A 0 m1 65535": "settled",
-    }
-    for line, error in refusals.items():
+    for line, error in ADDED.items():
         if error == "settled":
             scenes.told(f"run with {line}", [], scenario=scenes.with_line(line))
         else:
             scenes.check(f"run with {line}", refused(error), scenario=scenes.with_line(line))
-    twice = scenes.with_line("corrupt A 3 s1 7", scenes.with_line("corrupt B 3 s1 3", scenes.with_line("corrupt A * s* 3")))
+    twice = scenes.with_line("corrupt A 3 s1 7",
+                             scenes.with_line("corrupt B 3 s1 3", scenes.with_line("corrupt A * s* 3")))
     scenes.check("run with two corrupt bits", refused("BadFault 4"), scenario=twice)
     scenes.check("run of a bad script and a bad fault", refused("BadScript 6"),
                  scenario=scenes.with_line("pop 3 0 0", scenes.with_line("mute 3 A * s*")))
     scenes.check("run of another version", refused("BadMagic"), scenario="frscenario 9\nend\n")
     scenes.check("run of an empty scenario file", refused("BadMagic"), scenario="")
     scenes.check("run of a scenario without its end", refused("Truncated"), scenario="frscenario 1\n")
-    scenes.check("run of a bad cluster", refused("Params CycleSum"), scenes.cluster.replace("cycle_mt = 90", "cycle_mt = 91"))
-    few = scenes.cluster.replace("[[node]]\ntasks = 2\nown = [{slot = 1", "[[node]]\ntasks = 2\nhost_entries = 2\nown = [{slot = 1")
+    scenes.check("run of a bad cluster", refused("Params CycleSum"),
+                 scenes.cluster.replace("cycle_mt = 90", "cycle_mt = 91"))
+    few = scenes.cluster.replace("[[node]]\ntasks = 2\nown = [{slot = 1",
+                                 "[[node]]\ntasks = 2\nhost_entries = 2\nown = [{slot = 1")
     scenes.check("run of three lines with room for two", refused("NoRoom 0"), cluster=few)
     taken_back = "frscenario 2\n" + "withdraw 0 0 3 0\n" * 2
     scenes.told("run of two withdraws with room for two", [(0, "tx 0 0 0 0 0 0")], few, f"{taken_back}end\n")
-    scenes.check("run of three withdraws with room for two", refused("NoRoom 0"), few, f"{taken_back}withdraw 0 0 3 0\nend\n")
+    scenes.check("run of three withdraws with room for two", refused("NoRoom 0"), few,
+                 f"{taken_back}withdraw 0 0 3 0\nend\n")
     babbles(scenes)
     withdraws(scenes)
     faults(scenes)
@@ -151,7 +160,8 @@ def babbles(scenes):
     b = [(0, "B 4 0 0 0 0"), (1, "B 4 0 0 0 0"), (2, "B 8 0 0 0 0")]
     quiet = [(1, "rx 2 31:B x0c0d"), *b]
     scenes.outcome_with("run without babble", quiet, scenario=scenes.quiet)
-    lines = [(0, "rx 1 - -"), (0, "A 3 8 0 0 4"), (1, "rx 1 - -"), (1, "A 3 8 0 0 4"), (2, "rx 1 - -"), (2, "A 0 0 0 0 8")]
+    lines = [(0, "rx 1 - -"), (0, "A 3 8 0 0 4"), (1, "rx 1 - -"), (1, "A 3 8 0 0 4"), (2, "rx 1 - -"),
+             (2, "A 0 0 0 0 8")]
     scenes.outcome_with("run without guardians", lines, cluster=scenes.guarded("none"))
     long = scenes.with_line(f"babble 1 A 0 m4 x{'00' * 20}", scenes.quiet)
     lines = [*quiet, (0, "A 7 0 0 1 0"), (2, "A 8 0 0 1 0")]
@@ -208,7 +218,8 @@ def withdraws(scenes):
 def faults(scenes):
     """One commit of node 0 in slot 1, and one fault in its window."""
     muted = scenes.with_line("mute 0 A 0 s1", scenes.one_commit)
-    scenes.told("run with a muted owner", [(0, "tx 0 1 1 0 0 0"), (1, "rx 1 - -"), (1, "rx 2 1:B x0a0b")], scenario=muted)
+    scenes.told("run with a muted owner", [(0, "tx 0 1 1 0 0 0"), (1, "rx 1 - -"), (1, "rx 2 1:B x0a0b")],
+                scenario=muted)
     babbles = scenes.with_line("babble 0 A 0 s1 x20010346809999e937d0", muted)
     lines = [(0, "tx 0 1 1 0 0 0"), (1, "rx 1 1:A x9999"), (1, "rx 2 1:B x0a0b")]
     scenes.told("run with a muted owner that babbles a frame", lines, scenario=babbles)
@@ -220,7 +231,8 @@ def faults(scenes):
 
 
 def divided(scenes):
-    """Slot 3 on A is node 0's in even cycles and node 1's in odd ones. What node 1 babbles there passes in the odd ones alone."""
+    """Slot 3 on A is node 0's in even cycles and node 1's in odd ones. What node 1 babbles there passes in the odd ones
+    alone."""
     cluster = (EXAMPLES / "divided-slot/cluster.toml").read_text()
     lines = [(0, "A 7 2 0 0 0"), (1, "A 9 0 0 0 2"), (2, "A 10 2 0 0 0")]
     scenario = scenes.with_line("babble 1 A * s3 x00", scenes.quiet)

@@ -38,29 +38,34 @@ buffer = [{kind = "receive", slot = 2, channels = "A"}]
 """Two static slots and no minislot. The journal of node 0 has room for three windows and two calls of its task."""
 
 A_WINDOW = [
-    ("look 0", "window 0 0 0 1 1"), ("look 1", "window 0 0 0 1 1"), ("fetch 0", "done"), ("fetch 1", "done"), ("put 0", "done"),
-    ("seal", "refused Bus NotAllPut"), ("put 1", "done"), ("now", "open 0 0 0 1 1"), ("seal", "done"), ("now", "sealed 0 0 0 1 1"),
-    ("advance", "refused Bus NotAllTaken"), ("take 0", "done"), ("observe 0", "done"), ("take 1", "done"), ("advance", "done"),
-    ("now", "open 1 0 0 2 2"), ("look 1", "refused WrongTurn"), ("observe 1", "done"), ("look 1", "window 1 0 0 2 2"),
+    ("look 0", "window 0 0 0 1 1"), ("look 1", "window 0 0 0 1 1"), ("fetch 0", "done"), ("fetch 1", "done"),
+    ("put 0", "done"), ("seal", "refused Bus NotAllPut"), ("put 1", "done"), ("now", "open 0 0 0 1 1"),
+    ("seal", "done"), ("now", "sealed 0 0 0 1 1"), ("advance", "refused Bus NotAllTaken"), ("take 0", "done"),
+    ("observe 0", "done"), ("take 1", "done"), ("advance", "done"), ("now", "open 1 0 0 2 2"),
+    ("look 1", "refused WrongTurn"), ("observe 1", "done"), ("look 1", "window 1 0 0 2 2"),
 ]
 """A window by its single events, each with its reply."""
 
 TWO_CYCLES = [
-    ("commit 0 0 0 x0a0b", "committed 0"), ("commit 0 0 0 x0c0d", "committed 1"), ("withdraw 0 0 0", "refused Host HostFull"),
-    ("read 1 1 0", "frame -"), ("window", "open 1 0 0 2 2"), ("babble 1 B x00", "done"), ("window", "open 2 1 0 1 1"),
-    ("read 1 0 0", "frame 0 2 ---- x0c0d"), ("record 0", "lines 1\nwindow 0 0 0 1 1"), ("record 2", "refused NoWindow"),
-    ("report 0", "lines 3\ntx 0 2 1 1 0 0\nA 0 0 0 0 0\nB 0 0 0 0 0"), ("cycle", "refused Slot SlotFull"), ("now", "open 3 1 0 2 2"),
+    ("commit 0 0 0 x0a0b", "committed 0"), ("commit 0 0 0 x0c0d", "committed 1"),
+    ("withdraw 0 0 0", "refused Host HostFull"), ("read 1 1 0", "frame -"), ("window", "open 1 0 0 2 2"),
+    ("babble 1 B x00", "done"), ("window", "open 2 1 0 1 1"), ("read 1 0 0", "frame 0 2 ---- x0c0d"),
+    ("record 0", "lines 1\nwindow 0 0 0 1 1"), ("record 2", "refused NoWindow"),
+    ("report 0", "lines 3\ntx 0 2 1 1 0 0\nA 0 0 0 0 0\nB 0 0 0 0 0"), ("cycle", "refused Slot SlotFull"),
+    ("now", "open 3 1 0 2 2"),
 ]
 """A run by whole windows, in which the journal of node 0 is full before the last one."""
 
 REFUSALS = [
-    ("commit 3 0 0 x0000", "refused UnknownNode"), ("look 15", "refused UnknownNode"), ("report 3", "refused UnknownNode"),
-    ("trace 15", "refused UnknownNode"), ("babble 3 A x00", "refused Bus UnknownNode"), ("mute 4 B", "refused Bus UnknownNode"),
+    ("commit 3 0 0 x0000", "refused UnknownNode"), ("look 15", "refused UnknownNode"),
+    ("report 3", "refused UnknownNode"), ("trace 15", "refused UnknownNode"),
+    ("babble 3 A x00", "refused Bus UnknownNode"), ("mute 4 B", "refused Bus UnknownNode"),
     ("commit 0 2 0 x0000", "refused Host UnknownTask"), ("commit 0 0 2 x0000", "refused Host UnknownBuffer"),
     ("commit 0 0 1 x0000", "refused Host NotTransmit"), ("commit 0 0 0 x00000000", "refused Host WrongLength"),
-    ("withdraw 0 0 1", "refused Host NotTransmit"), ("withdraw 0 0 0", "withdrawn -"), ("read 0 0 0", "refused Host NotReceive"),
-    ("read 0 0 1", "frame -"), ("pop 1 0", "refused Host NoQueue"), ("pop 0 0", "frame -"), ("fetch 0", "refused WrongTurn"),
-    ("put 0", "refused WrongTurn"), ("take 0", "refused WrongTurn"), ("observe 0", "refused WrongTurn"),
+    ("withdraw 0 0 1", "refused Host NotTransmit"), ("withdraw 0 0 0", "withdrawn -"),
+    ("read 0 0 0", "refused Host NotReceive"), ("read 0 0 1", "frame -"), ("pop 1 0", "refused Host NoQueue"),
+    ("pop 0 0", "frame -"), ("fetch 0", "refused WrongTurn"), ("put 0", "refused WrongTurn"),
+    ("take 0", "refused WrongTurn"), ("observe 0", "refused WrongTurn"),
     ("seal", "refused Bus NotAllPut"), ("advance", "refused Bus NotSealed"), ("corrupt A 3", "done"),
     ("corrupt A 4", "refused Bus TooManyFaults"), ("mute 1 A", "done"), ("mute 1 A", "refused Bus TooManyFaults"),
     ("babble 1 B x", "done"), ("babble 1 B x00", "refused Bus TooManyFaults"), ("record 0", "refused NoWindow"),
@@ -70,8 +75,9 @@ REFUSALS = [
 
 FAULT_LINES = [
     ("commit 0 0 0 x0a0b", "committed 0"), ("babble 1 A * s2 x00", "done"), ("corrupt B 0 s* 7", "done"),
-    ("corrupt B 0 s2 9", "refused BadFault 2"), ("corrupt B 1 s2 9", "done"), ("babble 1 A 1 s2 xff", "refused BadFault 3"),
-    ("mute 2 A * s*", "refused BadFault 3"), ("mute 1 A 2 s*", "refused BadFault 3"), ("mute 1 A * s3", "refused BadFault 3"),
+    ("corrupt B 0 s2 9", "refused BadFault 2"), ("corrupt B 1 s2 9", "done"),
+    ("babble 1 A 1 s2 xff", "refused BadFault 3"), ("mute 2 A * s*", "refused BadFault 3"),
+    ("mute 1 A 2 s*", "refused BadFault 3"), ("mute 1 A * s3", "refused BadFault 3"),
     ("mute 1 A * m1", "refused BadFault 3"), ("babble 1 A * s1", "refused BadLine 11"), ("cycle", "open 2 1 0 1 1"),
     ("record 0", "lines 2\nwindow 0 0 0 1 1\ncorrupt B 7"), ("record 1", "\n".join([
         "lines 5", "window 1 0 0 2 2", f"sent 0 A offer passed {DATA_A}", f"sent 0 B offer passed {DATA_B}",
@@ -84,13 +90,15 @@ FAULT_LINES = [
 A_FAULT_BY_HAND = [
     ("corrupt A 5", "done"), ("corrupt A * s1 7", "done"), ("corrupt B 1 s1 9", "done"), ("window", "open 1 0 0 2 2"),
     ("record 0", "lines 2\nwindow 0 0 0 1 1\ncorrupt A 5"), ("run 1", "open 2 1 0 1 1"), ("look 0", "window 2 1 0 1 1"),
-    ("fetch 0", "done"), ("window", "open 3 1 0 2 2"), ("record 2", "lines 3\nwindow 2 1 0 1 1\ncorrupt A 7\ncorrupt B 9"),
+    ("fetch 0", "done"), ("window", "open 3 1 0 2 2"),
+    ("record 2", "lines 3\nwindow 2 1 0 1 1\ncorrupt A 7\ncorrupt B 9"),
 ]
 """A fault that the window has stays, and that of a line doesn't come; in a window that is begun it does."""
 
 A_LINE_TOO_LATE = [
-    *A_WINDOW[:9], ("corrupt B * s1 3", "done"), ("window", "open 1 0 0 2 2"), ("record 0", "lines 1\nwindow 0 0 0 1 1"),
-    ("run 1", "open 2 1 0 1 1"), ("window", "open 3 1 0 2 2"), ("record 2", "lines 2\nwindow 2 1 0 1 1\ncorrupt B 3"),
+    *A_WINDOW[:9], ("corrupt B * s1 3", "done"), ("window", "open 1 0 0 2 2"),
+    ("record 0", "lines 1\nwindow 0 0 0 1 1"), ("run 1", "open 2 1 0 1 1"), ("window", "open 3 1 0 2 2"),
+    ("record 2", "lines 2\nwindow 2 1 0 1 1\ncorrupt B 3"),
 ]
 """The fault of a line that comes once the window is sealed comes in the next one that it names."""
 
@@ -103,18 +111,20 @@ LATE_CYCLES = [
 """A fault line names a cycle of the run, which isn't wrapped at 64."""
 
 NO_REQUESTS = [
-    "", " ", "now ", " now", "now  ", "Now", "now 1", "window 1", "cycle 1", "seal 0", "advance 0", "look", "look 16", "look 00",
-    "look -1", "look 0 0", "fetch", "put", "take", "observe x", "commit", "commit 0 0 0", "commit 0 0 0 x0", "commit 0 0 0 x000",
-    "commit 0 0 0 X0000", "commit 0 0 0 x0A00", "commit 0 0 0 0000", "commit 0 0 0 x0000 x0000", "commit 0  0 0 x0000",
-    "commit 0 8 0 x0000", "commit 0 0 64 x0000", "commit 16 0 0 x0000", "commit +1 0 0 x0000", "withdraw 0 0", "withdraw 0 0 0 0",
-    "read 0 0", "read 0 0 0 0", "pop 0", "pop 0 0 0", "babble 0 A", "babble 0 AB x00", "babble 0 a x00", "babble 0 A x0",
-    "mute 0", "mute 0 C", "mute 0 A 1", "corrupt A", "corrupt A 65536", "corrupt 1 A", "run", "run 1025", "run -1", "run 1 1",
-    "forget 1", "babble 0 A * s*", "babble 0 A * s* x0", "babble 0 A 1024 s* x00", "babble 0 A * s0 x00", "babble 0 A * 1 x00",
-    "mute 0 A * m*", "mute 0 A * s01", "mute 0 A ** s*", "mute 0 A * s* 1", "mute 0 A  * s*", "corrupt A * s*", "corrupt A * s* 65536",
-    "corrupt 0 A * s* 1", "commit 0 0 0 0 x0a0b", "read 0 0 0 1 ", "mute 0 A * m8001", "end", "frscenario 2",
-    "record", "record 4294967296", "report", "report 16", "trace", "trace 0 0", "quit", "frworld 1", "now\r", "now\t", "now\0",
-    "commit 0 0 0 x" + "00" * 255, "babble 0 A x" + "00" * 263, "x" * 1200, "x" * 1201, "now " * 300, "now" + " " * 1198,
-    "now" + " " * 5_000_000, "x" * 4095, "x" * 4096, "x" * 8191, "x" * 8192, "x" * 8193, "x" * 16384, "\N{EURO SIGN}",
+    "", " ", "now ", " now", "now  ", "Now", "now 1", "window 1", "cycle 1", "seal 0", "advance 0", "look", "look 16",
+    "look 00", "look -1", "look 0 0", "fetch", "put", "take", "observe x", "commit", "commit 0 0 0", "commit 0 0 0 x0",
+    "commit 0 0 0 x000", "commit 0 0 0 X0000", "commit 0 0 0 x0A00", "commit 0 0 0 0000", "commit 0 0 0 x0000 x0000",
+    "commit 0  0 0 x0000", "commit 0 8 0 x0000", "commit 0 0 64 x0000", "commit 16 0 0 x0000", "commit +1 0 0 x0000",
+    "withdraw 0 0", "withdraw 0 0 0 0", "read 0 0", "read 0 0 0 0", "pop 0", "pop 0 0 0", "babble 0 A",
+    "babble 0 AB x00", "babble 0 a x00", "babble 0 A x0", "mute 0", "mute 0 C", "mute 0 A 1", "corrupt A",
+    "corrupt A 65536", "corrupt 1 A", "run", "run 1025", "run -1", "run 1 1", "forget 1", "babble 0 A * s*",
+    "babble 0 A * s* x0", "babble 0 A 1024 s* x00", "babble 0 A * s0 x00", "babble 0 A * 1 x00", "mute 0 A * m*",
+    "mute 0 A * s01", "mute 0 A ** s*", "mute 0 A * s* 1", "mute 0 A  * s*", "corrupt A * s*", "corrupt A * s* 65536",
+    "corrupt 0 A * s* 1", "commit 0 0 0 0 x0a0b", "read 0 0 0 1 ", "mute 0 A * m8001", "end", "frscenario 2", "record",
+    "record 4294967296", "report", "report 16", "trace", "trace 0 0", "quit", "frworld 1", "now\r", "now\t", "now\0",
+    "commit 0 0 0 x" + "00" * 255, "babble 0 A x" + "00" * 263, "x" * 1200, "x" * 1201, "now " * 300,
+    "now" + " " * 1198, "now" + " " * 5_000_000, "x" * 4095, "x" * 4096, "x" * 8191, "x" * 8192, "x" * 8193,
+    "x" * 16384, "\N{EURO SIGN}",
 ]
 
 
@@ -197,9 +207,9 @@ class Sessions:
         self.check("a fault line of a late cycle", roomy, 66, LATE_CYCLES)
         self.check("no requests at all", THREE_NODES, 1, [])
         late = "refused Bus NotCollecting"
-        over = [("run 0", "open 0 0 0 1 1"), ("run 2", "over"), ("now", "over"), ("look 0", late), ("window", late), ("cycle", late),
-                ("run 1", late), ("run 0", "over"), ("advance", "refused Bus NotSealed"), ("mute 0 A", late),
-                ("read 1 0 1", "frame -"), ("record 13", "lines 1\nwindow 13 1 4 7 7")]
+        over = [("run 0", "open 0 0 0 1 1"), ("run 2", "over"), ("now", "over"), ("look 0", late), ("window", late),
+                ("cycle", late), ("run 1", late), ("run 0", "over"), ("advance", "refused Bus NotSealed"),
+                ("mute 0 A", late), ("read 1 0 1", "frame -"), ("record 13", "lines 1\nwindow 13 1 4 7 7")]
         self.check("a run that is over", THREE_NODES, 2, over)
 
     def recorded(self):
@@ -281,18 +291,20 @@ class Sessions:
         for rest in (b"", b"commit 0 0 0 x0c0d", b"now\nrun 1"):
             talk = Talk(self.runs.program, THREE_NODES, 1)
             try:
-                got = [talk.line(), talk.ask("commit 0 0 0 x0a0b"), talk.ask("cycle"), talk.ask("nothing"), talk.ask("read 1 1 1")]
+                got = [talk.line(), talk.ask("commit 0 0 0 x0a0b"), talk.ask("cycle"), talk.ask("nothing"),
+                       talk.ask("read 1 1 1")]
             except OSError as error:
                 got = str(error)
-            self.runs.compare("a talk", got, ["frworld 1", "committed 0", "over", "refused BadLine 3", "frame 0 1 --s- x0a0b"])
+            self.runs.compare("a talk", got,
+                              ["frworld 1", "committed 0", "over", "refused BadLine 3", "frame 0 1 --s- x0a0b"])
             self.runs.compare(f"the end {rest}", talk.close(rest), (b"over\n" if b"\n" in rest else b"", b"", 0))
 
     def refusals(self):
         long = self.folder / "long.toml"
         long.write_bytes(b"#" * 1_048_577)
         (self.folder / "bytes.toml").write_bytes(b"guard = \"\xff\"\n")
-        for name, error in {"missing.toml": "Read", ".": "Read", "": "Read", str(long): "TooLong", "receive-buffer/trace": "Toml",
-                            str(self.folder / "bytes.toml"): "Toml"}.items():
+        for name, error in {"missing.toml": "Read", ".": "Read", "": "Read", str(long): "TooLong",
+                            "receive-buffer/trace": "Toml", str(self.folder / "bytes.toml"): "Toml"}.items():
             self.runs.check(f"a session of {name!r}", [name, "--cycles", "1"], refused(error))
         words, unread = [THREE_NODES, "--cycles", "1"], (GREETING.encode(), b"refused Read\n", 1)
         with Folder(os.open(EXAMPLES, os.O_RDONLY)) as given:
@@ -322,6 +334,7 @@ class Sessions:
         talk.line()
         talk.ran.stdout.close()
         talk.ran.stdin.write(b"now\n")
-        self.runs.compare("a reader that leaves", (talk.ran.wait(SECONDS), talk.ran.stderr.read()), (1, b"refused Write\n"))
+        self.runs.compare("a reader that leaves", (talk.ran.wait(SECONDS), talk.ran.stderr.read()),
+                          (1, b"refused Write\n"))
         talk.ran.stdin.close()
         talk.ran.stderr.close()

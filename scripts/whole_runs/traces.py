@@ -123,8 +123,8 @@ class Traces:
         self.changed(self.withdrawn, 15, "withdraw 0 0 6", "WrongAnswer")
         for line in ("withdraw 1 0 0", "withdraw 0 1 0", "withdraw 0 63 -"):
             self.changed(self.withdrawn, 8, line, "Refused")
-        for line in ("withdraw 8 0 0", "withdraw 0 64 0", "withdraw 0 0 4294967296", "withdraw 0 0 00", "withdraw 0 0 null",
-                     "withdraw 0 0", "withdraw 0 0 0 0", "withdraw"):
+        for line in ("withdraw 8 0 0", "withdraw 0 64 0", "withdraw 0 0 4294967296", "withdraw 0 0 00",
+                     "withdraw 0 0 null", "withdraw 0 0", "withdraw 0 0 0 0", "withdraw"):
             self.changed(self.withdrawn, 8, line, "BadLine")
         self.check("a withdraw stands in version 1", ["frtrace 1", *self.withdrawn[1:]], refused("BadLine 8"))
         for name, lines in (("receive-buffer", self.frames), ("three-commits", self.commits)):
@@ -132,12 +132,14 @@ class Traces:
             self.check(f"{name} is told in version 2", ["frtrace 2", *lines[1:]], (report, b"", 0))
         receiver = ["frtrace 2", ONE_WORD, "node 1 0 0 8 8", "rx 2 AB 0 1", "begin", "withdraw 0 0 -", "end"]
         self.check("a receive buffer is withdrawn", receiver, refused("Refused 6"))
-        full = ["frtrace 2", ONE_WORD, "node 1 0 0 1 8", "own 1 A 0 0", "tx state 1 A 0 1 - 0", "begin", "commit 0 0 x0001"]
+        full = ["frtrace 2", ONE_WORD, "node 1 0 0 1 8", "own 1 A 0 0", "tx state 1 A 0 1 - 0", "begin",
+                "commit 0 0 x0001"]
         self.check("a withdraw has no room", [*full, "withdraw 0 0 0", "end"], refused("Refused 8"))
         for mode in ("event", "state"):
             plan = ["node 1 0 0 8 8", "own 2 AB 0 0", f"tx {mode} 2 AB 0 1 - 0"]
-            entries = ["commit 0 0 x0001", *window(0, "own", "own", "0 0"), "withdraw 0 0 -", "commit 0 0 x0002", "withdraw 0 0 4",
-                       *window(1, "own", "own", "null null"), "commit 0 0 x0003", "withdraw 0 0 8", "withdraw 0 0 -"]
+            entries = ["commit 0 0 x0001", *window(0, "own", "own", "0 0"), "withdraw 0 0 -", "commit 0 0 x0002",
+                       "withdraw 0 0 4", *window(1, "own", "own", "null null"), "commit 0 0 x0003", "withdraw 0 0 8",
+                       "withdraw 0 0 -"]
             report = ["tx 0 3 1 0 0 2", "A 0 0 0 0 0", "B 0 0 0 0 0"]
             self.told(f"commits are withdrawn in {mode} mode", plan, entries, report, version=2)
 
@@ -145,17 +147,21 @@ class Traces:
         """A slot that nodes divide by cycles, and the form of an ownership line in each version."""
         lines = (EXAMPLES / "divided-slot/trace").read_text().splitlines()
         for version in (1, 2):
-            self.check(f"an ownership line has cycles in version {version}", [f"frtrace {version}", *lines[1:]], refused("BadLine 4"))
-            self.check(f"they are all cycles in version {version}", [f"frtrace {version}", *lines[1:3], "own 3 A 0 0 0 1", *lines[4:]],
+            self.check(f"an ownership line has cycles in version {version}", [f"frtrace {version}", *lines[1:]],
                        refused("BadLine 4"))
-            self.check(f"a line without cycles is for all in version {version}", [f"frtrace {version}", *lines[1:3], "own 3 A 0 0", *lines[4:]],
-                       refused("WrongAnswer 8"))
-        for line in ("own 3 A 0 0", "own 3 A 0 0 0", "own 3 A 0 0 0 3", "own 3 A 0 0 2 2", "own 3 A 0 0 0 2 0", "own 3 A 0 0 00 2",
-                     "own 3 A 0 1 0 2", "own 3 A 0 0 - 2", "own 3 A 0 0 64 64", "own 3 A 0 0 0 128", "own 3 A 0 0 0 0"):
+            self.check(f"they are all cycles in version {version}",
+                       [f"frtrace {version}", *lines[1:3], "own 3 A 0 0 0 1", *lines[4:]], refused("BadLine 4"))
+            self.check(f"a line without cycles is for all in version {version}",
+                       [f"frtrace {version}", *lines[1:3], "own 3 A 0 0", *lines[4:]], refused("WrongAnswer 8"))
+        for line in ("own 3 A 0 0", "own 3 A 0 0 0", "own 3 A 0 0 0 3", "own 3 A 0 0 2 2", "own 3 A 0 0 0 2 0",
+                     "own 3 A 0 0 00 2", "own 3 A 0 1 0 2", "own 3 A 0 0 - 2", "own 3 A 0 0 64 64",
+                     "own 3 A 0 0 0 128", "own 3 A 0 0 0 0"):
             self.changed(lines, 4, line, "BadLine")
         for line in ("own 3 A 0 0 1 2", "own 3 A 0 0 0 4", "own 3 B 0 0 0 2"):
-            self.check(f"a buffer is for other cycles than {line!r}", [*lines[:3], line, *lines[4:]], refused("Refused 6"))
-        for line, wanted in (("own 3 A 0 0 1 2", "Truncated"), ("own 3 A 0 0 2 4", "Refused 7"), ("own 3 B 0 0 0 2", "Truncated")):
+            self.check(f"a buffer is for other cycles than {line!r}", [*lines[:3], line, *lines[4:]],
+                       refused("Refused 6"))
+        for line, wanted in (("own 3 A 0 0 1 2", "Truncated"), ("own 3 A 0 0 2 4", "Refused 7"),
+                             ("own 3 B 0 0 0 2", "Truncated")):
             self.check(f"there is {line!r} too", [*lines[:4], line, *lines[4:6]], refused(wanted))
         for place, line in ((8, "fetch 0 1 0 3 3 null -"), (8, "fetch 0 1 0 3 3 0 -"), (10, "fetch 1 2 0 3 3 null -")):
             self.changed(lines, place, line, "WrongAnswer")
@@ -164,7 +170,8 @@ class Traces:
         self.check("commits are withdrawn in version 3", ["frtrace 3", *withdrawn[1:]], (report, b"", 0))
         entries = [*window(0, "-", "-", "- -"), *window(1, "own", "own", "null null"), *window(2, "-", "-", "- -")]
         plan = ["node 1 0 0 8 8", "own 2 AB 1 1 1 4", "own 3 A 0 0 0 1"]
-        self.told("a null frame goes out in one cycle of four", plan, entries, ["A 0 0 0 0 0", "B 0 0 0 0 0"], version=3)
+        self.told("a null frame goes out in one cycle of four", plan, entries, ["A 0 0 0 0 0", "B 0 0 0 0 0"],
+                  version=3)
 
     def told(self, name, plan, entries, report, params=ONE_WORD, version=1):
         """That a trace of this plan is legal, and that its report has these lines."""
@@ -195,23 +202,27 @@ class Traces:
         plan = ["node 1 0 0 8 8", "queue 2 1 3 AB 0 1"]
         came = [line for number, frame in enumerate(MARKED) for line in window(number, frame, "-")]
         pops = ["pop 0 3:A", "pop 0 5:A", "pop 0 -"]
-        self.told("three frames come to a queue of two", plan, [*came, *pops], ["queue 0 1", "A 3 0 0 0 0", "B 0 0 0 0 0"])
+        self.told("three frames come to a queue of two", plan, [*came, *pops],
+                  ["queue 0 1", "A 3 0 0 0 0", "B 0 0 0 0 0"])
         both = [*window(0, MARKED[0], MARKED_B), *window(1, NULL_A_1, "noise")]
-        self.told("a queue takes both channels", plan, [*both, "pop 0 1:A"], ["queue 1 0", "A 2 0 0 0 0", "B 1 1 0 0 0"])
+        self.told("a queue takes both channels", plan, [*both, "pop 0 1:A"],
+                  ["queue 1 0", "A 2 0 0 0 0", "B 1 1 0 0 0"])
         beside = [plan[0], "rx 2 A 0 1", plan[1]]
         report = ["rx 0 1:A x0001", "queue 0 0", "A 1 0 0 0 0", "B 1 0 0 0 0"]
-        self.told("a buffer takes its frame from a queue", beside, [*window(0, MARKED[0], MARKED_B), "pop 0 1:B"], report)
+        self.told("a buffer takes its frame from a queue", beside, [*window(0, MARKED[0], MARKED_B), "pop 0 1:B"],
+                  report)
         dynamic = ["fetch 0 0 1 4 - - -", "see 0 conflict noise"]
         self.told("a channel has no slot", plan, dynamic, ["queue 0 0", "A 0 0 0 0 1", "B 0 0 0 0 0"])
 
     def transmit_buffers(self):
         for mode, last in (("event", "null null"), ("state", "3 3")):
             plan = ["node 1 0 0 8 8", "own 2 AB 0 0", f"tx {mode} 2 AB 0 1 - 0"]
-            entries = ["commit 0 0 x0001", "commit 0 0 x0002", "fetch 0 0 0 2 2 1 1", "commit 0 0 x0003", "see 0 own own",
-                       *window(1, "own", "own", "3 3"), f"fetch 2 2 0 2 2 {last}"]
+            entries = ["commit 0 0 x0001", "commit 0 0 x0002", "fetch 0 0 0 2 2 1 1", "commit 0 0 x0003",
+                       "see 0 own own", *window(1, "own", "own", "3 3"), f"fetch 2 2 0 2 2 {last}"]
             report = ["tx 0 3 2 1 0 0", "A 0 0 0 0 0", "B 0 0 0 0 0"]
             self.told(f"there are three commits in {mode} mode", plan, entries, report)
-        for latest, offer, report in ((5, "0", "tx 0 1 1 0 0 0"), (4, "-", "tx 0 1 0 0 1 0"), (0, "-", "tx 0 1 0 0 1 0")):
+        for latest, offer, report in ((5, "0", "tx 0 1 1 0 0 0"), (4, "-", "tx 0 1 0 0 1 0"),
+                                      (0, "-", "tx 0 1 0 0 1 0")):
             plan = [f"node 1 {latest} 0 8 8", "tx event 8 A 0 1 4 0"]
             entries = ["commit 0 0 x0101010101010101", f"fetch 0 0 5 8 - {offer} -"]
             report = [report, "A 0 0 0 0 0", "B 0 0 0 0 0"]
@@ -225,7 +236,8 @@ class Traces:
             self.refused_at_last(f"the call is {line!r}", sender, [line])
         self.refused_at_last("a third commit has no room", sender, [commit, commit, commit])
         told = ["tx 0 2 1 1 0 0", "A 0 0 0 0 0", "B 0 0 0 0 0"]
-        self.told("windows go on where commits have no room", sender, [commit, commit, *window(0, "own", "own", "1 1")], told)
+        self.told("windows go on where commits have no room", sender,
+                  [commit, commit, *window(0, "own", "own", "1 1")], told)
         owner = ["node 1 0 0 1 3", "own 2 A 1 0"]
         first = window(0, "own", "-", "null -")
         self.refused_at_last("a fetch has no room for its observe", owner, [*first, "fetch 1 1 0 2 2 null -"])
@@ -256,33 +268,36 @@ class Traces:
 
     def ends(self):
         """Traces that are cut, and bytes after the end."""
-        for lines, error in ((["frtrace 1"], "Truncated"), ([], "BadMagic"), (["frtrace 2"], "Truncated"), (["frtrace 3"], "Truncated"),
-                             (["frtrace 4"], "BadMagic"),
+        for lines, error in ((["frtrace 1"], "Truncated"), ([], "BadMagic"), (["frtrace 2"], "Truncated"),
+                             (["frtrace 3"], "Truncated"), (["frtrace 4"], "BadMagic"),
                              ([*self.frames, "x"], f"BadLine {len(self.frames) + 1}")):
             self.check(f"the lines are {[line[:10] for line in lines[-1:]]}", lines, refused(error))
         text = "\n".join(self.frames)
-        for name, rest, error in (("its last line feed is missing", "", "Truncated"), ("a byte stands after it", "\nx", "BadLine 14")):
+        for name, rest, error in (("its last line feed is missing", "", "Truncated"),
+                                  ("a byte stands after it", "\nx", "BadLine 14")):
             self.runs.check(f"audit where {name}", ["audit"], refused(error), given=f"{text}{rest}".encode())
         self.runs.check("audit of a magic line without its end", ["audit"], refused("BadMagic"), given=b"frtrace 2")
         for name, lines, error in (("first", [], "BadMagic"), ("eighth", self.frames[:7], "LineTooLong 8")):
             for size, wanted in ((1200, "Truncated" if lines else "BadMagic"), (1201, error)):
                 given = "".join(f"{line}\n" for line in lines) + "a" * size
-                self.runs.check(f"audit where the {name} line has {size} bytes", ["audit"], refused(wanted), given=given.encode())
+                self.runs.check(f"audit where the {name} line has {size} bytes", ["audit"], refused(wanted),
+                                given=given.encode())
 
     def forms(self):
         """Lines in a form that is none, each in the place of a lawful one."""
         forms = {
-            2: ["params 3 4 1 20 5 0 10 90 0", "params 3 4 1 20 5 0 10 90 0 5 5", "params 3 4 1 20 5 0 10 90 0 4294967296",
-                "params 3 4 1 20 5 0 10 90 0 05"],
+            2: ["params 3 4 1 20 5 0 10 90 0", "params 3 4 1 20 5 0 10 90 0 5 5",
+                "params 3 4 1 20 5 0 10 90 0 4294967296", "params 3 4 1 20 5 0 10 90 0 05"],
             3: ["node 9 0 0 256 4096", "node 1 0 8001 256 4096", "node 1 0 0 0 4096", "node 1 0 0 256 1"],
             4: ["rx 0 A 0 1", "rx 2048 A 0 1", "rx 2 BA 0 1", "rx 2 A 1 1", "rx 2 A 0 3", "tx state 7 B 1 2 128 1",
-                "tx state 7 B 1 2 01 1", "tx state 7 B 1 2 - 2", "tx state 7 B 1 2 - 0 0", "tx state 7 B 2 2 - 0", "own 1 AB 0 1",
-                "own 1 AB 1", "own 1 AB 1 true", "queue 257 4 7 AB 0 1", "queue 0 4 7 AB 0 1", "queue 2 8 7 AB 0 1",
-                "queue 2 0 7 AB 0 1", "queue 2 4 2048 AB 0 1", "queue 2 4 7 AB 1 1", "queue 2 4 7 AB 0"],
+                "tx state 7 B 1 2 01 1", "tx state 7 B 1 2 - 2", "tx state 7 B 1 2 - 0 0", "tx state 7 B 2 2 - 0",
+                "own 1 AB 0 1", "own 1 AB 1", "own 1 AB 1 true", "queue 257 4 7 AB 0 1", "queue 0 4 7 AB 0 1",
+                "queue 2 8 7 AB 0 1", "queue 2 0 7 AB 0 1", "queue 2 4 2048 AB 0 1", "queue 2 4 7 AB 1 1",
+                "queue 2 4 7 AB 0"],
             6: ["", "read 8 0 -", "read 0 64 -", "read 0 0 31:C", "read 0 0 :A", "read 0 0  -", "fetch 0 0 0 1 2 - -",
                 "fetch 0 0 0 1 - - -", "fetch 0 0 1 - - - -", "fetch 0 0 8001 4 4 - -", "fetch 0 64 0 1 1 - -",
-                "fetch 0 0 0 1 1 - 4294967296", "see 0 - x0A", "see 0 - Own", "see 0 x200203c1400A0ba32217 noise", "pop 8 -", "pop 0",
-                "pop 0 0 -", "pop 0 12", "commit 7 63 x0a", "commit 7 63 x0A0a", "commit 7 63 -"],
+                "fetch 0 0 0 1 1 - 4294967296", "see 0 - x0A", "see 0 - Own", "see 0 x200203c1400A0ba32217 noise",
+                "pop 8 -", "pop 0", "pop 0 0 -", "pop 0 12", "commit 7 63 x0a", "commit 7 63 x0A0a", "commit 7 63 -"],
         }
         for place, lines in forms.items():
             for line in lines:

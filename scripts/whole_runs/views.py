@@ -43,7 +43,8 @@ WORKED = {
         # The window isn't later in its round, so it is of the next: 64 cycles of 90 macroticks later.
         (record(64 * 90 + 20, 0x01, 0, "200303bc000a0b"), "5780 0 2 A content - 3 ---- - x0a0b"),
     ],
-    # A minislot, in a channel with a slot and in one without; a null frame of another cycle; nothing of what has no bytes.
+    # A minislot, in a channel with a slot and in one without; a null frame of another cycle; nothing of what has no
+    # bytes.
     "fetch 0 63 3 5 - - -\nsee 0 x x00\nfetch 9 1 0 2 2 - -\nsee 9 x000203c1410000d14f6c noise\n": [
         (record(63 * 90 + 70, 0x01, 0x04, ""), "5740 63 5 A syntax short - - - x"),
         (record(63 * 90 + 70, 0x81, 0x04, "00"), "5740 63 - B - short - - - x00"),
@@ -76,8 +77,8 @@ TAKERS = """20 0 2 A valid - 2 ---- b0,b1 x0a0b
 5780 0 2 B valid - 2 ---- b0,b2 x0a0b
 5850 1 1 A syntax short - - - x
 """
-"""A buffer for both channels takes what came on A, and what came on B where nothing did on A; the queue gets nothing that
-a receive buffer is for."""
+"""A buffer for both channels takes what came on A, and what came on B where nothing did on A; the queue gets nothing
+that a receive buffer is for."""
 
 OWN = {
     # A null frame in cycle 0, and the data of commit 6 in cycle 1.
@@ -127,7 +128,8 @@ class Views:
         for trace in sorted(EXAMPLES.glob("*/trace")):
             given = trace.read_bytes()
             for command in ("capture", "frames"):
-                self.runs.check(f"{command} of {trace.parent.name}, cut", [command], refused("Truncated"), given=given[:-1])
+                self.runs.check(f"{command} of {trace.parent.name}, cut", [command], refused("Truncated"),
+                                given=given[:-1])
             for name, words in (("frames", ["frames"]), ("frames-all", ["frames", "--all"])):
                 made = trace.with_name(name)
                 if made.exists():
@@ -139,7 +141,8 @@ class Views:
         for picture in sorted(EXAMPLES.glob("*/schedule.svg")):
             words = ["schedule", picture.with_name("cluster.toml")]
             self.runs.check(f"schedule of {picture.parent.name}", words, (picture.read_bytes(), b"", 0))
-            self.runs.check(f"schedule of {picture.parent.name}, cycle 0", [*words, "--cycle", "0"], (picture.read_bytes(), b"", 0))
+            self.runs.check(f"schedule of {picture.parent.name}, cycle 0", [*words, "--cycle", "0"],
+                            (picture.read_bytes(), b"", 0))
 
     def owners(self):
         """The owners that a picture names are the lines `slot` of the plan for its cycle, in their order."""
@@ -148,7 +151,8 @@ class Views:
             owned, opened = ([line for line in plan if line[0] == kind] for kind in ("slot", "guard"))
             cycles = 1 + max(int(line[3]) for line in opened)
             for cycle in sorted({0, 1, 7, 63}) if cycles > 1 else [0]:
-                wanted = [f"slot {line[1]} on {line[2]}: node {line[3]}" for line in owned if cycle % int(line[5]) == int(line[4])]
+                wanted = [f"slot {line[1]} on {line[2]}: node {line[3]}" for line in owned
+                          if cycle % int(line[5]) == int(line[4])]
                 wanted_open = [f"node {line[1]} on {line[2]}: open from {line[4]} to {line[5]}" for line in opened
                                if cycle % cycles == int(line[3])]
                 words = ["schedule", cluster, "--cycle", str(cycle)]
@@ -170,21 +174,25 @@ class Views:
         receive = (EXAMPLES / "receive-buffer/trace").read_bytes()
         texts = {b"": "BadMagic", b"x\n": "BadMagic", b"frtrace 1\n": "Truncated", b"frtrace 2\n": "Truncated",
                  b"frtrace 3\n": "Truncated", b"frtrace 4\n": "BadMagic", b"frtrace 1\nnode\n": "BadLine 2",
-                 receive + b"\n": "BadLine 14", receive.replace(b"2:A", b"2:B"): "WrongAnswer 9", receive.replace(b"fetch 1", b"fetch 0"): "Refused 10",
+                 receive + b"\n": "BadLine 14", receive.replace(b"2:A", b"2:B"): "WrongAnswer 9",
+                 receive.replace(b"fetch 1", b"fetch 0"): "Refused 10",
                  b"frtrace 1\n" + b"x" * 1201: "LineTooLong 2"}
         for text, error in texts.items():
             for command in ("capture", "frames"):
                 self.runs.check(f"{command} of {text[:20]}", [command], refused(error), given=text)
         long = self.folder / "long.toml"
         long.write_bytes(b"#" * 1_048_577)
-        for name, error in {"missing.toml": "Read", ".": "Read", "": "Read", str(long): "TooLong", "receive-buffer/trace": "Toml"}.items():
+        for name, error in {"missing.toml": "Read", ".": "Read", "": "Read", str(long): "TooLong",
+                            "receive-buffer/trace": "Toml"}.items():
             self.runs.check(f"schedule {name!r}", ["schedule", name], refused(error))
 
     def words(self):
-        lists = [[], ["audit"], ["plan", "a"], ["help"], ["-h"], ["-V"], ["--help", "--help"], ["capture", "--help"], ["capture", "a"],
-                 ["frames", "a"], ["Capture"], [""], [b"\xff"], ["schedule"], ["schedule", "a", "b"], ["schedule", "a", "--cycle"],
+        lists = [[], ["audit"], ["plan", "a"], ["help"], ["-h"], ["-V"], ["--help", "--help"], ["capture", "--help"],
+                 ["capture", "a"], ["frames", "a"], ["Capture"], [""], [b"\xff"], ["schedule"], ["schedule", "a", "b"],
+                 ["schedule", "a", "--cycle"],
                  *(["schedule", "a", "--cycle", number] for number in ("64", "00", "04", "+4", "-1", "x", "", "4 ")),
-                 ["schedule", "a", "--cycle", "1", "--cycle", "1"], ["schedule", "a", "--free"], ["schedule", "--cycle", "1"]]
+                 ["schedule", "a", "--cycle", "1", "--cycle", "1"], ["schedule", "a", "--free"],
+                 ["schedule", "--cycle", "1"]]
         for given in lists:
             self.runs.check(f"the words {given}", given, USAGE)
         for given in (["schedule", "a", "--cycle", "63"], ["schedule", "--cycle=0", "a"], ["schedule", "--", "a"]):

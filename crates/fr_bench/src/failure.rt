@@ -1,7 +1,6 @@
 //! How the program ends when it hasn't done what it was asked.
 ghost use Rattle.std.specs.Prelude.{◌≡◌};
-ghost use Rattle.fr_bench.specs.Failures.{failure_of, status_of};
-ghost use Rattle.fr_bench.specs.declared.failure.Failure.TheVariants as failure;
+ghost use Rattle.fr_bench.specs.Failures.{status_of};
 
 use fr_commands::error::BenchError;
 use fr_threads::outcome_error::OutcomeError;
@@ -13,12 +12,9 @@ use thiserror::Error;
 /// (own profile).
 #[derive(Clone, Copy, Debug, Drop, PartialEq, Eq, Error)]
 pub enum Failure {
-    /// The words were no command.
-    #[error("usage")]
-    Usage,
-    /// Memory for reading the words was refused.
-    #[error("refused Memory")]
-    Memory,
+    /// The words were no command, or memory for reading them was refused.
+    #[error("{0}")]
+    Words(#[from] OrderError),
     /// The trace was refused, or couldn't be read, or its report couldn't be written.
     #[error("refused {0}")]
     Audit(#[from] TraceError),
@@ -36,19 +32,8 @@ impl Failure {
         ensures { result ≡ status_of self.now }
     {
         match self {
-            Failure::Usage => 2,
-            Failure::Memory | Failure::Audit(_) | Failure::Text(_) | Failure::Run(_) => 1,
-        }
-    }
-}
-
-impl From<OrderError> for Failure {
-    ghost from_gives = { λ error given. given ≡ failure_of error };
-
-    fn from(error: OrderError) -> Failure {
-        match error {
-            OrderError::Usage => Failure::Usage,
-            OrderError::Memory => Failure::Memory,
+            Failure::Words(error) => error.status(),
+            Failure::Audit(_) | Failure::Text(_) | Failure::Run(_) => 1,
         }
     }
 }

@@ -4,3 +4,4 @@ pub mod RecordLemmas
 pub mod ShowLemmas
 pub mod StartLemmas
 pub mod TakerLemmas
+pub mod TakingLemmas

@@ -1,25 +1,22 @@
 -- What takes a frame, and its words, step by step.
-use Rattle.std.proofs.Common.{◌≡◌, ℕ, ◌+◌, Bool, true, false, cond, ◌||◌, ◌&&◌, List, [], ◌∷◌, ◌++◌, Option, Some, None}
+use Rattle.std.proofs.Common.{◌≡◌, ℕ, ◌+◌, Bool, true, false, cond, ◌||◌, List, [], ◌∷◌, ◌++◌, Option}
 use Rattle.std.proofs.Common.{Result, Ok, Err, refl, sym, ap, subst, ◌∙◌}
-use Rattle.std.specs.Prelude.{codes, is_some, option_map, IfOk, OnOk}
-use Rattle.std.specs.Option.{option_or}
+use Rattle.std.specs.Prelude.{codes, is_some, IfOk, OnOk}
 use Rattle.std.specs.Io.KnownBytes.{Appends}
 use Rattle.std.proofs.KnownBytes.{Appends-trans, Appends-nil}
 use Rattle.std.proofs.lemmas.List.{append_assoc}
 use Rattle.fr_capture.specs.declared.takers.Taker.{Taker}
 use Rattle.fr_capture.specs.declared.takers.Taker.TheVariants as taker
-use Rattle.fr_capture.specs.Takers.{after_commas, buffer_takes, buffers_from, is_from, queue_takes, taker_if, taker_word, takers_of}
-use Rattle.fr_capture.specs.Takers.{takers_word}
-use Rattle.fr_capture.specs.TakerSteps.{buffers_by, is_any, queue_takes_by, takers_by, takes_by}
+use Rattle.fr_capture.specs.Takers.{after_commas, buffers_from, taker_if, taker_word, takers_of, takers_word}
+use Rattle.fr_capture.specs.TakerSteps.{buffers_by, is_any, takers_by}
+use Rattle.fr_capture.proofs.TakingLemmas.{queue_is, takes_is}
 use Rattle.fr_frame.specs.Fields.{Fields}
-use Rattle.fr_journal.specs.Counts.{seen_on}
-use Rattle.fr_journal.specs.Held.{arrival_of, data_frame_seen}
+use Rattle.fr_journal.specs.Held.{data_frame_seen}
 use Rattle.fr_slots.specs.declared.channel.Channel.{Channel}
 use Rattle.fr_slots.specs.declared.channel.Channel.TheVariants.{A, B}
 use Rattle.fr_slots.specs.declared.plan.Buffer.{Buffer}
-use Rattle.fr_slots.specs.declared.plan.Queue.{Queue}
 use Rattle.fr_slots.specs.Parameters.{Parameters}
-use Rattle.fr_slots.specs.Plans.{Plan, admits_window, is_receive}
+use Rattle.fr_slots.specs.Plans.{Plan}
 use Rattle.fr_slots.specs.Windows.{Opportunity}
 use Rattle.fr_status.specs.declared.seen.Seen.{Seen}
 
@@ -107,44 +104,6 @@ unfolding after_commas
 no_word [] is = refl
 no_word (t ∷ ts) is = absurd cc
 
--- ---- what takes it
-
-abbrev takes_words : Bool → Bool → Bool → Bool → Bool → Channel → Bool
-takes_words receives admits_a admits_b a b A = receives && (a && admits_a)
-takes_words receives admits_a admits_b a b B = receives && cond (a && admits_a) false (b && admits_b)
-
-by_tests : (receives admits_a admits_b : Bool) (a b : Option Fields) (channel : Channel)
-    → takes_words receives admits_a admits_b (is_some a) (is_some b) channel
-    ≡ (receives && is_from channel (option_or (cond admits_a (option_map (arrival_of 0 A) a) None) (cond admits_b (option_map (arrival_of 0 B) b) None)))
-by_tests false admits_a admits_b a b A = refl
-by_tests false admits_a admits_b a b B = refl
-by_tests true true admits_b (Some x) b A = refl
-by_tests true true admits_b (Some x) b B = refl
-by_tests true true true None (Some y) A = refl
-by_tests true true true None (Some y) B = refl
-by_tests true true true None None A = refl
-by_tests true true true None None B = refl
-by_tests true true false None (Some y) A = refl
-by_tests true true false None (Some y) B = refl
-by_tests true true false None None A = refl
-by_tests true true false None None B = refl
-by_tests true false true None (Some y) A = refl
-by_tests true false true None (Some y) B = refl
-by_tests true false true None None A = refl
-by_tests true false true None None B = refl
-by_tests true false false None (Some y) A = refl
-by_tests true false false None (Some y) B = refl
-by_tests true false false None None A = refl
-by_tests true false false None None B = refl
-by_tests true false true (Some x) (Some y) A = refl
-by_tests true false true (Some x) (Some y) B = refl
-by_tests true false true (Some x) None A = refl
-by_tests true false true (Some x) None B = refl
-by_tests true false false (Some x) (Some y) A = refl
-by_tests true false false (Some x) (Some y) B = refl
-by_tests true false false (Some x) None A = refl
-by_tests true false false (Some x) None B = refl
-
 module _ (p : Parameters) (w : Opportunity) (a b : Seen) where
   abbrev on_a : Option Fields
   on_a = data_frame_seen p w A a
@@ -152,21 +111,11 @@ module _ (p : Parameters) (w : Opportunity) (a b : Seen) where
   abbrev on_b : Option Fields
   on_b = data_frame_seen p w B b
 
-  takes_is : (channel : Channel) (line : Buffer) → takes_by w (is_some on_a) (is_some on_b) channel line ≡ buffer_takes p w a b channel line
-  takes_is A line = by_tests (is_receive line.mode) (admits_window line.filter w A) (admits_window line.filter w B) on_a on_b A
-  takes_is B line = by_tests (is_receive line.mode) (admits_window line.filter w A) (admits_window line.filter w B) on_a on_b B
-
   buffers_is : (channel : Channel) (number : ℕ) (lines : List Buffer)
       → buffers_by w (is_some on_a) (is_some on_b) channel number lines ≡ buffers_from p w a b channel number lines
   buffers_is channel number [] = refl
   buffers_is channel number (line ∷ lines) =
-      λ i. taker_if (takes_is channel line i) (taker.Buffer number) ++ buffers_is channel (number + 1) lines i
-
-  queue_is : (plan : Plan) (channel : Channel) (q : Option Queue)
-      → queue_takes_by plan w (is_some on_a) (is_some on_b) channel q ≡ queue_takes p plan w channel (seen_on channel a b) q
-  queue_is plan channel None = refl
-  queue_is plan A (Some q) = refl
-  queue_is plan B (Some q) = refl
+      λ i. taker_if (takes_is p w a b channel line i) (taker.Buffer number) ++ buffers_is channel (number + 1) lines i
 
 module _ (p : Parameters) (plan : Plan) (w : Opportunity) (a b : Seen) where
   -- the takers, where it is known whether data frames came

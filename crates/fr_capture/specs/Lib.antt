@@ -1,9 +1,11 @@
 pub mod Moments
+pub mod Taking
 pub mod Takers
 pub mod Sightings
 pub mod Pcap
 pub mod Table
 pub mod Clocks
+pub mod TakingSteps
 pub mod TakerSteps
 pub mod LineSteps
 pub mod Shows

@@ -1,39 +1,18 @@
 -- What took a frame: the receive buffers and the queue of the node that saw it (chapter 9; the queue, and channel A
 -- before B, are own profile).
-use Rattle.std.specs.Prelude.{ℕ, ◌+◌, Bool, true, false, ◌&&◌, List, [], ◌∷◌, ◌++◌, codes, Option, Some, None, is_some}
-use Rattle.std.specs.Prelude.{if◌then◌else◌}
+use Rattle.std.specs.Prelude.{ℕ, ◌+◌, Bool, true, false, List, [], ◌∷◌, ◌++◌, codes, if◌then◌else◌}
 use Rattle.std.specs.Fmt.{decimal}
 use Rattle.fr_capture.specs.declared.takers.Taker.{Taker}
 use Rattle.fr_capture.specs.declared.takers.Taker.TheVariants as taker
-use Rattle.fr_journal.specs.Arrivals.{is_for_queue}
+use Rattle.fr_capture.specs.Taking.{buffer_takes, queue_takes}
 use Rattle.fr_journal.specs.Counts.{seen_on}
-use Rattle.fr_journal.specs.declared.entry.Arrival.{Arrival}
-use Rattle.fr_journal.specs.Held.{arrival_in, data_frame_seen}
 use Rattle.fr_lines.specs.Parts.{absent}
-use Rattle.fr_slots.specs.Admission.{is_channel}
 use Rattle.fr_slots.specs.declared.channel.Channel.{Channel}
 use Rattle.fr_slots.specs.declared.plan.Buffer.{Buffer}
-use Rattle.fr_slots.specs.declared.plan.Queue.{Queue}
 use Rattle.fr_slots.specs.Parameters.{Parameters}
-use Rattle.fr_slots.specs.Plans.{Plan, is_receive}
+use Rattle.fr_slots.specs.Plans.{Plan}
 use Rattle.fr_slots.specs.Windows.{Opportunity}
 use Rattle.fr_status.specs.declared.seen.Seen.{Seen}
-
--- ---- a buffer and a queue
-
-abbrev pub is_from : Channel → Option Arrival → Bool
-is_from channel None = false
-is_from channel (Some arrival) = is_channel arrival.origin.channel channel
-
--- The buffer takes what was seen on the channel: what came there is what the window brings to it, whatever the number
--- of the entry is.
-abbrev pub buffer_takes : Parameters → Opportunity → Seen → Seen → Channel → Buffer → Bool
-buffer_takes p w a b channel line = is_receive line.mode && is_from channel (arrival_in p line.filter 0 a b w)
-
-abbrev pub queue_takes : Parameters → Plan → Opportunity → Channel → Seen → Option Queue → Bool
-queue_takes p plan w channel seen None = false
-queue_takes p plan w channel seen (Some q) =
-    is_for_queue plan q w channel && is_some (data_frame_seen p w channel seen)
 
 -- ---- all that take it
 

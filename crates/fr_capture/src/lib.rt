@@ -17,3 +17,4 @@ pub mod pcap;
 pub mod show;
 mod table;
 mod takers;
+pub mod taking;

@@ -13,7 +13,8 @@ ghost use Rattle.fr_text.specs.Writing.{Writes};
 
 use crate::moment::Moment;
 use crate::table::{status_word, write_first, write_known, write_nothing, write_read};
-use crate::takers::{Came, Takers};
+use crate::takers::Takers;
+use crate::taking::Came;
 use fr_frame::frame::Bytes;
 use fr_frame::lent::LentFrame;
 use fr_interface::interface::Interface;

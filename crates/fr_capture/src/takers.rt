@@ -1,14 +1,13 @@
 //! What took a frame.
 
-ghost use Rattle.std.specs.Prelude.{◌≡◌, ◌≤◌, ◌||◌, ◌∷◌, [], false, length, IfOk};
-ghost use Rattle.std.specs.List.{list_any};
+ghost use Rattle.std.specs.Prelude.{◌≡◌, ◌||◌, ◌∷◌, [], false, IfOk};
 ghost use Rattle.fr_capture.specs.Takers.{after_commas, taker_if, takers_word};
-ghost use Rattle.fr_capture.specs.TakerSteps.{buffers_by, came_in, is_any, queue_takes_by, takers_by, takes_by};
-ghost use Rattle.fr_journal.specs.Arrivals.{is_for_queue, takes_window};
+ghost use Rattle.fr_capture.specs.TakerSteps.{buffers_by, is_any, takers_by};
 ghost use Rattle.fr_text.specs.Writing.{Writes};
 
+use crate::taking::{Came, queue_takes, takes};
 use fr_slots::channel::Channel;
-use fr_slots::plan::{Buffer, NodePlan, Queue};
+use fr_slots::plan::{Buffer, NodePlan};
 use fr_slots::window::Window;
 use std::io;
 use std::io::Write;
@@ -21,13 +20,6 @@ pub(crate) enum Taker {
     Buffer(usize),
     /// The receive queue.
     Queue,
-}
-
-/// Whether a valid data frame came in a window on channel A, and whether one came on B.
-#[derive(Clone, Copy)]
-pub(crate) struct Came {
-    pub(crate) a: bool,
-    pub(crate) b: bool,
 }
 
 /// What takes what came on a channel of a window (own profile). It is found where it is written.
@@ -47,64 +39,6 @@ impl<'a> Model for Takers<'a> {
     ghost Value = { List Taker };
 
     ghost view = { λ t. takers_by t.plan.now t.window.now t.came.a t.came.b t.channel };
-}
-
-/// Whether a receive buffer takes what came on the channel.
-fn takes(window: &Window, came: Came, channel: Channel, line: &Buffer) -> bool
-    ensures { result ≡ takes_by window.now came.a came.b channel line.now }
-{
-    let takes_a = came.a && line.filter.admits_window(window, Channel::A);
-    let takes_b = !takes_a && came.b && line.filter.admits_window(window, Channel::B);
-    match channel {
-        Channel::A => line.mode.is_receive() && takes_a,
-        Channel::B => line.mode.is_receive() && takes_b,
-    }
-}
-
-/// Whether this is a receive buffer that admits the window on the channel.
-fn takes_window(window: &Window, channel: Channel, line: &Buffer) -> bool
-    ensures { result ≡ takes_window window.now channel line.now }
-{
-    line.mode.is_receive() && line.filter.admits_window(window, channel)
-}
-
-/// Whether one of the buffers is a receive buffer that admits the window on the channel.
-fn is_taken(lines: &[Buffer], window: &Window, channel: Channel) -> bool
-    ensures { result ≡ list_any (takes_window window.now channel) lines.now }
-{
-    lines.iter().any(|line| takes_window(window, channel, line))
-}
-
-/// Whether the queue, and no receive buffer, is for what comes in the window on the channel.
-fn is_for_queue(plan: &NodePlan, queue: &Queue, window: &Window, channel: Channel) -> bool
-    ensures { result ≡ is_for_queue plan.now queue.now window.now channel }
-{
-    match window.slot(channel) {
-        Some(slot) => {
-            queue.admits(window.cycle, slot, channel) && !is_taken(plan.buffers(), window, channel)
-        }
-        None => false,
-    }
-}
-
-/// Whether a valid data frame came on the channel.
-fn came_in(came: Came, channel: Channel) -> bool
-    ensures { result ≡ came_in came.a came.b channel }
-{
-    match channel {
-        Channel::A => came.a,
-        Channel::B => came.b,
-    }
-}
-
-/// Whether the queue takes what came on the channel.
-fn queue_takes(plan: &NodePlan, window: &Window, came: Came, channel: Channel) -> bool
-    ensures { result ≡ queue_takes_by plan.now window.now came.a came.b channel plan.now.queue }
-{
-    match plan.queue() {
-        Some(queue) => is_for_queue(plan, &queue, window, channel) && came_in(came, channel),
-        None => false,
-    }
 }
 
 /// Writes a taker, after a comma where one was written before.

@@ -138,20 +138,31 @@ fn is_silent(entry: &LentEntry<'_>, channel: Channel) -> bool
     }
 }
 
-/// What the entry of this number handed over on the channel.
-fn handed_on(
+/// Whether this is what the entry of this number handed over on the channel, which is spelled anew.
+///
+/// It isn't inlined, so that an entry that handed nothing over doesn't pay for the room of a frame.
+#[inline(never)]
+fn is_spelled(interface: &Interface, number: u32, channel: Channel, offered: Option<&Bytes>) -> bool
+    ensures { IsTrue result ↔ (bytes_handed interface.now number channel ≡ option_copied offered.entry) }
+{
+    are_same(&interface.handed_at(number, channel), offered)
+}
+
+/// Whether this is what the entry of this number handed over on the channel.
+fn is_handed_on(
     interface: &Interface,
     number: u32,
     entry: &LentEntry<'_>,
     channel: Channel,
-) -> Option<Bytes>
+    offered: Option<&Bytes>,
+) -> bool
     requires { slice_get interface.now.entries number ≡ Some (whole entry.now) }
-    ensures { result ≡ bytes_handed interface.now number channel }
+    ensures { IsTrue result ↔ (bytes_handed interface.now number channel ≡ option_copied offered.entry) }
 {
     if is_silent(entry, channel) {
-        None
+        offered.is_none()
     } else {
-        interface.handed_at(number, channel)
+        is_spelled(interface, number, channel, offered)
     }
 }
 
@@ -167,15 +178,13 @@ fn is_handed(
     requires { slice_get interface.now.entries number ≡ Some (whole entry.now) }
     ensures { IsTrue result ↔ (offers_of node sealed.now ≡ handed_by interface.now number window.now) }
 {
+    let (on_a, on_b) = (
+        sealed.offered(Channel::A, node),
+        sealed.offered(Channel::B, node),
+    );
     sealed.window == *window
-        && are_same(
-            &handed_on(interface, number, entry, Channel::A),
-            sealed.offered(Channel::A, node),
-        )
-        && are_same(
-            &handed_on(interface, number, entry, Channel::B),
-            sealed.offered(Channel::B, node),
-        )
+        && is_handed_on(interface, number, entry, Channel::A, on_a)
+        && is_handed_on(interface, number, entry, Channel::B, on_b)
 }
 
 /// Whether that is what the record has of the node at this place.

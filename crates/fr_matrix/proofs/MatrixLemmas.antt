@@ -2,14 +2,13 @@
 use Rattle.std.proofs.Common.{◌≡◌, ℕ, ◌+◌, ◌-◌, ◌≤◌, ◌<◌, Bool, true, false, cond, List, [], ◌∷◌, ◌++◌, length, length-append}
 use Rattle.std.proofs.Common.{take, get_or, Option, refl, sym, ap, ap₂, subst, ◌∙◌, arith}
 use Rattle.std.specs.Io.KnownBytes.{Appends}
-use Rattle.std.specs.Prelude.{count_by}
 use Rattle.std.specs.List.{fold}
 use Rattle.std.proofs.KnownBytes.{Appends-trans}
 use Rattle.std.proofs.lemmas.List.{take_more}
 use Rattle.std.proofs.lemmas.List.Sums.{sum_by-append}
 use Rattle.fr_bus.specs.Record.{Recorded}
 use Rattle.fr_bus.specs.Windows.{begins_cycle, cycles_begun, this_cycle, with_window}
-use Rattle.fr_matrix.specs.Cells.{cell_after, cell_at, cells_text, column_of, cycle_of}
+use Rattle.fr_matrix.specs.Cells.{cell_after, cell_at, cells_text}
 use Rattle.fr_matrix.specs.declared.view.View.{View}
 use Rattle.fr_slots.specs.Parameters.{Parameters}
 use Rattle.fr_slots.proofs.HistoryLemmas.{each_after-snoc}

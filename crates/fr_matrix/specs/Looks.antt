@@ -1,7 +1,7 @@
 -- What a cell shows of a window of the record: what was seen there, who sent it, and what became of all else (own
 -- profile).
-use Rattle.std.specs.Prelude.{ℕ, ◌/◌, nat_lt, length, Bool, true, false, ◌&&◌, List, Option, Some, None, is_some, option_map, codes}
-use Rattle.std.specs.Prelude.{if◌then◌else◌}
+use Rattle.std.specs.Prelude.{ℕ, ◌/◌, nat_lt, length, Bool, true, false, ◌&&◌, List, Option, Some, None, is_some}
+use Rattle.std.specs.Prelude.{codes, option_map, if◌then◌else◌}
 use Rattle.std.specs.List.{find, list_any}
 use Rattle.fr_bus.specs.declared.outcome.Fate.{Fate}
 use Rattle.fr_bus.specs.declared.outcome.Fate.TheVariants.{Passed, Blocked, Muted}
@@ -64,8 +64,8 @@ is_blocked channel t = is_channel t.channel channel && was_blocked t.fate
 abbrev pub is_lost : Channel → Sent → Bool
 is_lost channel t = is_channel t.channel channel && was_lost t.fate
 
--- The bit that was to be turned is turned where bytes came through that have it: not where several transmissions passed,
--- or none, or one that was too long.
+-- The bit that was to be turned is turned where bytes came through that have it: not where several transmissions
+-- passed, or none, or one that was too long.
 abbrev pub turned_in : Option ℕ → Seen → Option ℕ
 turned_in None sight = None
 turned_in (Some bit) seen.Silence = None

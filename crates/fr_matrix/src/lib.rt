@@ -1,5 +1,5 @@
-//! The communication matrix of a run as it happened: a row for each cycle, a column for each of its windows, and in each
-//! cell what the bus carried there on a channel, or what a node saw there (own profile).
+//! The communication matrix of a run as it happened: a row for each cycle, a column for each of its windows, and in
+//! each cell what the bus carried there on a channel, or what a node saw there (own profile).
 //!
 //! ```text
 //! let view = View { channel: Channel::A, node: None, from: 0 };

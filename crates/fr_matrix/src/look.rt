@@ -72,7 +72,8 @@ fn look_of(channel: Channel, seen: &Seen) -> Look
     }
 }
 
-/// What the node of the view sees of the window, and without one what is heard there by who sends nothing (own profile).
+/// What the node of the view sees of the window, and without one what is heard there by who sends nothing (own
+/// profile).
 pub fn look_in(params: &Params, view: &View, sealed: &Sealed) -> Look
     ensures { result ≡ look_in params.now view.now sealed.now }
 {

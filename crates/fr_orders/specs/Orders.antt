@@ -1,12 +1,10 @@
 -- Which words are an order, by the rules of `clap`, and how the refusal of words follows from its errors.
-use Rattle.std.specs.Prelude.{◌≡◌, ◌⊎◌, ◌<◌, ℕ, List, [], length, Option, Some, Result, Ok, Err, true, codes, is_some}
-use Rattle.std.specs.Prelude.{option_map, option_and_then, None, Bool, false, ◌&&◌, ◌==◌, if◌then◌else◌}
+use Rattle.std.specs.Prelude.{◌≡◌, ◌⊎◌, ◌<◌, List, [], length, Option, Some, Result, Ok, Err, true, codes, is_some}
+use Rattle.std.specs.Prelude.{option_and_then, None, Bool, false, ◌&&◌}
 use Rattle.std.specs.Str.{bytes_eq}
 use Rattle.clap.specs.declared.builder.action.ArgAction.TheVariants.{SetTrue}
-use Rattle.fr_text.specs.Reading.{number_in}
-use Rattle.clap.specs.Words.{App, Row, Rule, Shape, Text, fault_of, first_of, new_app, new_rule, subcommand_of}
+use Rattle.clap.specs.Words.{App, Row, Rule, Text, fault_of, first_of, new_rule, subcommand_of}
 use Rattle.clap.specs.Words.{with_rule, with_subcommand}
-use Rattle.clap.specs.declared.error.kind.ErrorKind.{ErrorKind}
 use Rattle.clap.specs.declared.error.kind.ErrorKind.TheVariants as kind
 use Rattle.fr_orders.specs.declared.command.Order.{Order}
 use Rattle.fr_orders.specs.declared.command.Order.TheVariants as the_order
@@ -16,7 +14,8 @@ use Rattle.fr_words.specs.Commands.{IsNamed, bare, cycles_in, named, the_cycles,
 
 -- the program with the commands `audit` and `check`, and then with `plan` too
 abbrev pub two_commands : App
-two_commands = with_subcommand (with_subcommand (bare (codes "fr_bench")) (named (codes "audit"))) (with_file (codes "check")).top
+two_commands =
+    with_subcommand (with_subcommand (bare (codes "fr_bench")) (named (codes "audit"))) (with_file (codes "check")).top
 
 abbrev pub three_commands : App
 three_commands = with_subcommand two_commands (with_file (codes "plan")).top

@@ -6,22 +6,18 @@ use Rattle.std.proofs.lemmas.Bool.{eqb-true}
 use Rattle.std.specs.List.{flat_map, range_with_len}
 use Rattle.std.specs.Prelude.{OnOk}
 use Rattle.std.proofs.lemmas.Grind.{flat_map-append}
-use Rattle.std.proofs.lemmas.List.{take_more}
 use Rattle.fr_core.specs.declared.event.Event.{Event}
-use Rattle.fr_core.specs.declared.event.Event.TheVariants.{Advance, Inject}
-use Rattle.fr_core.specs.declared.event.Reply.{Reply}
+use Rattle.fr_core.specs.declared.event.Event.TheVariants.{Advance}
 use Rattle.fr_core.specs.declared.script.Action.{Action}
 use Rattle.fr_core.specs.declared.script.Line.{Line}
 use Rattle.fr_core.specs.Scripts.{Scripted}
-use Rattle.fr_core.specs.Steps.{Steps}
 use Rattle.fr_core.specs.Worlds.{WorldState, opening_world}
 use Rattle.fr_playing.specs.Calls.{Asked, asked_in, asked_in_line, asked_of, AddsCalls, DoesCall, DoesCalls}
 use Rattle.fr_playing.specs.declared.call.Call.{Call}
 use Rattle.fr_playing.specs.declared.play.Played.{Played}
-use Rattle.fr_playing.specs.Playing.{AddsCycle, IsPlayed, PlaysCycle, PlaysCycles, asked_by}
+use Rattle.fr_playing.specs.Playing.{AddsCycle, IsPlayed, PlaysCycles, asked_by}
 use Rattle.fr_playing.specs.Windows.{PlaysWindow, PlaysWindows, PlaysWithin}
 use Rattle.fr_runs.specs.declared.fault_line.FaultLine.{FaultLine}
-use Rattle.fr_runs.specs.Striking.{strikes}
 use Rattle.fr_schedule.specs.Descriptions.{Description}
 use Rattle.fr_session.specs.Moving.{is_at_cycle, whole_window}
 use Rattle.fr_session.specs.Striking.{Passes, strike_events}

@@ -4,7 +4,7 @@ use Rattle.std.specs.List.{flat_map, range_with_len}
 use Rattle.fr_core.specs.declared.event.Event.{Event}
 use Rattle.fr_core.specs.Scripts.{Scripted}
 use Rattle.fr_core.specs.Worlds.{WorldState, opening_world}
-use Rattle.fr_playing.specs.Calls.{Asked, asked_in, asked_of, AddsCalls, DoesCalls}
+use Rattle.fr_playing.specs.Calls.{Asked, asked_in, asked_of, DoesCalls}
 use Rattle.fr_playing.specs.declared.call.Call.{Call}
 use Rattle.fr_playing.specs.declared.play.Played.{Played}
 use Rattle.fr_playing.specs.Windows.{PlaysWindows}

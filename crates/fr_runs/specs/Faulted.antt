@@ -1,5 +1,5 @@
--- What the faults of a run leave in its record: the bits that are turned, the babbles, and the offers that are lost (own
--- profile).
+-- What the faults of a run leave in its record: the bits that are turned, the babbles, and the offers that are lost
+-- (own profile).
 use Rattle.std.specs.Prelude.{◌≡◌, ℕ, ◌+◌, ◌-◌, ◌==◌, Bool, true, false, not, ◌&&◌, List, [], ◌∷◌, take, slice_get}
 use Rattle.std.specs.Prelude.{Option, Some, None, IfSome, Contains, if◌then◌else◌}
 use Rattle.std.specs.List.{list_any, filter}
@@ -115,7 +115,8 @@ IsDueAt lines cycle r k = IfSome (slice_get r.sent k) (IsDue lines cycle r.windo
 
 -- what the fault has a node send was sent
 abbrev pub IsBabbled : Recorded → Fault → Type 0
-IsBabbled r (Babble node channel bytes) = babble_in channel node r.sent ≡ recordable (slot_of r.window channel) (Some bytes)
+IsBabbled r (Babble node channel bytes) =
+    babble_in channel node r.sent ≡ recordable (slot_of r.window channel) (Some bytes)
 IsBabbled r (Mute node channel) = Unit {0}
 IsBabbled r (Corrupt channel bit) = Unit {0}
 

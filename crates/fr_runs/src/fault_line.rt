@@ -41,8 +41,8 @@ pub struct FaultLine {
     pub place: FaultPlace,
 }
 
-/// Puts copies of the lines that name the cycle of this number of the run, in their order, in the place of those that are
-/// kept (own profile). No other line strikes a window of that cycle.
+/// Puts copies of the lines that name the cycle of this number of the run, in their order, in the place of those that
+/// are kept (own profile). No other line strikes a window of that cycle.
 ///
 /// Where memory is refused some of them are kept.
 pub fn keep_lines_of(

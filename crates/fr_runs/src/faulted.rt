@@ -310,8 +310,8 @@ fn is_bit_due(lines: &[FaultLine], cycle: u16, sealed: &Sealed, channel: Channel
     sealed.corrupt_on(channel) == bit_due(lines, cycle, &sealed.window, channel)
 }
 
-/// Whether the window, which lies in the cycle of this number of the run, has the faults of the lines that strike there,
-/// and no others.
+/// Whether the window, which lies in the cycle of this number of the run, has the faults of the lines that strike
+/// there, and no others.
 #[tactic(auto, using(crate::proofs::FaultedLemmas::has_faults))]
 fn has_faults(lines: &[FaultLine], cycle: u16, sealed: &Sealed) -> bool
     ensures { IsTrue result → HasFaults lines.now cycle sealed.now }

@@ -3,6 +3,7 @@ pub mod Reading
 pub mod Replies
 pub mod Striking
 pub mod Moving
+pub mod RecordWords
 pub mod Queries
 pub mod Keeping
 pub mod Sessions

@@ -12,7 +12,7 @@ use Rattle.fr_scenario.specs.LineReading.{fault_line_in}
 use Rattle.fr_session.specs.Lines.{longest_line}
 use Rattle.fr_session.specs.declared.request.Request.{Request}
 use Rattle.fr_session.specs.declared.request.Request.TheVariants as request
-use Rattle.fr_text.specs.Reading.{◌>>=◌, number_in, bytes_in}
+use Rattle.fr_text.specs.Reading.{number_in, bytes_in, ◌>>=◌}
 use Rattle.fr_text.specs.Spaces.{words_of}
 
 -- ---- calls of tasks

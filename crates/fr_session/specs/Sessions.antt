@@ -50,8 +50,8 @@ opening w = state_of w []
 
 -- ---- one line
 
--- An event is the step of the world that it asks for, answered by its text. A fault line and a forget alone change which
--- lines are kept, and then the world is as it was.
+-- An event is the step of the world that it asks for, answered by its text. A fault line and a forget alone change
+-- which lines are kept, and then the world is as it was.
 abbrev pub DoesRequest : Terms → SessionState → Request → List ℕ → SessionState → Type 0
 DoesRequest terms old (request.Event event) reply new =
     (answer : Answer) × Steps old.world event answer new.world × (reply ≡ answer_text answer)

@@ -25,3 +25,4 @@ mod replies;
 pub mod request;
 pub mod session;
 pub mod striking;
+pub mod words;

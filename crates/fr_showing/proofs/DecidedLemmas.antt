@@ -4,7 +4,7 @@ use Rattle.std.proofs.Common.{◌≡◌, ◌⊎◌, inl, inr, ℕ, ◌+◌, ◌<
 use Rattle.std.proofs.Common.{drop, length, length-append, Option, Some, None, refl, sym, ap, subst, ◌∙◌, arith}
 use Rattle.std.specs.Prelude.{slice_get, IsSomeAnd}
 use Rattle.std.specs.List.{list_any}
-use Rattle.std.specs.Option.{option_and_then, option_or}
+use Rattle.std.specs.Option.{option_and_then}
 use Rattle.std.proofs.lemmas.Bool.{eqb-true}
 use Rattle.std.proofs.lemmas.List.Folds.{list_any-append}
 use Rattle.fr_journal.proofs.FateStepLemmas.{fate_by}
@@ -15,8 +15,8 @@ use Rattle.fr_journal.proofs.LastCommitLemmas.{slice_get-front}
 use Rattle.fr_journal.specs.declared.entry.Entry.{Entry}
 use Rattle.fr_journal.specs.declared.entry.Entry.TheVariants.{Commit, Withdraw, Read, Pop, Fetch, Observe}
 use Rattle.fr_journal.specs.declared.entry.Offered.{Offered}
-use Rattle.fr_journal.specs.declared.entry.Offered.TheVariants.{Nothing, Null, Data}
-use Rattle.fr_journal.specs.Fate.{fate_of, held_commit, is_commit_on, is_data_of, is_number, is_withdrawn, last_commit}
+use Rattle.fr_journal.specs.declared.entry.Offered.TheVariants.{Nothing, Null}
+use Rattle.fr_journal.specs.Fate.{held_commit, is_commit_on, is_data_of, is_number, is_withdrawn, last_commit}
 use Rattle.fr_journal.specs.Fate.{pending_commit, sends, takes_back}
 use Rattle.fr_journal.specs.Legal.{IsLegal}
 use Rattle.fr_journal.specs.Offers.{commit_offered, data_or, may_begin, offered, offered_at, owns, ready, ready_in}

@@ -1,7 +1,7 @@
 -- What became of a commit, entry after entry.
 use Rattle.std.proofs.Common.{◌≡◌, ℕ, ◌+◌, ◌-◌, ◌≤◌, ◌<◌, Bool, true, false, cond, ◌||◌, List, [], ◌∷◌, ◌++◌, length, take, drop}
-use Rattle.std.proofs.Common.{Option, Some, None, option_map, refl, sym, ap, subst, ◌∙◌, append-nil, arith, count_by}
-use Rattle.std.specs.Prelude.{slice_get, IsSomeAnd, unwrap_or}
+use Rattle.std.proofs.Common.{Option, Some, None, option_map, refl, sym, ap, subst, ◌∙◌, append-nil, arith}
+use Rattle.std.specs.Prelude.{slice_get, IsSomeAnd}
 use Rattle.std.specs.List.{flat_map, list_any}
 use Rattle.std.specs.Option.{option_or}
 use Rattle.std.proofs.lemmas.Grind.{flat_map-append}
@@ -23,7 +23,6 @@ use Rattle.fr_showing.specs.CommitSteps.{entry_text, handed_text}
 use Rattle.fr_showing.specs.CommitText.{commit_by, line_in, sending_text, Committed}
 use Rattle.fr_showing.specs.declared.fates.Became.{Became}
 use Rattle.fr_showing.specs.declared.fates.Became.TheVariants.{Sent, Withdrawn, Overwritten, Pending}
-use Rattle.fr_showing.specs.declared.fates.Sending.{Sending}
 use Rattle.fr_showing.specs.Fates.{became_in, cycles_of, first_after, overwritten_by, sending_if, sendings_by, told_by}
 use Rattle.fr_showing.specs.Fates.{withdrawn_by}
 use Rattle.fr_showing.specs.FateSteps.{became_with, is_pending}

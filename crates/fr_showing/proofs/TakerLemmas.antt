@@ -1,25 +1,26 @@
 -- What takes a transmission, and its words, step by step.
-use Rattle.std.proofs.Common.{◌≡◌, ℕ, zero, suc, ◌+◌, Bool, true, false, cond, ◌||◌, ◌&&◌, List, [], ◌∷◌, ◌++◌, drop, Option, Some, None}
-use Rattle.std.proofs.Common.{Result, Ok, Err, refl, sym, ap, subst, ◌∙◌, append-nil, arith}
-use Rattle.std.specs.Prelude.{codes, is_some, option_map, IfOk, OnOk}
-use Rattle.std.specs.Option.{option_or}
+use Rattle.std.proofs.Common.{◌≡◌, ℕ, ◌+◌, Bool, true, false, cond, ◌||◌, ◌&&◌, List, [], ◌∷◌, ◌++◌, Option, Some, None}
+use Rattle.std.proofs.Common.{Result, Ok, Err, refl, sym, ap, subst, ◌∙◌}
+use Rattle.std.specs.Prelude.{codes, is_some, IfOk, OnOk}
 use Rattle.std.specs.Io.KnownBytes.{Appends}
 use Rattle.std.proofs.KnownBytes.{Appends-trans, Appends-nil}
 use Rattle.std.proofs.lemmas.List.{append_assoc}
 use Rattle.fr_bus.specs.Record.{Recorded, seen_by}
+use Rattle.fr_capture.specs.Taking.{queue_takes}
+use Rattle.fr_capture.specs.TakingSteps.{queue_takes_by}
+use Rattle.fr_capture.proofs.TakingLemmas.{takes_is}
 use Rattle.fr_frame.specs.Fields.{Fields}
 use Rattle.fr_journal.specs.Arrivals.{is_for_queue}
-use Rattle.fr_journal.specs.Held.{arrival_in, arrival_of, data_frame_seen}
+use Rattle.fr_journal.specs.Held.{data_frame_seen}
 use Rattle.fr_showing.specs.declared.takers.Taker.{Taker}
-use Rattle.fr_showing.specs.Takers.{after_commas, buffer_takes, buffers_from, is_from, queue_takes, taker_if, taker_word, takers_of}
-use Rattle.fr_showing.specs.Takers.{takers_word}
-use Rattle.fr_showing.specs.TakerSteps.{buffers_by, came_in, is_any, queue_takes_by, takes_by}
+use Rattle.fr_showing.specs.Takers.{after_commas, buffers_from, taker_if, taker_word, takers_of, takers_word}
+use Rattle.fr_showing.specs.TakerSteps.{buffers_by, is_any}
 use Rattle.fr_slots.specs.declared.channel.Channel.{Channel}
 use Rattle.fr_slots.specs.declared.channel.Channel.TheVariants.{A, B}
 use Rattle.fr_slots.specs.declared.plan.Buffer.{Buffer}
 use Rattle.fr_slots.specs.declared.plan.Queue.{Queue}
 use Rattle.fr_slots.specs.Parameters.{Parameters}
-use Rattle.fr_slots.specs.Plans.{Plan, admits_window, is_receive}
+use Rattle.fr_slots.specs.Plans.{Plan}
 use Rattle.fr_slots.specs.Windows.{Opportunity}
 
 -- ---- commas
@@ -108,42 +109,6 @@ no_word (t ∷ ts) is = absurd cc
 
 -- ---- what takes it
 
-abbrev takes_words : Bool → Bool → Bool → Bool → Bool → Channel → Bool
-takes_words receives admits_a admits_b a b A = receives && (a && admits_a)
-takes_words receives admits_a admits_b a b B = receives && cond (a && admits_a) false (b && admits_b)
-
-by_tests : (receives admits_a admits_b : Bool) (a b : Option Fields) (channel : Channel)
-    → takes_words receives admits_a admits_b (is_some a) (is_some b) channel
-    ≡ (receives && is_from channel (option_or (cond admits_a (option_map (arrival_of 0 A) a) None) (cond admits_b (option_map (arrival_of 0 B) b) None)))
-by_tests false admits_a admits_b a b A = refl
-by_tests false admits_a admits_b a b B = refl
-by_tests true true admits_b (Some x) b A = refl
-by_tests true true admits_b (Some x) b B = refl
-by_tests true true true None (Some y) A = refl
-by_tests true true true None (Some y) B = refl
-by_tests true true true None None A = refl
-by_tests true true true None None B = refl
-by_tests true true false None (Some y) A = refl
-by_tests true true false None (Some y) B = refl
-by_tests true true false None None A = refl
-by_tests true true false None None B = refl
-by_tests true false true None (Some y) A = refl
-by_tests true false true None (Some y) B = refl
-by_tests true false true None None A = refl
-by_tests true false true None None B = refl
-by_tests true false false None (Some y) A = refl
-by_tests true false false None (Some y) B = refl
-by_tests true false false None None A = refl
-by_tests true false false None None B = refl
-by_tests true false true (Some x) (Some y) A = refl
-by_tests true false true (Some x) (Some y) B = refl
-by_tests true false true (Some x) None A = refl
-by_tests true false true (Some x) None B = refl
-by_tests true false false (Some x) (Some y) A = refl
-by_tests true false false (Some x) (Some y) B = refl
-by_tests true false false (Some x) None A = refl
-by_tests true false false (Some x) None B = refl
-
 module _ (p : Parameters) (r : Recorded) (node : ℕ) where
   abbrev on_a : Option Fields
   on_a = data_frame_seen p r.window A (seen_by p r A node)
@@ -151,22 +116,18 @@ module _ (p : Parameters) (r : Recorded) (node : ℕ) where
   abbrev on_b : Option Fields
   on_b = data_frame_seen p r.window B (seen_by p r B node)
 
-  takes_is : (channel : Channel) (line : Buffer) → takes_by r.window (is_some on_a) (is_some on_b) channel line ≡ buffer_takes p r channel node line
-  takes_is A line = by_tests (is_receive line.mode) (admits_window line.filter r.window A) (admits_window line.filter r.window B) on_a on_b A
-  takes_is B line = by_tests (is_receive line.mode) (admits_window line.filter r.window A) (admits_window line.filter r.window B) on_a on_b B
-
   buffers_then : (channel : Channel) (number : ℕ) (lines : List Buffer)
       → buffers_by r.window (is_some on_a) (is_some on_b) channel node number lines ≡ buffers_from p r channel node number lines
   buffers_then channel number [] = refl
   buffers_then channel number (line ∷ lines) =
-      λ i. taker_if (takes_is channel line i) node (Some number) ++ buffers_then channel (number + 1) lines i
+      λ i. taker_if (takes_is p r.window (seen_by p r A node) (seen_by p r B node) channel line i) node (Some number) ++ buffers_then channel (number + 1) lines i
 
   pub buffers_is : (a b : Bool) → a ≡ is_some on_a → b ≡ is_some on_b → (channel : Channel) (lines : List Buffer)
       → buffers_by r.window a b channel node 0 lines ≡ buffers_from p r channel node 0 lines
   buffers_is a b a_is b_is channel lines = (λ i. buffers_by r.window (a_is i) (b_is i) channel node 0 lines) ∙ buffers_then channel 0 lines
 
   pub queue_is : (a b : Bool) → a ≡ is_some on_a → b ≡ is_some on_b → (plan : Plan) (channel : Channel) (q : Option Queue)
-      → queue_takes_by plan r.window a b channel q ≡ queue_takes p plan r channel node q
+      → queue_takes_by plan r.window a b channel q ≡ queue_takes p plan r.window channel (seen_by p r channel node) q
   queue_is a b a_is b_is plan channel None = refl
   queue_is a b a_is b_is plan A (Some q) = ap (λ (t : Bool). is_for_queue plan q r.window A && t) a_is
   queue_is a b a_is b_is plan B (Some q) = ap (λ (t : Bool). is_for_queue plan q r.window B && t) b_is

@@ -1,6 +1,6 @@
 -- How a transmission ended (own profile).
-use Rattle.std.specs.Prelude.{ℕ, ◌/◌, nat_lt, Bool, false, List, codes, length, count_by, Option, Some, None, option_map}
-use Rattle.std.specs.Prelude.{if◌then◌else◌}
+use Rattle.std.specs.Prelude.{ℕ, ◌/◌, nat_lt, Bool, false, List, codes, length, count_by, Option, Some, None}
+use Rattle.std.specs.Prelude.{option_map, if◌then◌else◌}
 use Rattle.std.specs.List.{find}
 use Rattle.fr_bus.specs.declared.outcome.Fate.{Fate}
 use Rattle.fr_bus.specs.declared.outcome.Fate.TheVariants as fate

@@ -1,11 +1,9 @@
 -- The bus's record, a line for each transmission and each turned bit, with the line of the scenario that it comes from
 -- (own profile).
-use Rattle.std.specs.Prelude.{ℕ, ◌-◌, Bool, true, false, List, [], ◌∷◌, ◌++◌, codes, Option, Some, None}
+use Rattle.std.specs.Prelude.{ℕ, ◌-◌, List, [], ◌∷◌, ◌++◌, codes, Option, Some, None}
 use Rattle.std.specs.Prelude.{if◌then◌else◌}
 use Rattle.std.specs.Fmt.{decimal}
 use Rattle.std.specs.List.{flat_map}
-use Rattle.fr_bus.specs.declared.outcome.Fate.{Fate}
-use Rattle.fr_bus.specs.declared.outcome.Fate.TheVariants.{Passed, Blocked, Muted}
 use Rattle.fr_bus.specs.declared.outcome.Sent.{Sent}
 use Rattle.fr_bus.specs.Record.{Recorded, corrupt_on}
 use Rattle.fr_bus.specs.Windows.{cycles_begun}
@@ -14,6 +12,7 @@ use Rattle.fr_frame.specs.Fields.{Fields}
 use Rattle.fr_lines.specs.Parts.{absent, indicators, optional_number}
 use Rattle.fr_lines.specs.Spelling.{line_text}
 use Rattle.fr_scenario.specs.Contents.{Contents}
+use Rattle.fr_session.specs.RecordWords.{fate_word, kind_word}
 use Rattle.fr_showing.specs.Ends.{end_of, end_word}
 use Rattle.fr_showing.specs.Origins.{origin_of_bit, origin_of_sent}
 use Rattle.fr_slots.specs.Admission.{letter_of}
@@ -35,15 +34,6 @@ minislot_word w = if is_static w then absent else decimal w.minislot
 abbrev pub place_words : ℕ → Opportunity → Channel → List (List ℕ)
 place_words cycle w channel =
     decimal w.number ∷ decimal cycle ∷ minislot_word w ∷ optional_number (slot_of w channel) ∷ letter_of channel ∷ []
-
-abbrev pub kind_word : Bool → List ℕ
-kind_word true = codes "babble"
-kind_word false = codes "offer"
-
-abbrev pub fate_word : Fate → List ℕ
-fate_word Passed = codes "passed"
-fate_word Blocked = codes "blocked"
-fate_word Muted = codes "muted"
 
 -- the ID and the flags of a frame, or neither
 abbrev pub frame_words : Option Fields → List (List ℕ)

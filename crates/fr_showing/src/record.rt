@@ -4,7 +4,7 @@ ghost use Rattle.std.specs.List.{flat_map};
 ghost use Rattle.fr_bus.specs.Record.{corrupt_on};
 ghost use Rattle.fr_bus.specs.Windows.{begins_cycle};
 ghost use Rattle.fr_lines.specs.Parts.{optional_number};
-ghost use Rattle.fr_showing.specs.RecordText.{bit_lines, bytes_line, fate_text, fate_word, frame_text, kind_word};
+ghost use Rattle.fr_showing.specs.RecordText.{bit_lines, bytes_line, fate_text, frame_text};
 ghost use Rattle.fr_showing.specs.RecordText.{minislot_word, place_text, record_text, sent_line, turned_line};
 ghost use Rattle.fr_showing.specs.RecordText.{window_text};
 ghost use Rattle.fr_text.specs.Writing.{Writes};
@@ -12,12 +12,13 @@ ghost use Rattle.fr_text.specs.Writing.{Writes};
 use crate::ends::{end_of, end_word};
 use crate::origins::{origin_of_bit, origin_of_sent};
 use fr_bus::bus::Bus;
-use fr_bus::outcome::{Fate, Sealed, Sent};
+use fr_bus::outcome::{Sealed, Sent};
 use fr_bus::windows::opens_cycle;
 use fr_frame::decode::decode_lent;
 use fr_lines::frames::write_indicators;
 use fr_lines::writing::write_slot;
 use fr_scenario::scenario::Scenario;
+use fr_session::words::{fate_word, kind_word};
 use fr_slots::channel::Channel;
 use fr_slots::params::Params;
 use fr_slots::window::Window;
@@ -50,24 +51,6 @@ fn write_place<W: Write>(
     write_minislot(writer, window)?;
     write_slot(writer, window.slot(channel))?;
     write!(writer, " {channel}")
-}
-
-/// The word of whether a transmission is a babble.
-fn kind_word(babble: bool) -> &'static str
-    ensures { result.now ≡ kind_word babble }
-{
-    if babble { "babble" } else { "offer" }
-}
-
-/// The word of what became of a transmission.
-fn fate_word(fate: Fate) -> &'static str
-    ensures { result.now ≡ fate_word fate }
-{
-    match fate {
-        Fate::Passed => "passed",
-        Fate::Blocked => "blocked",
-        Fate::Muted => "muted",
-    }
 }
 
 /// Writes the ID and the flags of the frame that the bytes are, and dashes where they are none.

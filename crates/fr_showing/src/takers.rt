@@ -2,21 +2,20 @@
 ghost use Rattle.std.specs.Prelude.{◌≡◌, ◌≤◌, ◌||◌, ◌∷◌, [], false, length, IfOk, is_some};
 ghost use Rattle.std.specs.Option.{option_and_then};
 ghost use Rattle.fr_bus.specs.Record.{seen_by};
-ghost use Rattle.fr_journal.specs.Arrivals.{is_for_queue, takes_window};
 ghost use Rattle.fr_journal.specs.Held.{data_frame_seen, with_data};
 ghost use Rattle.fr_showing.specs.Takers.{after_commas, taker_if, takers_from, takers_of, takers_word};
-ghost use Rattle.fr_showing.specs.TakerSteps.{buffers_by, came_in, is_any, queue_takes_by, takes_by};
+ghost use Rattle.fr_showing.specs.TakerSteps.{buffers_by, is_any};
 ghost use Rattle.fr_slots.specs.declared.channel.Channel.TheVariants as on;
 ghost use Rattle.fr_text.specs.Writing.{Writes};
-ghost use Rattle.std.specs.List.{list_any};
 
 use fr_bus::outcome::Sealed;
+use fr_capture::taking::{Came, queue_takes, takes};
 use fr_frame::lent::LentFrame;
 use fr_interface::interface::Interface;
 use fr_slots::channel::Channel;
 use fr_slots::numbers::NodeId;
 use fr_slots::params::Params;
-use fr_slots::plan::{Buffer, NodePlan, Queue};
+use fr_slots::plan::{Buffer, NodePlan};
 use fr_slots::window::Window;
 use fr_status::seen::Seen;
 use fr_status::status::lent_status_of;
@@ -30,13 +29,6 @@ pub(crate) struct Taker {
     pub(crate) node: NodeId,
     /// The buffer, and none for the queue.
     pub(crate) buffer: Option<usize>,
-}
-
-/// What a node sees of a window: whether a valid data frame came on channel A, and whether one came on B.
-#[derive(Clone, Copy)]
-struct Came {
-    a: bool,
-    b: bool,
 }
 
 /// Whether this is a data frame.
@@ -85,64 +77,6 @@ fn came_to(params: &Params, sealed: &Sealed, node: NodeId) -> Came
     Came {
         a: came_on(params, sealed, Channel::A, node),
         b: came_on(params, sealed, Channel::B, node),
-    }
-}
-
-/// Whether a receive buffer takes what came on the channel.
-fn takes(window: &Window, came: Came, channel: Channel, line: &Buffer) -> bool
-    ensures { result ≡ takes_by window.now came.a came.b channel line.now }
-{
-    let takes_a = came.a && line.filter.admits_window(window, Channel::A);
-    let takes_b = !takes_a && came.b && line.filter.admits_window(window, Channel::B);
-    match channel {
-        Channel::A => line.mode.is_receive() && takes_a,
-        Channel::B => line.mode.is_receive() && takes_b,
-    }
-}
-
-/// Whether this is a receive buffer that admits the window on the channel.
-fn takes_window(window: &Window, channel: Channel, line: &Buffer) -> bool
-    ensures { result ≡ takes_window window.now channel line.now }
-{
-    line.mode.is_receive() && line.filter.admits_window(window, channel)
-}
-
-/// Whether one of the buffers is a receive buffer that admits the window on the channel.
-fn is_taken(lines: &[Buffer], window: &Window, channel: Channel) -> bool
-    ensures { result ≡ list_any (takes_window window.now channel) lines.now }
-{
-    lines.iter().any(|line| takes_window(window, channel, line))
-}
-
-/// Whether the queue, and no receive buffer, is for what comes in the window on the channel.
-fn is_for_queue(plan: &NodePlan, queue: &Queue, window: &Window, channel: Channel) -> bool
-    ensures { result ≡ is_for_queue plan.now queue.now window.now channel }
-{
-    match window.slot(channel) {
-        Some(slot) => {
-            queue.admits(window.cycle, slot, channel) && !is_taken(plan.buffers(), window, channel)
-        }
-        None => false,
-    }
-}
-
-/// Whether a valid data frame came on the channel.
-fn came_in(came: Came, channel: Channel) -> bool
-    ensures { result ≡ came_in came.a came.b channel }
-{
-    match channel {
-        Channel::A => came.a,
-        Channel::B => came.b,
-    }
-}
-
-/// Whether the node's queue takes what came on the channel.
-fn queue_takes(plan: &NodePlan, window: &Window, came: Came, channel: Channel) -> bool
-    ensures { result ≡ queue_takes_by plan.now window.now came.a came.b channel plan.now.queue }
-{
-    match plan.queue() {
-        Some(queue) => is_for_queue(plan, &queue, window, channel) && came_in(came, channel),
-        None => false,
     }
 }
 

@@ -147,8 +147,8 @@ fn join_tasks<L: Ledger, R: Threads>(
     }
 }
 
-/// Keeps the answers of those that didn't fail, and answers which failure of the others is to be told. There is room for
-/// all.
+/// Keeps the answers of those that didn't fail, and answers which failure of the others is to be told. There is room
+/// for all.
 fn keep_answers(
     answers: Vec<Result<Vec<Reply>, Failure>>,
     kept: &mut Vec<Vec<Reply>>,
@@ -174,7 +174,8 @@ fn all_answered<L: Ledger>(
     mut kept: Vec<Vec<Reply>>,
 ) -> Result<TasksDone<L>, Failure>
     requires { vec_len kept + vec_len joined.answers ≤ vec_capacity kept }
-    ensures told { result_err result ≡ told_after (told_of_all (map result_err joined.answers.items)) (result_err ended) }
+    ensures told { result_err result
+        ≡ told_after (told_of_all (map result_err joined.answers.items)) (result_err ended) }
     ensures shares { IfOk result (λ done. vec_len done.shares ≡ vec_len joined.shares) }
 {
     let TasksJoined { shares, answers } = joined;

@@ -56,7 +56,8 @@ impl Progress {
         (!is_due(cycle, self.due) || self.busy > 0) && !self.stopped
     }
 
-    /// Counts a controller that is to begin the cycle, and answers whether it is the last, with which the lines are due.
+    /// Counts a controller that is to begin the cycle, and answers whether it is the last, with which the lines are
+    /// due.
     fn arrive(&mut self, nodes: u8, cycle: u16, tasks: u16) -> bool
         ensures last { result ≡ is_last self.old }
         ensures after { self.new ≡ arrived nodes cycle tasks self.old }

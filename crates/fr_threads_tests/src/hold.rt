@@ -1,4 +1,5 @@
-//! Gates that hold one actor: until another has come far enough, or so long that another that doesn't wait for it goes on.
+//! Gates that hold one actor: until another has come far enough, or so long that another that doesn't wait for it goes
+//! on.
 
 use fr_desks::gate::{Actor, Gate, Point, Side};
 use fr_testing::{node, task};

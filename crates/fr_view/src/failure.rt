@@ -1,7 +1,6 @@
 //! How the program ends when it hasn't done what it was asked.
 ghost use Rattle.std.specs.Prelude.{◌≡◌};
-ghost use Rattle.fr_view.specs.Failures.{failure_of, status_of};
-ghost use Rattle.fr_view.specs.declared.failure.Failure.TheVariants as failure;
+ghost use Rattle.fr_view.specs.Failures.{status_of};
 
 use fr_commands::error::BenchError;
 use fr_playing::error::PlayError;
@@ -12,12 +11,9 @@ use thiserror::Error;
 /// Why the program hasn't done what it was asked; printed, it is the line on standard error (own profile).
 #[derive(Clone, Copy, Debug, Drop, PartialEq, Eq, Error)]
 pub enum Failure {
-    /// The words were no command.
-    #[error("usage")]
-    Usage,
-    /// Memory for reading the words was refused.
-    #[error("refused Memory")]
-    Memory,
+    /// The words were no command, or memory for reading them was refused.
+    #[error("{0}")]
+    Words(#[from] OrderError),
     /// The output couldn't be written.
     #[error("refused Write")]
     Write,
@@ -38,23 +34,8 @@ impl Failure {
         ensures { result ≡ status_of self.now }
     {
         match self {
-            Failure::Usage => 2,
-            Failure::Memory
-            | Failure::Write
-            | Failure::Text(_)
-            | Failure::Trace(_)
-            | Failure::Play(_) => 1,
-        }
-    }
-}
-
-impl From<OrderError> for Failure {
-    ghost from_gives = { λ error given. given ≡ failure_of error };
-
-    fn from(error: OrderError) -> Failure {
-        match error {
-            OrderError::Usage => Failure::Usage,
-            OrderError::Memory => Failure::Memory,
+            Failure::Words(error) => error.status(),
+            Failure::Write | Failure::Text(_) | Failure::Trace(_) | Failure::Play(_) => 1,
         }
     }
 }

@@ -24,11 +24,8 @@
 //! *(own profile)* marks a rule of this project's own, which says nothing of the standard.
 #![tactic(auto)]
 
-mod command;
 mod failure;
-mod order;
 
-use command::{Asked, Order};
 use failure::Failure;
 use fr_capture::form::Form;
 use fr_capture::show::show_trace;
@@ -39,11 +36,13 @@ use fr_picture::picture::show_schedule;
 use fr_showing::show::show_run;
 use fr_showing::shown::Shown;
 use fr_slots::numbers::{Cycle, NodeId};
+use fr_view_orders::command::{Asked, Order};
+use fr_view_orders::order::order;
 use fr_why::explain::explain_trace;
 use fr_why::until_fault::show_until_fault;
 use fr_why::verdict::Verdict;
+use fr_words::error::OrderError;
 use fr_words::given::{texts_of, words_given};
-use order::order;
 use std::io;
 use std::process::ExitCode;
 use std::rt::{Env, Files};
@@ -123,7 +122,7 @@ fn show_files<R: Files + Print + Eprint + AllocGlobal>(
     cycles: u16,
 ) -> Result<(), Failure> {
     let Some(shown) = shown_of(asked) else {
-        return Err(Failure::Usage);
+        return Err(Failure::Words(OrderError::Usage));
     };
     let alloc = rt.alloc();
     let cluster = cluster_of(alloc, &mut file_named(rt, cluster)?)?;
@@ -164,7 +163,7 @@ fn show_cycle<R: Files + Print + AllocGlobal>(
     cycle: u8,
 ) -> Result<(), Failure> {
     let Some(cycle) = Cycle::new(cycle) else {
-        return Err(Failure::Usage);
+        return Err(Failure::Words(OrderError::Usage));
     };
     let (mut file, mut output) = (file_named(rt, file)?, io::writer(rt));
     Ok(show_schedule(rt.alloc(), &mut file, cycle, &mut output)?)

@@ -1,5 +1,5 @@
--- The parts of commands that more than one program has, by the rules of `clap`, and how the refusal of words follows from
--- its errors.
+-- The parts of commands that more than one program has, by the rules of `clap`, and how the refusal of words follows
+-- from its errors.
 use Rattle.std.specs.Prelude.{◌≡◌, ℕ, List, [], Option, Some, None, true, codes, option_map, option_and_then, ◌==◌}
 use Rattle.std.specs.Prelude.{if◌then◌else◌}
 use Rattle.clap.specs.Words.{App, Row, Rule, Shape, Text, first_of, new_app, new_rule, with_rule}
@@ -62,3 +62,8 @@ cycles_in word = option_and_then (λ n. if n == 0 then None else Some n) (number
 abbrev pub order_error_of : ErrorKind → OrderError
 order_error_of kind.OutOfMemory = refusal.Memory
 order_error_of _ = refusal.Usage
+
+-- the exit status of a program that is given such words
+abbrev pub status_of_words : OrderError → ℕ
+status_of_words refusal.Usage = 2
+status_of_words refusal.Memory = 1

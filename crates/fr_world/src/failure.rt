@@ -1,6 +1,6 @@
 //! How the program ends when it hasn't done what it was asked.
 ghost use Rattle.std.specs.Prelude.{◌≡◌};
-ghost use Rattle.fr_world.specs.Failures.{failure_of, status_of};
+ghost use Rattle.fr_world.specs.Failures.{status_of};
 
 use fr_bus::error::BusError;
 use fr_commands::error::BenchError;
@@ -11,10 +11,10 @@ use thiserror::Error;
 /// Why the program hasn't done what it was asked; printed, it is the line on standard error (own profile).
 #[derive(Clone, Copy, Debug, Drop, PartialEq, Eq, Error)]
 pub enum Failure {
-    /// The words were no command.
-    #[error("usage")]
-    Usage,
-    /// Memory for reading the words, or for reading and writing, was refused.
+    /// The words were no command, or memory for reading them was refused.
+    #[error("{0}")]
+    Words(#[from] OrderError),
+    /// Memory for reading and writing was refused.
     #[error("refused Memory")]
     Memory,
     /// The cluster file was refused, or couldn't be read.
@@ -34,19 +34,8 @@ impl Failure {
         ensures { result ≡ status_of self.now }
     {
         match self {
-            Failure::Usage => 2,
+            Failure::Words(error) => error.status(),
             Failure::Memory | Failure::Text(_) | Failure::World(_) | Failure::Session(_) => 1,
-        }
-    }
-}
-
-impl From<OrderError> for Failure {
-    ghost from_gives = { λ error given. given ≡ failure_of error };
-
-    fn from(error: OrderError) -> Failure {
-        match error {
-            OrderError::Usage => Failure::Usage,
-            OrderError::Memory => Failure::Memory,
         }
     }
 }

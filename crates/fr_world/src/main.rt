@@ -23,6 +23,7 @@ use fr_commands::files::file_named;
 use fr_core::world::World;
 use fr_schedule::cluster::Cluster;
 use fr_session::session::serve;
+use fr_words::error::OrderError;
 use fr_words::given::{texts_of, words_given};
 use std::io;
 use std::io::{BufReader, BufWriter};
@@ -70,7 +71,7 @@ fn run<R: Env + Files + Input + Print + AllocGlobal>(rt: &R) -> Result<(), Failu
     let texts: Vec<&str> = texts_of(rt.alloc(), &words)?;
     match command_of(texts.as_slice()) {
         Some(command) => serve_world(rt, command),
-        None => Err(Failure::Usage),
+        None => Err(Failure::Words(OrderError::Usage)),
     }
 }
 

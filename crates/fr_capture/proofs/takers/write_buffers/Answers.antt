@@ -5,7 +5,8 @@ use Rattle.std.proofs.lemmas.List.{drop_all, drop_more}
 use Rattle.fr_capture.specs.declared.takers.Taker.{Taker}
 use Rattle.fr_capture.specs.declared.takers.Taker.TheVariants as taker
 use Rattle.fr_capture.specs.Takers.{after_commas, taker_if}
-use Rattle.fr_capture.specs.TakerSteps.{buffers_by, is_any, takes_by}
+use Rattle.fr_capture.specs.TakerSteps.{buffers_by, is_any}
+use Rattle.fr_capture.specs.TakingSteps.{takes_by}
 use Rattle.fr_slots.specs.declared.plan.Buffer.{Buffer}
 use Rattle.fr_capture.proofs.takers.write_buffers.Goals as goal
 

@@ -1,11 +1,11 @@
-use Rattle.std.proofs.Common.{rules, ap₂, codes, false, ◌≡◌, ◌∙◌, ◌||◌}
+use Rattle.std.proofs.Common.{rules, ap₂, false, ◌≡◌, ◌∙◌, ◌||◌}
 use Rattle.std.proofs.lemmas.Result.{IfOk-weaker}
 use Rattle.clap.specs.Walk.{rule_of}
 use Rattle.clap.specs.Words.{app_of, with_rule}
 use Rattle.clap.specs.declared.builder.command.Command.TheViews.{out-Command}
-use Rattle.fr_orders.specs.Orders.{run_command, run_files, the_flag, the_scenario}
+use Rattle.fr_orders.specs.Orders.{run_files, the_flag, the_scenario}
 use Rattle.fr_orders.proofs.order.run_command.Goals as goal
-use Rattle.fr_words.specs.Commands.{the_cycles, with_file}
+use Rattle.fr_words.specs.Commands.{the_cycles}
 
 pub returns : goal.returns
 returns c =

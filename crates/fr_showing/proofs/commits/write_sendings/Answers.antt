@@ -1,17 +1,13 @@
-use Rattle.std.proofs.Common.{◌≡◌, ◌∙◌, ℕ, ◌+◌, ◌-◌, ◌<◌, ◌≤◌, true, cond, List, [], ◌∷◌, ◌++◌, length, take, drop, Some, refl, sym, ap, subst, arith}
+use Rattle.std.proofs.Common.{◌≡◌, ◌∙◌, ℕ, ◌+◌, ◌-◌, ◌<◌, ◌≤◌, true, cond, List, [], ◌∷◌, ◌++◌, length, take, Some, refl, sym, ap, subst, arith}
 use Rattle.std.specs.Prelude.{slice_get}
 use Rattle.std.specs.Io.KnownBytes.{Appends}
 use Rattle.std.specs.List.{flat_map}
 use Rattle.fr_core.specs.Accounts.{begins_cycle_at, run_cycle}
-use Rattle.fr_journal.specs.declared.entry.Entry.{Entry}
 use Rattle.fr_journal.specs.Lent.{whole}
-use Rattle.fr_showing.proofs.FateLemmas.{after_commit, commit_within, cycles_more, cycles_with, handed_is, lent_none, lent_there, unsent_here}
+use Rattle.fr_showing.proofs.FateLemmas.{commit_within, cycles_more, cycles_with, handed_is, lent_none, lent_there, unsent_here}
 use Rattle.fr_showing.proofs.GoingLemmas.{ends, ends_behind, goes_on, here, starts}
-use Rattle.fr_showing.specs.CommitSteps.{handed_text}
 use Rattle.fr_showing.specs.CommitText.{sending_text, sendings_text}
-use Rattle.fr_showing.specs.declared.fates.Sending.{Sending}
 use Rattle.fr_showing.specs.Fates.{cycles_of, sendings_by}
-use Rattle.fr_slots.specs.History.{each_after}
 use Rattle.fr_showing.proofs.commits.write_sendings.Goals as goal
 
 pub overflow_step-number : goal.overflow_step-number

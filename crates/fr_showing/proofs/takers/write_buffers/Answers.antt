@@ -1,11 +1,12 @@
-use Rattle.std.proofs.Common.{◌≡◌, ◌≤◌, List, [], length, drop, ap, arith}
+use Rattle.std.proofs.Common.{◌≤◌, List, length, drop, ap, arith}
 use Rattle.fr_showing.proofs.GoingLemmas.{left_here, nothing_left}
 use Rattle.fr_showing.proofs.TakerLemmas.{goes_on, ends_text}
 use Rattle.fr_showing.specs.declared.takers.Taker.{Taker}
 use Rattle.fr_showing.specs.Takers.{after_commas, taker_if}
 use Rattle.std.proofs.Common.{Some, Bool, subst, ◌∙◌, ℕ, ◌+◌}
 use Rattle.std.specs.Io.KnownBytes.{Appends}
-use Rattle.fr_showing.specs.TakerSteps.{buffers_by, is_any, takes_by}
+use Rattle.fr_capture.specs.TakingSteps.{takes_by}
+use Rattle.fr_showing.specs.TakerSteps.{buffers_by, is_any}
 use Rattle.fr_slots.specs.declared.plan.Buffer.{Buffer}
 use Rattle.std.proofs.Common.{◌||◌}
 use Rattle.fr_showing.proofs.takers.write_buffers.Goals as goal

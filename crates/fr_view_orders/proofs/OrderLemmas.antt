@@ -10,15 +10,15 @@ use Rattle.clap.specs.Words.{HasKind, IsAmong, Kinds, Row, Text, fault_of, first
 use Rattle.clap.specs.Words.{subcommand_of}
 use Rattle.clap.specs.declared.error.Error.{Error}
 use Rattle.clap.proofs.OnLiterals.{clap_on_literals}
-use Rattle.fr_view.specs.declared.command.Order.{Order}
-use Rattle.fr_view.specs.declared.command.Order.TheVariants as the_order
+use Rattle.fr_view_orders.specs.declared.command.Order.{Order}
+use Rattle.fr_view_orders.specs.declared.command.Order.TheVariants as the_order
 use Rattle.fr_words.specs.declared.error.OrderError.{OrderError}
 use Rattle.fr_words.specs.declared.error.OrderError.TheVariants as refusal
-use Rattle.fr_view.specs.declared.command.Asked.{Asked}
-use Rattle.fr_view.specs.declared.command.Asked.TheVariants.{Outcome, Answers, Commits, Record, Heard, Trace}
-use Rattle.fr_view.specs.Orders.{IsAnswerTo, IsOrder, IsScheduleBy, IsShowBy, asked_by, asks, channel_asked, cycle_asked}
-use Rattle.fr_view.specs.Orders.{drawn_by, from_asked, has_run_by, has_schedule_by, has_show_by, matrix_of, node_asked}
-use Rattle.fr_view.specs.Orders.{the_commands, viewer_asked}
+use Rattle.fr_view_orders.specs.declared.command.Asked.{Asked}
+use Rattle.fr_view_orders.specs.declared.command.Asked.TheVariants.{Outcome, Answers, Commits, Record, Heard, Trace}
+use Rattle.fr_view_orders.specs.Orders.{IsAnswerTo, IsOrder, IsScheduleBy, IsShowBy, asked_by, asks, channel_asked, cycle_asked}
+use Rattle.fr_view_orders.specs.Orders.{drawn_by, from_asked, has_run_by, has_schedule_by, has_show_by, matrix_of, node_asked}
+use Rattle.fr_view_orders.specs.Orders.{the_commands, viewer_asked}
 use Rattle.fr_words.specs.Commands.{IsNamed, cycles_in, order_error_of, word_in}
 
 pub are_simple : is_simple the_commands ≡ true

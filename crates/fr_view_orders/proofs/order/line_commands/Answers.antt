@@ -1,8 +1,8 @@
 use Rattle.std.proofs.Common.{rules, ap, ap₂, codes, ◌≡◌, ◌∙◌}
 use Rattle.std.proofs.lemmas.Result.{IfOk-weaker}
-use Rattle.clap.specs.Words.{App, app_of, new_app, with_subcommand}
-use Rattle.fr_view.specs.Orders.{of_run, with_answers, with_commits, with_outcome, with_run}
-use Rattle.fr_view.proofs.order.line_commands.Goals as goal
+use Rattle.clap.specs.Words.{App, app_of, with_subcommand}
+use Rattle.fr_view_orders.specs.Orders.{of_run, with_answers, with_commits, with_outcome, with_run}
+use Rattle.fr_view_orders.proofs.order.line_commands.Goals as goal
 
 pub returns : goal.returns
 returns c =

@@ -1,10 +1,10 @@
 use Rattle.std.proofs.Common.{rules, ap, sym, codes, ◌≡◌, ◌∙◌}
 use Rattle.clap.proofs.WalkLemmas.{first_value-rows}
 use Rattle.clap.specs.Words.{Text, first_value, found_of, rows_of, subcommand_rows_of}
-use Rattle.fr_view.specs.Orders.{is_true}
-use Rattle.fr_view.proofs.OrderLemmas.{schedule_lacks, schedule_told, show_lacks, show_told}
+use Rattle.fr_view_orders.specs.Orders.{is_true}
+use Rattle.fr_view_orders.proofs.OrderLemmas.{schedule_lacks, schedule_told, show_lacks, show_told}
 use Rattle.fr_words.proofs.CommandLemmas.{word_of_rows}
-use Rattle.fr_view.proofs.order.order_in.Goals as goal
+use Rattle.fr_view_orders.proofs.order.order_in.Goals as goal
 use Rattle.fr_words.specs.Commands.{IsNamed, word_in}
 
 pub returns-in-schedule-clause-told : goal.returns-in-schedule-clause-told

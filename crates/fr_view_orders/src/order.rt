@@ -4,10 +4,11 @@ ghost use Rattle.clap.specs.Walk.{rule_of};
 ghost use Rattle.clap.specs.Words.{app_of, first_value, found_of, subcommand_rows_of};
 ghost use Rattle.clap.specs.declared.builder.command.Command.TheViews.{out-Command};
 ghost use Rattle.fr_text.specs.Reading.{number_in};
-ghost use Rattle.fr_view.specs.Orders.{IsAnswer, IsOrder, IsScheduleBy, IsShowBy, asked_by, asks, channel_asked};
-ghost use Rattle.fr_view.specs.Orders.{drawn_by, file_commands, flag_named, from_asked, has_schedule_by, has_show_by, is_help};
-ghost use Rattle.fr_view.specs.Orders.{is_true, line_commands, matrix_command, of_trace, schedule_command};
-ghost use Rattle.fr_view.specs.Orders.{the_commands, trace_command, viewer_asked, with_run};
+ghost use Rattle.fr_view_orders.specs.Orders.{IsAnswer, IsOrder, IsScheduleBy, IsShowBy, asked_by, asks, channel_asked};
+ghost use Rattle.fr_view_orders.specs.Orders.{drawn_by, file_commands, flag_named, from_asked, has_schedule_by};
+ghost use Rattle.fr_view_orders.specs.Orders.{has_show_by, is_help, is_true, line_commands, matrix_command, of_trace};
+ghost use Rattle.fr_view_orders.specs.Orders.{schedule_command};
+ghost use Rattle.fr_view_orders.specs.Orders.{the_commands, trace_command, viewer_asked, with_run};
 
 use crate::command::{Asked, Order};
 use clap::{Arg, ArgAction, ArgMatches, Command};

@@ -1,8 +1,8 @@
 use Rattle.std.proofs.Common.{rules, ap, ap₂, codes, ◌≡◌, ◌∙◌}
 use Rattle.std.proofs.lemmas.Result.{IfOk-weaker}
 use Rattle.clap.specs.Words.{App, app_of, with_subcommand}
-use Rattle.fr_view.specs.Orders.{matrix_command, of_run, trace_command, with_bus, with_matrix, with_run}
-use Rattle.fr_view.proofs.order.commands.Goals as goal
+use Rattle.fr_view_orders.specs.Orders.{matrix_command, of_run, trace_command, with_bus, with_matrix, with_run}
+use Rattle.fr_view_orders.proofs.order.commands.Goals as goal
 
 pub returns : goal.returns
 returns c =

@@ -2,8 +2,8 @@ use Rattle.std.proofs.Common.{rules, ap, ap₂, codes, ◌≡◌, ◌∙◌}
 use Rattle.std.proofs.lemmas.Result.{IfOk-weaker}
 use Rattle.clap.specs.Walk.{rule_of}
 use Rattle.clap.specs.Words.{app_of, new_app, with_rule}
-use Rattle.fr_view.specs.Orders.{the_node, with_run}
-use Rattle.fr_view.proofs.order.trace_command.Goals as goal
+use Rattle.fr_view_orders.specs.Orders.{the_node, with_run}
+use Rattle.fr_view_orders.proofs.order.trace_command.Goals as goal
 
 pub returns : goal.returns
 returns c =

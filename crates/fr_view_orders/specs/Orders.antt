@@ -5,17 +5,16 @@ use Rattle.std.specs.Prelude.{codes}
 use Rattle.std.specs.Prelude.{option_map, option_and_then, Bool, ◌&&◌, ◌||◌, is_some, if◌then◌else◌}
 use Rattle.fr_text.specs.Reading.{number_in}
 use Rattle.std.specs.Str.{bytes_eq}
-use Rattle.clap.specs.Words.{App, Row, Rule, Shape, Text, fault_of, first_of, new_app, new_rule, subcommand_of}
+use Rattle.clap.specs.Words.{App, Row, Rule, Text, fault_of, first_of, new_app, new_rule, subcommand_of}
 use Rattle.clap.specs.Words.{with_rule, with_subcommand}
-use Rattle.clap.specs.declared.error.kind.ErrorKind.{ErrorKind}
 use Rattle.clap.specs.declared.error.kind.ErrorKind.TheVariants as kind
-use Rattle.fr_view.specs.declared.command.Asked.{Asked}
-use Rattle.fr_view.specs.declared.command.Asked.TheVariants.{Outcome, Answers, Commits, Record, Heard, Trace, Matrix}
+use Rattle.fr_view_orders.specs.declared.command.Asked.{Asked}
+use Rattle.fr_view_orders.specs.declared.command.Asked.TheVariants.{Outcome, Answers, Commits, Record, Heard, Trace, Matrix}
 use Rattle.fr_slots.specs.declared.channel.Channel.{Channel}
 use Rattle.fr_slots.specs.declared.channel.Channel.TheVariants.{A, B}
 use Rattle.clap.specs.declared.builder.action.ArgAction.TheVariants.{SetTrue}
-use Rattle.fr_view.specs.declared.command.Order.{Order}
-use Rattle.fr_view.specs.declared.command.Order.TheVariants as the_order
+use Rattle.fr_view_orders.specs.declared.command.Order.{Order}
+use Rattle.fr_view_orders.specs.declared.command.Order.TheVariants as the_order
 use Rattle.fr_words.specs.declared.error.OrderError.{OrderError}
 use Rattle.fr_words.specs.declared.error.OrderError.TheVariants as refusal
 use Rattle.fr_words.specs.Commands.{IsNamed, bare, cycles_in, named, the_cycles, the_file, with_file, word_in}

@@ -2,9 +2,9 @@ use Rattle.std.proofs.Common.{rules, ap, sym, subst, ◌≡◌, ◌∙◌, [], m
 use Rattle.std.specs.Prelude.{IfSome, IfNone, false}
 use Rattle.clap.specs.Words.{HasKind, Text, app_of, fault_of, is_simple, is_simple_and_free, subcommand_of}
 use Rattle.clap.specs.Words.{subcommand_rows_of}
-use Rattle.fr_view.specs.Orders.{IsAnswer, IsAnswerTo, IsOrder, asks, the_commands}
-use Rattle.fr_view.proofs.OrderLemmas.{are_free, are_simple, refused_for, taken_for}
-use Rattle.fr_view.proofs.order.order.Goals as goal
+use Rattle.fr_view_orders.specs.Orders.{IsAnswerTo, IsOrder, asks, the_commands}
+use Rattle.fr_view_orders.proofs.OrderLemmas.{are_free, are_simple, refused_for, taken_for}
+use Rattle.fr_view_orders.proofs.order.order.Goals as goal
 
 pub returns-in_err-matches : goal.returns-in_err-matches
 returns-in_err-matches c =

@@ -1,10 +1,10 @@
-use Rattle.std.proofs.Common.{rules, ap, ap₂, codes, false, ◌≡◌, ◌∙◌, ◌||◌}
+use Rattle.std.proofs.Common.{rules, ap, ap₂, codes, false, ◌≡◌, ◌∙◌}
 use Rattle.std.proofs.lemmas.Result.{IfOk-weaker}
 use Rattle.clap.specs.Walk.{rule_of}
 use Rattle.clap.specs.Words.{app_of, new_app, with_rule}
 use Rattle.clap.specs.declared.builder.command.Command.TheViews.{out-Command}
-use Rattle.fr_view.specs.Orders.{matrix_drawn, option_named, with_run}
-use Rattle.fr_view.proofs.order.matrix_command.Goals as goal
+use Rattle.fr_view_orders.specs.Orders.{matrix_drawn, option_named, with_run}
+use Rattle.fr_view_orders.proofs.order.matrix_command.Goals as goal
 
 pub returns : goal.returns
 returns c =

@@ -3,8 +3,8 @@ use Rattle.std.proofs.lemmas.Result.{IfOk-weaker}
 use Rattle.clap.specs.Walk.{rule_of}
 use Rattle.clap.specs.Words.{app_of, with_rule}
 use Rattle.clap.specs.declared.builder.command.Command.TheViews.{out-Command}
-use Rattle.fr_view.specs.Orders.{the_scenario}
-use Rattle.fr_view.proofs.order.of_run.Goals as goal
+use Rattle.fr_view_orders.specs.Orders.{the_scenario}
+use Rattle.fr_view_orders.proofs.order.of_run.Goals as goal
 use Rattle.fr_words.specs.Commands.{the_cycles, the_file}
 
 pub returns : goal.returns

@@ -1,10 +1,10 @@
-use Rattle.std.proofs.Common.{rules, ap₂, codes, false, ◌≡◌, ◌∙◌, ◌||◌}
+use Rattle.std.proofs.Common.{rules, ap₂, false, ◌≡◌, ◌∙◌, ◌||◌}
 use Rattle.std.proofs.lemmas.Result.{IfOk-weaker}
 use Rattle.clap.specs.Walk.{rule_of}
 use Rattle.clap.specs.Words.{with_rule}
 use Rattle.clap.specs.declared.builder.command.Command.TheViews.{out-Command}
-use Rattle.fr_view.specs.Orders.{the_cycle}
-use Rattle.fr_view.proofs.order.schedule_command.Goals as goal
+use Rattle.fr_view_orders.specs.Orders.{the_cycle}
+use Rattle.fr_view_orders.proofs.order.schedule_command.Goals as goal
 
 pub returns : goal.returns
 returns c =

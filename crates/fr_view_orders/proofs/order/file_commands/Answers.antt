@@ -1,8 +1,8 @@
 use Rattle.std.proofs.Common.{rules, ap, ap₂, codes, ◌≡◌, ◌∙◌}
 use Rattle.std.proofs.lemmas.Result.{IfOk-weaker}
 use Rattle.clap.specs.Words.{App, app_of, with_subcommand}
-use Rattle.fr_view.specs.Orders.{of_trace, one_command, schedule_command, three_commands, two_commands}
-use Rattle.fr_view.proofs.order.file_commands.Goals as goal
+use Rattle.fr_view_orders.specs.Orders.{of_trace, one_command, schedule_command, three_commands, two_commands}
+use Rattle.fr_view_orders.proofs.order.file_commands.Goals as goal
 
 pub returns : goal.returns
 returns c =

@@ -2,8 +2,8 @@ use Rattle.std.proofs.Common.{rules, ap₂, codes, false, ◌≡◌, ◌∙◌, 
 use Rattle.std.proofs.lemmas.Result.{IfOk-weaker}
 use Rattle.clap.specs.Words.{app_of, new_app, with_rule}
 use Rattle.clap.specs.declared.builder.command.Command.TheViews.{out-Command}
-use Rattle.fr_view.specs.Orders.{flag_named}
-use Rattle.fr_view.proofs.order.of_trace.Goals as goal
+use Rattle.fr_view_orders.specs.Orders.{flag_named}
+use Rattle.fr_view_orders.proofs.order.of_trace.Goals as goal
 
 pub returns : goal.returns
 returns c =

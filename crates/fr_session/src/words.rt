@@ -1,0 +1,23 @@
+//! The words of a record.
+ghost use Rattle.std.specs.Prelude.{◌≡◌};
+ghost use Rattle.fr_session.specs.RecordWords.{fate_word, kind_word};
+
+use fr_bus::outcome::Fate;
+
+/// The word of whether a transmission is a babble (own profile).
+pub fn kind_word(babble: bool) -> &'static str
+    ensures { result.now ≡ kind_word babble }
+{
+    if babble { "babble" } else { "offer" }
+}
+
+/// The word of what became of a transmission (own profile).
+pub fn fate_word(fate: Fate) -> &'static str
+    ensures { result.now ≡ fate_word fate }
+{
+    match fate {
+        Fate::Passed => "passed",
+        Fate::Blocked => "blocked",
+        Fate::Muted => "muted",
+    }
+}

@@ -1,0 +1,14 @@
+//! The words after the name of `fr_view`, read as an order (own profile).
+//!
+//! ```text
+//! order(alloc, &["schedule", "cluster.toml"])?; // Order::Schedule
+//! order(alloc, &["commits", "cluster.toml", "scenario", "--cycles", "8"])?; // Order::Show
+//! order(alloc, &["frames", "--until-fault"])?; // Order::Frames
+//! order(alloc, &["frames", "trace"]); // Err(OrderError::Usage)
+//! ```
+//!
+//! *(own profile)* marks a rule of this project's own, which says nothing of the standard.
+#![tactic(auto)]
+
+pub mod command;
+pub mod order;
