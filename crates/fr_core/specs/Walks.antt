@@ -284,6 +284,11 @@ pub record AreFindings (p : Parameters) (o : Option State) (rs : List Recorded) 
   pub sights : Finds (λ k. IfThere o (IsShownAt p rs n k)) x.sight
   pub scripts : FindsTask (λ task. AreScripts given n task (deeds_in o task)) x.task
 
+-- of the first nodes, each by its place, this is what is found
+abbrev pub AreFirstFindings : Parameters → List State → List Recorded → List Scripted → List Findings → Type 0
+AreFirstFindings p is rs given xs =
+    (n : ℕ) (x : Findings) → slice_get xs n ≡ Some x → AreFindings p (slice_get is n) rs given n x
+
 -- what is found of the nodes below the number
 pub record AreDifferences (p : Parameters) (is : List State) (rs : List Recorded) (given : List Scripted) (upto : ℕ)
     (x : Differences) : Type 0 where

@@ -8,12 +8,12 @@ ghost use Rattle.fr_core.specs.Settling.{ArePlanned, PlansAgree, WindowsAgree, I
 ghost use Rattle.fr_core.specs.Settling.{is_due, is_right, are_right, Settles, EachFollows, IsBetweenWindows};
 ghost use Rattle.fr_core.specs.Settling.{DiffersInScriptsAlone};
 ghost use Rattle.fr_core.specs.Walks.{Finds, FindsNext, FindsPlace, FindsLeast, AreDifferences};
-ghost use Rattle.fr_core.specs.Walks.{earlier, found_or, lesser_node, or_lesser};
+ghost use Rattle.fr_core.specs.Walks.{AreFirstFindings, earlier, found_or, lesser_node, or_lesser};
 ghost use Rattle.fr_slots.specs.Numbers.{last_node};
 
 use crate::legal;
 use crate::script::Script;
-use crate::walk::{entries_of, find_at, interface_at};
+use crate::walk::{Findings, entries_of, find_in_threads, found_at, interface_at};
 use fr_bus::bus::Bus;
 use fr_bus::outcome::{Fate, Sealed, Sent};
 use fr_guardian::guardian::Guardian;
@@ -24,6 +24,7 @@ use fr_slots::params::Params;
 use fr_slots::plan::NodePlan;
 use fr_slots::window::Window;
 use std::alloc::Global;
+use std::thread::Threads;
 use thiserror::Error;
 
 /// What a settling found that agrees.
@@ -254,13 +255,16 @@ fn or_task(
     }
 }
 
-/// What differs first of each kind, where each journal is walked once.
+/// What differs first of each kind. Each journal is walked once: those of the first nodes were, which found these, and
+/// all others are walked here.
 fn find_differences(
     params: &Params,
     interfaces: &[Interface],
     recorded: &[Sealed],
     scripts: &[Script],
+    first: &[Findings],
 ) -> Differences
+    requires { AreFirstFindings params.now interfaces.now recorded.now scripts.now first.now }
     ensures { AreDifferences params.now interfaces.now recorded.now scripts.now (last_node + 1) result }
 {
     let mut all = Differences {
@@ -271,7 +275,7 @@ fn find_differences(
     };
     for number in 0..NODES {
         let node = NodeId::from_number(number);
-        let found = find_at(interfaces, params, node, recorded, scripts);
+        let found = found_at(first, interfaces, params, node, recorded, scripts);
         all = Differences {
             window: or_node(all.window, node, found.has_windows),
             offer: or_place(all.offer, node, found.offer),
@@ -304,14 +308,16 @@ fn count_windows(interfaces: &[Interface], recorded: &[Sealed]) -> u32
     recorded.len() as u32
 }
 
-/// Whether all agrees, and if not what differs first.
+/// Whether all agrees, and if not what differs first, where this was found of the first nodes.
 fn judge(
     alloc: Global,
     cluster: &Cluster,
     interfaces: &[Interface],
     recorded: &[Sealed],
     scripts: &[Script],
+    first: &[Findings],
 ) -> Result<Settled, SettleError>
+    requires { AreFirstFindings cluster.now.params interfaces.now recorded.now scripts.now first.now }
     ensures { Settles cluster.now interfaces.now recorded.now scripts.now result }
 {
     if let Some(place) = other_plan(cluster, interfaces) {
@@ -322,7 +328,7 @@ fn judge(
         offer,
         sight,
         script,
-    } = find_differences(cluster.params(), interfaces, recorded, scripts);
+    } = find_differences(cluster.params(), interfaces, recorded, scripts, first);
     if let Some(node) = window {
         return Err(SettleError::WindowsDiffer(node));
     }
@@ -343,6 +349,29 @@ fn judge(
     let _params = cluster.params();
     let windows = count_windows(interfaces, recorded);
     Ok(Settled { windows })
+}
+
+/// The same as `settle`, where this was found of the first nodes.
+fn settle_beside(
+    alloc: Global,
+    cluster: &Cluster,
+    interfaces: &[Interface],
+    bus: &Bus,
+    scripts: &[Script],
+    first: &[Findings],
+) -> Result<Settled, SettleError>
+    requires { AreFirstFindings cluster.now.params interfaces.now bus.now.sealed scripts.now first.now }
+    ensures answer { Settles cluster.now interfaces.now bus.now.sealed scripts.now result }
+    ensures follows { OnOk result (EachFollows cluster.now.params interfaces.now bus.now.sealed) }
+    ensures one_sender { OnOk result (OneSenderEach cluster.now bus.now.sealed) }
+    ensures receivers { OnOk result (Receivers cluster.now interfaces.now bus.now.sealed) }
+    ensures between { IsBetweenWindows cluster.now interfaces.now bus.now → DiffersInScriptsAlone result }
+{
+    let recorded = bus.record();
+    let answer = judge(alloc, cluster, interfaces, recorded, scripts, first);
+    let _params = cluster.params();
+    legal::known(interfaces);
+    answer
 }
 
 /// Whether the interfaces are those of the cluster's nodes, and their journals and the scripts agree with the record of
@@ -380,9 +409,34 @@ pub fn settle(
     ensures receivers { OnOk result (Receivers cluster.now interfaces.now bus.now.sealed) }
     ensures between { IsBetweenWindows cluster.now interfaces.now bus.now → DiffersInScriptsAlone result }
 {
-    let recorded = bus.record();
-    let answer = judge(alloc, cluster, interfaces, recorded, scripts);
-    let _params = cluster.params();
-    legal::known(interfaces);
-    answer
+    settle_beside(alloc, cluster, interfaces, bus, scripts, &[])
+}
+
+/// The same as `settle`, with the same answer, where the journal of each node is walked in a thread of its own, if one
+/// can be made, and else after that of the node before it (own profile).
+///
+/// Where memory for what the threads find is refused the journals are walked one after another, as `settle` walks them.
+pub fn settle_in_threads<R: Threads + Sync>(
+    rt: &R,
+    alloc: Global,
+    cluster: &Cluster,
+    interfaces: &[Interface],
+    bus: &Bus,
+    scripts: &[Script],
+) -> Result<Settled, SettleError>
+    ensures answer { Settles cluster.now interfaces.now bus.now.sealed scripts.now result }
+    ensures follows { OnOk result (EachFollows cluster.now.params interfaces.now bus.now.sealed) }
+    ensures one_sender { OnOk result (OneSenderEach cluster.now bus.now.sealed) }
+    ensures receivers { OnOk result (Receivers cluster.now interfaces.now bus.now.sealed) }
+    ensures between { IsBetweenWindows cluster.now interfaces.now bus.now → DiffersInScriptsAlone result }
+{
+    let first = find_in_threads(
+        rt,
+        alloc,
+        interfaces,
+        cluster.params(),
+        bus.record(),
+        scripts,
+    );
+    settle_beside(alloc, cluster, interfaces, bus, scripts, first.as_slice())
 }

@@ -7,12 +7,12 @@ ghost use Rattle.std.specs.Option.{option_copied, option_or};
 ghost use Rattle.fr_bus.specs.Record.{seen_by};
 ghost use Rattle.fr_core.specs.Agreeing.{offers_of, sight_of, sights_of};
 ghost use Rattle.fr_core.specs.Walks.{FindsNext, handed_by, window_at, FetchesNext, ObservesNext};
-ghost use Rattle.fr_core.specs.Walks.{AreFindings, is_silent};
+ghost use Rattle.fr_core.specs.Walks.{AreFindings, AreFirstFindings, is_silent};
 ghost use Rattle.fr_interface.specs.Handing.{bytes_handed};
 ghost use Rattle.fr_journal.specs.Lent.{whole, HasPayload};
 ghost use Rattle.fr_status.specs.Lent.{whole_seen};
 ghost use Rattle.fr_slots.specs.declared.channel.Channel.TheVariants as channel;
-ghost use Rattle.fr_slots.specs.Numbers.{most_entries};
+ghost use Rattle.fr_slots.specs.Numbers.{last_node, most_entries};
 
 use crate::script::Script;
 use crate::tasks::{courses_past, new_courses, other_task};
@@ -22,10 +22,13 @@ use fr_interface::interface::Interface;
 use fr_journal::entry::Offered;
 use fr_journal::lent::LentEntry;
 use fr_slots::channel::Channel;
-use fr_slots::numbers::{NodeId, TaskId};
+use fr_slots::numbers::{NODES, NodeId, TaskId};
 use fr_slots::params::Params;
 use fr_slots::window::Window;
 use fr_status::seen::LentSeen;
+use std::alloc::Global;
+use std::thread;
+use std::thread::Threads;
 
 /// What is found of a node.
 #[derive(Clone, Copy)]
@@ -388,5 +391,68 @@ pub(crate) fn find_at(
             sight: None,
             task: other_task(scripts, node, &new_courses()),
         },
+    }
+}
+
+/// What is found of the node, where this was found of the first nodes.
+pub(crate) fn found_at(
+    first: &[Findings],
+    interfaces: &[Interface],
+    params: &Params,
+    node: NodeId,
+    recorded: &[Sealed],
+    scripts: &[Script],
+) -> Findings
+    requires { AreFirstFindings params.now interfaces.now recorded.now scripts.now first.now }
+    ensures { AreFindings params.now (slice_get interfaces.now node) recorded.now scripts.now node result }
+{
+    match first.get(usize::from(node.number())) {
+        Some(found) => *found,
+        None => find_at(interfaces, params, node, recorded, scripts),
+    }
+}
+
+/// What is found of the node of this place.
+fn find_in_place(
+    place: usize,
+    interfaces: &[Interface],
+    params: &Params,
+    recorded: &[Sealed],
+    scripts: &[Script],
+) -> Findings
+    requires { place ≤ last_node }
+    ensures { AreFindings params.now (slice_get interfaces.now place) recorded.now scripts.now place result }
+{
+    find_at(
+        interfaces,
+        params,
+        NodeId::from_number(place as u8),
+        recorded,
+        scripts,
+    )
+}
+
+/// What is found of each node that has an interface, in threads of their own where these can be made, or of none where
+/// memory is refused.
+pub(crate) fn find_in_threads<R: Threads + Sync>(
+    rt: &R,
+    alloc: Global,
+    interfaces: &[Interface],
+    params: &Params,
+    recorded: &[Sealed],
+    scripts: &[Script],
+) -> Vec<Findings>
+    ensures { AreFirstFindings params.now interfaces.now recorded.now scripts.now result.items }
+{
+    let nodes = interfaces.len().min(usize::from(NODES));
+    let found = thread::map_indices(
+        rt,
+        alloc,
+        nodes,
+        &|place| { find_in_place(place, interfaces, params, recorded, scripts) },
+    );
+    match found {
+        Ok(found) => found,
+        Err(_) => Vec::new(alloc),
     }
 }

@@ -23,7 +23,7 @@ use fr_bus::outcome::Sealed;
 use fr_bus::windows::opens_cycle;
 use fr_core::event::Reply;
 use fr_core::script::Script;
-use fr_core::settle::{Settled, settle};
+use fr_core::settle::{Settled, settle_in_threads};
 use fr_desks::gate::Gate;
 use fr_desks::wire::Wire;
 use fr_interface::interface::Interface;
@@ -269,7 +269,8 @@ fn is_at_end(alloc: Global, bus: &Bus, faults: &[FaultLine], cycles: u16) -> Res
 
 /// The run, if the bus came to its end with these faults, what the nodes left agrees with it and the scripts, and in a
 /// stepped run each line was done in its cycle.
-fn settled_run(
+fn settled_run<R: Threads + Sync>(
+    rt: &R,
     alloc: Global,
     cluster: &Cluster,
     given: &[Script],
@@ -291,7 +292,8 @@ fn settled_run(
         answers,
     } = nodes;
     let scripts = with_answers(alloc, given, answers.as_slice())?;
-    let answer = settle(
+    let answer = settle_in_threads(
+        rt,
         alloc,
         cluster,
         interfaces.as_slice(),
@@ -349,7 +351,9 @@ fn run_all<R: Threads + Wait + Clock + Sync, G: Gate + Sync>(
     let Shared { wire, pace: _ } = shared;
     let bus = wire.close();
     let nodes = ended?;
-    settled_run(alloc, cluster, scripts, faults, cycles, stepped, nodes, bus)
+    settled_run(
+        rt, alloc, cluster, scripts, faults, cycles, stepped, nodes, bus,
+    )
 }
 
 /// Runs the cluster for so many cycles: a thread for each task does the lines of its script, one for each controller

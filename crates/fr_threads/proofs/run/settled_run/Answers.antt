@@ -7,7 +7,7 @@ use Rattle.fr_threads.proofs.run.settled_run.Goals.{else-stepped-via-then-steppe
 use Rattle.fr_threads.proofs.run.settled_run.Goals as goal
 
 pub returns : goal.returns
-returns c =
+returns g c =
     let same_interfaces = c.as_slice-2.ensures.value in
     let settled = settles_same _ _ _ _ _ _ _ same_interfaces c.as_slice-3.ensures.value c.in_ok-settled.ensures.answer in
     let at_end : IsTrue c.in_ok-is_at_end.field-0 = search rules in

@@ -3,7 +3,7 @@ use Rattle.fr_bus.specs.Record.{Recorded}
 use Rattle.fr_core.proofs.SettledLemmas.{answer_follows, between_windows}
 use Rattle.fr_core.proofs.SettlingLemmas.{answer_one_sender, answer_receivers}
 use Rattle.fr_core.specs.Settling.{Settles}
-use Rattle.fr_core.proofs.settle.settle.Goals as goal
+use Rattle.fr_core.proofs.settle.settle_beside.Goals as goal
 
 pub returns-clause-answer : goal.returns-clause-answer
 returns-clause-answer c =
