@@ -7,7 +7,7 @@
         world.cycle()
         print(world.node(1).read(1))
 """
-from musmyrtle.builder import Scenario
+from musmyrtle.builder import NotInAScenario, Scenario
 from musmyrtle.faults import Babble, Corrupt, Fault, Mute
 from musmyrtle.names import Names, UnknownName
 from musmyrtle.refusals import (
@@ -20,9 +20,9 @@ from musmyrtle.world import Buffer, Node, World
 
 __all__ = [
     "AlreadyPut", "AlreadyTaken", "Babble", "BadFault", "BadLine", "Buffer", "BusRefused", "Corrupt", "Counters",
-    "Fault", "Frame", "HostFull", "HostRefused", "Memory", "Mute", "Names", "NoQueue", "NoWindow", "Node", "NotAllPut",
-    "NotAllTaken", "NotCollecting", "NotReceive", "NotSealed", "NotTransmit", "Queue", "ReceiveBuffer", "Record",
-    "Refused", "Report", "Scenario", "Sent", "SessionOver", "SlotFull", "SlotRefused", "TooManyFaults",
-    "TransmitBuffer", "UnknownBuffer", "UnknownName", "UnknownNode", "UnknownTask", "Window", "World", "WrongLength",
-    "WrongTurn",
+    "Fault", "Frame", "HostFull", "HostRefused", "Memory", "Mute", "Names", "Node", "NoQueue", "NotAllPut",
+    "NotAllTaken", "NotCollecting", "NotInAScenario", "NotReceive", "NotSealed", "NotTransmit", "NoWindow", "Queue",
+    "ReceiveBuffer", "Record", "Refused", "Report", "Scenario", "Sent", "SessionOver", "SlotFull", "SlotRefused",
+    "TooManyFaults", "TransmitBuffer", "UnknownBuffer", "UnknownName", "UnknownNode", "UnknownTask", "Window",
+    "World", "WrongLength", "WrongTurn",
 ]

@@ -4,10 +4,14 @@ import io
 import os
 import re
 import sys
-from collections.abc import Iterator
+from collections.abc import Iterable, Iterator
+from contextlib import ExitStack, contextmanager, suppress
+from dataclasses import replace
+from tempfile import NamedTemporaryFile
+from typing import TextIO
 
 from musmyrtle.findings import block, counted
-from musmyrtle.lint import Lint, Task, lint
+from musmyrtle.lint import Lint, Task, lint, read_bytes
 from musmyrtle.program import Answer, ask, usual_program
 from musmyrtle.runs import MOST_CYCLES
 
@@ -18,7 +22,44 @@ ABOUT = """Says what is wrong with a cluster file, and with a scenario for it: w
 What is refused is refused by fr_bench, which is run first: `check CLUSTER`, or `run CLUSTER SCENARIO --cycles N`. What
 is taken and still can't work, or breaks a rule of the standard that the bench doesn't ask for, is a warning."""
 STATUSES = """status: 0 where there is nothing to say but warnings, 1 where something is refused, 2 where the words are
-no command or there is no fr_bench, 4 where there are warnings and --strict is given"""
+no command, there is no fr_bench or the output can't be written, 4 where there are warnings and --strict is given"""
+
+
+class Stop(Exception):
+    """Nothing more is done: the status, and what is said."""
+
+    def __init__(self, status: int, message: str = ""):
+        super().__init__(message)
+        self.status = status
+
+    def tell(self, command: str) -> int:
+        """Says it, where standard error can be written, and answers the status."""
+        if str(self):
+            with suppress(Stop, BrokenPipeError):
+                write(sys.stderr, [f"{command}: {self}\n"])
+        return self.status
+
+
+def write(stream: TextIO | None, texts: Iterable[str]) -> None:
+    """Writes all of it. Whoever reads it may go away before its end, as `head` does: that is a `BrokenPipeError`."""
+    if stream is None:
+        raise Stop(USAGE, "the output can't be written: it is closed")
+    try:
+        stream.writelines(texts)
+        stream.flush()
+    except OSError as error:
+        # Python writes what is left at its own end, and says in its own words that it can't.
+        os.dup2(os.open(os.devnull, os.O_WRONLY), stream.fileno())
+        if isinstance(error, BrokenPipeError):
+            raise
+        raise Stop(USAGE, f"the output can't be written: {error.strerror}") from None
+
+
+class Parser(argparse.ArgumentParser):
+    """The words of a command. Its help is written as all other output is."""
+
+    def print_help(self, file: TextIO | None = None) -> None:
+        write(file or sys.stdout, [self.format_help()])
 
 
 def cycles_of(word: str) -> int:
@@ -28,8 +69,8 @@ def cycles_of(word: str) -> int:
 
 
 def parsed(words: list[str] | None) -> argparse.Namespace:
-    parser = argparse.ArgumentParser(prog="fr_lint", description=ABOUT, epilog=STATUSES, allow_abbrev=False,
-                                     formatter_class=argparse.RawDescriptionHelpFormatter)
+    parser = Parser(prog="fr_lint", description=ABOUT, epilog=STATUSES, allow_abbrev=False,
+                    formatter_class=argparse.RawDescriptionHelpFormatter)
     parser.add_argument("cluster", metavar="CLUSTER", help="a cluster file")
     parser.add_argument("scenario", metavar="SCENARIO", nargs="?", help="a scenario; it wants --cycles as well")
     parser.add_argument("--cycles", metavar="N", type=cycles_of, help=f"the cycles of the run, 1 to {MOST_CYCLES}")
@@ -47,8 +88,33 @@ def parsed(words: list[str] | None) -> argparse.Namespace:
 def words_for(task: Task) -> list[str]:
     """The words by which the program is asked."""
     if task.scenario is None:
-        return ["check", "--", task.cluster]
-    return ["run", "--cycles", str(task.cycles), "--", task.cluster, task.scenario]
+        return ["check", "--", task.file(task.cluster)]
+    return ["run", "--cycles", str(task.cycles), "--", task.file(task.cluster), task.file(task.scenario)]
+
+
+@contextmanager
+def lasting(task: Task) -> Iterator[Task]:
+    """The task with files that can be read again, and by another process, while this lasts."""
+    with ExitStack() as copies:
+        names = dict.fromkeys(it for it in (task.cluster, task.scenario) if it is not None)
+        yield replace(task, files={name: lasting_file(name, copies) for name in names})
+
+
+def lasting_file(name: str, copies: ExitStack) -> str:
+    """The file behind a name as `/dev/stdin`, which is another one for the program, or a copy of what a pipe has."""
+    behind = os.path.realpath(name)
+    if os.path.isfile(behind):
+        return behind
+    data = read_bytes(name)
+    if data is None:
+        return name
+    try:
+        copy = copies.enter_context(NamedTemporaryFile(prefix="musmyrtle-"))
+        copy.write(data)
+        copy.flush()
+    except OSError as error:
+        raise Stop(USAGE, f"{name} can't be copied: {error.strerror}") from None
+    return copy.name
 
 
 def told(answer: Answer, found: Lint, is_bold: bool = False) -> Iterator[str]:
@@ -85,26 +151,35 @@ def is_explained(answer: Answer, found: Lint) -> bool:
     return answer.refusal == (found.refusals[0][0] if found.refusals else None)
 
 
-def main(words: list[str] | None = None) -> int:
-    given = parsed(words)
-    task = Task(given.cluster, given.scenario, given.cycles)
-    try:
-        answer = ask(given.program, words_for(task))
-    except OSError as error:
-        print(f"fr_lint: {given.program} can't be run: {error.strerror}", file=sys.stderr)
-        return USAGE
-    found = lint(task)
+def is_bold_on(stream: TextIO | None) -> bool:
+    return stream is not None and stream.isatty() and "NO_COLOR" not in os.environ
+
+
+def linted(given: argparse.Namespace) -> int:
+    """Asks the program, and prints what is to be said. Answers the status."""
+    with lasting(Task(given.cluster, given.scenario, given.cycles)) as task:
+        try:
+            answer = ask(given.program, words_for(task))
+        except OSError as error:
+            raise Stop(USAGE, f"{given.program} can't be run: {error.strerror}") from None
+        found = lint(task)
     if isinstance(sys.stdout, io.TextIOWrapper):
         # A file may have a name, or a line, that the terminal can't spell.
         sys.stdout.reconfigure(errors="backslashreplace")
-    is_bold = sys.stdout.isatty() and "NO_COLOR" not in os.environ
-    try:
-        print("\n".join(told(answer, found, is_bold)), end="", flush=True)
-    except BrokenPipeError:
-        os.dup2(os.open(os.devnull, os.O_WRONLY), sys.stdout.fileno())
+    with suppress(BrokenPipeError):
+        write(sys.stdout, ["\n".join(told(answer, found, is_bold_on(sys.stdout)))])
     if answer.status:
         return USAGE if answer.status == USAGE else REFUSED
     return WARNED if given.strict and found.warnings else FINE
+
+
+def main(words: list[str] | None = None) -> int:
+    try:
+        return linted(parsed(words))
+    except Stop as stop:
+        return stop.tell("fr_lint")
+    except BrokenPipeError:
+        return FINE
 
 
 if __name__ == "__main__":

@@ -6,7 +6,7 @@ from musmyrtle.cluster import Cluster, Queue
 from musmyrtle.fault_costs import Difference, Ended, differences, ended
 from musmyrtle.fault_hosts import Hosts, answers
 from musmyrtle.fault_list import Listing, Selection, SingleFault
-from musmyrtle.fault_runs import Answer, Folder, Log, pooled
+from musmyrtle.fault_runs import OUTCOME, Answer, Folder, Log, pooled
 from musmyrtle.fault_table import Done
 from musmyrtle.outcomes import BadOutcome, Known, read_outcome
 from musmyrtle.played import Played, Player
@@ -38,7 +38,10 @@ class Campaign:
     def __init__(self, cluster: Cluster, scenario: Scenario, folder: Folder, means: Means):
         self.cluster, self.scenario, self.folder, self.means = cluster, scenario, folder, means
         self.player = Player(means.world, folder.cluster, cluster, scenario, folder.cycles)
-        self.recorded = self.player.play(is_recorded=cluster.parameters.minislots > 0)
+        try:
+            self.recorded = self.player.play(is_recorded=cluster.parameters.minislots > 0)
+        except SessionOver as error:
+            raise NoReference(f"{means.world}: {error}") from None
         self.known: Known = {}
         self.reference = self.read_reference()
 
@@ -49,7 +52,7 @@ class Campaign:
         try:
             return ended(self.scenario, read_outcome(answer.output, self.cluster), self.recorded)
         except BadOutcome as error:
-            raise NoReference(str(error)) from None
+            raise NoReference(f"{self.means.program} doesn't answer as {OUTCOME[0]} does: {error}") from None
 
     def listing(self, selection: Selection) -> Listing:
         return Listing(self.cluster, self.scenario, self.folder.cycles, selection, lambda: self.recorded,

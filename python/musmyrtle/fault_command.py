@@ -5,11 +5,12 @@ import re
 import sys
 import tempfile
 import time
+from dataclasses import dataclass
 from pathlib import Path
 
 from musmyrtle.cluster import Cluster
 from musmyrtle.cluster import Reading as ClusterReading
-from musmyrtle.command import cycles_of, told
+from musmyrtle.command import Parser, Stop, cycles_of, is_bold_on, lasting, told, write
 from musmyrtle.fault_campaign import Campaign, Means, NoReference
 from musmyrtle.fault_costs import FAILED
 from musmyrtle.fault_hosts import Hosts, NoParallel
@@ -36,17 +37,17 @@ ABOUT = """Tells what each single fault of a network costs: a run for each, held
 The table goes to standard output: a line for each fault and each thing that a node has otherwise by it. The summary
 goes to standard error. docs/FAULTS.md says what faults there are and what the words mean."""
 STATUSES = """status: 0 where nothing else is to be said, 1 where the cluster or the scenario is refused, 2 where the
-words are no command or a file can't be used, 3 where --fail-on has found something, 4 where a run was refused or
-killed, 130 where it was broken off"""
+words are no command, a file can't be used or the output can't be written, 3 where --fail-on has found something,
+4 where a run was refused or killed, 130 where it was broken off"""
 
 
 def numbers_of(word: str) -> frozenset[int]:
     """`1,3-5` as numbers."""
     found: set[int] = set()
     for part in word.split(","):
-        if not re.fullmatch(r"[0-9]{1,4}(-[0-9]{1,4})?", part):
-            raise argparse.ArgumentTypeError(f"{part!r} is no number, and no range as 3-5")
         first, _, last = part.partition("-")
+        if not re.fullmatch(r"[0-9]{1,4}(-[0-9]{1,4})?", part) or int(last or first) < int(first):
+            raise argparse.ArgumentTypeError(f"{part!r} is no number, and no range as 3-5")
         found |= set(range(int(first), int(last or first) + 1))
     return frozenset(found)
 
@@ -85,8 +86,8 @@ def cores_of(word: str) -> int:
 
 
 def arguments() -> argparse.ArgumentParser:
-    parser = argparse.ArgumentParser(prog="fr_faults", description=ABOUT, epilog=STATUSES, allow_abbrev=False,
-                                     formatter_class=argparse.RawDescriptionHelpFormatter)
+    parser = Parser(prog="fr_faults", description=ABOUT, epilog=STATUSES, allow_abbrev=False,
+                    formatter_class=argparse.RawDescriptionHelpFormatter)
     add = parser.add_argument
     add("cluster", metavar="CLUSTER", help="a cluster file")
     add("scenario", metavar="SCENARIO", help="a scenario, beside which each fault comes")
@@ -130,33 +131,26 @@ def parsed(words: list[str] | None) -> argparse.Namespace:
     return given
 
 
-class Stop(Exception):
-    """Nothing more is done: the status, and what is said."""
-
-    def __init__(self, status: int, message: str = ""):
-        super().__init__(message)
-        self.status = status
-
-
 def say(text: str) -> None:
-    print(text, end="", file=sys.stderr, flush=True)
+    write(sys.stderr, [text])
 
 
 def accepted(given: argparse.Namespace) -> tuple[Cluster, Scenario, bytes, bytes]:
     """The cluster and the scenario with their bytes. What is refused is told as `fr_lint` tells it."""
-    words = outcome_words(given.cluster, given.scenario, given.cycles)
-    try:
-        answer = ask(given.program, words)
-    except OSError as error:
-        raise Stop(USAGE, f"{given.program} can't be run: {error.strerror}") from None
-    found = lint(Task(given.cluster, given.scenario, given.cycles))
-    if answer.status or found.refusals:
-        say("\n".join(told(answer, found, sys.stderr.isatty() and "NO_COLOR" not in os.environ)))
-        raise Stop(USAGE if answer.status == USAGE else REFUSED)
-    try:
-        cluster, scenario = Path(given.cluster).read_bytes(), Path(given.scenario).read_bytes()
-    except OSError as error:
-        raise Stop(USAGE, f"{error.filename} can't be read: {error.strerror}") from None
+    with lasting(Task(given.cluster, given.scenario, given.cycles)) as task:
+        files = task.file(given.cluster), task.file(given.scenario)
+        try:
+            answer = ask(given.program, outcome_words(*files, given.cycles))
+        except OSError as error:
+            raise Stop(USAGE, f"{given.program} can't be run: {error.strerror}") from None
+        found = lint(task)
+        if answer.status or found.refusals:
+            say("\n".join(told(answer, found, is_bold_on(sys.stderr))))
+            raise Stop(USAGE if answer.status == USAGE else REFUSED)
+        try:
+            cluster, scenario = (Path(it).read_bytes() for it in files)
+        except OSError as error:
+            raise Stop(USAGE, f"{error.filename} can't be read: {error.strerror}") from None
     document = read_text(given.cluster, cluster).document
     return ClusterReading(document).cluster, ScenarioReading(given.scenario, scenario).scenario, cluster, scenario
 
@@ -169,6 +163,19 @@ def ranks_before(file: str | None) -> Ranks | None:
     except (BadTable, UnicodeDecodeError, OSError) as error:
         why = error.strerror if isinstance(error, OSError) else error
         raise Stop(USAGE, f"--against {file}: {why}") from None
+
+
+def try_page(file: str) -> None:
+    """Stops where the page can't be written, before the runs, which may take long. Nothing is left of the trial."""
+    path = Path(file)
+    try:
+        if not path.exists():
+            tempfile.TemporaryFile(dir=path.parent).close()
+        elif path.is_file() or path.is_dir():
+            # A pipe isn't opened here, since whoever reads it would take that for the whole page.
+            open(path, "ab").close()
+    except OSError as error:
+        raise Stop(USAGE, f"--html {file}: {error.strerror}") from None
 
 
 def opened_log(given: argparse.Namespace, inputs: tuple[bytes, ...]) -> Log:
@@ -184,7 +191,8 @@ class Progress:
     """A line on a terminal that says how far the runs are."""
 
     def __init__(self) -> None:
-        self.is_shown, self.began, self.first, self.last = sys.stderr.isatty(), time.monotonic(), None, 0.0
+        self.is_shown = sys.stderr is not None and sys.stderr.isatty()
+        self.began, self.first, self.last = time.monotonic(), None, 0.0
 
     def __call__(self, done: int, of: int) -> None:
         now = time.monotonic()
@@ -206,46 +214,64 @@ def means_of(given: argparse.Namespace) -> Means:
     return Means(str(Path(itself(given.program)).resolve()), world, given.cores, hosts)
 
 
-def done_of(given: argparse.Namespace, folder: Path) -> tuple[Done, Cluster, int] | None:
+@dataclass(frozen=True)
+class Measured:
+    """All faults with what they cost, the cluster and the names of its nodes, and how many faults aren't listed."""
+
+    done: Done
+    cluster: Cluster
+    names: list[str]
+    left_out: int
+
+
+def measured(given: argparse.Namespace, folder: Path) -> Measured | None:
     """All faults with what they cost, or nothing where they were only to be listed."""
     cluster, scenario, *inputs = accepted(given)
-    means = means_of(given)
-    campaign = Campaign(cluster, scenario, Folder(folder, *inputs, given.cycles), means)
-    listing = campaign.listing(Selection(given.kinds, given.nodes, given.slots, given.in_cycle))
+    selection = Selection(given.kinds, given.nodes, given.slots, given.in_cycle)
+    missing = selection.missing(cluster)
+    if missing:
+        arguments().error(f"the cluster has no {missing}")
+    means, files = means_of(given), Folder(folder, *inputs, given.cycles)
+    try:
+        campaign = Campaign(cluster, scenario, files, means)
+    except OSError as error:
+        raise Stop(USAGE, f"{means.world} can't be run: {error.strerror}") from None
+    listing = campaign.listing(selection)
     faults = listing.faults()
     if given.list:
-        sys.stdout.writelines("\t".join(it.words) + "\n" for it in faults)
+        write(sys.stdout, ("\t".join(it.words) + "\n" for it in faults))
         return None
     log = opened_log(given, (*inputs, str(given.cycles).encode(), Path(means.program).read_bytes()))
     try:
-        return campaign.run(faults, log, Progress()), cluster, listing.left_out
+        done = campaign.run(faults, log, Progress())
     finally:
         log.close()
+    return Measured(done, cluster, names_of(files.cluster, cluster), listing.left_out)
 
 
-def concluded(given: argparse.Namespace, done: Done, before: Ranks | None, cluster: Cluster, left_out: int) -> int:
+def concluded(given: argparse.Namespace, found: Measured, before: Ranks | None) -> int:
     """Prints all that is to be said. Answers the status."""
-    sys.stdout.writelines(table(done))
-    sys.stdout.flush()
-    say("".join(summary(done, cluster, given.cycles, left_out)))
+    done = found.done
+    write(sys.stdout, table(done))
+    say("".join(summary(done, found.cluster, given.cycles, found.left_out)))
     if given.html:
         try:
-            subject = Subject(given.cluster, given.scenario, given.cycles, names_of(given.cluster, cluster))
-            Path(given.html).write_text(page(subject, done, cluster, left_out), encoding="utf-8")
+            subject = Subject(given.cluster, given.scenario, given.cycles, found.names)
+            Path(given.html).write_text(page(subject, done, found.cluster, found.left_out), encoding="utf-8")
         except OSError as error:
             raise Stop(USAGE, f"--html {given.html}: {error.strerror}") from None
-    found = [] if before is None else worse(done, before)
+    greater = [] if before is None else worse(done, before)
     if before is not None:
-        say(f"{counted(len(found), 'thing')} worse than in {given.against}\n")
-        say("".join(worse_line(*it) for it in found[:MOST_WORSE]))
-        say(f"and {len(found) - MOST_WORSE} more\n" if len(found) > MOST_WORSE else "")
+        say(f"{counted(len(greater), 'thing')} worse than in {given.against}\n")
+        say("".join(worse_line(*it) for it in greater[:MOST_WORSE]))
+        say(f"and {len(greater) - MOST_WORSE} more\n" if len(greater) > MOST_WORSE else "")
     if has_effect(done, FAILED):
         return UNDONE
-    is_found = has_effect(done, given.fail_on) or bool(found and "worse" in given.fail_on)
+    is_found = has_effect(done, given.fail_on) or bool(greater and "worse" in given.fail_on)
     return FOUND if is_found else FINE
 
 
-def names_of(file: str, cluster: Cluster) -> list[str]:
+def names_of(file: Path, cluster: Cluster) -> list[str]:
     """Each node's number, and after it its key `name` where it has one."""
     named = {number: name for name, number in Names.read(file).nodes.items()}
     return [" ".join(filter(None, (f"node {it.number}", named.get(it.number)))) for it in cluster.nodes]
@@ -255,24 +281,28 @@ def worse_line(fault: SingleFault, found) -> str:
     return f"  {fault}: {told_difference(found)}\n"
 
 
-def main(words: list[str] | None = None) -> int:
-    given = parsed(words)
+def ran(given: argparse.Namespace) -> int:
+    """Does all that is asked for, and answers the status."""
     try:
         before = ranks_before(given.against)
+        if given.html:
+            try_page(given.html)
         with tempfile.TemporaryDirectory(prefix="fr_faults-") as folder:
-            told_of = done_of(given, Path(folder))
-            return FINE if told_of is None else concluded(given, told_of[0], before, *told_of[1:])
-    except Stop as stop:
-        say(f"fr_faults: {stop}\n" if str(stop) else "")
-        return stop.status
+            found = measured(given, Path(folder))
+            return FINE if found is None else concluded(given, found, before)
     except (NoReference, NoParallel, SessionOver) as error:
-        say(f"fr_faults: {error}\n")
-        return UNDONE
+        raise Stop(UNDONE, str(error)) from None
     except KeyboardInterrupt:
         say("\nfr_faults: broken off" + (f"; --joblog {given.joblog} --resume goes on\n" if given.joblog else "\n"))
         return BROKEN_OFF
+
+
+def main(words: list[str] | None = None) -> int:
+    try:
+        return ran(parsed(words))
+    except Stop as stop:
+        return stop.tell("fr_faults")
     except BrokenPipeError:
-        os.dup2(os.open(os.devnull, os.O_WRONLY), sys.stdout.fileno())
         return FINE
 
 

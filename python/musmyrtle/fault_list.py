@@ -77,6 +77,22 @@ class Selection:
         is_node = self.nodes is None or any(it in self.nodes for it in nodes)
         return kind in self.kinds and is_node and (self.places is None or place in self.places)
 
+    def missing(self, cluster: Cluster) -> str | None:
+        """The first node, static slot or minislot that is named and that the cluster doesn't have, and which it has."""
+        parameters = cluster.parameters
+        for what, named, known in (("node", self.nodes or (), range(len(cluster.nodes))),
+                                   ("static slot", self.numbers("s"), range(1, parameters.static_slots + 1)),
+                                   ("minislot", self.numbers("m"), range(1, parameters.minislots + 1))):
+            for number in sorted(named):
+                if number not in known:
+                    has = f"its {what}s are {known[0]} to {known[-1]}" if known else f"it has no {what}s"
+                    return f"{what} {number}: {has}"
+        return None
+
+    def numbers(self, front: str) -> list[int]:
+        """The numbers of the places that are spelled so."""
+        return [int(it[1:]) for it in self.places or () if it[0] == front and it != ALL_STATIC]
+
 
 class Listing:
     """The faults of a cluster beside a scenario, in a fixed order: by kind, node, channel and place.

@@ -39,6 +39,11 @@ class Task:
     cluster: str
     scenario: str | None = None
     cycles: int | None = None
+    files: dict[str, str] = field(default_factory=dict)
+    """For names of these the files that are read, where they aren't read by their names."""
+
+    def file(self, name: str) -> str:
+        return self.files.get(name, name)
 
 
 def read_bytes(file: str) -> bytes | None:
@@ -58,7 +63,7 @@ def unreadable(file: str, what: str) -> Finding:
 
 def lint(task: Task) -> Lint:
     found = Lint()
-    data = read_bytes(task.cluster)
+    data = read_bytes(task.file(task.cluster))
     if data is None:
         found.refuse("Read", unreadable(task.cluster, "the cluster file"))
         return found
@@ -92,7 +97,7 @@ def lint_cluster(text: Text, found: Lint) -> Cluster | None:
 
 
 def lint_scenario(task: Task, cluster: Cluster, text: Text, found: Lint) -> None:
-    data = read_bytes(task.scenario)
+    data = read_bytes(task.file(task.scenario))
     if data is None:
         found.refuse("Read", unreadable(task.scenario, "the scenario"))
         return

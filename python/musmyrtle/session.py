@@ -68,9 +68,13 @@ class Session:
     def send(self, lines: Iterable[str]) -> list[str]:
         """The replies to requests that have one line of reply each, all written before the first reply is read.
 
-        It raises nothing for a refusal. The requests and their replies have to fit the pipes, 64 KB each.
+        It raises nothing for a refusal, and `ValueError`, with nothing written, for a request of more than one line:
+        each line would have a reply of its own. The requests and their replies have to fit the pipes, 64 KB each.
         """
         asked = list(lines)
+        for line in asked:
+            if "\n" in line:
+                raise ValueError(f"a request is one line: {line!r}")
         try:
             self._process.stdin.write("".join(f"{line}\n" for line in asked).encode())
             self._process.stdin.flush()

@@ -4,10 +4,11 @@ Each call is one line to the program `fr_world` and one reply, and does exactly 
 as the exception of that name, and has changed nothing.
 """
 from collections.abc import Callable, Iterable, Iterator
-from contextlib import contextmanager
+from contextlib import contextmanager, suppress
 
 from musmyrtle.faults import Fault, is_fault_line
 from musmyrtle.names import Names
+from musmyrtle.refusals import TooManyFaults
 from musmyrtle.replies import Frame, Record, Report, Window, frame_of, number_or_none, record_of, report_of, window_of
 from musmyrtle.session import FileName, Session, usual_world
 
@@ -230,7 +231,8 @@ class World:
 
     @contextmanager
     def fault(self, fault: Fault | str, when: Callable[[Window], bool] = lambda window: True) -> Iterator[None]:
-        """Brings the fault into each window for which `when` is true, while the block runs.
+        """Brings the fault into each window for which `when` is true, while the block runs. A window that has one of this
+        kind, node and channel keeps that one.
 
         A fault line, as a scenario has it, says itself where it comes: `world.fault("mute 2 A * s*")`.
         """
@@ -246,7 +248,9 @@ class World:
             self._faults.remove(entry)
 
     def keep(self, line: str) -> None:
-        """Has the world bring the fault of a scenario's fault line into each window that the line names from now on."""
+        """Has the world bring the fault of a scenario's fault line into each window that the line names from now on. The
+        line may end as it does in a file."""
+        line = line.removesuffix("\n")
         if not is_fault_line(line):
             raise ValueError(f"no fault line: {line}")
         self.ask(line)
@@ -271,10 +275,16 @@ class World:
                     self.keep(other)
 
     def _inject_due(self) -> None:
-        window = self.now()
+        """Brings the faults of the blocks into the open window, as the world brings those of fault lines: none where it
+        is sealed, and where it has one of this kind, node and channel already that one stays."""
+        kind, *words = self.ask("now").split(" ")
+        if kind != "open":
+            return
+        window = window_of(words)
         for fault, when in self._faults:
-            if window and when(window):
-                self.inject(fault)
+            if when(window):
+                with suppress(TooManyFaults):
+                    self.inject(fault)
 
     @staticmethod
     def _moved(reply: str) -> Window | None:

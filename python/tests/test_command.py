@@ -3,10 +3,20 @@ import contextlib
 import io
 import os
 import stat
+import subprocess
+import sys
+from pathlib import Path
 from unittest import mock
 
 from musmyrtle import command
 from tests.cases import CLUSTER, SCENARIO, Cases
+
+FR_LINT = Path(__file__).resolve().parents[2] / "fr_lint"
+UNWRITTEN = "fr_lint: the output can't be written: "
+COPYING = """#!/bin/sh
+for word; do if [ -f "$word" ]; then cat "$word"; fi; done >'{}'
+"""
+"""A program that leaves behind what stands in the files that it is given."""
 
 
 class Command(Cases):
@@ -25,6 +35,25 @@ class Command(Cases):
             except SystemExit as ended:
                 status = ended.code
         return status, output.getvalue(), error.getvalue()
+
+    def launch(self, *words: str, **streams) -> tuple[int, str]:
+        """The status and standard error of the command as a process of its own."""
+        ran = subprocess.run([sys.executable, "-B", FR_LINT, *words], **{"stderr": subprocess.PIPE, **streams})
+        return ran.returncode, (ran.stderr or b"").decode()
+
+    def copying(self) -> tuple[str, Path]:
+        """A program that keeps what it reads, and where."""
+        path, kept = self.written("copying", COPYING.format(self.folder / "kept")), self.folder / "kept"
+        os.chmod(path, stat.S_IRWXU)
+        return path, kept
+
+    def pipe(self, text: str) -> str:
+        """A name by which this process alone can read the text, and once."""
+        source, end = os.pipe()
+        self.addCleanup(os.close, source)
+        os.write(end, text.encode())
+        os.close(end)
+        return f"/dev/fd/{source}"
 
     def test_statuses(self):
         cluster, scenario = self.written("cluster.toml", CLUSTER), self.written("scenario", SCENARIO)
@@ -61,3 +90,50 @@ class Command(Cases):
         with mock.patch.object(command, "usual_program", lambda: None):
             status, _, error = self.run_with(self.written("cluster.toml", CLUSTER))
         self.assertEqual((status, "there is no fr_bench" in error), (2, True))
+
+    def test_output_that_cannot_be_written(self):
+        """Neither at once nor where Python keeps it until it ends."""
+        taken = [self.written("cluster.toml", CLUSTER), "--program", self.stub()]
+        for words in (taken, ["--help"]):
+            for kept in ("", "1"):
+                how = {"env": {**os.environ, "PYTHONUNBUFFERED": kept}}
+                with self.subTest(words=words, kept=kept), open("/dev/full", "wb") as full:
+                    told = 2, f"{UNWRITTEN}No space left on device\n"
+                    self.assertEqual(self.launch(*words, stdout=full, **how), told)
+                    self.assertEqual(self.launch(*words, stdout=full, stderr=full, **how), (2, ""))
+                    closed = self.launch(*words, preexec_fn=lambda: os.close(1), **how)
+                    self.assertEqual(closed, (2, f"{UNWRITTEN}it is closed\n"))
+
+    def test_a_reader_that_has_gone_away(self):
+        """Nothing is said, and the status is the same: the cluster has a warning."""
+        taken = [self.written("cluster.toml", CLUSTER), "--program", self.stub()]
+        source, end = os.pipe()
+        os.close(source)
+        self.addCleanup(os.close, end)
+        for words, status in ((taken, 0), ([*taken, "--strict"], 4), (["--help"], 0)):
+            self.assertEqual(self.launch(*words, stdout=end), (status, ""), words)
+
+    def test_files_that_can_be_read_once(self):
+        """The program has the same text, and the place has the name that was given: `[[node]]` is in line 15."""
+        program, kept = self.copying()
+        for cluster, scenario in ((self.pipe(CLUSTER), None), (self.pipe(CLUSTER), self.pipe(SCENARIO)),
+                                  (self.written("cluster.toml", CLUSTER), self.pipe(SCENARIO))):
+            words = [cluster, *([] if scenario is None else [scenario, "--cycles", "4"]), "--program", program]
+            status, output, _ = self.run_with(*words)
+            place = f"{cluster}:15:1: warning: "
+            self.assertEqual((status, output.splitlines()[0], place in output), (0, "fr_bench: accepted", True), words)
+            self.assertEqual(kept.read_text(), CLUSTER + (SCENARIO if scenario else ""))
+
+    def test_a_file_on_standard_input(self):
+        """It is the command's and not the program's, which has nothing there."""
+        program, kept = self.copying()
+        with open(self.written("cluster.toml", CLUSTER), "rb") as given:
+            ran = self.launch("/dev/stdin", "--program", program, stdin=given, stdout=subprocess.DEVNULL)
+        self.assertEqual((ran, kept.read_text()), ((0, ""), CLUSTER))
+
+    def test_no_room_for_a_copy(self):
+        name = self.pipe(CLUSTER)
+        with mock.patch.object(command, "NamedTemporaryFile", side_effect=OSError(28, "No space left on device")):
+            status, output, error = self.run_with(name, "--program", self.stub())
+        self.assertEqual((status, output), (2, ""))
+        self.assertEqual(error, f"fr_lint: {name} can't be copied: No space left on device\n")

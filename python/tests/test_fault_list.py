@@ -1,5 +1,6 @@
 """The list of single faults: of a cluster of two nodes by hand, narrowed, and beside faults that a scenario has."""
 import unittest
+from argparse import ArgumentTypeError
 
 from musmyrtle.cluster import Cluster
 from musmyrtle.cluster import Reading as ClusterReading
@@ -66,6 +67,24 @@ class TestList(unittest.TestCase):
     def test_words(self):
         self.assertEqual(numbers_of("1,3-5"), {1, 3, 4, 5})
         self.assertEqual(places_of("1,3-4,m7-8,s*,all"), {"s1", "s3", "s4", "m7", "m8", "s*", "all"})
+        self.assertEqual(numbers_of("3-3"), {3})
+        for word in ("4-3", "1,", "-1", "1-", "x", "12345"):
+            with self.assertRaises(ArgumentTypeError, msg=word):
+                numbers_of(word)
+
+    def test_what_the_cluster_does_not_have(self):
+        """The two nodes have two static slots and no minislots, the three nodes three and four."""
+        no_minislots = "it has no minislots"
+        for text, nodes, places, wanted in (
+                (TWO_NODES, "0,1", "1,2,s*,all", None), (TWO_NODES, "1-3", "1", "node 2: its nodes are 0 to 1"),
+                (TWO_NODES, "0", "0", "static slot 0: its static slots are 1 to 2"),
+                (TWO_NODES, "0", "2-9", "static slot 3: its static slots are 1 to 2"),
+                (TWO_NODES, "0", "m1", f"minislot 1: {no_minislots}"), (CLUSTER, "0-2", "1-3,m1-4,s*,all", None),
+                (CLUSTER, "2", "m0", "minislot 0: its minislots are 1 to 4"),
+                (CLUSTER, "2", "s*,m5", "minislot 5: its minislots are 1 to 4")):
+            selection = Selection(nodes=numbers_of(nodes), places=places_of(places))
+            self.assertEqual(selection.missing(cluster_of(text)), wanted, (nodes, places))
+        self.assertEqual(Selection().missing(cluster_of(TWO_NODES)), None)
 
     def test_a_window_takes_one_fault_of_a_kind(self):
         """What the scenario has already is left to it: of one cycle, of one slot, of all."""

@@ -6,10 +6,9 @@ from pathlib import Path
 from tempfile import TemporaryDirectory
 
 from musmyrtle import (
-    Babble, BadFault, BadLine, Corrupt, HostRefused, Mute, NoWindow, NotReceive, Refused, Scenario, SessionOver,
-    UnknownBuffer, UnknownName, UnknownNode, Window, World, WrongLength, WrongTurn,
+    Babble, BadFault, BadLine, Corrupt, HostRefused, Mute, NotInAScenario, NotReceive, NoWindow, Refused, Scenario,
+    SessionOver, UnknownBuffer, UnknownName, UnknownNode, Window, World, WrongLength, WrongTurn,
 )
-from musmyrtle.builder import NotInAScenario
 from musmyrtle.session import usual_world
 
 TOP = Path(__file__).resolve().parents[2]
@@ -101,6 +100,31 @@ class TestWorld(unittest.TestCase):
         self.assertEqual(self.world.record(0).corrupt, {})
         with self.assertRaises(ValueError):
             self.world.keep("mute 0 A")
+
+    def test_a_fault_line_may_end_as_in_a_file(self):
+        self.world.keep("mute 0 A * s1\n")
+        self.world.run(1)
+        self.assertEqual([it.fate for it in self.world.record(0).sent], ["muted", "passed"])
+
+    def test_a_block_brings_nothing_that_is_there_already_and_nothing_after_the_seal(self):
+        with self.world.fault(Mute(0, "A")):
+            self.world.inject(Mute(0, "A"))
+            self.world.window()
+            for node in map(self.world.node, range(3)):
+                node.look()
+                node.fetch()
+                node.put()
+            self.world.seal()
+            self.world.window()
+            self.world.run(2)
+        fates = [[it.fate for it in self.world.record(number).sent if it.node == 0] for number in (0, 1, 7)]
+        self.assertEqual(fates, [["muted", "passed"], [], ["muted", "passed"]])
+
+    def test_a_request_is_one_line(self):
+        for asked in (["now\nnow"], ["now", "now\n"]):
+            with self.assertRaises(ValueError):
+                self.world.send(asked)
+        self.assertEqual(self.world.ask("now"), "open 0 0 0 1 1")
 
     def test_a_whole_scenario(self):
         example = THREE_NODES.with_name("scenario").read_text()

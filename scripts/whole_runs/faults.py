@@ -1,5 +1,6 @@
 """Runs of `fr_faults` whole: its words, its statuses, its table, and runs that are broken off or given to
 `parallel`."""
+import os
 import re
 import shutil
 import signal
@@ -17,6 +18,9 @@ KILLED_AT = "#!/bin/sh\nfor last; do :; done\nif grep -q 'mute 0 A \\* s1$' \"$l
     "if grep -q 'mute 0 B \\* s1$' \"$last\"; then echo 'refused Memory' >&2; exit 1; fi\n" \
     "if grep -q 'mute 1 A \\* s2$' \"$last\"; then echo nothing; exit; fi\nexec '{}' \"$@\"\n"
 """A program that is killed by one fault, refuses another, and prints something else by a third."""
+
+NOTING = "#!/bin/sh\necho >>'{}'\n"
+"""A program that notes each time it is run, and prints nothing."""
 
 SLOW = "#!/bin/sh\nsleep 0.02\nexec '{}' \"$@\"\n"
 """A program slow enough that its list can be broken off."""
@@ -83,6 +87,56 @@ class Faults:
             output, _, status = self.ask(*words)
             self.runs.compare(f"the words {words}", (output, status), ("", 2))
 
+    def absent(self):
+        """Nodes, slots and minislots that the cluster doesn't have are told as cycles are that the run doesn't have."""
+        for words, told in ((["--nodes", "9", "--fail-on", "lost"], "cluster has no node 9: its nodes are 0 to 2"),
+                            (["--slots", "99"], "cluster has no static slot 99: its static slots are 1 to 3"),
+                            (["--slots", "m99"], "cluster has no minislot 99: its minislots are 1 to 4"),
+                            (["--in-cycle", "9"], "run has no cycle 9: it has 4 cycles")):
+            for more in ([], ["--list"]):
+                output, error, status = self.ask(*THREE_NODES, *words, *more)
+                wanted = "", f"fr_faults: error: the {told}", 2
+                self.runs.compare(f"the words {words + more}", (output, error.splitlines()[-1], status), wanted)
+        empty = self.ask(*THREE_NODES, "--kinds", "mute", "--slots", "all", "--list")
+        self.runs.compare("a place that no fault of the kind has", empty, ("", "", 0))
+
+    def outputs(self):
+        """Output that can't be written is told in a line, and who has read enough of it hears nothing."""
+        for words in ([*THREE_NODES, "--kinds", "mute"], [*THREE_NODES, "--list"], ["--help"]):
+            with open("/dev/full", "wb") as full:
+                got = run([*self.front, *words], output=full)
+            wanted = b"", b"fr_faults: the output can't be written: No space left on device\n", 2
+            self.runs.compare(f"{words} to a full device", got, wanted)
+            got = run([*self.front, *words], closed=(1,))
+            wanted = b"", b"fr_faults: the output can't be written: it is closed\n", 2
+            self.runs.compare(f"{words} to a closed output", got, wanted)
+            source, end = os.pipe()
+            os.close(source)
+            with open(end, "wb") as pipe:
+                self.runs.compare(f"{words} to nobody", run([*self.front, *words], output=pipe), (b"", b"", 0))
+
+    def unlike(self):
+        """A program that doesn't answer as the one that is meant is named, and so is one that can't be run."""
+        program, noted = self.folder / "noting", self.folder / "noted"
+        program.write_text(NOTING.format(noted))
+        program.chmod(0o755)
+        for word, told, status in (
+                ("--program", f"{program} doesn't answer as fr_view does: the last line has no line feed", 4),
+                ("--world", f"{program}: the program has ended", 4)):
+            got = self.ask(*THREE_NODES, word, program)
+            self.runs.compare(f"{word} of another program", got, ("", f"fr_faults: {told}\n", status))
+        told = "fr_faults: missing can't be run: No such file or directory\n"
+        for word in ("--program", "--world"):
+            self.runs.compare(f"{word} that isn't there", self.ask(*THREE_NODES, word, "missing"), ("", told, 2))
+        noted.unlink()
+        page = self.folder / "no folder/page.html"
+        told = f"fr_faults: --html {page}: No such file or directory\n"
+        got = self.ask(*THREE_NODES, "--html", page, "--program", program)
+        self.runs.compare("a page that can't be written", (got, noted.exists()), (("", told, 2), False))
+        page = self.folder / "unwritten.html"
+        status = self.ask(THREE_NODES[0], "missing", *THREE_NODES[2:], "--html", page)[2]
+        self.runs.compare("no page is left of what is refused", (status, page.exists()), (1, False))
+
     def failing(self, table):
         """A run that is killed or refused stands in the table as such, and all others as ever."""
         program = self.folder / "killed"
@@ -147,6 +201,9 @@ class Faults:
         table = self.whole()
         self.statuses(table)
         self.refused()
+        self.absent()
+        self.outputs()
+        self.unlike()
         self.failing(table)
         self.resumed(table)
         self.paged(table)

@@ -293,8 +293,8 @@ impl Wire {
         Ok((a, b))
     }
 
-    /// The same as `take`, with what the node sees on channel A and on B written over `a` and `b`, bytes over those that
-    /// are there. Refused as `take` is.
+    /// The same as `take`, with what the node sees on channel A and on B written over `a` and `b`, bytes over those
+    /// that are there. Refused as `take` is.
     pub fn take_into<R: Wait + Clock>(
         &self,
         rt: &R,

@@ -76,7 +76,7 @@ IsInTurn rs scripts node before e =
 abbrev pub IsInTurnAt : List Recorded → List Scripted → ℕ → List Entry → ℕ → Type 0
 IsInTurnAt rs scripts node entries k = IfSome (slice_get entries k) (IsInTurn rs scripts node (take k entries))
 
--- in the journal of the node each line was done in its cycle
+-- in the journal of the node each call came in the cycle of the line that it is taken for
 abbrev pub IsStepped : List Recorded → List Scripted → ℕ → State → Type 0
 IsStepped rs scripts node s = (k : ℕ) → IsInTurnAt rs scripts node s.entries k
 

@@ -213,9 +213,10 @@ fn is_stepped_at(
     }
 }
 
-/// Whether each task made the calls of its script's lines in the cycles of these (own profile): each once its node had
-/// fetched and observed all windows of the cycles before, and before it fetched the first window of the line's cycle. A
-/// task's lines are those of the first script that is for it, and its calls are taken for them in their order.
+/// Whether each call that a task made came in the cycle of the line that it is taken for (own profile): once its node
+/// had fetched and observed all windows of the cycles before, and before it fetched the first window of the line's
+/// cycle. A task's lines are those of the first script that is for it, and its calls are taken for them in their order.
+/// A line whose call is missing isn't looked for: `settle` tells that.
 ///
 /// Each journal is walked once.
 pub fn are_stepped(interfaces: &[Interface], recorded: &[Sealed], scripts: &[Script]) -> bool

@@ -36,7 +36,8 @@ pub enum RunError {
     /// The bus refused a call.
     #[error("Bus {0}")]
     Bus(BusError),
-    /// A thread couldn't be started, or the bus didn't come to its end.
+    /// The thread of a task, a controller or the bus couldn't be started, or the bus didn't come to its end with the
+    /// run's faults and, in a stepped run, each line in its cycle.
     #[error("Thread")]
     Thread,
     /// What the threads left doesn't agree.

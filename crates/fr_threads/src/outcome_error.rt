@@ -1,4 +1,5 @@
 //! Why the outcome of a run isn't printed.
+
 ghost use Rattle.std.specs.Prelude.{◌≡◌};
 ghost use Rattle.fr_threads.specs.declared.outcome_error.OutcomeError.TheVariants as refusal;
 ghost use Rattle.fr_threads.specs.Outcomes.{file_failure};
@@ -13,7 +14,8 @@ use thiserror::Error;
 /// crate below the names and values of that error.
 #[derive(Clone, Copy, Debug, Drop, PartialEq, Eq, Error)]
 pub enum OutcomeError {
-    /// The cluster file is refused, an input couldn't be read or was too long, or the output couldn't be written.
+    /// The cluster file is refused, an input couldn't be read or was too long, the output couldn't be written, or
+    /// memory was refused.
     #[error("{0}")]
     Text(BenchError),
     /// The scenario file is refused.

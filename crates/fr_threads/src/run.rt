@@ -366,7 +366,8 @@ fn run_all<R: Threads + Wait + Clock + Sync, G: Gate + Sync>(
 /// thread starts. Of several failures that threads meet the first of these is told: `Host`, `Slot`, `Bus`, `Thread` and
 /// `Memory`. Where they meet none, a bus that isn't at its end after so many cycles is `Thread`, and what doesn't agree
 /// by then is `Settle`. A record with other faults than those of the lines, or in a stepped run a line that wasn't done
-/// in its cycle, is `Thread` too. All threads are joined before it answers.
+/// in its cycle, is `Thread` too. All threads are joined before it answers. Its settling walks the journals in threads
+/// where these can be had, and one after another where not, and refuses nothing for that.
 pub fn run_threads<R: Threads + Wait + Clock + Sync, G: Gate + Sync>(
     rt: &R,
     alloc: Global,
