@@ -231,8 +231,8 @@ class World:
 
     @contextmanager
     def fault(self, fault: Fault | str, when: Callable[[Window], bool] = lambda window: True) -> Iterator[None]:
-        """Brings the fault into each window for which `when` is true, while the block runs. A window that has one of this
-        kind, node and channel keeps that one.
+        """Brings the fault into each window for which `when` is true, while the block runs. A window that has one of
+        this kind, node and channel keeps that one.
 
         A fault line, as a scenario has it, says itself where it comes: `world.fault("mute 2 A * s*")`.
         """
@@ -248,8 +248,8 @@ class World:
             self._faults.remove(entry)
 
     def keep(self, line: str) -> None:
-        """Has the world bring the fault of a scenario's fault line into each window that the line names from now on. The
-        line may end as it does in a file."""
+        """Has the world bring the fault of a scenario's fault line into each window that the line names from now on.
+        The line may end as it does in a file."""
         line = line.removesuffix("\n")
         if not is_fault_line(line):
             raise ValueError(f"no fault line: {line}")
