@@ -8,7 +8,7 @@ use Rattle.arrayvec.specs.ArrayVec.{ArrayVec}
 use Rattle.fr_bus.specs.declared.outcome.Fate.{Fate}
 use Rattle.fr_bus.specs.declared.outcome.Sent.{Sent}
 use Rattle.fr_bus.specs.declared.station.Side.{Side}
-use Rattle.fr_bus.specs.declared.station.Station.{Station}
+use Rattle.fr_bus.specs.Stations.{Station}
 use Rattle.fr_bus.specs.Outcome.{transmission, sent_in, sent_of, sent_from, fate_of}
 use Rattle.fr_slots.specs.Admission.{is_channel}
 use Rattle.fr_bus.specs.Record.{side_on, is_offer_of, offer_in, if_bytes, recordable}

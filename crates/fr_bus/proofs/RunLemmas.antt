@@ -10,7 +10,7 @@ use Rattle.fr_bus.proofs.NextLemmas.{next_is}
 use Rattle.fr_bus.specs.Courses.{Standpoint, IsCourse, course_of, passed, next_of}
 use Rattle.fr_bus.specs.declared.error.Phase.{Phase}
 use Rattle.fr_bus.specs.declared.error.Phase.TheVariants.{Collect, Sealed as InSealed, Finished}
-use Rattle.fr_bus.specs.declared.station.Station.{Station}
+use Rattle.fr_bus.specs.Stations.{Station}
 use Rattle.fr_bus.specs.Windows.{cycles_begun, following}
 use Rattle.fr_bus.specs.Outcome.{longest}
 use Rattle.fr_bus.specs.Record.{Recorded}

@@ -9,7 +9,7 @@ use Rattle.fr_bus.proofs.NextLemmas.{and_left}
 use Rattle.fr_bus.proofs.AscendLemmas.{and_right}
 use Rattle.fr_bus.specs.declared.outcome.Sent.{Sent}
 use Rattle.fr_bus.specs.declared.station.Side.{Side}
-use Rattle.fr_bus.specs.declared.station.Station.{Station}
+use Rattle.fr_bus.specs.Stations.{Station}
 use Rattle.fr_bus.specs.Outcome.{fate_of, transmission, sent_in, sent_of, sent_from, is_passed, passed_on, all_passed}
 use Rattle.fr_slots.specs.Admission.{is_channel}
 use Rattle.fr_bus.specs.Record.{Recorded, IsOutcome}

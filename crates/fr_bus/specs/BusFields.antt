@@ -11,7 +11,7 @@ state_in b = record {
   cycles = b.cycles;
   phase = b.phase;
   opened = b.opened;
-  stations = b.stations.items;
+  stations = b.stations;
   corrupt_a = slice_index_or b.corrupt 0 None;
   corrupt_b = slice_index_or b.corrupt 1 None;
   sealed = b.record.items;
@@ -21,5 +21,5 @@ state_in b = record {
 pub record IsLawful (b : Inside) : Type 0 where
   pub run : IsRun (state_in b)
   pub course_is : b.course ≡ course_of b.guardian.params b.cycles b.record.items
-  pub put_count_is : b.put_count ≡ count_by is_put b.stations.items
-  pub taken_count_is : b.taken_count ≡ count_by is_taken b.stations.items
+  pub put_count_is : b.put_count ≡ count_by is_put b.stations
+  pub taken_count_is : b.taken_count ≡ count_by is_taken b.stations

@@ -4,6 +4,8 @@ pub mod Record
 pub mod SealedFields
 pub mod Windows
 pub mod States
+pub mod Stations
+pub mod StationsFields
 pub mod BusFields
 pub mod Courses
 pub mod CourseFields

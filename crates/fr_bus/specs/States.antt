@@ -14,7 +14,8 @@ use Rattle.fr_bus.specs.declared.fault.Fault.{Fault}
 use Rattle.fr_bus.specs.declared.fault.Fault.TheVariants.{Babble, Mute, Corrupt}
 use Rattle.fr_bus.specs.declared.outcome.Sent.{Sent}
 use Rattle.fr_bus.specs.declared.station.Side.{Side}
-use Rattle.fr_bus.specs.declared.station.Station.{Station}
+use Rattle.fr_bus.specs.Stations.{Station}
+pub use Rattle.fr_bus.specs.Stations.{silent_side}
 use Rattle.fr_bus.specs.Windows.{following}
 use Rattle.fr_bus.specs.Outcome.{sent_from, all_passed}
 use Rattle.fr_bus.specs.Record.{Recorded, IsOutcome, seen_by, side_on}
@@ -88,9 +89,6 @@ OneSenderEach d rs = (r : Recorded) (channel : Channel) (slot : ℕ) (t : Sent)
 
 -- ---- the stations
 
-abbrev pub silent_side : Side
-silent_side = record { offer = None; babble = None; mute = false }
-
 abbrev pub idle_station : Station
 idle_station = record { put = false; taken = false; a = silent_side; b = silent_side }
 
@@ -106,6 +104,9 @@ with_side B side s = record s { b = side }
 
 abbrev pub offering : Station → Offer → Station
 offering s offer = record s { put = true; a = record s.a { offer = offer.a }; b = record s.b { offer = offer.b } }
+
+abbrev pub taking : Station → Station
+taking s = record s { taken = true }
 
 abbrev pub babbling : Channel → ArrayVec ℕ → Station → Station
 babbling channel bytes s = with_side channel (record (side_on channel s) { babble = Some bytes }) s
@@ -243,7 +244,7 @@ take_refusal b node number =
     else None
 
 abbrev pub take_done : BusState → ℕ → BusState
-take_done b node = with_station b node (record (station_at b node) { taken = true })
+take_done b node = with_station b node (taking (station_at b node))
 
 abbrev pub seen_where : BusState → Option Recorded → Channel → ℕ → Seen
 seen_where b None channel node = Silence

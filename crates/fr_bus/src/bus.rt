@@ -11,7 +11,7 @@ use crate::course::Course;
 use crate::error::{BusError, Phase};
 use crate::fault::Fault;
 use crate::outcome::{Sealed, all_sent};
-use crate::station::{Station, clear, idle_stations};
+use crate::station::Stations;
 use fr_frame::frame::Bytes;
 use fr_guardian::guardian::Guardian;
 use fr_interface::interface::Offer;
@@ -40,7 +40,7 @@ pub struct Bus {
     /// How far the run has come, with the windows of the record.
     course: Course,
     /// One for each node.
-    stations: Vec<Station>,
+    stations: Stations,
     /// How many stations have put in the open window, so that none is read to know whether all have.
     put_count: usize,
     /// How many stations have taken in it.
@@ -67,10 +67,9 @@ fn sealed_window(
     alloc: Global,
     guardian: &Guardian,
     window: Window,
-    stations: &[Station],
+    stations: &Stations,
     corrupt: [Option<u16>; 2],
 ) -> Result<Sealed, AllocError>
-    requires { length stations.now ≤ 16 }
     ensures { IfOk result
         (λ s.
         s
@@ -141,7 +140,7 @@ impl Bus {
         let Ok(guardian) = Guardian::new(alloc, cluster) else {
             return Err(BusError::Memory);
         };
-        let Ok(stations) = idle_stations(alloc, usize::from(cluster.nodes())) else {
+        let Ok(stations) = Stations::idle(alloc, usize::from(cluster.nodes())) else {
             return Err(BusError::Memory);
         };
         let course = Course::new(cluster.params(), cycles);
@@ -267,11 +266,10 @@ impl Bus {
         if !has_number(number, &self.opened) {
             return Err(BusError::WrongWindow);
         }
-        let station = &mut self.stations[usize::from(node.number())];
-        if station.put {
+        if self.stations.has_put(node) {
             return Err(BusError::AlreadyPut);
         }
-        station.put(offer);
+        self.stations.put(node, offer);
         self.put_count += 1;
         Ok(())
     }
@@ -288,11 +286,10 @@ impl Bus {
         if !self.phase.collects() {
             return Err(BusError::NotCollecting);
         }
-        let station = &mut self.stations[usize::from(node.number())];
-        if station.side(channel).babble.is_some() {
+        if self.stations.side(node, channel).babble.is_some() {
             return Err(BusError::TooManyFaults);
         }
-        station.babble(channel, bytes);
+        self.stations.babble(node, channel, bytes);
         Ok(())
     }
 
@@ -308,11 +305,10 @@ impl Bus {
         if !self.phase.collects() {
             return Err(BusError::NotCollecting);
         }
-        let station = &mut self.stations[usize::from(node.number())];
-        if station.side(channel).mute {
+        if self.stations.side(node, channel).mute {
             return Err(BusError::TooManyFaults);
         }
-        station.mute(channel);
+        self.stations.mute(node, channel);
         Ok(())
     }
 
@@ -451,13 +447,12 @@ impl Bus {
         if !has_number(number, &self.opened) {
             return Err(BusError::WrongWindow);
         }
-        let place = usize::from(node.number());
-        if self.stations[place].taken {
+        if self.stations.has_taken(node) {
             return Err(BusError::AlreadyTaken);
         }
         self.see_last(node, Channel::A, a);
         self.see_last(node, Channel::B, b);
-        self.stations[place].taken = true;
+        self.stations.take(node);
         self.taken_count += 1;
         Ok(())
     }
@@ -477,7 +472,7 @@ impl Bus {
         if !self.all_taken() {
             return Err(BusError::NotAllTaken);
         }
-        clear(&mut self.stations);
+        self.stations.clear();
         self.put_count = 0;
         self.taken_count = 0;
         self.corrupt = [None, None];

@@ -7,6 +7,8 @@ ghost use Rattle.std.specs.Option.{option_copied};
 ghost use Rattle.fr_bus.specs.Outcome.{fate_of, transmission, sent_on, sent_in, sent_of, sent_from, passed_on, is_of};
 ghost use Rattle.fr_bus.specs.Outcome.{heard_of, overruns, seen_of, all_passed, received, longest};
 ghost use Rattle.fr_bus.specs.Record.{is_offer_of, offer_in};
+ghost use Rattle.fr_bus.specs.States.{idle_station};
+ghost use Rattle.std.specs.Prelude.{slice_index_or};
 ghost use Rattle.fr_bus.specs.Corruption.{turned, with_bit_turned, corrupted};
 ghost use Rattle.fr_slots.specs.declared.channel.Channel.TheVariants as Channel;
 ghost use Rattle.fr_guardian.specs.Guarding.{passes};
@@ -14,7 +16,7 @@ ghost use Rattle.fr_slots.specs.Windows.{slot_of};
 ghost use Rattle.fr_status.specs.Lent.{whole_seen};
 ghost use Rattle.fr_status.specs.declared.seen.Seen.TheVariants as Sight;
 
-use crate::station::{Side, Station, write_over};
+use crate::station::{Side, Stations, write_over};
 use fr_frame::frame::{Bytes, duplicate_bytes};
 use fr_guardian::guardian::Guardian;
 use fr_slots::channel::Channel;
@@ -190,24 +192,28 @@ fn add_station(
     guardian: &Guardian,
     window: &Window,
     node: NodeId,
-    station: &Station,
+    stations: &Stations,
 ) -> Result<(), AllocError>
-    ensures { OnOk result (list.new.items ≡ list.old.items ++ sent_of guardian.now window.now node station.now) }
+    requires { node < length stations.now }
+    ensures { OnOk result (list.new.items
+        ≡ list.old.items ++ sent_of guardian.now window.now node (slice_index_or stations.now node idle_station)) }
 {
-    add_in(list, guardian, window, node, Channel::A, &station.a)?;
-    add_in(list, guardian, window, node, Channel::B, &station.b)
-}
-
-/// How many offers and babbles there are, of which some may be no transmissions.
-fn count_offered(stations: &[Station]) -> usize
-    requires { length stations.now ≤ 16 }
-    ensures { result ≤ 64 }
-{
-    let mut count = 0;
-    for station in stations {
-        count += station.count_offered();
-    }
-    count
+    add_in(
+        list,
+        guardian,
+        window,
+        node,
+        Channel::A,
+        stations.side(node, Channel::A),
+    )?;
+    add_in(
+        list,
+        guardian,
+        window,
+        node,
+        Channel::B,
+        stations.side(node, Channel::B),
+    )
 }
 
 /// What all nodes send. The list has room for these alone, so no transmission is moved as it grows.
@@ -215,20 +221,14 @@ pub(crate) fn all_sent(
     alloc: Global,
     guardian: &Guardian,
     window: &Window,
-    stations: &[Station],
+    stations: &Stations,
 ) -> Result<Vec<Sent>, AllocError>
-    requires { length stations.now ≤ 16 }
     ensures { IfOk result (λ list. list.items ≡ sent_from guardian.now window.now 0 stations.now) }
 {
-    let mut list = Vec::with_capacity(alloc, count_offered(stations))?;
-    for (number, station) in stations.iter().enumerate() {
-        add_station(
-            &mut list,
-            guardian,
-            window,
-            NodeId::from_number(number as u8),
-            station,
-        )?;
+    let mut list = Vec::with_capacity(alloc, stations.count_offered())?;
+    for number in 0..stations.len() {
+        let node = NodeId::from_number(number as u8);
+        add_station(&mut list, guardian, window, node, stations)?;
     }
     Ok(list)
 }

@@ -1,14 +1,18 @@
 //! What the nodes put and take in the open window, and the faults that name them.
 
-ghost use Rattle.std.specs.Prelude.{◌≡◌, ◌≤◌, length, replicate, None, Some, OnErr, OnOk, IfOk};
+ghost use Rattle.std.specs.Prelude.{◌≡◌, ◌<◌, ◌≤◌, length, replicate, None, Some, OnErr, OnOk, IfOk};
+ghost use Rattle.std.specs.Prelude.{slice_index_or, slice_set};
 ghost use Rattle.std.specs.Result.{result_err};
 ghost use Rattle.fr_bus.specs.Record.{side_on};
-ghost use Rattle.fr_bus.specs.States.{idle_station, silent_side, offering, babbling, muting};
+ghost use Rattle.fr_bus.specs.States.{idle_station, silent_side, offering, taking, babbling, muting};
+ghost use Rattle.fr_bus.specs.Stations.{side_in, silent_sides, with_offers, with_babble, with_mute};
 
 use fr_frame::frame::{Bytes, duplicate_bytes};
 use fr_interface::interface::Offer;
 use fr_slots::channel::Channel;
+use fr_slots::numbers::NodeId;
 use std::alloc::{AllocError, Global};
+use std::marker::Model;
 
 /// What a node sends on one channel of the open window.
 #[derive(Drop)]
@@ -21,21 +25,17 @@ pub(crate) struct Side {
     pub(crate) mute: bool,
 }
 
-/// What a node does in the open window.
+/// What a node sends on both channels of the open window.
 #[derive(Drop)]
-pub(crate) struct Station {
-    /// Whether it has put its offer, which may be nothing on both channels.
-    pub(crate) put: bool,
-    /// Whether it has taken what it sees.
-    pub(crate) taken: bool,
-    pub(crate) a: Side,
-    pub(crate) b: Side,
+struct Sides {
+    a: Side,
+    b: Side,
 }
 
-impl Station {
-    /// What it does on the channel.
-    pub(crate) fn side(&self, channel: Channel) -> &Side
-        ensures { result.now ≡ side_on channel self.now }
+impl Sides {
+    /// What is sent on the channel.
+    fn side(&self, channel: Channel) -> &Side
+        ensures { result.now ≡ side_in channel self.now }
     {
         match channel {
             Channel::A => &self.a,
@@ -43,18 +43,17 @@ impl Station {
         }
     }
 
-    /// Keeps a copy of what the node offers.
-    pub(crate) fn put(&mut self, offer: &Offer)
-        ensures { self.new ≡ offering self.old offer.now }
+    /// Keeps a copy of what is offered.
+    fn put(&mut self, offer: &Offer)
+        ensures { self.new ≡ with_offers self.old offer.now }
     {
-        self.put = true;
         keep(&mut self.a.offer, &offer.a);
         keep(&mut self.b.offer, &offer.b);
     }
 
-    /// Adds a transmission of the node.
-    pub(crate) fn babble(&mut self, channel: Channel, bytes: Bytes)
-        ensures { self.new ≡ babbling channel bytes self.old }
+    /// Adds a transmission.
+    fn babble(&mut self, channel: Channel, bytes: Bytes)
+        ensures { self.new ≡ with_babble channel bytes self.old }
     {
         match channel {
             Channel::A => self.a.babble = Some(bytes),
@@ -62,9 +61,9 @@ impl Station {
         }
     }
 
-    /// Loses the node's offer on the channel.
-    pub(crate) fn mute(&mut self, channel: Channel)
-        ensures { self.new ≡ muting channel self.old }
+    /// Loses the offer on the channel.
+    fn mute(&mut self, channel: Channel)
+        ensures { self.new ≡ with_mute channel self.old }
     {
         match channel {
             Channel::A => self.a.mute = true,
@@ -74,30 +73,171 @@ impl Station {
 
     /// Forgets all that was done.
     fn clear(&mut self)
-        ensures { self.new ≡ idle_station }
+        ensures { self.new ≡ silent_sides }
     {
-        self.put = false;
-        self.taken = false;
         self.a.clear();
         self.b.clear();
     }
 
-    /// How many transmissions it may have.
-    pub(crate) fn count_offered(&self) -> usize
+    /// How many transmissions there may be.
+    fn count_offered(&self) -> usize
         ensures { result ≤ 4 }
     {
         self.a.count_offered() + self.b.count_offered()
     }
 }
 
+/// What all nodes do in the open window, 16 at the most.
+///
+/// Who has put and taken stands beside the bus's counts, since each call of a node writes it, and apart from what is
+/// sent, since few nodes send: so a call of a node that sends nothing leaves the others' cache lines alone.
+#[derive(Drop)]
+pub(crate) struct Stations {
+    /// Who has put its offer, which may be nothing on both channels.
+    put: [bool; 16],
+    /// Who has taken what it sees.
+    taken: [bool; 16],
+    /// What each node sends.
+    sides: Vec<Sides>,
+}
+
+impl Model for Stations {
+    ghost use Rattle.std.specs.Prelude.{List};
+    ghost use Rattle.fr_bus.specs.Stations.{Station};
+
+    ghost Value = { List Station };
+
+    ghost use Rattle.fr_bus.specs.StationsFields.{stations_in, HasRoom};
+
+    ghost view = { stations_in };
+
+    ghost invariant = { HasRoom };
+}
+
+impl Stations {
+    /// So many stations that have done nothing yet.
+    #[tactic(auto, using(crate::proofs::StationLemmas::stations_idle))]
+    pub(crate) fn idle(alloc: Global, count: usize) -> Result<Stations, AllocError>
+        requires { count ≤ 16 }
+        ensures { IfOk result (λ stations. stations ≡ replicate count idle_station) }
+    {
+        Ok(Stations {
+            put: [false; 16],
+            taken: [false; 16],
+            sides: silent_sides(alloc, count)?,
+        })
+    }
+
+    /// How many there are.
+    #[tactic(auto, using(crate::proofs::StationLemmas::length_stations))]
+    pub(crate) fn len(&self) -> usize
+        ensures value { result ≡ length self.now }
+        ensures few { result ≤ 16 }
+    {
+        self.sides.len()
+    }
+
+    /// Whether the node has put its offer.
+    pub(crate) fn has_put(&self, node: NodeId) -> bool
+        requires { node < length self.now }
+        ensures { result ≡ (slice_index_or self.now node idle_station).put }
+    {
+        self.put[usize::from(node.number())]
+    }
+
+    /// Whether the node has taken what it sees.
+    pub(crate) fn has_taken(&self, node: NodeId) -> bool
+        requires { node < length self.now }
+        ensures { result ≡ (slice_index_or self.now node idle_station).taken }
+    {
+        self.taken[usize::from(node.number())]
+    }
+
+    /// What the node does on the channel.
+    #[tactic(auto, using(crate::proofs::StationLemmas::length_stations))]
+    pub(crate) fn side(&self, node: NodeId, channel: Channel) -> &Side
+        requires { node < length self.now }
+        ensures { result.now ≡ side_on channel (slice_index_or self.now node idle_station) }
+    {
+        self.sides[usize::from(node.number())].side(channel)
+    }
+
+    /// Keeps a copy of what the node offers.
+    #[tactic(auto, using(crate::proofs::StationLemmas::length_stations))]
+    pub(crate) fn put(&mut self, node: NodeId, offer: &Offer)
+        requires { node < length self.old }
+        ensures { self.new ≡ slice_set self.old node (offering (slice_index_or self.old node idle_station) offer.now) }
+    {
+        let place = usize::from(node.number());
+        self.put[place] = true;
+        self.sides[place].put(offer);
+    }
+
+    /// Has the node take what it sees.
+    pub(crate) fn take(&mut self, node: NodeId)
+        requires { node < length self.old }
+        ensures { self.new ≡ slice_set self.old node (taking (slice_index_or self.old node idle_station)) }
+    {
+        self.taken[usize::from(node.number())] = true;
+    }
+
+    /// Adds a transmission of the node.
+    #[tactic(auto, using(crate::proofs::StationLemmas::length_stations))]
+    pub(crate) fn babble(&mut self, node: NodeId, channel: Channel, bytes: Bytes)
+        requires { node < length self.old }
+        ensures { self.new ≡ slice_set self.old node (babbling channel bytes (slice_index_or self.old node idle_station)) }
+    {
+        self.sides[usize::from(node.number())].babble(channel, bytes);
+    }
+
+    /// Loses the node's offer on the channel.
+    #[tactic(auto, using(crate::proofs::StationLemmas::length_stations))]
+    pub(crate) fn mute(&mut self, node: NodeId, channel: Channel)
+        requires { node < length self.old }
+        ensures { self.new ≡ slice_set self.old node (muting channel (slice_index_or self.old node idle_station)) }
+    {
+        self.sides[usize::from(node.number())].mute(channel);
+    }
+
+    /// Readies all for the next window. No bytes are moved for that.
+    pub(crate) fn clear(&mut self)
+        ensures { self.new ≡ replicate (length self.old) idle_station }
+    {
+        self.put = [false; 16];
+        self.taken = [false; 16];
+        clear_sides(&mut self.sides);
+    }
+
+    /// How many transmissions there may be.
+    pub(crate) fn count_offered(&self) -> usize
+        ensures { result ≤ 64 }
+    {
+        count_offered(self.sides.as_slice())
+    }
+}
+
+/// How many offers and babbles there are, of which some may be no transmissions.
+fn count_offered(sides: &[Sides]) -> usize
+    requires { length sides.now ≤ 16 }
+    ensures { result ≤ 64 }
+{
+    let mut count = 0;
+    for both in sides {
+        count += both.count_offered();
+    }
+    count
+}
+
 impl Side {
-    /// Forgets all that was done.
+    /// Forgets all that was done. Nothing is written where nothing was done.
     fn clear(&mut self)
         ensures { self.new ≡ silent_side }
     {
         forget(&mut self.offer);
         forget(&mut self.babble);
-        self.mute = false;
+        if self.mute {
+            self.mute = false;
+        }
     }
 
     /// How many transmissions it may have.
@@ -162,34 +302,32 @@ fn silent_side() -> Side
     }
 }
 
-/// A station that has done nothing yet.
-fn idle_station() -> Station
-    ensures { result ≡ idle_station }
+/// What a node sends that has done nothing yet.
+fn silent_both() -> Sides
+    ensures { result ≡ silent_sides }
 {
-    Station {
-        put: false,
-        taken: false,
+    Sides {
         a: silent_side(),
         b: silent_side(),
     }
 }
 
-/// Readies all stations for the next window. No bytes are moved for that.
-pub(crate) fn clear(stations: &mut Vec<Station>)
-    ensures { stations.new.items ≡ replicate (length stations.old.items) idle_station }
+/// Forgets all that was done.
+fn clear_sides(sides: &mut Vec<Sides>)
+    ensures { sides.new.items ≡ replicate (length sides.old.items) silent_sides }
 {
-    for place in 0..stations.len() {
-        stations[place].clear();
+    for place in 0..sides.len() {
+        sides[place].clear();
     }
 }
 
-/// So many stations.
-pub(crate) fn idle_stations(alloc: Global, count: usize) -> Result<Vec<Station>, AllocError>
-    ensures { IfOk result (λ stations. stations.items ≡ replicate count idle_station) }
+/// What so many nodes send that have done nothing yet.
+fn silent_sides(alloc: Global, count: usize) -> Result<Vec<Sides>, AllocError>
+    ensures { IfOk result (λ sides. sides.items ≡ replicate count silent_sides) }
 {
-    let mut stations = Vec::new(alloc);
+    let mut sides = Vec::new(alloc);
     for _place in 0..count {
-        stations.push(idle_station())?;
+        sides.push(silent_both())?;
     }
-    Ok(stations)
+    Ok(sides)
 }

@@ -11,7 +11,7 @@ use Rattle.arrayvec.specs.ArrayVec.{ArrayVec}
 use Rattle.fr_bus.specs.declared.error.BusError.{BusError}
 use Rattle.fr_bus.specs.declared.fault.Fault.{Fault}
 use Rattle.fr_bus.specs.declared.fault.Fault.TheVariants.{Babble, Mute, Corrupt}
-use Rattle.fr_bus.specs.declared.station.Station.{Station}
+use Rattle.fr_bus.specs.Stations.{Station}
 use Rattle.fr_bus.specs.Record.{Recorded}
 use Rattle.fr_bus.specs.States.{BusState, collects, seals, station_at, with_station, idle_station, offering, babbling}
 use Rattle.fr_bus.specs.States.{muting, is_node, has_fault, inject_refusal, inject_done, all_put, all_taken, is_put}

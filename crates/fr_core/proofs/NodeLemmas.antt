@@ -8,7 +8,7 @@ use Rattle.std.proofs.lemmas.List.{append-nil, map-append}
 use Rattle.arrayvec.specs.ArrayVec.{ArrayVec}
 use Rattle.fr_bus.specs.declared.error.Phase.{Phase}
 use Rattle.fr_bus.specs.declared.error.Phase.TheVariants.{Collect, Sealed as InSealed, Finished}
-use Rattle.fr_bus.specs.declared.station.Station.{Station}
+use Rattle.fr_bus.specs.Stations.{Station}
 use Rattle.fr_bus.specs.Record.{Recorded, offer_in, recordable}
 use Rattle.fr_bus.specs.States.{collects, seals, idle_station, offering}
 use Rattle.fr_core.proofs.CaseLemmas.{differ}

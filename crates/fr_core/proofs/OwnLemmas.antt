@@ -11,7 +11,7 @@ use Rattle.fr_bus.specs.declared.outcome.Fate.{Fate}
 use Rattle.fr_bus.specs.declared.outcome.Fate.TheVariants.{Passed, Blocked, Muted}
 use Rattle.fr_bus.specs.declared.outcome.Sent.{Sent}
 use Rattle.fr_bus.specs.declared.station.Side.{Side}
-use Rattle.fr_bus.specs.declared.station.Station.{Station}
+use Rattle.fr_bus.specs.Stations.{Station}
 use Rattle.fr_bus.specs.Outcome.{fate_of, transmission, sent_in, sent_of, sent_from, is_passed, all_passed, is_of}
 use Rattle.fr_bus.specs.Outcome.{seen_of}
 use Rattle.fr_slots.specs.Admission.{is_channel}

@@ -6,7 +6,7 @@ use Rattle.std.specs.List.{list_all}
 use Rattle.arrayvec.specs.ArrayVec.{ArrayVec}
 use Rattle.fr_bus.specs.declared.outcome.Sent.{Sent}
 use Rattle.fr_bus.specs.declared.station.Side.{Side}
-use Rattle.fr_bus.specs.declared.station.Station.{Station}
+use Rattle.fr_bus.specs.Stations.{Station}
 use Rattle.fr_bus.specs.Outcome.{fate_of, transmission, sent_in, sent_of, sent_from}
 use Rattle.fr_core.proofs.CaseLemmas.{both, both_first, both_rest}
 use Rattle.fr_guardian.specs.Guarding.{passes}

@@ -4,7 +4,7 @@ use Rattle.std.specs.Prelude.{Option, Some, None, if◌then◌else◌}
 use Rattle.arrayvec.specs.ArrayVec.{ArrayVec}
 use Rattle.fr_bus.specs.declared.error.Phase.{Phase}
 use Rattle.fr_bus.specs.declared.error.Phase.TheVariants.{Collect, Sealed as InSealed, Finished}
-use Rattle.fr_bus.specs.declared.station.Station.{Station}
+use Rattle.fr_bus.specs.Stations.{Station}
 use Rattle.fr_bus.specs.Record.{Recorded, recordable, seen_by}
 use Rattle.fr_bus.specs.States.{BusState, collects, station_at}
 use Rattle.fr_core.specs.Agreeing.{Handed, Sight, fetched, sight_of, observed, offers_of, sights_of}
