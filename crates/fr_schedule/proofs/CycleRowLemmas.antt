@@ -1,14 +1,15 @@
 -- The cycles of a class, one repetition after another.
 use Rattle.std.proofs.Common.{◌≡◌, ℕ, zero, suc, ◌+◌, ◌-◌, ◌*◌, ◌/◌, ◌%◌, ◌<◌, ◌≤◌, ◌==◌, Bool, true, false, not, cond, ◌&&◌, ◌||◌}
-use Rattle.std.proofs.Common.{List, [], ◌∷◌, Option, Some, None, refl, sym, ap, subst, ◌∙◌, inl, inr, arith}
+use Rattle.std.proofs.Common.{List, [], ◌∷◌, get_or, take, drop, replicate, Option, Some, None, refl, sym, ap, subst, ◌∙◌, inl, inr, arith}
 use Rattle.std.proofs.lemmas.Bool.{and_parts, cases_Bool, cases_lt, eqb-true, eq-eqb, false_from_ne_true}
+use Rattle.std.proofs.lemmas.List.{get_or-drop, get_or-replicate, get_or-take}
 use Rattle.std.proofs.lemmas.Nat.{mod-mul-add}
 use Rattle.std.proofs.Math.Nat.{div-mul-le_self, mul-le-mul_right}
 use Rattle.std.specs.List.{list_any}
 use Rattle.fr_slots.specs.Admission.{CycleClass, cycle_admitted, is_repetition, repetitions}
 use Rattle.fr_slots.specs.Faults.{first_of, numbers_from}
 use Rattle.fr_slots.proofs.FaultLemmas.{first-goes_on, first-found, first-ended}
-use Rattle.fr_schedule.specs.DenseTable.{at_place, nobody, taken_in}
+use Rattle.fr_schedule.specs.DenseTable.{IsRowFree, at_place, first_taken_in, nobody, taken_in}
 
 -- a turn lies within the row
 pub turn_within : (turn step : ℕ) → turn < 64 / step → turn * step + step ≤ 64
@@ -111,3 +112,29 @@ turn_ended f turn r o is all first =
     let whole : 64 / r * r ≡ 64 = ended_of r repetitions refl is in
     let end : 64 / r * r ≤ turn * r = mul-le-mul_right r all in
     first-ended f (turn * r) 64 o (omega (arith, whole, end)) first
+
+-- ---- a row in which no node stands
+
+-- of a row that is all free no place is taken
+pub row_is_free : (nodes : List ℕ) (start : ℕ) → take 64 (drop start nodes) ≡ replicate 64 nobody → IsRowFree start nodes
+row_is_free nodes start same cycle below =
+    sym (get_or-drop start nodes cycle nobody)
+    ∙ sym (get_or-take 64 (drop start nodes) cycle nobody below)
+    ∙ ap (λ (row : List ℕ). get_or row cycle nobody) same
+    ∙ get_or-replicate 64 cycle nobody nobody below
+
+not_taken : (nodes : List ℕ) (start : ℕ) (c : CycleClass) (cycle : ℕ) → at_place nodes (start + cycle) ≡ nobody → taken_in nodes start c cycle ≡ None
+not_taken nodes start c cycle free =
+    ap (λ (n : ℕ). let r : Option ℕ = cond (cycle_admitted c cycle && not (n == nobody)) (Some cycle) None in r) free
+    ∙ either (cycle_admitted c cycle)
+  where
+    either : (b : Bool) → let r : Option ℕ = cond (b && false) (Some cycle) None in r ≡ None
+    either true = refl
+    either false = refl
+
+pub free_row_gives_none : (nodes : List ℕ) (start : ℕ) (c : CycleClass) → IsRowFree start nodes → None ≡ first_taken_in nodes start c
+free_row_gives_none nodes start c free =
+    let f : ℕ → Option ℕ = taken_in nodes start c in
+    first-ended f 64 64 (first_of f (numbers_from 0 64)) (omega arith)
+    (first_passed f 0 64 64 (first_of f (numbers_from 0 64)) (omega arith)
+    (λ j lt. let same : j ≡ 0 + j = omega arith in ap f (sym same) ∙ not_taken nodes start c j (free j lt)) refl)

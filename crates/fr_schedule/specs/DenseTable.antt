@@ -40,6 +40,16 @@ taken_in nodes start c cycle = if is_taken_in nodes start c cycle then Some cycl
 abbrev pub first_taken_in : List ℕ → ℕ → CycleClass → Option ℕ
 first_taken_in nodes start c = first_of (taken_in nodes start c) cycles
 
+-- no node stands in the row
+abbrev pub IsRowFree : ℕ → List ℕ → Type 0
+IsRowFree start nodes = (cycle : ℕ) → cycle < cycle_count → at_place nodes (start + cycle) ≡ nobody
+
+-- the node stands at every cycle of the row, and all else is as it was
+pub record IsRowFilled (start node : ℕ) (old new : List ℕ) : Type 0 where
+  pub size : length new ≡ length old
+  pub within : (cycle : ℕ) → cycle < cycle_count → at_place new (start + cycle) ≡ node
+  pub outside : (place : ℕ) → (place < start) ⊎ (start + cycle_count ≤ place) → at_place new place ≡ at_place old place
+
 -- up to a cycle of the row the node stands at these cycles, and all else is as it was
 pub record IsRowEntered (upto start : ℕ) (c : CycleClass) (node : ℕ) (old new : List ℕ) : Type 0 where
   pub size : length new ≡ length old

@@ -97,8 +97,8 @@ impl Cluster {
         cluster_of(alloc, &root)
     }
 
-    /// The same, for a program that reads one cluster file and ends: the memory of the parsed table isn't given back, since
-    /// taking the table apart takes a tenth of the time of reading it.
+    /// The same, for a program that reads one cluster file and ends: the memory of the parsed table isn't given back,
+    /// since taking the table apart takes a tenth of the time of reading it.
     pub fn from_text_leaking(alloc: Global, text: &str) -> Result<Cluster, ConfigError>
         ensures told { ¬ (result ≡ Err error.Memory) → result ≡ described text.now }
         ensures lawful { IfOk result IsCluster }

@@ -1,6 +1,6 @@
 //! The sender table: which node sends in a slot, on a channel and in a cycle.
 
-ghost use Rattle.std.specs.Prelude.{◌≡◌, ◌+◌, ◌*◌, ◌<◌, ◌≤◌, ◌==◌, not, length, None, Some, IfOk, IfErr};
+ghost use Rattle.std.specs.Prelude.{◌≡◌, ◌+◌, ◌*◌, ◌<◌, ◌≤◌, ◌==◌, not, length, None, Some, IfOk, IfErr, IsTrue};
 ghost use Rattle.fr_slots.specs.Faults.{cycles};
 ghost use Rattle.fr_slots.specs.Numbers.{IsSlot, cycle_count};
 ghost use Rattle.fr_slots.specs.Plans.{Each};
@@ -9,6 +9,7 @@ ghost use Rattle.fr_schedule.specs.Claims.{IsClaim, filters_of};
 ghost use Rattle.fr_schedule.specs.DenseTable.{occasions, nobody, at_place, first_taken_in, IsRowEntered, is_retaken_on};
 ghost use Rattle.fr_schedule.specs.DenseTable.{is_retaken};
 ghost use Rattle.fr_schedule.specs.DenseTable.{IsEntered, AreEntered, IsFree, is_admitted_on, free, HasClaims};
+ghost use Rattle.fr_schedule.specs.DenseTable.{IsRowFree, IsRowFilled};
 ghost use Rattle.fr_schedule.specs.declared.error.ConfigError.TheVariants as error;
 ghost use Rattle.fr_schedule.specs.FileFaults.{file_fault};
 
@@ -31,6 +32,9 @@ pub(crate) const OCCASIONS: usize = LAST_SLOT as usize * 2 * ROW;
 
 /// What stands where no node sends.
 pub(crate) const NOBODY: u8 = u8::MAX;
+
+/// A row in which no node sends.
+const FREE_ROW: [u8; ROW] = [NOBODY; ROW];
 
 /// Where the row of the slot on the channel starts.
 fn start_of(slot: SlotId, channel: Channel) -> usize
@@ -63,8 +67,16 @@ fn is_taken_at(nodes: &[u8], place: usize) -> bool
     nodes[place] != NOBODY
 }
 
-/// The first of the cycles at which a node stands in the row that starts there.
-fn first_taken_in(nodes: &[u8], start: usize, cycles: CycleFilter) -> Option<Cycle>
+/// Whether no node stands in the row that starts there.
+fn is_row_free(nodes: &[u8], start: usize) -> bool
+    requires { start + cycle_count ≤ length nodes.now }
+    ensures { IsTrue result → IsRowFree start nodes.now }
+{
+    &nodes[start..start + ROW] == FREE_ROW.as_slice()
+}
+
+/// The first of the cycles at which a node stands in the row that starts there, looked for cycle by cycle.
+fn search_row(nodes: &[u8], start: usize, cycles: CycleFilter) -> Option<Cycle>
     requires { start + cycle_count ≤ length nodes.now }
     ensures { result ≡ first_taken_in nodes.now start cycles }
 {
@@ -79,8 +91,29 @@ fn first_taken_in(nodes: &[u8], start: usize, cycles: CycleFilter) -> Option<Cyc
     None
 }
 
-/// Enters the node at the cycles in the row that starts there.
-fn enter_row(nodes: &mut [u8], start: usize, cycles: CycleFilter, node: u8)
+/// The first of the cycles at which a node stands in the row that starts there. Most rows are free, which is seen at
+/// once.
+fn first_taken_in(nodes: &[u8], start: usize, cycles: CycleFilter) -> Option<Cycle>
+    requires { start + cycle_count ≤ length nodes.now }
+    ensures { result ≡ first_taken_in nodes.now start cycles }
+{
+    if is_row_free(nodes, start) {
+        None
+    } else {
+        search_row(nodes, start, cycles)
+    }
+}
+
+/// Enters the node at every cycle of the row that starts there.
+fn fill_row(nodes: &mut [u8], start: usize, node: u8)
+    requires { start + cycle_count ≤ length nodes.old }
+    ensures { IsRowFilled start node nodes.old nodes.new }
+{
+    nodes[start..start + ROW].fill(node);
+}
+
+/// Enters the node at the cycles in the row that starts there, cycle by cycle.
+fn enter_cycles(nodes: &mut [u8], start: usize, cycles: CycleFilter, node: u8)
     requires { start + cycle_count ≤ length nodes.old }
     ensures { IsRowEntered cycle_count start cycles node nodes.old nodes.new }
 {
@@ -88,6 +121,18 @@ fn enter_row(nodes: &mut [u8], start: usize, cycles: CycleFilter, node: u8)
     let first = start + usize::from(cycles.base());
     for turn in 0..ROW / step {
         nodes[first + turn * step] = node;
+    }
+}
+
+/// Enters the node at the cycles in the row that starts there. Most lines are for every cycle.
+fn enter_row(nodes: &mut [u8], start: usize, cycles: CycleFilter, node: u8)
+    requires { start + cycle_count ≤ length nodes.old }
+    ensures { IsRowEntered cycle_count start cycles node nodes.old nodes.new }
+{
+    if cycles.repetition() == 1 {
+        fill_row(nodes, start, node);
+    } else {
+        enter_cycles(nodes, start, cycles, node);
     }
 }
 
@@ -151,15 +196,15 @@ fn free_table(alloc: Global) -> Result<Vec<u8>, AllocError>
     Ok(vec![in alloc; NOBODY; OCCASIONS]?)
 }
 
-/// The table after these claims were entered into a free one, and the first occasion that two of them are for.
-fn table_with(alloc: Global, claims: &[Claim]) -> Result<(Vec<u8>, Option<Occasion>), AllocError>
-    ensures table { IfOk result (λ made. AreEntered claims.now free made.0.items) }
-    ensures first { IfOk result (λ made. IsFirst (is_shared (filters_of claims.now)) made.1) }
-    ensures lawful { IfOk result (λ made. Each IsClaim claims.now) }
+/// Has nobody send any more, enters the claims, and gives the first occasion that two of them are for.
+fn enter_anew(nodes: &mut [u8], claims: &[Claim]) -> Option<Occasion>
+    requires { length nodes.old ≡ occasions }
+    ensures table { AreEntered claims.now free nodes.new }
+    ensures first { IsFirst (is_shared (filters_of claims.now)) result }
+    ensures lawful { Each IsClaim claims.now }
 {
-    let mut nodes = free_table(alloc)?;
-    let shared = enter_all(nodes.as_mut_slice(), claims);
-    Ok((nodes, shared))
+    nodes.fill(NOBODY);
+    enter_all(nodes, claims)
 }
 
 /// The sender table of the plans, or the first of their faults.
@@ -175,11 +220,13 @@ pub(crate) fn senders_of(
 {
     let owned = claims_of(alloc, Lines::Owned, plans)?;
     let transmitting = claims_of(alloc, Lines::Transmitting, plans)?;
-    let (_, of_owners) = table_with(alloc, owned.as_slice())?;
-    let (mut senders, of_buffers) = table_with(alloc, transmitting.as_slice())?;
+    let mut senders = free_table(alloc)?;
+    let nodes = senders.as_mut_slice();
+    let of_owners = enter_all(nodes, owned.as_slice());
+    let of_buffers = enter_anew(nodes, transmitting.as_slice());
     if let Some(fault) = file_fault(params, plans, earlier(of_owners, of_buffers)) {
         return Err(fault);
     }
-    let _ = enter_all(senders.as_mut_slice(), owned.as_slice());
+    let _ = enter_all(nodes, owned.as_slice());
     Ok(senders)
 }
