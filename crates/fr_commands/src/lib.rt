@@ -16,6 +16,7 @@ pub mod cluster_file;
 pub mod error;
 pub mod files;
 pub mod input;
+mod line;
 pub mod midpoint;
 pub mod numbers;
 pub mod output;

@@ -1,11 +1,12 @@
 //! `fr_bench plan`.
-ghost use Rattle.std.specs.Prelude.{◌≡◌, ◌<◌, ◌≤◌, true, OnOk, IfSome};
+ghost use Rattle.std.specs.Prelude.{◌≡◌, ◌<◌, ◌≤◌, length, true, OnOk, IfSome};
 ghost use Rattle.fr_commands.specs.Checks.{Plans};
 ghost use Rattle.std.specs.Io.KnownBytes.{Appends};
 ghost use Rattle.std.specs.List.{flat_map};
 ghost use Rattle.fr_commands.specs.PlanText.{slot_line, begins_at, own_text, owner_text, base_text, owners_text};
 ghost use Rattle.fr_commands.specs.PlanText.{slot_text, static_text, cycles_told};
 ghost use Rattle.fr_commands.specs.PlanText.{dynamic_line, buffer_text, node_text, dynamic_text};
+ghost use Rattle.fr_slots.specs.Admission.{letter_of};
 ghost use Rattle.fr_slots.specs.Parameters.{is_static_slot};
 ghost use Rattle.fr_commands.specs.PlanText.{guard_line, IsGuardText, AreCycleTexts, AreGuardTexts, IsPlanText, Adds};
 ghost use Rattle.fr_slots.specs.Numbers.{cycle_count};
@@ -13,6 +14,7 @@ ghost use Rattle.fr_schedule.specs.Clusters.{IsCluster};
 
 use crate::cluster_file::cluster_of;
 use crate::error::BenchError;
+use crate::line::write_line;
 use crate::output::write_whole;
 use fr_guardian::guardian::Guardian;
 use fr_lines::writing::channels_word;
@@ -24,6 +26,17 @@ use fr_slots::params::Params;
 use fr_slots::plan::{Buffer, NodePlan, Own};
 use std::alloc::Global;
 use std::io::{self, Read, Write};
+
+/// The word of a channel.
+fn letter(channel: Channel) -> &'static str
+    ensures word { result.now ≡ letter_of channel }
+    ensures short { length result.now ≤ 2 }
+{
+    match channel {
+        Channel::A => "A",
+        Channel::B => "B",
+    }
+}
 
 /// Whether the ownership line is for the slot on the channel, and this is the first of its cycles.
 fn begins_at(own: &Own, slot: SlotId, channel: Channel, base: Cycle) -> bool
@@ -63,13 +76,14 @@ fn write_slot_line<W: Write>(
     ensures { OnOk result
         (Appends (W.contents writer.old) (W.contents writer.new) (slot_line slot channel node cycles)) }
 {
-    write!(writer, "slot {} {channel}", slot.number())?;
-    writeln!(
+    write_line(
         writer,
-        " {} {} {}",
-        node.number(),
-        cycles.base(),
-        cycles.repetition()
+        "slot",
+        u64::from(slot.number()),
+        letter(channel),
+        u64::from(node.number()),
+        u64::from(cycles.base()),
+        u64::from(cycles.repetition()),
     )
 }
 
@@ -174,17 +188,14 @@ fn write_dynamic<W: Write>(writer: &mut W, number: usize, buffer: &Buffer) -> io
     ensures { OnOk result (Appends (W.contents writer.old) (W.contents writer.new) (dynamic_line number buffer.now)) }
 {
     let filter = buffer.filter;
-    write!(
+    write_line(
         writer,
-        "dynamic {} {}",
-        filter.slot.number(),
-        channels_word(filter.channels)
-    )?;
-    writeln!(
-        writer,
-        " {number} {} {}",
-        filter.cycles.base(),
-        filter.cycles.repetition()
+        "dynamic",
+        u64::from(filter.slot.number()),
+        channels_word(filter.channels),
+        number as u64,
+        u64::from(filter.cycles.base()),
+        u64::from(filter.cycles.repetition()),
     )
 }
 
@@ -249,10 +260,14 @@ fn write_spans<W: Write>(
         (flat_map (guard_line number channel cycle) spans.now)) }
 {
     for (start, end) in spans {
-        writeln!(
+        write_line(
             writer,
-            "guard {number} {channel} {} {start} {end}",
-            cycle.number()
+            "guard",
+            u64::from(number),
+            letter(channel),
+            u64::from(cycle.number()),
+            u64::from(*start),
+            u64::from(*end),
         )?;
     }
     Ok(())

@@ -412,8 +412,8 @@ pub fn settle(
     settle_beside(alloc, cluster, interfaces, bus, scripts, &[])
 }
 
-/// The same as `settle`, with the same answer, where the journal of each node is walked in a thread of its own, if one
-/// can be made, and else after that of the node before it (own profile).
+/// The same as `settle`, with the same answer, where the journals are walked in as many threads as run beside one
+/// another, if these can be made, and else one after another (own profile).
 ///
 /// Where memory for what the threads find is refused the journals are walked one after another, as `settle` walks them.
 pub fn settle_in_threads<R: Threads + Sync>(

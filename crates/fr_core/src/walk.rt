@@ -432,8 +432,18 @@ fn find_in_place(
     )
 }
 
-/// What is found of each node that has an interface, in threads of their own where these can be made, or of none where
-/// memory is refused.
+/// How many threads run beside one another, or as many as there can be nodes where that isn't known.
+fn threads_beside<R: Threads>(rt: &R) -> usize
+    ensures { 0 < result }
+{
+    match thread::available_parallelism(rt) {
+        Ok(cores) => cores.get(),
+        Err(_) => usize::from(NODES),
+    }
+}
+
+/// What is found of each node that has an interface, in as many threads as run beside one another, where these can be
+/// made, or of none where memory is refused.
 pub(crate) fn find_in_threads<R: Threads + Sync>(
     rt: &R,
     alloc: Global,
@@ -445,14 +455,22 @@ pub(crate) fn find_in_threads<R: Threads + Sync>(
     ensures { AreFirstFindings params.now interfaces.now recorded.now scripts.now result.items }
 {
     let nodes = interfaces.len().min(usize::from(NODES));
-    let found = thread::map_indices(
+    let nothing = Findings {
+        has_windows: true,
+        offer: None,
+        sight: None,
+        task: None,
+    };
+    let Ok(mut found) = Vec::from_elem(alloc, nothing, nodes) else {
+        return Vec::new(alloc);
+    };
+    thread::for_each_mut(
         rt,
-        alloc,
-        nodes,
-        &|place| { find_in_place(place, interfaces, params, recorded, scripts) },
+        found.as_mut_slice(),
+        threads_beside(rt),
+        &|place: usize, of_node: &mut Findings| {
+            *of_node = find_in_place(place, interfaces, params, recorded, scripts);
+        },
     );
-    match found {
-        Ok(found) => found,
-        Err(_) => Vec::new(alloc),
-    }
+    found
 }

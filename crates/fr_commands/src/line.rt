@@ -1,0 +1,68 @@
+//! A line of a plan, put together from its end: there the digits of a number come first. A plan has thousands of lines,
+//! and `write!` asks the writer once for each word.
+ghost use Rattle.std.specs.Prelude.{◌≡◌, ◌<◌, ◌≤◌, ◌+◌, ◌∷◌, ◌++◌, [], length, drop, OnOk};
+ghost use Rattle.std.specs.Fmt.{decimal};
+ghost use Rattle.std.specs.Io.KnownBytes.{Appends};
+ghost use Rattle.fr_lines.specs.Spelling.{line_text};
+
+use itoa::write_digits;
+use std::io::{self, Write};
+
+/// Room for a line: two words of up to 7 and 2 letters, four numbers of up to 20 digits, five spaces and a line feed.
+const ROOM: usize = 95;
+
+/// Puts a space and the word right before `end`, and gives where they begin.
+fn put_word(line: &mut [u8; ROOM], end: usize, word: &str) -> usize
+    requires room { length word.now < end }
+    requires inside { end ≤ ROOM }
+    ensures start { result + 1 + length word.now ≡ end }
+    ensures put { drop result line.new ≡ 32 ∷ word.now ++ drop end line.old }
+{
+    let start = end - word.len();
+    line[start..end].copy_from_slice(word.as_bytes());
+    line[start - 1] = b' ';
+    start - 1
+}
+
+/// Puts a space and the digits of the number right before `end`, and gives where they begin.
+fn put_number(line: &mut [u8; ROOM], end: usize, number: u64) -> usize
+    requires room { 21 ≤ end }
+    requires inside { end ≤ ROOM }
+    ensures start { (end ≤ result + 21) × (result < end) }
+    ensures put { drop result line.new ≡ 32 ∷ decimal number ++ drop end line.old }
+{
+    let start = write_digits(number, line, end);
+    line[start - 1] = b' ';
+    start - 1
+}
+
+/// Writes a line: what it tells, a number, the channels, and three more numbers (own profile).
+///
+/// Fails where the writer fails, and then a part of the line may have gone out.
+pub(crate) fn write_line<W: Write>(
+    writer: &mut W,
+    told: &str,
+    first: u64,
+    channels: &str,
+    second: u64,
+    third: u64,
+    fourth: u64,
+) -> io::Result<()>
+    requires told { length told.now ≤ 7 }
+    requires channels { length channels.now ≤ 2 }
+    ensures { OnOk result
+        (Appends (W.contents writer.old) (W.contents writer.new)
+        (line_text
+        (told.now ∷ decimal first ∷ channels.now ∷ decimal second ∷ decimal third ∷ decimal fourth ∷ []))) }
+{
+    let mut line = [b'\n'; ROOM];
+    let end = ROOM - 1;
+    let end = put_number(&mut line, end, fourth);
+    let end = put_number(&mut line, end, third);
+    let end = put_number(&mut line, end, second);
+    let end = put_word(&mut line, end, channels);
+    let end = put_number(&mut line, end, first);
+    let start = end - told.len();
+    line[start..end].copy_from_slice(told.as_bytes());
+    writer.write_all(&line[start..])
+}
