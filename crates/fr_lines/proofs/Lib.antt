@@ -1,5 +1,6 @@
 pub mod BufferLemmas
 pub mod EntryLemmas
+pub mod FirstLemmas
 pub mod NodeLemmas
 pub mod OwnLemmas
 pub mod ParameterLemmas

@@ -19,6 +19,7 @@ use Rattle.fr_slots.specs.declared.plan.Mode.TheVariants.{Receive}
 use Rattle.fr_slots.specs.declared.plan.Own.{Own}
 use Rattle.fr_slots.specs.declared.plan.Queue.{Queue}
 use Rattle.fr_slots.specs.Plans.{Plan, plan_of, own_fits, queue_fits}
+use Rattle.fr_slots.specs.Windows.{Opportunity}
 use Rattle.fr_text.specs.Reading.{◌>>=◌, number_in}
 
 -- ---- the version, which the first line names
@@ -208,6 +209,11 @@ pop_in (task ∷ from ∷ []) = do
   origin ← from_in from
   Some (Pop t origin)
 pop_in words = None
+
+-- a window, by the first five words
+unfoldable pub window_first : List (List ℕ) → Option Opportunity
+window_first (number ∷ cycle ∷ minislot ∷ slot_a ∷ slot_b ∷ words) = window_in number cycle minislot slot_a slot_b
+window_first words = None
 
 unfoldable pub fetch_in : List (List ℕ) → Option Entry
 fetch_in (number ∷ cycle ∷ minislot ∷ slot_a ∷ slot_b ∷ offer_a ∷ offer_b ∷ []) = do

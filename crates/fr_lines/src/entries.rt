@@ -1,21 +1,24 @@
 //! The lines of entries.
 
-ghost use Rattle.std.specs.Prelude.{◌≡◌, true, Some, IfSome, option_map};
+ghost use Rattle.std.specs.Prelude.{◌≡◌, true, Some, IfSome, option_map, drop};
 ghost use Rattle.fr_journal.specs.declared.entry.Entry.{Entry};
+ghost use Rattle.fr_text.specs.Reading.{first_in};
 ghost use Rattle.fr_text.specs.Spaces.{words_of, line_of};
+ghost use Rattle.fr_lines.specs.PartReading.{optional_slot_in, offered_in};
 ghost use Rattle.fr_lines.specs.Bare.{with_bytes};
 ghost use Rattle.fr_lines.specs.declared.bare.EntryBytes.{EntryBytes};
 ghost use Rattle.fr_lines.specs.Reading.{commit_in, told_withdraw_in, withdraw_in, read_in, pop_in, fetch_in};
-ghost use Rattle.fr_lines.specs.Reading.{observe_in, entry_in};
+ghost use Rattle.fr_lines.specs.Reading.{window_first, observe_in, entry_in};
 ghost use Rattle.fr_lines.specs.Spelled.{IsSpelledEntry};
 ghost use Rattle.fr_lines.specs.Spelling.{entry_words};
 ghost use Rattle.fr_lines.specs.Versions.{tells};
 
 use crate::bare::{BareEntry, EntryBytes};
-use crate::parts::{
-    from_of, offered_of, payload_into, seen_into, taken_back_of, task_of, window_of,
-};
+use crate::parts::{from_of, payload_into, seen_into, taken_back_of, task_of, window_at};
 use crate::versions::Version;
+use fr_journal::entry::Offered;
+use fr_slots::numbers::{Cycle, SlotId};
+use fr_slots::window::Window;
 use fr_text::numbers::number_of;
 use fr_text::words::Words;
 
@@ -90,16 +93,65 @@ fn pop_of(words: &mut Words<'_>) -> Option<BareEntry>
     Some(BareEntry::Pop { task, from })
 }
 
+/// The slot that the next word spells, or none for `-`.
+#[tactic(auto, unfolding(crate::specs::PartReading::optional_slot_in, crate::specs::PartReading::slot_in))]
+fn next_slot(words: &mut Words<'_>) -> Option<Option<SlotId>>
+    ensures slot { result ≡ first_in optional_slot_in words.old }
+    ensures left { words.new ≡ drop 1 words.old }
+{
+    match words.next_number_or(2048)? {
+        Ok(number) => {
+            let slot = SlotId::new(number as u16)?;
+            Some(Some(slot))
+        }
+        Err(b"-") => Some(None),
+        Err(_) => None,
+    }
+}
+
+/// What the next word says that a channel was offered.
+#[tactic(auto, unfolding(crate::specs::PartReading::offered_in))]
+fn next_offered(words: &mut Words<'_>) -> Option<Offered>
+    ensures offered { result ≡ first_in offered_in words.old }
+    ensures left { words.new ≡ drop 1 words.old }
+{
+    match words.next_number_or(1 << 32)? {
+        Ok(commit) => Some(Offered::Data(commit as u32)),
+        Err(b"-") => Some(Offered::Nothing),
+        Err(b"null") => Some(Offered::Null),
+        Err(_) => None,
+    }
+}
+
+/// The window that the next five words spell.
+#[tactic(auto, unfolding(crate::specs::PartReading::window_in))]
+fn next_window(words: &mut Words<'_>) -> Option<Window>
+    ensures window { result ≡ window_first words.old }
+    ensures left { IfSome result (λ _. words.new ≡ drop 5 words.old) }
+{
+    let number = words.next_number(1 << 32)?;
+    let cycle = words.next_number(64)?;
+    let minislot = words.next_number(8001)?;
+    let a = next_slot(words)?;
+    let b = next_slot(words)?;
+    window_at(
+        number as u32,
+        Cycle::from_bits(cycle as u8),
+        minislot as u16,
+        a,
+        b,
+    )
+}
+
 /// The fetch that the words spell.
 #[tactic(auto, unfolding(crate::specs::Reading::fetch_in))]
 fn fetch_of(words: &mut Words<'_>) -> Option<BareEntry>
     ensures { (bytes : EntryBytes) → option_map (with_bytes bytes) result ≡ fetch_in words.old }
 {
-    let (number, cycle, minislot, slot_a) = words.next_four()?;
-    let (slot_b, offer_a, offer_b) = words.three()?;
-    let window = window_of(number, cycle, minislot, slot_a, slot_b)?;
-    let a = offered_of(offer_a)?;
-    let b = offered_of(offer_b)?;
+    let window = next_window(words)?;
+    let a = next_offered(words)?;
+    let b = next_offered(words)?;
+    words.end()?;
     Some(BareEntry::Fetch { window, a, b })
 }
 
@@ -108,8 +160,8 @@ fn fetch_of(words: &mut Words<'_>) -> Option<BareEntry>
 fn observe_of(words: &mut Words<'_>, bytes: &mut EntryBytes) -> Option<BareEntry>
     ensures { option_map (with_bytes bytes.new) result ≡ observe_in words.old }
 {
-    let (window, seen_a, seen_b) = words.three()?;
-    let window = number_of(window, 1 << 32)?;
+    let window = words.next_number(1 << 32)?;
+    let (seen_a, seen_b) = words.two()?;
     if !seen_into(seen_a, &mut bytes.a) || !seen_into(seen_b, &mut bytes.b) {
         return None;
     }

@@ -1,15 +1,15 @@
 //! The parts of which lines are made.
 ghost use Rattle.std.specs.Prelude.{◌≡◌, ◌<◌, ◌^◌};
 ghost use Rattle.fr_text.specs.Reading.{number_in, read_as};
-ghost use Rattle.fr_lines.specs.PartReading.{slot_in, optional_slot_in, channels_in, cycles_in, filter_in, flag_in};
+ghost use Rattle.fr_lines.specs.PartReading.{slot_in, channels_in, cycles_in, filter_in, flag_in};
 ghost use Rattle.fr_lines.specs.PartReading.{mode_in, size_in, payload_in, taken_back_in, channel_in};
 ghost use Rattle.fr_lines.specs.PartReading.{marked_channel_in, origin_in, from_in};
-ghost use Rattle.fr_lines.specs.PartReading.{offered_in, seen_bytes_in, seen_in, same_slot, window_of, window_in};
+ghost use Rattle.fr_lines.specs.PartReading.{seen_bytes_in, seen_in, same_slot, window_of};
 
 use arrayvec::ArrayVec;
 use fr_frame::frame::Bytes;
 use fr_frame::payload::{PAYLOAD_BYTES, Payload};
-use fr_journal::entry::{Offered, Origin};
+use fr_journal::entry::Origin;
 use fr_slots::channel::{Channel, Channels};
 use fr_slots::filter::{CycleFilter, Filter};
 use fr_slots::numbers::{Cycle, NodeId, SlotId, TaskId};
@@ -62,20 +62,6 @@ pub(crate) fn slot_of(word: &[u8]) -> Option<SlotId>
 {
     let number = number_of(word, 2048)?;
     SlotId::new(number as u16)
-}
-
-/// The slot that the word spells, or none for `-`.
-#[tactic(auto, unfolding(crate::specs::PartReading::optional_slot_in))]
-fn optional_slot_of(word: &[u8]) -> Option<Option<SlotId>>
-    ensures { result ≡ optional_slot_in word.now }
-{
-    match word {
-        b"-" => Some(None),
-        _ => {
-            let slot = slot_of(word)?;
-            Some(Some(slot))
-        }
-    }
 }
 
 /// The channels that the word spells.
@@ -238,21 +224,6 @@ pub(crate) fn from_of(word: &[u8]) -> Option<Option<Origin>>
     }
 }
 
-/// What the word says that a channel was offered.
-#[tactic(auto, unfolding(crate::specs::PartReading::offered_in))]
-pub(crate) fn offered_of(word: &[u8]) -> Option<Offered>
-    ensures { result ≡ offered_in word.now }
-{
-    match word {
-        b"-" => Some(Offered::Nothing),
-        b"null" => Some(Offered::Null),
-        _ => {
-            let commit = number_of(word, 1 << 32)?;
-            Some(Offered::Data(commit as u32))
-        }
-    }
-}
-
 /// Reads the bytes that the word spells as what was seen, where bytes were seen before, in place of these.
 #[tactic(auto, unfolding(crate::specs::PartReading::seen_bytes_in))]
 fn seen_bytes_into(word: &[u8], seen: &mut Seen) -> bool
@@ -296,7 +267,7 @@ pub(crate) fn seen_into(word: &[u8], seen: &mut Seen) -> bool
 }
 
 /// The window of these numbers: at minislot 0 the static slot that both channels open.
-fn window_at(
+pub(crate) fn window_at(
     number: u32,
     cycle: Cycle,
     minislot: u16,
@@ -315,29 +286,4 @@ fn window_at(
     } else {
         None
     }
-}
-
-/// The window that these words spell.
-#[tactic(auto, unfolding(crate::specs::PartReading::window_in))]
-pub(crate) fn window_of(
-    number: &[u8],
-    cycle: &[u8],
-    minislot: &[u8],
-    slot_a: &[u8],
-    slot_b: &[u8],
-) -> Option<Window>
-    ensures { result ≡ window_in number.now cycle.now minislot.now slot_a.now slot_b.now }
-{
-    let number = number_of(number, 1 << 32)?;
-    let cycle = number_of(cycle, 64)?;
-    let minislot = number_of(minislot, 8001)?;
-    let a = optional_slot_of(slot_a)?;
-    let b = optional_slot_of(slot_b)?;
-    window_at(
-        number as u32,
-        Cycle::from_bits(cycle as u8),
-        minislot as u16,
-        a,
-        b,
-    )
 }

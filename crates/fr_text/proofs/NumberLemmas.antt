@@ -144,6 +144,9 @@ digits-all_more word i within all small few =
 pub digits-small : (word : List ℕ) (i n : ℕ) → length word ≤ 9 → n ≡ digits_value 10 (take i word) → AllDigits 10 (take i word) → n < 10 ^ 9
 digits-small word i n few is all = omega (arith, is, digits_value_short own (take i word) 9 all (omega (arith, length-take i word)))
 
+pub digits-few : (bytes : List ℕ) (i n : ℕ) → i ≤ 9 → n ≡ digits_value 10 (take i bytes) → AllDigits 10 (take i bytes) → n < 10 ^ 9
+digits-few bytes i n few is all = omega (arith, is, digits_value_short own (take i bytes) 9 all (omega (arith, length-take i bytes)))
+
 -- a byte that is no digit
 pub digits-other : (word : List ℕ) (i : ℕ) → i < length word → 9 < (get_or word i 0 + 208) % 256 → AllDigits 10 word → ⊥
 digits-other word i within high all = let range = digit_at word i all within in omega (arith, range.0, range.1)

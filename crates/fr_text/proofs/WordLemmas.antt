@@ -1,7 +1,13 @@
 -- The words of a line, from its first space.
 use Rattle.std.proofs.Common.{◌≡◌, ℕ, ◌+◌, ◌≤◌, inl, inr, List, [], ◌∷◌, length, take, drop, Some, None, refl, ap, ◌∙◌}
 use Rattle.std.proofs.Common.{arith, ltb, ◌<◌, true, zero, suc, get_or}
+use Rattle.std.proofs.Common.{sym, length-take}
+use Rattle.std.proofs.lemmas.Bool.Decides.{nat_tests}
 use Rattle.std.proofs.lemmas.Bool.{cases_Bool, ltb-true, lt-ltb, le-ltb}
+use Rattle.std.proofs.lemmas.List.{get_or-take, take_all}
+use Rattle.std.proofs.lemmas.Str.Parse.{digit_at}
+use Rattle.std.specs.Str.Parse.{AllDigits}
+use Rattle.fr_text.specs.Reading.{first_in}
 use Rattle.std.proofs.lemmas.List.Splits.{slice_split_first, slice_split-cons_no}
 use Rattle.std.specs.List.{position, position_or_len, slice_split, onto_first}
 use Rattle.memchr.specs.Find.{IsFirstByte, is_byte}
@@ -81,3 +87,30 @@ space_nowhere line none = rw (le-ltb (position_or_len is_space line) (length lin
 pub first_space : (line : List ℕ) (found : Option ℕ) → IsFirstByte (is_byte 32) line found → found ≡ position is_space line
 first_space line (Some k) first = space_at line k first.0.high first.1 (λ j less is. first.0.before j (omega arith) less is)
 first_space line None none = space_nowhere line (λ j less is. none j (omega arith) less is)
+
+-- ---- a word of digits in front
+
+no_space : (line : List ℕ) (k j : ℕ) → AllDigits 10 (take k line) → k ≤ length line → j < k → is_space (get_or line j 0) ≡ true → ⊥
+no_space line k j digits within less is =
+    let range = digit_at (take k line) j digits (omega (arith, length-take k line)) in
+    let same = get_or-take k line j 0 less in
+    let space : get_or line j 0 ≡ 32 = grind (arith, nat_tests) in
+    omega (arith, same, range.0, space)
+
+whole_at : (line : List ℕ) (k : ℕ) → k ≡ length line → take k line ≡ line
+whole_at line k is = take_all k line (omega arith)
+
+-- up to the end
+pub first_whole : {A : Type 0} (read : List ℕ → Option A) (words : List (List ℕ)) (line : List ℕ) (k : ℕ) (x : A) → words_of line ≡ words → k ≡ length line → AllDigits 10 (take k line) → read (take k line) ≡ Some x → (first_in read words ≡ Some x) × ([] ≡ drop 1 words)
+first_whole read words line k x left is digits found =
+    let one : words_of line ≡ line ∷ [] = cut_none line (sym (space_nowhere line (λ j less space. no_space line k j digits (omega arith) (omega arith) space))) in
+    let all = whole_at line k is in
+    let told : read line ≡ Some x = rw all at found in
+    (rw (← left, one) told, rw (← left, one) refl)
+
+-- up to a space
+pub first_before : {A : Type 0} (read : List ℕ → Option A) (words : List (List ℕ)) (line : List ℕ) (k : ℕ) (x : A) → words_of line ≡ words → k < length line → get_or line k 0 ≡ 32 → AllDigits 10 (take k line) → read (take k line) ≡ Some x → (first_in read words ≡ Some x) × (words_of (drop (k + 1) line) ≡ drop 1 words)
+first_before read words line k x left lt here digits found =
+    let space : is_space (get_or line k 0) ≡ true = rw here refl in
+    let cut = cut_at line k (sym (space_at line k lt space (λ j less is. no_space line k j digits (omega arith) less is))) in
+    (rw (← left, cut) found, rw (← left, cut) refl)

@@ -25,6 +25,11 @@ number_in bound word =
     let n = digits_value 10 word in
     if bytes_eq (decimal n) word && nat_lt n bound then Some n else None
 
+-- what the first word is read as
+abbrev pub first_in : {A : Type 0} → (List ℕ → Option A) → List (List ℕ) → Option A
+first_in read [] = None
+first_in read (word ∷ words) = read word
+
 -- at most so many bytes, whose lower-case digits these are
 abbrev pub bytes_as : ℕ → List ℕ → Result (List ℕ) FromHexError → Option (List ℕ)
 bytes_as most digits (Err e) = None

@@ -1,5 +1,5 @@
 //! The numbers that words spell.
-ghost use Rattle.std.specs.Prelude.{◌≡◌, ◌<◌, ◌≤◌, length, IfSome, IfNone};
+ghost use Rattle.std.specs.Prelude.{◌≡◌, ◌<◌, ◌≤◌, length, take, Some, IfSome, IfNone};
 ghost use Rattle.std.specs.Str.Parse.{AllDigits, digits_value};
 ghost use Rattle.fr_text.specs.Reading.{number_in};
 
@@ -81,4 +81,40 @@ pub fn number_of(word: &[u8], bound: u64) -> Option<u64>
     } else {
         short_number_of(word, bound)
     }
+}
+
+/// How many digits stand in front of the bytes, few at most, and the number that they write.
+fn digits_in_front(bytes: &[u8]) -> (usize, u64)
+    ensures few { result.0 ≤ 9 }
+    ensures within { result.0 ≤ length bytes.now }
+    ensures value { result.1 ≡ digits_value 10 (take result.0 bytes.now) }
+    ensures digits { AllDigits 10 (take result.0 bytes.now) }
+{
+    let most = bytes.len().min(FEW_DIGITS);
+    let mut number: u64 = 0;
+    for at in 0..most {
+        let value = bytes[at].wrapping_sub(b'0');
+        if value > 9 {
+            return (at, number);
+        }
+        number = number * 10 + u64::from(value);
+    }
+    (most, number)
+}
+
+/// How many digits stand in front of the bytes, where these are few and spell a number below `bound`, and the number.
+pub(crate) fn number_in_front(bytes: &[u8], bound: u64) -> Option<(usize, u64)>
+    ensures within { IfSome result (λ found. found.0 ≤ length bytes.now) }
+    ensures digits { IfSome result (λ found. AllDigits 10 (take found.0 bytes.now)) }
+    ensures number { IfSome result (λ found. number_in bound (take found.0 bytes.now) ≡ Some found.1) }
+    ensures below { IfSome result (λ found. found.1 < bound) }
+{
+    let (len, number) = digits_in_front(bytes);
+    if len == 0 || number >= bound {
+        return None;
+    }
+    if bytes[0] == b'0' && len > 1 {
+        return None;
+    }
+    Some((len, number))
 }

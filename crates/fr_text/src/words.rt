@@ -3,6 +3,7 @@ ghost use Rattle.std.specs.Prelude.{◌≡◌};
 ghost use Rattle.std.specs.List.{position};
 ghost use Rattle.fr_text.specs.Spaces.{is_space};
 
+use crate::numbers::{number_in_front, number_of};
 use memchr::memchr;
 use std::marker::Model;
 
@@ -26,6 +27,8 @@ impl<'a> Model for Words<'a> {
 
 impl<'a> Words<'a> {
     ghost use Rattle.std.specs.Prelude.{◌≡◌, ◌≢◌, ◌<◌, ◌∷◌, [], ◌++◌, length, option_to_list, option_copied, IfNone, IfSome};
+    ghost use Rattle.std.specs.Prelude.{drop, Some, None, IfOk, IfErr};
+    ghost use Rattle.fr_text.specs.Reading.{number_in, first_in};
     ghost use Rattle.fr_text.specs.Spaces.{words_of};
     ghost use Rattle.fr_text.specs.Words.{ended};
 
@@ -57,6 +60,52 @@ impl<'a> Words<'a> {
                 self.done = true;
                 Some(rest)
             }
+        }
+    }
+
+    /// Takes the next word, from left to right, and gives the number below `bound` that it spells, as `number_of` reads
+    /// it, or else the word. `None` comes when all words are taken, and from then on.
+    ///
+    /// A number of few digits is read while the end of its word is looked for.
+    pub fn next_number_or(&mut self, bound: u64) -> Option<Result<u64, &'a [u8]>>
+        ensures number { IfSome result (λ r. IfOk r (λ n. first_in (number_in bound) self.old ≡ Some n)) }
+        ensures below { IfSome result (λ r. IfOk r (λ n. n < bound)) }
+        ensures word { IfSome result (λ r. IfErr r (λ w. first_in Some self.old ≡ Some w.now)) }
+        ensures none { IfSome result (λ r. IfErr r (λ w. number_in bound w.now ≡ None)) }
+        ensures end { IfNone result (self.old ≡ []) }
+        ensures left { self.new ≡ drop 1 self.old }
+    {
+        if self.done {
+            return None;
+        }
+        let rest = self.rest;
+        if let Some((len, number)) = number_in_front(rest, bound) {
+            if len == rest.len() {
+                self.done = true;
+                return Some(Ok(number));
+            }
+            if rest[len] == b' ' {
+                self.rest = &rest[len + 1..];
+                return Some(Ok(number));
+            }
+        }
+        let word = self.next_word()?;
+        match number_of(word, bound) {
+            Some(number) => Some(Ok(number)),
+            None => Some(Err(word)),
+        }
+    }
+
+    /// Takes the next word, and gives the number below `bound` that it spells, as `number_of` reads it. `None` where it
+    /// spells none, and where all words are taken.
+    pub fn next_number(&mut self, bound: u64) -> Option<u64>
+        ensures number { result ≡ first_in (number_in bound) self.old }
+        ensures below { IfSome result (λ n. n < bound) }
+        ensures left { self.new ≡ drop 1 self.old }
+    {
+        match self.next_number_or(bound) {
+            Some(Ok(number)) => Some(number),
+            Some(Err(_)) | None => None,
         }
     }
 
