@@ -2,6 +2,7 @@
 use Rattle.std.proofs.Common.{◌≡◌, ◌≢◌, ℕ, ◌<◌, ◌≤◌, ◌^◌, ◌&&◌, inl, inr, true, false, List, [], ◌∷◌, length, get_or}
 use Rattle.std.proofs.Common.{Some, None, Result, Ok, Err, refl, sym, ap, subst, ◌∙◌, arith, ltb, leb, ◌+◌, ◌*◌, ◌%◌}
 use Rattle.std.proofs.Common.{take, length-take}
+use Rattle.std.proofs.lemmas.List.{get_or-take}
 use Rattle.std.proofs.lemmas.Bool.{and_parts, cases_Bool, cases_lt, ltb-true, lt-ltb, le-leb}
 use Rattle.std.proofs.lemmas.Fmt.{parse-decimal, decimal-digits_value, first_decimal, decimal_digit, digits_decimal}
 use Rattle.std.proofs.lemmas.Fmt.{digits_value-decimal, IsAscii-decimal, decimal_nonempty}
@@ -170,3 +171,11 @@ pub number-digits : (bound : ℕ) (word : List ℕ) (n : ℕ) → bound ≤ 2 ^ 
 number-digits bound word n small is all some padded below =
     let canonical : decimal (digits_value 10 word) ≡ word = decimal-digits_value own word all some (λ z. let le = padded z in omega arith) (omega arith) in
     number_some bound word n (omega arith) below (rw is canonical)
+
+-- a word that is the one byte `-`
+pub number-dash : (bound : ℕ) (line : List ℕ) → bound ≤ 2 ^ 64 → 0 < length line → get_or line 0 0 ≡ 45 → number_in bound (take 1 line) ≡ None
+number-dash bound line small some dash =
+    number-no_digits bound (take 1 line) small
+    (λ all.
+    let range = digit_at (take 1 line) 0 all (omega (arith, length-take 1 line)) in
+    omega (arith, range.0, get_or-take 1 line 0 0 (omega arith), dash))

@@ -84,6 +84,7 @@ pub fn number_of(word: &[u8], bound: u64) -> Option<u64>
 }
 
 /// How many digits stand in front of the bytes, few at most, and the number that they write.
+#[inline(always)]
 fn digits_in_front(bytes: &[u8]) -> (usize, u64)
     ensures few { result.0 ≤ 9 }
     ensures within { result.0 ≤ length bytes.now }
@@ -103,6 +104,7 @@ fn digits_in_front(bytes: &[u8]) -> (usize, u64)
 }
 
 /// How many digits stand in front of the bytes, where these are few and spell a number below `bound`, and the number.
+#[inline(always)]
 pub(crate) fn number_in_front(bytes: &[u8], bound: u64) -> Option<(usize, u64)>
     ensures within { IfSome result (λ found. found.0 ≤ length bytes.now) }
     ensures digits { IfSome result (λ found. AllDigits 10 (take found.0 bytes.now)) }

@@ -66,7 +66,9 @@ impl<'a> Words<'a> {
     /// Takes the next word, from left to right, and gives the number below `bound` that it spells, as `number_of` reads
     /// it, or else the word. `None` comes when all words are taken, and from then on.
     ///
-    /// A number of few digits is read while the end of its word is looked for.
+    /// A number of few digits is read while the end of its word is looked for, and `-` stands for none in lines, so both
+    /// are told without a search.
+    #[inline(always)]
     pub fn next_number_or(&mut self, bound: u64) -> Option<Result<u64, &'a [u8]>>
         ensures number { IfSome result (λ r. IfOk r (λ n. first_in (number_in bound) self.old ≡ Some n)) }
         ensures below { IfSome result (λ r. IfOk r (λ n. n < bound)) }
@@ -89,6 +91,10 @@ impl<'a> Words<'a> {
                 return Some(Ok(number));
             }
         }
+        if rest.len() > 1 && rest[0] == b'-' && rest[1] == b' ' {
+            self.rest = &rest[2..];
+            return Some(Err(&rest[..1]));
+        }
         let word = self.next_word()?;
         match number_of(word, bound) {
             Some(number) => Some(Ok(number)),
@@ -98,6 +104,7 @@ impl<'a> Words<'a> {
 
     /// Takes the next word, and gives the number below `bound` that it spells, as `number_of` reads it. `None` where it
     /// spells none, and where all words are taken.
+    #[inline(always)]
     pub fn next_number(&mut self, bound: u64) -> Option<u64>
         ensures number { result ≡ first_in (number_in bound) self.old }
         ensures below { IfSome result (λ n. n < bound) }

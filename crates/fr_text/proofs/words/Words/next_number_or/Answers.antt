@@ -1,6 +1,7 @@
 use Rattle.std.proofs.Common.{arith}
 use Rattle.std.proofs.lemmas.List.{take_rest}
 use Rattle.fr_text.specs.Reading.{number_in}
+use Rattle.fr_text.proofs.NumberLemmas.{number-dash}
 use Rattle.fr_text.proofs.WordLemmas.{first_whole, first_before}
 use Rattle.fr_text.proofs.words.Words.next_number_or.Goals as goal
 
@@ -29,3 +30,7 @@ pub returns-then-rest-len-eq32-clause-left : goal.returns-then-rest-len-eq32-cla
 returns-then-rest-len-eq32-clause-left c =
     let view = rw c.if-self.false at c.self.view_is in
     rw (c.if-self.false, take_rest) (first_before (number_in c.args.bound) _ c.self.inside.rest.now c.in-Some.len c.in-Some.number view (omega (arith, c.in-Some.ensures.within, c.if-len-rest.false)) c.if-rest-len-eq32.true c.in-Some.ensures.digits c.in-Some.ensures.number).1
+
+pub returns-then-rest-eq32-clause-none : goal.returns-then-rest-eq32-clause-none
+returns-then-rest-eq32-clause-none c =
+    number-dash c.args.bound c.self.inside.rest.now (omega arith) (omega (arith, c.if-rest-gt1.true)) c.if-rest-eq45.true
