@@ -21,25 +21,30 @@ never (Some x) f none = none x
 
 -- ---- numbers
 
-pub first_data : (words : List (List ℕ)) (n : ℕ) → n < 2 ^ 32 → first_in (number_in (2 ^ 32)) words ≡ Some n → first_in offered_in words ≡ Some (offered.Data n)
+pub first_data : (words : List (List ℕ)) (n : ℕ) → n < 2 ^ 32 → first_in (number_in (2 ^ 32)) words ≡ Some n
+    → first_in offered_in words ≡ Some (offered.Data n)
 first_data [] n small h = cc h
 first_data (word ∷ words) n small h = rw (← (number_takes (2 ^ 32) word n h).0) (offered_again (offered.Data n) small)
 
-slot_by : (word : List ℕ) (n : ℕ) → number_in 2048 word ≡ Some n → optional_slot_in word ≡ (number_within 1 last_slot n >>= (λ s. Some (Some s)))
+slot_by : (word : List ℕ) (n : ℕ) → number_in 2048 word ≡ Some n
+    → optional_slot_in word ≡ (number_within 1 last_slot n >>= (λ s. Some (Some s)))
 unfolding optional_slot_in slot_in
 slot_by word n h =
     let takes = number_takes 2048 word n h in
     let other : bytes_eq (decimal n) absent ≡ false = decimal_other n absent (omega (arith, takes.1)) refl in
     rw (rw takes.0 at other, h) refl
 
-first_slot : (words : List (List ℕ)) (n : ℕ) → first_in (number_in 2048) words ≡ Some n → first_in optional_slot_in words ≡ (number_within 1 last_slot n >>= (λ s. Some (Some s)))
+first_slot : (words : List (List ℕ)) (n : ℕ) → first_in (number_in 2048) words ≡ Some n
+    → first_in optional_slot_in words ≡ (number_within 1 last_slot n >>= (λ s. Some (Some s)))
 first_slot [] n h = cc h
 first_slot (word ∷ words) n h = slot_by word n h
 
-pub no_first_slot : (words : List (List ℕ)) (n : ℕ) → first_in (number_in 2048) words ≡ Some n → number_within 1 last_slot n ≡ None → first_in optional_slot_in words ≡ None
+pub no_first_slot : (words : List (List ℕ)) (n : ℕ) → first_in (number_in 2048) words ≡ Some n
+    → number_within 1 last_slot n ≡ None → first_in optional_slot_in words ≡ None
 no_first_slot words n h none = first_slot words n h ∙ rw none refl
 
-pub a_first_slot : (words : List (List ℕ)) (n s : ℕ) → first_in (number_in 2048) words ≡ Some n → number_within 1 last_slot n ≡ Some s → first_in optional_slot_in words ≡ Some (Some s)
+pub a_first_slot : (words : List (List ℕ)) (n s : ℕ) → first_in (number_in 2048) words ≡ Some n
+    → number_within 1 last_slot n ≡ Some s → first_in optional_slot_in words ≡ Some (Some s)
 a_first_slot words n s h some = first_slot words n h ∙ rw some refl
 
 -- ---- five words in turn
@@ -61,7 +66,8 @@ window_by_steps (n ∷ c ∷ []) = sym (never (number_in (2 ^ 32) n) _ (λ x. ne
 window_by_steps (n ∷ c ∷ m ∷ []) =
     sym (never (number_in (2 ^ 32) n) _ (λ x. never (number_in 64 c) _ (λ y. never (number_in 8001 m) _ (λ z. refl))))
 window_by_steps (n ∷ c ∷ m ∷ a ∷ []) =
-    sym (never (number_in (2 ^ 32) n) _ (λ x. never (number_in 64 c) _ (λ y. never (number_in 8001 m) _ (λ z. never (optional_slot_in a) _ (λ s. refl)))))
+    sym (never (number_in (2 ^ 32) n) _ (λ x. never (number_in 64 c) _ (λ y.
+    never (number_in 8001 m) _ (λ z. never (optional_slot_in a) _ (λ s. refl)))))
 window_by_steps (n ∷ c ∷ m ∷ a ∷ b ∷ ws) = refl
 
 -- ---- a fetch
@@ -78,7 +84,8 @@ no_window (n ∷ c ∷ m ∷ a ∷ b ∷ x ∷ []) h = refl
 no_window (n ∷ c ∷ m ∷ a ∷ b ∷ x ∷ y ∷ []) h = rw h refl
 no_window (n ∷ c ∷ m ∷ a ∷ b ∷ x ∷ y ∷ z ∷ ws) h = refl
 
-pub a_fetch : (ws rest last : List (List ℕ)) (w : Opportunity) (p q : Offered) → window_first ws ≡ Some w → rest ≡ drop 5 ws
+pub a_fetch : (ws rest last : List (List ℕ)) (w : Opportunity) (p q : Offered) → window_first ws ≡ Some w
+    → rest ≡ drop 5 ws
     → first_in offered_in rest ≡ Some p → last ≡ drop 1 rest → first_in offered_in last ≡ Some q → drop 1 last ≡ []
     → fetch_in ws ≡ Some (Fetch w p q)
 unfolding window_first fetch_in

@@ -145,8 +145,10 @@ digits-all_more word i within all small few =
 pub digits-small : (word : List ℕ) (i n : ℕ) → length word ≤ 9 → n ≡ digits_value 10 (take i word) → AllDigits 10 (take i word) → n < 10 ^ 9
 digits-small word i n few is all = omega (arith, is, digits_value_short own (take i word) 9 all (omega (arith, length-take i word)))
 
-pub digits-few : (bytes : List ℕ) (i n : ℕ) → i ≤ 9 → n ≡ digits_value 10 (take i bytes) → AllDigits 10 (take i bytes) → n < 10 ^ 9
-digits-few bytes i n few is all = omega (arith, is, digits_value_short own (take i bytes) 9 all (omega (arith, length-take i bytes)))
+pub digits-few : (bytes : List ℕ) (i n : ℕ) → i ≤ 9 → n ≡ digits_value 10 (take i bytes)
+    → AllDigits 10 (take i bytes) → n < 10 ^ 9
+digits-few bytes i n few is all =
+    omega (arith, is, digits_value_short own (take i bytes) 9 all (omega (arith, length-take i bytes)))
 
 -- a byte that is no digit
 pub digits-other : (word : List ℕ) (i : ℕ) → i < length word → 9 < (get_or word i 0 + 208) % 256 → AllDigits 10 word → ⊥
@@ -173,7 +175,8 @@ number-digits bound word n small is all some padded below =
     number_some bound word n (omega arith) below (rw is canonical)
 
 -- a word that is the one byte `-`
-pub number-dash : (bound : ℕ) (line : List ℕ) → bound ≤ 2 ^ 64 → 0 < length line → get_or line 0 0 ≡ 45 → number_in bound (take 1 line) ≡ None
+pub number-dash : (bound : ℕ) (line : List ℕ) → bound ≤ 2 ^ 64 → 0 < length line → get_or line 0 0 ≡ 45
+    → number_in bound (take 1 line) ≡ None
 number-dash bound line small some dash =
     number-no_digits bound (take 1 line) small
     (λ all.

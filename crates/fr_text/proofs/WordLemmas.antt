@@ -90,7 +90,8 @@ first_space line None none = space_nowhere line (λ j less is. none j (omega ari
 
 -- ---- a word of digits in front
 
-no_space : (line : List ℕ) (k j : ℕ) → AllDigits 10 (take k line) → k ≤ length line → j < k → is_space (get_or line j 0) ≡ true → ⊥
+no_space : (line : List ℕ) (k j : ℕ) → AllDigits 10 (take k line) → k ≤ length line → j < k
+    → is_space (get_or line j 0) ≡ true → ⊥
 no_space line k j digits within less is =
     let range = digit_at (take k line) j digits (omega (arith, length-take k line)) in
     let same = get_or-take k line j 0 less in
@@ -101,16 +102,22 @@ whole_at : (line : List ℕ) (k : ℕ) → k ≡ length line → take k line ≡
 whole_at line k is = take_all k line (omega arith)
 
 -- up to the end
-pub first_whole : {A : Type 0} (read : List ℕ → Option A) (words : List (List ℕ)) (line : List ℕ) (k : ℕ) (x : A) → words_of line ≡ words → k ≡ length line → AllDigits 10 (take k line) → read (take k line) ≡ Some x → (first_in read words ≡ Some x) × ([] ≡ drop 1 words)
+pub first_whole : {A : Type 0} (read : List ℕ → Option A) (words : List (List ℕ)) (line : List ℕ) (k : ℕ) (x : A)
+    → words_of line ≡ words → k ≡ length line → AllDigits 10 (take k line) → read (take k line) ≡ Some x
+    → (first_in read words ≡ Some x) × ([] ≡ drop 1 words)
 first_whole read words line k x left is digits found =
-    let one : words_of line ≡ line ∷ [] = cut_none line (sym (space_nowhere line (λ j less space. no_space line k j digits (omega arith) (omega arith) space))) in
+    let none = space_nowhere line (λ j less space. no_space line k j digits (omega arith) (omega arith) space) in
+    let one : words_of line ≡ line ∷ [] = cut_none line (sym none) in
     let all = whole_at line k is in
     let told : read line ≡ Some x = rw all at found in
     (rw (← left, one) told, rw (← left, one) refl)
 
 -- up to a space
-pub first_before : {A : Type 0} (read : List ℕ → Option A) (words : List (List ℕ)) (line : List ℕ) (k : ℕ) (x : A) → words_of line ≡ words → k < length line → get_or line k 0 ≡ 32 → AllDigits 10 (take k line) → read (take k line) ≡ Some x → (first_in read words ≡ Some x) × (words_of (drop (k + 1) line) ≡ drop 1 words)
+pub first_before : {A : Type 0} (read : List ℕ → Option A) (words : List (List ℕ)) (line : List ℕ) (k : ℕ) (x : A)
+    → words_of line ≡ words → k < length line → get_or line k 0 ≡ 32 → AllDigits 10 (take k line)
+    → read (take k line) ≡ Some x → (first_in read words ≡ Some x) × (words_of (drop (k + 1) line) ≡ drop 1 words)
 first_before read words line k x left lt here digits found =
     let space : is_space (get_or line k 0) ≡ true = rw here refl in
-    let cut = cut_at line k (sym (space_at line k lt space (λ j less is. no_space line k j digits (omega arith) less is))) in
+    let first = space_at line k lt space (λ j less is. no_space line k j digits (omega arith) less is) in
+    let cut = cut_at line k (sym first) in
     (rw (← left, cut) found, rw (← left, cut) refl)

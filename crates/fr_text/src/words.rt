@@ -66,8 +66,8 @@ impl<'a> Words<'a> {
     /// Takes the next word, from left to right, and gives the number below `bound` that it spells, as `number_of` reads
     /// it, or else the word. `None` comes when all words are taken, and from then on.
     ///
-    /// A number of few digits is read while the end of its word is looked for, and `-` stands for none in lines, so both
-    /// are told without a search.
+    /// A number of few digits is read while the end of its word is looked for, and `-` stands for none in lines, so
+    /// both are told without a search.
     #[inline(always)]
     pub fn next_number_or(&mut self, bound: u64) -> Option<Result<u64, &'a [u8]>>
         ensures number { IfSome result (λ r. IfOk r (λ n. first_in (number_in bound) self.old ≡ Some n)) }

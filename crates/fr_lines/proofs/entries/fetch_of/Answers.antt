@@ -8,7 +8,8 @@ returns-in_err-window c bytes =
 
 pub returns : goal.returns
 returns c bytes =
-    sym (a_fetch c.args.words.now c.next_window.new.words c.next_offered.new.words c.in_ok-window.window c.in_ok-a.a c.in_ok-b.b
+    sym (a_fetch c.args.words.now c.next_window.new.words c.next_offered.new.words c.in_ok-window.window
+    c.in_ok-a.a c.in_ok-b.b
     (sym c.in_ok-window.ensures.window) c.in_ok-window.ensures.left
     (sym c.in_ok-a.ensures.offered) c.in_ok-a.ensures.left
     (sym c.in_ok-b.ensures.offered) (sym c.in_ok-b.ensures.left ∙ c.in_ok-end.ensures.none))

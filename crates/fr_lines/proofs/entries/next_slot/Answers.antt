@@ -11,4 +11,5 @@ returns-in_err-slot-in-Ok-clause-slot c =
 pub returns-in_ok-slot-in-Ok-clause-slot : goal.returns-in_ok-slot-in-Ok-clause-slot
 returns-in_ok-slot-in-Ok-clause-slot c =
     let read = rw c.in-Ok.is at c.in_ok-number.ensures.number in
-    sym (a_first_slot c.args.words.now c.in-Ok.number c.in_ok-slot-in-Ok.slot read (sym c.new.ensures ∙ c.in_ok-slot-in-Ok.was))
+    sym (a_first_slot c.args.words.now c.in-Ok.number c.in_ok-slot-in-Ok.slot read
+    (sym c.new.ensures ∙ c.in_ok-slot-in-Ok.was))
