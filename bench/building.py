@@ -12,9 +12,11 @@ def build(name, source, libraries, program):
     """Proves and builds the program as a crate of this name in a copy of the repository, and puts it where `program`
     says.
 
-    `libraries` are the crates, and the kit's libraries, that the source names. What checks of the same crates kept on
-    this machine isn't proved again.
+    `libraries` are the crates, and the kit's libraries, that the source names. All crates below are proved with it, but
+    for what `rt check` kept of them on this machine: `rt run` takes nothing of what `rt ci` kept. From nothing that may
+    take an hour, and it is said so.
     """
+    print(f"proves and builds {name} and all below it, which may take an hour", file=sys.stderr, flush=True)
     with tempfile.TemporaryDirectory() as folder:
         copy = Path(folder)
         shutil.copytree(TOP / "crates", copy / "crates", ignore=shutil.ignore_patterns("out", "must-fail"))

@@ -185,7 +185,8 @@ impl Stations {
     #[tactic(auto, using(crate::proofs::StationLemmas::length_stations))]
     pub(crate) fn babble(&mut self, node: NodeId, channel: Channel, bytes: Bytes)
         requires { node < length self.old }
-        ensures { self.new ≡ slice_set self.old node (babbling channel bytes (slice_index_or self.old node idle_station)) }
+        ensures { self.new
+            ≡ slice_set self.old node (babbling channel bytes (slice_index_or self.old node idle_station)) }
     {
         self.sides[usize::from(node.number())].babble(channel, bytes);
     }

@@ -2,21 +2,6 @@
 
 use std::sync::atomic::{AtomicU32, Ordering};
 
-/// A call of a wire, by what it waits for.
-#[derive(Clone, Copy)]
-pub(crate) enum Call {
-    /// A look, a put or an inject: the open window collects.
-    Offer,
-    /// A seal: all have put.
-    Seal,
-    /// A take: the open window is sealed.
-    Take,
-    /// An advance: all have taken.
-    Advance,
-    /// A call of a node that the cluster doesn't have: nothing.
-    Stray,
-}
-
 /// How far the open window has come.
 #[derive(Clone, Copy)]
 pub(crate) enum Stage {
@@ -44,15 +29,24 @@ impl Stage {
         }
     }
 
-    /// Whether the call needn't wait. Nothing waits once the run is over or the wire was stopped.
-    pub(crate) fn admits(self, call: Call) -> bool {
-        match call {
-            Call::Offer => !matches!(self, Stage::Sealed | Stage::AllTaken),
-            Call::Seal => matches!(self, Stage::AllPut | Stage::Over),
-            Call::Take => !matches!(self, Stage::Collecting | Stage::AllPut),
-            Call::Advance => matches!(self, Stage::AllTaken | Stage::Over),
-            Call::Stray => true,
-        }
+    /// Whether a look, a put or an inject needn't wait: the open window collects, or nothing waits any more.
+    pub(crate) fn lets_offer(self) -> bool {
+        !matches!(self, Stage::Sealed | Stage::AllTaken)
+    }
+
+    /// Whether a seal needn't wait: all have put, or nothing waits any more.
+    pub(crate) fn lets_seal(self) -> bool {
+        matches!(self, Stage::AllPut | Stage::Over)
+    }
+
+    /// Whether a take needn't wait: the open window is sealed, or nothing waits any more.
+    pub(crate) fn lets_take(self) -> bool {
+        !matches!(self, Stage::Collecting | Stage::AllPut)
+    }
+
+    /// Whether an advance needn't wait: all have taken, or nothing waits any more.
+    pub(crate) fn lets_advance(self) -> bool {
+        matches!(self, Stage::AllTaken | Stage::Over)
     }
 }
 
@@ -75,8 +69,8 @@ impl Hint {
         self.stage.store(stage as u32, Ordering::Release);
     }
 
-    /// Whether the call may go for the lock.
-    pub(crate) fn admits(&self, call: Call) -> bool {
-        Stage::of(self.stage.load(Ordering::Acquire)).admits(call)
+    /// The stage that was told last.
+    pub(crate) fn stage(&self) -> Stage {
+        Stage::of(self.stage.load(Ordering::Acquire))
     }
 }

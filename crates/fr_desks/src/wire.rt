@@ -6,7 +6,7 @@ ghost use Rattle.fr_bus.specs.States.{IsRun, OneSenderEach};
 ghost use Rattle.fr_desks.specs.declared.wire.WireError.TheVariants as refusal;
 
 use crate::gate::{Actor, Gate, Side, pass};
-use crate::hint::{Call, Hint, Stage};
+use crate::hint::{Hint, Stage};
 use fr_bus::bus::Bus;
 use fr_bus::error::{BusError, Phase};
 use fr_bus::fault::Fault;
@@ -24,6 +24,10 @@ use thiserror::Error;
 /// How often a call that isn't due looks again, and lets other threads run in between, before it sleeps. A window takes
 /// some ten microseconds, and to be woken takes as long.
 const LOOKS: u32 = 400;
+
+/// How often the calls that move the bus on look in a row before they let other threads run, which takes a microsecond
+/// or two: all nodes wait for them.
+const LOOKS_IN_A_ROW: u32 = 2_000;
 
 /// After how many looks the clock is asked how long they took.
 const LOOKS_A_TURN: u32 = 8;
@@ -67,25 +71,23 @@ impl Wired {
             Phase::Finished => Stage::Over,
         }
     }
-
-    /// Whether the call needn't wait. Nothing waits once the run is over or the wire was stopped.
-    fn is_due(&self, call: Call) -> bool {
-        self.stage().admits(call)
-    }
 }
 
 /// What some calls wait for.
 #[derive(Drop)]
 struct Signal {
+    /// How often these calls look in a row.
+    looks: u32,
     /// How many more calls sleep at once.
     hurried: AtomicU32,
     sleepers: Condvar,
 }
 
 impl Signal {
-    /// A signal for which nobody waits yet.
-    fn new() -> Signal {
+    /// A signal for which nobody waits yet, of calls that look so often in a row.
+    fn new(looks: u32) -> Signal {
         Signal {
+            looks,
             hurried: AtomicU32::new(0),
             sleepers: Condvar::new(),
         }
@@ -105,15 +107,29 @@ impl Signal {
         left > 0
     }
 
-    /// Lets other threads run until the hint admits the call, for a while, and not on busy cores.
-    fn look_out<R: Clock>(&self, rt: &R, hint: &Hint, call: Call) {
-        if hint.admits(call) || self.is_hurried() {
+    /// Looks at the hint until the call is due by what it tells, some times in a row. Says whether it was.
+    fn looks_due<F: Fn(Stage) -> bool>(&self, hint: &Hint, is_due: &F) -> bool
+        requires { F.IsAlwaysCallable is_due.now }
+    {
+        for _ in 0..self.looks {
+            if is_due(hint.stage()) {
+                return true;
+            }
+        }
+        false
+    }
+
+    /// Lets other threads run until the call is due by the hint, for a while, and not on busy cores.
+    fn look_out<R: Clock, F: Fn(Stage) -> bool>(&self, rt: &R, hint: &Hint, is_due: &F)
+        requires { F.IsAlwaysCallable is_due.now }
+    {
+        if self.looks_due(hint, is_due) || self.is_hurried() {
             return;
         }
         let mut then = microseconds(rt);
         for look in 1..=LOOKS {
             thread::yield_now();
-            if hint.admits(call) {
+            if self.looks_due(hint, is_due) {
                 return;
             }
             if look % LOOKS_A_TURN == 0 {
@@ -171,8 +187,8 @@ impl Wire {
                 bus,
                 stopped: false,
             }),
-            for_nodes: Signal::new(),
-            for_bus: Signal::new(),
+            for_nodes: Signal::new(1),
+            for_bus: Signal::new(LOOKS_IN_A_ROW),
             hint: Hint::new(),
         }
     }
@@ -184,28 +200,23 @@ impl Wire {
         node.number() < self.nodes
     }
 
-    /// The call, as one of the node.
-    fn call_of(&self, node: NodeId, call: Call) -> Call {
-        if self.has_node(node) {
-            call
-        } else {
-            Call::Stray
-        }
-    }
-
-    /// The bus under its lock, once the call needn't wait.
-    fn ready<R: Wait + Clock>(
+    /// The bus under its lock, once the call is due at the stage that the window has come to.
+    fn ready<R: Wait + Clock, F: Fn(Stage) -> bool>(
         &self,
         rt: &R,
         signal: &Signal,
-        call: Call,
+        is_due: F,
     ) -> Result<MutexGuard<'_, Wired>, WireError>
+        requires { F.IsAlwaysCallable is_due }
         ensures { IfErr result (λ e. e ≡ refusal.Stopped) }
     {
-        signal.look_out(rt, &self.hint, call);
-        let wired = signal
-            .sleepers
-            .wait_while(rt, self.lock.lock(rt), |wired| !wired.is_due(call));
+        signal.look_out(rt, &self.hint, &is_due);
+        let mut wired = self.lock.lock(rt);
+        if !is_due(wired.stage()) {
+            wired = signal
+                .sleepers
+                .wait_while(rt, wired, |wired| !is_due(wired.stage()));
+        }
         if wired.stopped {
             Err(WireError::Stopped)
         } else {
@@ -221,9 +232,9 @@ impl Wire {
         ensures refused { IfErr result (λ e. (e ≡ refusal.Stopped)
             ⊎ ((e ≡ refusal.Bus bus.UnknownNode) × (self.now ≤ node))) }
     {
-        let call = self.call_of(node, Call::Offer);
-        let wired = self.ready(rt, &self.for_nodes, call)?;
-        if self.has_node(node) {
+        let known = self.has_node(node);
+        let wired = self.ready(rt, &self.for_nodes, |stage| !known || stage.lets_offer())?;
+        if known {
             Ok(wired.bus.collecting())
         } else {
             Err(WireError::Bus(BusError::UnknownNode))
@@ -238,8 +249,8 @@ impl Wire {
         number: u32,
         offer: &Offer,
     ) -> Result<(), WireError> {
-        let call = self.call_of(node, Call::Offer);
-        let mut wired = self.ready(rt, &self.for_nodes, call)?;
+        let known = self.has_node(node);
+        let mut wired = self.ready(rt, &self.for_nodes, |stage| !known || stage.lets_offer())?;
         let answer = wired.bus.put(node, number, offer);
         let all = answer.is_ok() && wired.bus.all_put();
         if all {
@@ -254,7 +265,7 @@ impl Wire {
 
     /// The bus's inject, once the open window collects. Refused with `Stopped`, and as the bus's is.
     pub fn inject<R: Wait + Clock>(&self, rt: &R, fault: Fault) -> Result<(), WireError> {
-        let mut wired = self.ready(rt, &self.for_nodes, Call::Offer)?;
+        let mut wired = self.ready(rt, &self.for_nodes, |stage| stage.lets_offer())?;
         let answer = wired.bus.inject(fault);
         answer.map_err(|error| WireError::Bus(error))
     }
@@ -271,7 +282,7 @@ impl Wire {
 
     /// The bus's seal, once all have put.
     fn seal_all<R: Wait + Clock>(&self, rt: &R) -> Result<(), WireError> {
-        let mut wired = self.ready(rt, &self.for_bus, Call::Seal)?;
+        let mut wired = self.ready(rt, &self.for_bus, |stage| stage.lets_seal())?;
         let answer = wired.bus.seal();
         self.hint.tell(wired.stage());
         drop(wired);
@@ -303,8 +314,8 @@ impl Wire {
         a: &mut Seen,
         b: &mut Seen,
     ) -> Result<(), WireError> {
-        let call = self.call_of(node, Call::Take);
-        let mut wired = self.ready(rt, &self.for_nodes, call)?;
+        let known = self.has_node(node);
+        let mut wired = self.ready(rt, &self.for_nodes, |stage| !known || stage.lets_take())?;
         let answer = wired.bus.take_into(node, number, a, b);
         let all = answer.is_ok() && wired.bus.all_taken();
         if all {
@@ -319,7 +330,7 @@ impl Wire {
 
     /// The bus's advance, once all have taken. Refused with `Stopped`, and as the bus's is.
     pub fn advance<R: Wait + Clock>(&self, rt: &R) -> Result<(), WireError> {
-        let mut wired = self.ready(rt, &self.for_bus, Call::Advance)?;
+        let mut wired = self.ready(rt, &self.for_bus, |stage| stage.lets_advance())?;
         let answer = wired.bus.advance();
         let over = wired.bus.phase() == Phase::Finished;
         self.hint.tell(wired.stage());

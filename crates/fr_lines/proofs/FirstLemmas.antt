@@ -1,16 +1,19 @@
--- What the words of a fetch are read as, one after another.
+-- What the words of a fetch and of an observe are read as, one after another.
 use Rattle.std.proofs.Common.{◌≡◌, ℕ, ◌<◌, ◌^◌, List, [], ◌∷◌, drop, Option, Some, None, refl, sym, ◌∙◌, arith, false}
+use Rattle.fr_frame.specs.Payload.{most_frame_bytes}
 use Rattle.fr_journal.specs.declared.entry.Entry.TheVariants.{Fetch}
 use Rattle.fr_journal.specs.declared.entry.Offered.{Offered}
 use Rattle.fr_journal.specs.declared.entry.Offered.TheVariants as offered
-use Rattle.fr_lines.proofs.PartLemmas.{offered_again}
-use Rattle.fr_lines.specs.PartReading.{slot_in, optional_slot_in, offered_in, window_of, window_in}
+use Rattle.fr_lines.proofs.PartLemmas.{offered_again, seen_again}
+use Rattle.fr_lines.specs.PartReading.{slot_in, optional_slot_in, offered_in, seen_in, window_of, window_in}
 use Rattle.fr_lines.specs.Parts.{absent}
 use Rattle.fr_lines.specs.Reading.{window_first, fetch_in}
 use Rattle.fr_slots.specs.Numbers.{last_slot, number_within}
 use Rattle.fr_slots.specs.Windows.{Opportunity}
 use Rattle.fr_text.proofs.NumberLemmas.{number_takes, decimal_other}
-use Rattle.fr_text.specs.Reading.{◌>>=◌, number_in, first_in}
+use Rattle.fr_status.specs.declared.seen.Seen.TheVariants as seen
+use Rattle.fr_text.proofs.HexTextLemmas.{bytes_takes}
+use Rattle.fr_text.specs.Reading.{◌>>=◌, number_in, bytes_in, first_in}
 use Rattle.std.specs.Fmt.{decimal}
 use Rattle.std.specs.Str.{bytes_eq}
 
@@ -101,3 +104,12 @@ a_fetch (n ∷ c ∷ m ∷ a ∷ b ∷ x ∷ y ∷ []) rest last w p q h5 d5 hp 
     let read_q : offered_in y ≡ Some q = rw (d6, d5) at hq in
     rw (h5, read_p, read_q) refl
 a_fetch (n ∷ c ∷ m ∷ a ∷ b ∷ x ∷ y ∷ z ∷ ws) rest last w p q h5 d5 hp d6 hq d7 = cc (rw (d6, d5) at d7)
+
+-- ---- what was seen
+
+pub first_seen : (words : List (List ℕ)) (bytes : List ℕ) → first_in (bytes_in most_frame_bytes) words ≡ Some bytes
+    → Some (seen.Bytes (record { items = bytes })) ≡ first_in seen_in words
+first_seen [] bytes h = cc h
+first_seen (word ∷ words) bytes h =
+    let takes = bytes_takes most_frame_bytes word bytes h in
+    sym (rw takes.0 (seen_again (seen.Bytes (record { items = bytes })) (takes.1, takes.2)))

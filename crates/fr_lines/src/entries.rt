@@ -14,7 +14,7 @@ ghost use Rattle.fr_lines.specs.Spelling.{entry_words};
 ghost use Rattle.fr_lines.specs.Versions.{tells};
 
 use crate::bare::{BareEntry, EntryBytes};
-use crate::parts::{from_of, payload_into, seen_into, taken_back_of, task_of, window_at};
+use crate::parts::{from_of, next_seen_into, payload_into, taken_back_of, task_of, window_at};
 use crate::versions::Version;
 use fr_journal::entry::Offered;
 use fr_slots::numbers::{Cycle, SlotId};
@@ -161,10 +161,10 @@ fn observe_of(words: &mut Words<'_>, bytes: &mut EntryBytes) -> Option<BareEntry
     ensures { option_map (with_bytes bytes.new) result ≡ observe_in words.old }
 {
     let window = words.next_number(1 << 32)?;
-    let (seen_a, seen_b) = words.two()?;
-    if !seen_into(seen_a, &mut bytes.a) || !seen_into(seen_b, &mut bytes.b) {
+    if !next_seen_into(words, &mut bytes.a) || !next_seen_into(words, &mut bytes.b) {
         return None;
     }
+    words.end()?;
     Some(BareEntry::Observe {
         window: window as u32,
     })

@@ -1,10 +1,11 @@
 //! The parts of which lines are made.
-ghost use Rattle.std.specs.Prelude.{◌≡◌, ◌<◌, ◌^◌};
-ghost use Rattle.fr_text.specs.Reading.{number_in, read_as};
+ghost use Rattle.std.specs.Prelude.{◌≡◌, ◌<◌, ◌^◌, None, drop};
+ghost use Rattle.fr_frame.specs.Payload.{most_frame_bytes};
+ghost use Rattle.fr_text.specs.Reading.{number_in, bytes_in, read_as, first_in};
 ghost use Rattle.fr_lines.specs.PartReading.{slot_in, channels_in, cycles_in, filter_in, flag_in};
 ghost use Rattle.fr_lines.specs.PartReading.{mode_in, size_in, payload_in, taken_back_in, channel_in};
 ghost use Rattle.fr_lines.specs.PartReading.{marked_channel_in, origin_in, from_in};
-ghost use Rattle.fr_lines.specs.PartReading.{seen_bytes_in, seen_in, same_slot, window_of};
+ghost use Rattle.fr_lines.specs.PartReading.{seen_in, same_slot, window_of};
 
 use arrayvec::ArrayVec;
 use fr_frame::frame::Bytes;
@@ -18,6 +19,7 @@ use fr_slots::window::Window;
 use fr_status::seen::Seen;
 use fr_text::hexes::{bytes_into, bytes_of};
 use fr_text::numbers::number_of;
+use fr_text::words::Words;
 
 /// The node that the word spells, 0 to 15 (own profile). `None` where it spells none.
 pub fn node_of(word: &[u8]) -> Option<NodeId>
@@ -224,23 +226,11 @@ pub(crate) fn from_of(word: &[u8]) -> Option<Option<Origin>>
     }
 }
 
-/// Reads the bytes that the word spells as what was seen, where bytes were seen before, in place of these.
-#[tactic(auto, unfolding(crate::specs::PartReading::seen_bytes_in))]
-fn seen_bytes_into(word: &[u8], seen: &mut Seen) -> bool
-    ensures { read_as result seen.new ≡ seen_bytes_in word.now }
-{
-    if let Seen::Bytes(bytes) = seen {
-        return bytes_into(word, bytes);
-    }
-    let mut bytes = Bytes::new();
-    let is_read = bytes_into(word, &mut bytes);
-    *seen = Seen::Bytes(bytes);
-    is_read
-}
-
-/// Reads what the word says that was seen on a channel in place of what was seen before. Says whether it could.
-#[tactic(auto, unfolding(crate::specs::PartReading::seen_in))]
-pub(crate) fn seen_into(word: &[u8], seen: &mut Seen) -> bool
+/// Writes what a word that spells no bytes says that was seen on a channel over what was seen before. Says whether it
+/// could.
+#[tactic(auto, unfolding(crate::specs::PartReading::seen_in, crate::specs::PartReading::seen_bytes_in))]
+fn seen_word_into(word: &[u8], seen: &mut Seen) -> bool
+    requires { bytes_in most_frame_bytes word.now ≡ None }
     ensures { read_as result seen.new ≡ seen_in word.now }
 {
     if word == b"-".as_slice() {
@@ -263,7 +253,31 @@ pub(crate) fn seen_into(word: &[u8], seen: &mut Seen) -> bool
         *seen = Seen::Overrun;
         return true;
     }
-    seen_bytes_into(word, seen)
+    false
+}
+
+/// Reads what the next word says that was seen on a channel in place of what was seen before, bytes over those that are
+/// there. Says whether it could.
+pub(crate) fn next_seen_into(words: &mut Words<'_>, seen: &mut Seen) -> bool
+    ensures seen { read_as result seen.new ≡ first_in seen_in words.old }
+    ensures left { words.new ≡ drop 1 words.old }
+{
+    if let Seen::Bytes(bytes) = seen {
+        return match words.next_bytes_or(bytes) {
+            Some(Ok(())) => true,
+            Some(Err(word)) => seen_word_into(word, seen),
+            None => false,
+        };
+    }
+    let mut bytes = Bytes::new();
+    match words.next_bytes_or(&mut bytes) {
+        Some(Ok(())) => {
+            *seen = Seen::Bytes(bytes);
+            true
+        }
+        Some(Err(word)) => seen_word_into(word, seen),
+        None => false,
+    }
 }
 
 /// The window of these numbers: at minislot 0 the static slot that both channels open.

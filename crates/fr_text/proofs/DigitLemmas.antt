@@ -1,11 +1,11 @@
 -- Digits read by their values are those of the bytes that they make.
 use Rattle.std.proofs.Common.{◌≡◌, ◌≢◌, ℕ, zero, suc, ◌+◌, ◌*◌, ◌/◌, ◌%◌, ◌<◌, ◌≤◌, List, [], ◌∷◌, ◌++◌}
-use Rattle.std.proofs.Common.{length, get_or, set, take, slice_index, Some, None, refl, sym, ap, subst, ◌∙◌, arith}
+use Rattle.std.proofs.Common.{length, length-take, get_or, set, take, slice_index, Some, None, refl, sym, ap, subst, ◌∙◌, arith}
 use Rattle.std.proofs.Common.{bit_or}
-use Rattle.std.proofs.Common.{inl, inr, lit<, drop, take-add, replicate, ◌-◌}
+use Rattle.std.proofs.Common.{Option, IfSome, inl, inr, lit<, drop, take-add, replicate, ◌-◌}
 use Rattle.std.proofs.lemmas.Bool.{le-leb, cases_lt}
 use Rattle.std.proofs.lemmas.List.{get_or-set_same, get_or-set_other, take_all, drop-drop, take-append-drop}
-use Rattle.std.proofs.lemmas.List.{get_or-drop}
+use Rattle.std.proofs.lemmas.List.{get_or-drop, get_or-take}
 use Rattle.std.proofs.lemmas.List.{get_or_append_left}
 use Rattle.std.proofs.lemmas.Simd.{get_or-chunk, get_or-replicate}
 use Rattle.std.proofs.Math.Seq.{get_or-append_right, take-append_seam}
@@ -15,8 +15,9 @@ use Rattle.std.proofs.lemmas.Slice.Eq.{bytes_eq-Decides}
 use Rattle.std.specs.Simd.{first_chunks}
 use Rattle.hex.proofs.HexLemmas.{length-encode_with, decode_of-encode_lower, decode_of-ok}
 use Rattle.hex.specs.Hex.{decode_of, encode_lower, encode_with, lower_digits, IsBytes}
-use Rattle.fr_text.specs.Reading.{bytes_as}
-use Rattle.fr_text.proofs.HexTextLemmas.{as_takes, none_from}
+use Rattle.fr_text.specs.Reading.{bytes_as, bytes_in}
+use Rattle.fr_text.specs.Spelling.{hex_text}
+use Rattle.fr_text.proofs.HexTextLemmas.{as_takes, none_from, bytes_again}
 
 -- the byte of two digits
 byte_of : (high low : ℕ) → high < 16 → low < 16 → bit_or (high * 16 % 256) low ≡ high * 16 + low
@@ -52,12 +53,13 @@ set_each P xs place x within here before k lt =
     ]
 
 -- one byte more of two values
-pub packed_more : (values bytes : List ℕ) (place : ℕ) → place < length bytes → get_or values (2 * place) 0 < 16 → get_or values (2 * place + 1) 0 < 16
-    → ArePacked place values bytes → ArePacked (place + 1) values (set bytes place (bit_or (get_or values (2 * place) 0 * 16 % 256) (get_or values (2 * place + 1) 0)))
-packed_more values bytes place within h l before =
+pub packed_more : (values bytes : List ℕ) (place : ℕ) → place < length bytes → ArePacked place values bytes
+    → ArePacked (place + 1) values (set bytes place (bit_or (get_or values (2 * place) 0 * 16 % 256) (get_or values (2 * place + 1) 0)))
+packed_more values bytes place within before =
     let high = get_or values (2 * place) 0 in
     let low = get_or values (2 * place + 1) 0 in
-    set_each (λ k byte. (byte / 16 ≡ get_or values (2 * k) 0) × (byte % 16 ≡ get_or values (2 * k + 1) 0)) bytes place (bit_or (high * 16 % 256) low) within (high_digit_of high low h l, low_digit_of high low h l) before
+    set_each (λ k byte. get_or values (2 * k) 0 < 16 → get_or values (2 * k + 1) 0 < 16 → (byte / 16 ≡ get_or values (2 * k) 0) × (byte % 16 ≡ get_or values (2 * k + 1) 0))
+    bytes place (bit_or (high * 16 % 256) low) within (λ h l. (high_digit_of high low h l, low_digit_of high low h l)) before
 
 -- digits that are spelled at each place
 pub spelled_by_places : (count : ℕ) (room digits : List ℕ) → length digits ≡ 2 * count → count ≤ length room → ((k : ℕ) → k < count → SpelledAt room digits k)
@@ -84,10 +86,23 @@ block_spelled values bytes digits bytes_len digits_len are packed =
     let whole : take 16 bytes ≡ bytes = take_all 16 bytes (omega arith) in
     ap encode_lower (sym whole)
     ∙ spelled_by_places 16 bytes digits (omega arith) (omega arith) (λ k lt.
-    let byte = packed k lt in
     let high = are (2 * k) (omega arith) in
     let low = are (2 * k + 1) (omega arith) in
+    let byte = packed k lt high.0 low.0 in
     (ap (slice_index lower_digits) byte.0 ∙ high.1, ap (slice_index lower_digits) byte.1 ∙ low.1))
+
+-- the digits in front of a block are spelled by the bytes of their values
+pub front_spelled : (count : ℕ) (values bytes digits : List ℕ) → count ≤ 32 → length bytes ≡ 16 → length digits ≡ 32
+    → AreValues count values digits → ArePacked 16 values bytes
+    → encode_lower (take (count / 2) bytes) ≡ take (2 * (count / 2)) digits
+front_spelled count values bytes digits few bytes_len digits_len are packed =
+    let twice = 2 * (count / 2) in
+    let long = length-take twice digits in
+    spelled_by_places (count / 2) bytes (take twice digits) (omega arith) (omega arith) (λ k lt.
+    let high = are (2 * k) (omega arith) in
+    let low = are (2 * k + 1) (omega arith) in
+    let byte = packed k (omega arith) high.0 low.0 in
+    (ap (slice_index lower_digits) byte.0 ∙ high.1 ∙ sym (get_or-take twice digits (2 * k) 0 (omega arith)), ap (slice_index lower_digits) byte.1 ∙ low.1 ∙ sym (get_or-take twice digits (2 * k + 1) 0 (omega arith))))
 
 -- the digits of bytes after others
 pub encode-append : (xs ys : List ℕ) → encode_lower (xs ++ ys) ≡ encode_lower xs ++ encode_lower ys
@@ -220,3 +235,68 @@ IsBytes-take zero xs fits i = lit< tt
 IsBytes-take (suc n) [] fits i = fits i
 IsBytes-take (suc n) (x ∷ xs) fits zero = fits 0
 IsBytes-take (suc n) (x ∷ xs) fits (suc i) = IsBytes-take n xs (λ j. fits (suc j)) i
+
+-- ---- the word in front of a text
+
+-- the digits of the blocks and of the first of another
+front_whole : (i c : ℕ) (digits head read block : List ℕ) → encode_lower head ≡ take (32 * i) digits
+    → encode_lower (take (c / 2) read) ≡ take (2 * (c / 2)) block → c ≡ 2 * (c / 2)
+    → take c block ≡ take c (drop (32 * i) digits) → encode_lower (head ++ take (c / 2) read) ≡ take (32 * i + c) digits
+front_whole i c digits head read block head_is read_is even block_is =
+    let tail : encode_lower (take (c / 2) read) ≡ take c (drop (32 * i) digits) =
+    read_is ∙ ap (λ (n : ℕ). take n block) (sym even) ∙ block_is in
+    encode-append head (take (c / 2) read) ∙ (λ j. head_is j ++ tail j) ∙ sym (take-add (32 * i) c digits)
+
+-- are as many as the bytes have
+front_long : (n : ℕ) (digits bytes : List ℕ) → encode_lower bytes ≡ take n digits → n ≤ length digits → 2 * length bytes ≡ n
+front_long n digits bytes is within =
+    let long = spelled_length bytes (take n digits) is in
+    let taken = length-take n digits in
+    omega arith
+
+-- with the letter before them they are a word
+pub word_found : (most i c : ℕ) (digits head read block : List ℕ) → encode_lower head ≡ take (32 * i) digits
+    → encode_lower (take (c / 2) read) ≡ take (2 * (c / 2)) block → c ≡ 2 * (c / 2)
+    → take c block ≡ take c (drop (32 * i) digits) → 32 * i + c ≤ length digits → IsBytes head → IsBytes read
+    → length (head ++ take (c / 2) read) ≤ most
+    → (2 * length (head ++ take (c / 2) read) + 1 ≤ length digits + 1)
+    × (bytes_in most (take (2 * length (head ++ take (c / 2) read) + 1) (120 ∷ digits)) ≡ Some (head ++ take (c / 2) read))
+word_found most i c digits head read block head_is read_is even block_is within head_fits read_fits few =
+    let bytes = head ++ take (c / 2) read in
+    let spelled = front_whole i c digits head read block head_is read_is even block_is in
+    let long = front_long (32 * i + c) digits bytes spelled within in
+    let count : 2 * length bytes + 1 ≡ suc (32 * i + c) = omega arith in
+    let word : take (2 * length bytes + 1) (120 ∷ digits) ≡ hex_text bytes =
+    ap (λ (n : ℕ). take n (120 ∷ digits)) count ∙ ap (λ (ds : List ℕ). 120 ∷ ds) (sym spelled) in
+    let fits = IsBytes-append head (take (c / 2) read) head_fits (IsBytes-take (c / 2) read read_fits) in
+    (omega arith, rw word (bytes_again most bytes fits few))
+
+-- the first elements of the first elements
+pub take_within : (m n : ℕ) (xs : List ℕ) → m ≤ n → take m (take n xs) ≡ take m xs
+take_within zero n xs few = refl
+take_within (suc m) zero xs few = absurd (omega arith)
+take_within (suc m) (suc n) [] few = refl
+take_within (suc m) (suc n) (x ∷ xs) few = ap (λ (ys : List ℕ). x ∷ ys) (take_within m n xs (omega arith))
+
+-- where what was read is found to end
+pub word_if : (most i c : ℕ) (text digits head read block new : List ℕ) (found : Option ℕ) → text ≡ 120 ∷ digits
+    → encode_lower head ≡ take (32 * i) (drop 1 text) → encode_lower (take (c / 2) read) ≡ take (2 * (c / 2)) block
+    → take c block ≡ take c (drop (32 * i) digits) → 32 * i + c ≤ length digits → IsBytes head → IsBytes read
+    → IfSome found (λ len. c ≡ 2 * (c / 2)) → IfSome found (λ len. new ≡ head ++ take (c / 2) read)
+    → IfSome found (λ len. len ≡ 2 * length new + 1) → IfSome found (λ len. length new ≤ most)
+    → IfSome found (λ len. bytes_in most (take len text) ≡ Some new)
+word_if most i c text digits head read block new None text_is head_is read_is block_is within head_fits read_fits even new_is long few = tt
+word_if most i c text digits head read block new (Some len) text_is head_is read_is block_is within head_fits read_fits even new_is long few =
+    let head_here : encode_lower head ≡ take (32 * i) digits = head_is ∙ ap (λ (t : List ℕ). take (32 * i) (drop 1 t)) text_is in
+    let few_here : length (head ++ take (c / 2) read) ≤ most = rw (← new_is) few in
+    let found = word_found most i c digits head read block head_here read_is even block_is within head_fits read_fits few_here in
+    let len_is : len ≡ 2 * length (head ++ take (c / 2) read) + 1 = long ∙ ap (λ (n : List ℕ). 2 * length n + 1) new_is in
+    rw (text_is, len_is, new_is) found.1
+
+-- a block of digits alone
+pub whole_front : (front : ℕ) (read block : List ℕ) → 32 ≤ front → front ≤ 32 → length read ≡ 16 → length block ≡ 32
+    → encode_lower (take (front / 2) read) ≡ take (2 * (front / 2)) block → encode_lower read ≡ block
+whole_front front read block low high read_len block_len is =
+    let whole : front ≡ 32 = omega arith in
+    let all : encode_lower (take 16 read) ≡ take 32 block = rw whole at is in
+    ap encode_lower (sym (take_all 16 read (omega arith))) ∙ all ∙ take_all 32 block (omega arith)

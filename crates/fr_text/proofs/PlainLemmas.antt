@@ -72,6 +72,12 @@ plain_at [] k h = refl
 plain_at (x ∷ xs) zero h = (and_parts (is_plain_byte x) (is_plain xs) h).0
 plain_at (x ∷ xs) (suc k) h = plain_at xs k (and_parts (is_plain_byte x) (is_plain xs) h).1
 
+-- a byte of a plain word is no space
+pub plain_no_space : (word : List ℕ) (k : ℕ) → IsPlain word → is_space (get_or word k 0) ≡ true → ⊥
+plain_no_space word k h is =
+    let here = and_parts (not (is_space (get_or word k 0))) (not (is_feed (get_or word k 0))) (plain_at word k h) in
+    grind (arith, nat_tests)
+
 plain_hex : (bs : List ℕ) → IsPlain (encode_lower bs)
 unfolding encode_with
 plain_hex [] = refl

@@ -7,7 +7,10 @@ use Rattle.std.proofs.lemmas.Bool.{cases_Bool, ltb-true, lt-ltb, le-ltb}
 use Rattle.std.proofs.lemmas.List.{get_or-take, take_all}
 use Rattle.std.proofs.lemmas.Str.Parse.{digit_at}
 use Rattle.std.specs.Str.Parse.{AllDigits}
-use Rattle.fr_text.specs.Reading.{first_in}
+use Rattle.fr_text.proofs.HexTextLemmas.{bytes_takes}
+use Rattle.fr_text.proofs.PlainLemmas.{plain_no_space, IsPlain-hex_text}
+use Rattle.fr_text.specs.Plain.{IsPlain}
+use Rattle.fr_text.specs.Reading.{first_in, bytes_in}
 use Rattle.std.proofs.lemmas.List.Splits.{slice_split_first, slice_split-cons_no}
 use Rattle.std.specs.List.{position, position_or_len, slice_split, onto_first}
 use Rattle.memchr.specs.Find.{IsFirstByte, is_byte}
@@ -88,25 +91,32 @@ pub first_space : (line : List ℕ) (found : Option ℕ) → IsFirstByte (is_byt
 first_space line (Some k) first = space_at line k first.0.high first.1 (λ j less is. first.0.before j (omega arith) less is)
 first_space line None none = space_nowhere line (λ j less is. none j (omega arith) less is)
 
--- ---- a word of digits in front
+-- ---- a word in front, without a space
 
-no_space : (line : List ℕ) (k j : ℕ) → AllDigits 10 (take k line) → k ≤ length line → j < k
-    → is_space (get_or line j 0) ≡ true → ⊥
-no_space line k j digits within less is =
+abbrev pub HasNoSpace : ℕ → List ℕ → Type 0
+HasNoSpace k line = (j : ℕ) → j < k → is_space (get_or line j 0) ≡ true → ⊥
+
+pub no_space-digits : (line : List ℕ) (k : ℕ) → AllDigits 10 (take k line) → k ≤ length line → HasNoSpace k line
+no_space-digits line k digits within j less is =
     let range = digit_at (take k line) j digits (omega (arith, length-take k line)) in
     let same = get_or-take k line j 0 less in
     let space : get_or line j 0 ≡ 32 = grind (arith, nat_tests) in
     omega (arith, same, range.0, space)
+
+pub no_space-bytes : (most : ℕ) (line bs : List ℕ) (k : ℕ) → bytes_in most (take k line) ≡ Some bs → HasNoSpace k line
+no_space-bytes most line bs k read j less is =
+    let plain : IsPlain (take k line) = rw (bytes_takes most (take k line) bs read).0 (IsPlain-hex_text bs) in
+    plain_no_space (take k line) j plain (ap is_space (get_or-take k line j 0 less) ∙ is)
 
 whole_at : (line : List ℕ) (k : ℕ) → k ≡ length line → take k line ≡ line
 whole_at line k is = take_all k line (omega arith)
 
 -- up to the end
 pub first_whole : {A : Type 0} (read : List ℕ → Option A) (words : List (List ℕ)) (line : List ℕ) (k : ℕ) (x : A)
-    → words_of line ≡ words → k ≡ length line → AllDigits 10 (take k line) → read (take k line) ≡ Some x
+    → words_of line ≡ words → k ≡ length line → HasNoSpace k line → read (take k line) ≡ Some x
     → (first_in read words ≡ Some x) × ([] ≡ drop 1 words)
-first_whole read words line k x left is digits found =
-    let none = space_nowhere line (λ j less space. no_space line k j digits (omega arith) (omega arith) space) in
+first_whole read words line k x left is bare found =
+    let none = space_nowhere line (λ j less space. bare j (omega arith) space) in
     let one : words_of line ≡ line ∷ [] = cut_none line (sym none) in
     let all = whole_at line k is in
     let told : read line ≡ Some x = rw all at found in
@@ -114,10 +124,10 @@ first_whole read words line k x left is digits found =
 
 -- up to a space
 pub first_before : {A : Type 0} (read : List ℕ → Option A) (words : List (List ℕ)) (line : List ℕ) (k : ℕ) (x : A)
-    → words_of line ≡ words → k < length line → get_or line k 0 ≡ 32 → AllDigits 10 (take k line)
+    → words_of line ≡ words → k < length line → get_or line k 0 ≡ 32 → HasNoSpace k line
     → read (take k line) ≡ Some x → (first_in read words ≡ Some x) × (words_of (drop (k + 1) line) ≡ drop 1 words)
-first_before read words line k x left lt here digits found =
+first_before read words line k x left lt here bare found =
     let space : is_space (get_or line k 0) ≡ true = rw here refl in
-    let first = space_at line k lt space (λ j less is. no_space line k j digits (omega arith) less is) in
+    let first = space_at line k lt space bare in
     let cut = cut_at line k (sym first) in
     (rw (← left, cut) found, rw (← left, cut) refl)

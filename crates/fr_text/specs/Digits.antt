@@ -16,8 +16,9 @@ AreValues count values digits =
     (k : ℕ) → k < count → (slice_index values k < 16) × (slice_index lower_digits (slice_index values k)
     ≡ slice_index digits k)
 
--- each of the first so many bytes is made of two values
+-- each of the first so many bytes is made of two values, where both are those of digits
 abbrev pub ArePacked : ℕ → List ℕ → List ℕ → Type 0
 ArePacked count values bytes =
-    (k : ℕ) → k < count → (slice_index bytes k / 16 ≡ slice_index values (2 * k))
+    (k : ℕ) → k < count → slice_index values (2 * k) < 16 → slice_index values (2 * k + 1) < 16
+    → (slice_index bytes k / 16 ≡ slice_index values (2 * k))
     × (slice_index bytes k % 16 ≡ slice_index values (2 * k + 1))

@@ -1,6 +1,6 @@
 //! The bytes that words spell: the letter `x`, and two lower-case hexadecimal digits for each byte.
 ghost use Rattle.std.specs.Prelude.{ℕ, List, ◌≡◌, ◌+◌, ◌-◌, ◌<◌, ◌≤◌, ◌++◌, length, option_map, replicate, slice_index};
-ghost use Rattle.std.specs.Prelude.{max};
+ghost use Rattle.std.specs.Prelude.{◌*◌, ◌/◌, max, min, take, Some, IfSome};
 ghost use Rattle.arrayvec.specs.ArrayVec.{array_vec_len};
 ghost use Rattle.fr_text.specs.Digits.{AreDigits, AreValues, ArePacked};
 ghost use Rattle.fr_text.specs.Writing.{Writes};
@@ -52,7 +52,7 @@ fn values_of(digits: &[u8; BLOCK]) -> ([u8; BLOCK], u8)
 
 /// The bytes of each two values.
 fn packed_bytes(values: &[u8; BLOCK]) -> [u8; BLOCK_BYTES]
-    ensures { (digits : List ℕ) → AreValues BLOCK values.now digits → ArePacked BLOCK_BYTES values.now result }
+    ensures { ArePacked BLOCK_BYTES values.now result }
 {
     let mut bytes = [0u8; BLOCK_BYTES];
     for place in 0..BLOCK_BYTES {
@@ -72,6 +72,38 @@ fn block_of(digits: &[u8; BLOCK]) -> ([u8; BLOCK_BYTES], u8)
 {
     let (values, most) = values_of(digits);
     (packed_bytes(&values), most)
+}
+
+/// The values of the digits of a block, and how many digits stand before the first byte that is none.
+///
+/// Each digit is a value of its own, and none is answered early: so the compiler reads many of them at once.
+fn values_in_front(digits: &[u8; BLOCK]) -> ([u8; BLOCK], u8)
+    ensures few { result.1 ≤ BLOCK }
+    ensures are { AreValues result.1 result.0 digits.now }
+{
+    let mut values = [0u8; BLOCK];
+    let mut front = BLOCK as u8;
+    for place in 0..BLOCK {
+        let value = digit_value(digits[place]);
+        values[place] = value;
+        let end = if value < 16 { BLOCK as u8 } else { place as u8 };
+        front = lesser(front, end);
+    }
+    (values, front)
+}
+
+/// The bytes that the digits in front of a block spell, of which there are at most so many, and how many digits these
+/// are.
+///
+/// It is inlined, so that the compiler keeps what it compares digits with from block to block.
+#[inline(always)]
+fn front_of(digits: &[u8; BLOCK], most: usize) -> ([u8; BLOCK_BYTES], usize)
+    ensures few { (result.1 ≤ BLOCK) × (result.1 ≤ most) }
+    ensures spelled { encode_lower (take (result.1 / 2) result.0) ≡ take (2 * (result.1 / 2)) digits.now }
+    ensures fits { IsBytes result.0 }
+{
+    let (values, front) = values_in_front(digits);
+    (packed_bytes(&values), usize::from(front).min(most))
 }
 
 /// The block of these digits and zeros after them.
@@ -105,6 +137,13 @@ fn digits_into<const N: usize>(digits: &[u8], bytes: &mut ArrayVec<u8, N>) -> bo
     greater(most, greatest) < 16
 }
 
+/// The lesser of two numbers.
+fn lesser(first: u8, second: u8) -> u8
+    ensures { result ≡ min first second }
+{
+    if second < first { second } else { first }
+}
+
 /// The greater of two numbers.
 fn greater(first: u8, second: u8) -> u8
     ensures { result ≡ max first second }
@@ -120,6 +159,58 @@ fn append<const N: usize>(bytes: &mut ArrayVec<u8, N>, more: &[u8])
     let outcome = bytes.try_extend_from_slice(more);
     let fits = outcome.is_ok();
     prove!(fits);
+}
+
+/// Appends the bytes of the last digits, if these are even and there is room. Answers how long the word is that spells
+/// all bytes.
+fn finish<const N: usize>(
+    bytes: &mut ArrayVec<u8, N>,
+    read: &[u8; BLOCK_BYTES],
+    digits: usize,
+) -> Option<usize>
+    requires few { digits ≤ BLOCK }
+    requires room { N ≤ MOST_BYTES }
+    ensures even { IfSome result (λ _. digits ≡ 2 * (digits / 2)) }
+    ensures bytes { IfSome result (λ _. bytes.new.items ≡ bytes.old.items ++ take (digits / 2) read.now) }
+    ensures length { IfSome result (λ len. len ≡ 2 * length bytes.new.items + 1) }
+    ensures fits { IfSome result (λ _. length bytes.new.items ≤ N) }
+{
+    if digits % 2 == 1 || digits / 2 > N - bytes.len() {
+        return None;
+    }
+    append(bytes, &read[..digits / 2]);
+    Some(2 * bytes.len() + 1)
+}
+
+/// Reads the bytes that a word in front of the text spells, in place of what the bytes were, and answers how long that
+/// word is: it ends with its digits, whatever stands after them. `None` where no word is found so, and then what the
+/// bytes are isn't told.
+pub(crate) fn bytes_in_front<const N: usize>(
+    text: &[u8],
+    bytes: &mut ArrayVec<u8, N>,
+) -> Option<usize>
+    requires { N ≤ MOST_BYTES }
+    ensures within { IfSome result (λ len. len ≤ length text.now) }
+    ensures read { IfSome result (λ len. bytes_in N (take len text.now) ≡ Some bytes.new.items) }
+{
+    let (mark, digits) = text.split_first()?;
+    if *mark != b'x' {
+        return None;
+    }
+    bytes.clear();
+    let (blocks, rest) = digits.as_chunks::<BLOCK>();
+    for block in blocks {
+        let (read, front) = front_of(block, BLOCK);
+        if front < BLOCK {
+            return finish(bytes, &read, front);
+        }
+        if N - bytes.len() < BLOCK_BYTES {
+            return None;
+        }
+        append(bytes, &read);
+    }
+    let (read, front) = front_of(&whole_block(rest), rest.len());
+    finish(bytes, &read, front)
 }
 
 /// Reads the bytes that the word spells in place of what the bytes were: the letter `x`, and two lower-case digits for

@@ -3,7 +3,9 @@ ghost use Rattle.std.specs.Prelude.{◌≡◌};
 ghost use Rattle.std.specs.List.{position};
 ghost use Rattle.fr_text.specs.Spaces.{is_space};
 
+use crate::hexes::{MOST_BYTES, bytes_in_front, bytes_into};
 use crate::numbers::{number_in_front, number_of};
+use arrayvec::ArrayVec;
 use memchr::memchr;
 use std::marker::Model;
 
@@ -26,9 +28,9 @@ impl<'a> Model for Words<'a> {
 }
 
 impl<'a> Words<'a> {
-    ghost use Rattle.std.specs.Prelude.{◌≡◌, ◌≢◌, ◌<◌, ◌∷◌, [], ◌++◌, length, option_to_list, option_copied, IfNone, IfSome};
-    ghost use Rattle.std.specs.Prelude.{drop, Some, None, IfOk, IfErr};
-    ghost use Rattle.fr_text.specs.Reading.{number_in, first_in};
+    ghost use Rattle.std.specs.Prelude.{◌≡◌, ◌≢◌, ◌<◌, ◌≤◌, ◌∷◌, [], ◌++◌, length, drop};
+    ghost use Rattle.std.specs.Prelude.{option_to_list, option_copied, Some, None, IfNone, IfSome, IfOk, IfErr};
+    ghost use Rattle.fr_text.specs.Reading.{number_in, bytes_in, first_in};
     ghost use Rattle.fr_text.specs.Spaces.{words_of};
     ghost use Rattle.fr_text.specs.Words.{ended};
 
@@ -113,6 +115,45 @@ impl<'a> Words<'a> {
         match self.next_number_or(bound) {
             Some(Ok(number)) => Some(number),
             Some(Err(_)) | None => None,
+        }
+    }
+
+    /// Takes the next word, from left to right, and reads the bytes that it spells, at most `N`, in place of what the
+    /// bytes were, as `bytes_into` does, or else gives the word, and then what the bytes are isn't told. `None` comes
+    /// when all words are taken, and from then on.
+    ///
+    /// Digits are read while the end of their word is looked for, so a word of digits is told without a search.
+    #[inline(always)]
+    pub fn next_bytes_or<const N: usize>(
+        &mut self,
+        bytes: &mut ArrayVec<u8, N>,
+    ) -> Option<Result<(), &'a [u8]>>
+        requires { N ≤ MOST_BYTES }
+        ensures bytes { IfSome result (λ r. IfOk r (λ _. first_in (bytes_in N) self.old ≡ Some bytes.new.items)) }
+        ensures word { IfSome result (λ r. IfErr r (λ w. first_in Some self.old ≡ Some w.now)) }
+        ensures none { IfSome result (λ r. IfErr r (λ w. bytes_in N w.now ≡ None)) }
+        ensures end { IfNone result (self.old ≡ []) }
+        ensures left { self.new ≡ drop 1 self.old }
+    {
+        if self.done {
+            return None;
+        }
+        let rest = self.rest;
+        if let Some(len) = bytes_in_front(rest, bytes) {
+            if len == rest.len() {
+                self.done = true;
+                return Some(Ok(()));
+            }
+            if rest[len] == b' ' {
+                self.rest = &rest[len + 1..];
+                return Some(Ok(()));
+            }
+        }
+        let word = self.next_word()?;
+        if bytes_into(word, bytes) {
+            Some(Ok(()))
+        } else {
+            Some(Err(word))
         }
     }
 

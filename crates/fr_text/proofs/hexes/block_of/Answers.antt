@@ -5,4 +5,4 @@ use Rattle.fr_text.proofs.hexes.block_of.Goals as goal
 pub returns-clause-spelled : goal.returns-clause-spelled
 returns-clause-spelled c few =
     let are = c.values_of-most.ensures.are few in
-    block_spelled _ _ _ (search rules) (search rules) are (c.packed_bytes.ensures c.args.digits.now are)
+    block_spelled _ _ _ (search rules) (search rules) are c.packed_bytes.ensures
