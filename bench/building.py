@@ -13,10 +13,10 @@ def build(name, source, libraries, program):
     says.
 
     `libraries` are the crates, and the kit's libraries, that the source names. All crates below are proved with it, but
-    for what `rt check` kept of them on this machine: `rt run` takes nothing of what `rt ci` kept. From nothing that may
-    take an hour, and it is said so.
+    for what `rt check` kept of them on this machine: `rt run` takes nothing of what `rt ci` kept. From nothing that
+    takes long, and it is said so.
     """
-    print(f"proves and builds {name} and all below it, which may take an hour", file=sys.stderr, flush=True)
+    print(f"proves and builds {name} and all below it, which takes long from nothing", file=sys.stderr, flush=True)
     with tempfile.TemporaryDirectory() as folder:
         copy = Path(folder)
         shutil.copytree(TOP / "crates", copy / "crates", ignore=shutil.ignore_patterns("out", "must-fail"))
