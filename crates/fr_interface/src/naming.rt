@@ -1,11 +1,8 @@
 //! The frame that an origin names.
 
-ghost use Rattle.std.specs.Prelude.{◌≡◌, ◌≤◌, [], length, take, option_map};
-ghost use Rattle.std.specs.Option.{option_and_then};
+ghost use Rattle.std.specs.Prelude.{◌≡◌};
 ghost use Rattle.fr_journal.specs.Counts.{seen_on};
 ghost use Rattle.fr_journal.specs.Held.{frame_in_entry, frame_named};
-ghost use Rattle.fr_journal.specs.Lent.{whole};
-ghost use Rattle.fr_journal.specs.OpenWindow.{open_window, window_mark};
 
 use crate::observed::Told;
 use fr_frame::frame::Frame;
@@ -19,11 +16,12 @@ use fr_slots::window::Window;
 use fr_status::seen::Seen;
 
 /// The valid data frame that the observe of this number had on this channel, if it is an observe and had one.
+#[tactic(auto, using(crate::proofs::NamingLemmas::frame_by_closed))]
 pub(crate) fn frame_named(params: &Params, journal: &Journal, origin: Origin) -> Option<Frame>
     ensures { result ≡ frame_named params.now journal.now.entries origin }
 {
     let entry = journal.get(origin.entry)?;
-    let window = window_open_at(journal, origin.entry);
+    let window = journal.closed_window(origin.entry);
     frame_in_entry(params, origin.channel, &window, &entry)
 }
 
@@ -59,17 +57,4 @@ fn seen_on<'a>(channel: Channel, a: &'a Seen, b: &'a Seen) -> &'a Seen
         Channel::A => a,
         Channel::B => b,
     }
-}
-
-/// The window that is open before the entry of this number: the last one that says something decides, and it is near.
-fn window_open_at(journal: &Journal, number: u32) -> Option<Window>
-    requires { number ≤ length journal.now.entries }
-    ensures { result ≡ open_window (take number journal.now.entries) }
-{
-    for place in (0..number).rev() {
-        if let Some(window) = journal.window_mark(place) {
-            return window;
-        }
-    }
-    None
 }

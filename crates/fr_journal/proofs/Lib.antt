@@ -5,6 +5,7 @@ pub mod HeldCommitLemmas
 pub mod HeldPlaceLemmas
 pub mod KindLemmas
 pub mod LastCommitLemmas
+pub mod MarkLemmas
 pub mod MoveLemmas
 pub mod OpenWindowLemmas
 pub mod QueuePlaceLemmas

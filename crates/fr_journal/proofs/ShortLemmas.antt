@@ -1,12 +1,14 @@
--- What is appended to a pool leaves what short entries restore from it.
+-- What is appended to a pool leaves what short entries restore from it; what an entry more leaves of a journal.
 use Rattle.std.proofs.Common.{◌≡◌, ℕ, ◌+◌, ◌-◌, ◌<◌, ◌≤◌, Bool, true, false, not, cond, List, [], ◌∷◌, ◌++◌, length}
 use Rattle.std.proofs.Common.{take, drop, refl, sym, ap, subst}
-use Rattle.std.proofs.Common.{◌∙◌, arith, length-append, length-drop}
-use Rattle.std.specs.Prelude.{count_by, map, slice_range, vec_capacity}
+use Rattle.std.proofs.Common.{Option, Some, None, ◌∙◌, arith, length-append, length-drop}
+use Rattle.std.specs.Prelude.{count_by, map, slice_get, slice_range, vec_capacity, option_map, IfSome}
+use Rattle.std.specs.Option.{option_and_then}
 use Rattle.std.specs.List.{All}
 use Rattle.std.proofs.lemmas.List.{take-append-le, drop-append-le, map-append, length-map}
 use Rattle.std.proofs.lemmas.List.Elements.{All-head, All-tail, All-push, All-weaker}
 use Rattle.std.proofs.lemmas.List.Sums.{sum_by-append}
+use Rattle.std.proofs.lemmas.Option.{slice_get-map}
 use Rattle.fr_frame.specs.Payload.{most_payload_bytes}
 use Rattle.fr_journal.specs.declared.entry.Entry.{Entry}
 use Rattle.fr_journal.specs.declared.entry.Entry.TheVariants as entries
@@ -17,11 +19,17 @@ use Rattle.fr_journal.specs.declared.short.ShortEntry.TheVariants as short
 use Rattle.fr_journal.specs.declared.short.ShortSeen.{ShortSeen}
 use Rattle.fr_journal.specs.declared.short.ShortSeen.TheVariants as short_seen
 use Rattle.fr_journal.specs.Entries.{is_host, is_slot}
-use Rattle.fr_journal.specs.JournalFields.{kept_in, IsCounted}
+use Rattle.fr_journal.specs.JournalFields.{kept_in, pool_room, IsCounted}
 use Rattle.fr_journal.specs.Kept.{Kept, host_room, slot_room}
+use Rattle.fr_journal.specs.Marks.{fetched_window, fetched_at, last_mark, mark_at, AreMarked, TellsOpen}
+use Rattle.fr_journal.specs.OpenWindow.{window_mark, closed_window}
 use Rattle.fr_journal.specs.Shortened.{restored_seen, restored, bytes_in, IsStretch, IsShortSeen, IsShort, IsShortened}
 use Rattle.fr_journal.specs.Shortened.{most_seen_bytes}
 use Rattle.fr_journal.proofs.KindLemmas.{kinds_fill}
+use Rattle.fr_journal.proofs.MarkLemmas.{IsUnmarked, host_unmarked, slot_marked, marked_more, last_passed, last_is_new}
+use Rattle.fr_journal.proofs.MarkLemmas.{closes, none_marked, last_of_none}
+use Rattle.fr_slots.specs.Numbers.{most_host_entries, most_slot_entries}
+use Rattle.fr_slots.specs.Windows.{Opportunity}
 use Rattle.fr_status.specs.declared.seen.Seen.TheVariants as seen
 
 -- ---- one short entry
@@ -48,7 +56,7 @@ short-more pool more (short.Withdraw task buffer of) h = tt
 short-more pool more (short.Read task buffer from) h = tt
 short-more pool more (short.Pop task from) h = tt
 short-more pool more (short.Fetch window a b) h = tt
-short-more pool more (short.Observe window a b) h = (seen-more pool more a h.0, seen-more pool more b h.1)
+short-more pool more (short.Observe window mark a b) h = (seen-more pool more a h.0, seen-more pool more b h.1)
 
 restored_seen-append : (pool more : List ℕ) (s : ShortSeen) → IsShortSeen (length pool) s → restored_seen (pool ++ more) s ≡ restored_seen pool s
 restored_seen-append pool more short_seen.Silence h = refl
@@ -66,7 +74,7 @@ restored-append pool more (short.Withdraw task buffer of) h = refl
 restored-append pool more (short.Read task buffer from) h = refl
 restored-append pool more (short.Pop task from) h = refl
 restored-append pool more (short.Fetch window a b) h = refl
-restored-append pool more (short.Observe window a b) h =
+restored-append pool more (short.Observe window mark a b) h =
     let first = restored_seen-append pool more a h.0 in
     let second = restored_seen-append pool more b h.1 in
     cc
@@ -87,6 +95,7 @@ pub record IsPushed (j n : Inside) (most : ℕ) (s : ShortEntry) (e : Entry) : T
   pub slot_limit_is : n.slot_limit ≡ j.slot_limit
   pub shorts_are : n.shorts.items ≡ j.shorts.items ++ s ∷ []
   pub shorts_room : vec_capacity n.shorts ≡ vec_capacity j.shorts
+  pub knows : IfSome (last_mark s) (λ mark. mark ≡ j.last_mark)
   pub shortened : IsShortened j.pool.items n.pool.items most s e
   pub pool_room : vec_capacity j.pool ≤ vec_capacity n.pool
 
@@ -130,8 +139,115 @@ slot-room j k h view room =
 counted-more : (test : Entry → Bool) (xs ys : List Entry) (e : Entry) → ys ≡ xs ++ e ∷ [] → count_by test ys ≡ count_by test xs + cond (test e) 1 0
 counted-more test xs ys e is = ap (count_by test) is ∙ omega (arith, sum_by-append (λ x. cond (test x) 1 0) xs (e ∷ []))
 
-pub host-pushed : (j n : Inside) (s : ShortEntry) (e : Entry) → IsCounted j → IsPushed j n most_payload_bytes s e → is_host e ≡ true → n.host_count ≡ j.host_count + 1 → n.slot_count ≡ j.slot_count → j.host_count < j.host_limit → IsCounted n
-host-pushed j n s e h p kind host slot room =
+-- ---- a journal without entries
+
+pub first-counted : (j : Inside) → j.shorts.items ≡ [] → j.pool.items ≡ [] → j.host_count ≡ 0 → j.slot_count ≡ 0
+    → j.last_mark ≡ 0 → j.host_limit ≤ most_host_entries → j.slot_limit ≤ most_slot_entries
+    → j.host_limit + j.slot_limit ≤ vec_capacity j.shorts → pool_room j.host_limit j.slot_limit ≤ vec_capacity j.pool
+    → IsCounted j
+first-counted j none no_bytes host slot mark few_host few_slot reserved pool_reserved =
+    let shorts = j.shorts.items in
+    let no_host = ap (λ (l : List ShortEntry). count_by is_host (map (restored j.pool.items) l)) none in
+    let no_slot = ap (λ (l : List ShortEntry). count_by is_slot (map (restored j.pool.items) l)) none in
+    let size : length j.pool.items ≡ 0 = ap length no_bytes in
+    record {
+      host_is = host ∙ sym no_host;
+      slot_is = slot ∙ sym no_slot;
+      host_within = omega (arith, host);
+      slot_within = omega (arith, slot);
+      reserved = reserved;
+      few_host = few_host;
+      few_slot = few_slot;
+      are_short = subst (All (IsShort (length j.pool.items))) (sym none) (λ n s lt. absurd (omega (arith, lt)));
+      pool_within = omega (arith, size);
+      pool_reserved = pool_reserved;
+      marked = none_marked shorts (map (restored j.pool.items) shorts) none;
+      last_marked = rw mark (last_of_none j.pool.items shorts none);
+    }
+
+-- ---- marks
+
+module _ (j n : Inside) (most : ℕ) (s : ShortEntry) (e : Entry) (h : IsCounted j) (p : IsPushed j n most s e) where
+  abbrev old_entries : List Entry
+  old_entries = map (restored j.pool.items) j.shorts.items
+
+  as_many : length old_entries ≡ length j.shorts.items
+  as_many = length-map j.shorts.items (restored j.pool.items)
+
+  last_of : (mark : ℕ)
+      → TellsOpen (j.shorts.items ++ s ∷ []) (old_entries ++ e ∷ []) (length (j.shorts.items ++ s ∷ [])) mark
+      → TellsOpen n.shorts.items (map (restored n.pool.items) n.shorts.items) (length n.shorts.items) mark
+  last_of mark last =
+      rw (entries-pushed j n most s e h p, p.shorts_are) last
+
+  pub marked-pushed : AreMarked n.shorts.items (map (restored n.pool.items) n.shorts.items)
+  marked-pushed =
+      rw (entries-pushed j n most s e h p, p.shorts_are)
+      (marked_more j.shorts.items old_entries s e as_many j.last_mark p.knows h.last_marked h.marked)
+
+  pub host-last : is_host e ≡ true → n.last_mark ≡ j.last_mark
+      → TellsOpen n.shorts.items (map (restored n.pool.items) n.shorts.items) (length n.shorts.items) n.last_mark
+  host-last kind same =
+      let unmarked : IsUnmarked s e =
+      subst (IsUnmarked s) p.shortened.entry_is
+      (host_unmarked n.pool.items s (ap is_host p.shortened.entry_is ∙ kind)) in
+      subst (TellsOpen n.shorts.items (map (restored n.pool.items) n.shorts.items) (length n.shorts.items)) (sym same)
+      (last_of j.last_mark (last_passed j.shorts.items old_entries s e as_many j.last_mark unmarked.fetched
+      (unmarked.says old_entries) h.last_marked))
+
+  pub slot-last : is_host e ≡ false → n.last_mark ≡ length j.shorts.items
+      → TellsOpen n.shorts.items (map (restored n.pool.items) n.shorts.items) (length n.shorts.items) n.last_mark
+  slot-last kind here =
+      let says : window_mark old_entries e ≡ Some (fetched_window s) =
+      ap (window_mark old_entries) (sym p.shortened.entry_is)
+      ∙ slot_marked n.pool.items s old_entries (ap is_host p.shortened.entry_is ∙ kind) in
+      subst (TellsOpen n.shorts.items (map (restored n.pool.items) n.shorts.items) (length n.shorts.items)) (sym here)
+      (last_of (length j.shorts.items) (last_is_new j.shorts.items old_entries s e as_many says))
+
+-- where one more will stand
+pub next-place : (j : Inside) (k : Kept) (place : ℕ) → kept_in j ≡ k → place ≡ length k.entries
+    → place ≡ length j.shorts.items
+next-place j k place view is =
+    is ∙ ap (λ (k : Kept). length k.entries) (sym view) ∙ length-map j.shorts.items (restored j.pool.items)
+
+-- an observe closes the window of the mark that it knows
+module _ (j : Inside) (k : Kept) (h : IsCounted j) (view : kept_in j ≡ k) (number : ℕ) where
+  abbrev closed : Option Opportunity
+  closed = option_and_then (closed_window (take number k.entries)) (slice_get k.entries number)
+
+  -- the entry is that of the short one
+  closed-by : (o : Option ShortEntry) → slice_get j.shorts.items number ≡ o
+      → closed ≡ option_and_then (λ s. closed_window (take number k.entries) (restored j.pool.items s)) o
+  closed-by o is =
+      let at : slice_get k.entries number ≡ option_map (restored j.pool.items) o =
+      ap (λ (k : Kept). slice_get k.entries number) (sym view)
+      ∙ slice_get-map (restored j.pool.items) j.shorts.items number ∙ ap (option_map (restored j.pool.items)) is in
+      ap (option_and_then (closed_window (take number k.entries))) at ∙ mapped o
+    where
+      mapped : (o : Option ShortEntry)
+          → option_and_then (closed_window (take number k.entries)) (option_map (restored j.pool.items) o)
+          ≡ option_and_then (λ s. closed_window (take number k.entries) (restored j.pool.items s)) o
+      mapped None = refl
+      mapped (Some s) = refl
+
+  pub closed-known : (mark : ℕ) → mark_at j.shorts.items number ≡ Some mark → fetched_at j.shorts.items mark ≡ closed
+  closed-known mark knows = by_short (slice_get j.shorts.items number) refl knows
+    where
+      by_short : (o : Option ShortEntry) → slice_get j.shorts.items number ≡ o → option_and_then last_mark o ≡ Some mark
+          → fetched_at j.shorts.items mark ≡ closed
+      by_short None is knows = absurd cc
+      by_short (Some s) is knows =
+          let xs = map (restored j.pool.items) j.shorts.items in
+          let last : TellsOpen j.shorts.items xs number mark =
+          subst (λ (o : Option ℕ). IfSome o (TellsOpen j.shorts.items xs number)) knows (h.marked number s is) in
+          let before : take number k.entries ≡ take number xs = ap (λ (k : Kept). take number k.entries) (sym view) in
+          closes j.pool.items j.shorts.items xs (take number k.entries) number mark s before knows last
+          ∙ sym (closed-by (Some s) is)
+
+pub host-pushed : (j n : Inside) (s : ShortEntry) (e : Entry) → IsCounted j
+    → IsPushed j n most_payload_bytes s e → is_host e ≡ true → n.host_count ≡ j.host_count + 1
+    → n.slot_count ≡ j.slot_count → n.last_mark ≡ j.last_mark → j.host_count < j.host_limit → IsCounted n
+host-pushed j n s e h p kind host slot mark room =
     let is = entries-pushed j n most_payload_bytes s e h p in
     let more = counted-more is_host _ _ e is in
     let same = counted-more is_slot _ _ e is in
@@ -149,10 +265,14 @@ host-pushed j n s e h p kind host slot room =
       are_short = are_short-pushed j n most_payload_bytes s e h p;
       pool_within = omega (arith, grown, h.pool_within, p.shortened.few, host, slot);
       pool_reserved = omega (arith, h.pool_reserved, p.host_limit_is, p.slot_limit_is, p.pool_room);
+      marked = marked-pushed j n most_payload_bytes s e h p;
+      last_marked = host-last j n most_payload_bytes s e h p kind mark;
     }
 
-pub slot-pushed : (j n : Inside) (s : ShortEntry) (e : Entry) → IsCounted j → IsPushed j n most_seen_bytes s e → is_host e ≡ false → n.host_count ≡ j.host_count → n.slot_count ≡ j.slot_count + 1 → j.slot_count < j.slot_limit → IsCounted n
-slot-pushed j n s e h p kind host slot room =
+pub slot-pushed : (j n : Inside) (s : ShortEntry) (e : Entry) → IsCounted j → IsPushed j n most_seen_bytes s e
+    → is_host e ≡ false → n.host_count ≡ j.host_count → n.slot_count ≡ j.slot_count + 1
+    → n.last_mark ≡ length j.shorts.items → j.slot_count < j.slot_limit → IsCounted n
+slot-pushed j n s e h p kind host slot mark room =
     let is = entries-pushed j n most_seen_bytes s e h p in
     let same = counted-more is_host _ _ e is in
     let more = counted-more is_slot _ _ e is in
@@ -170,4 +290,6 @@ slot-pushed j n s e h p kind host slot room =
       are_short = are_short-pushed j n most_seen_bytes s e h p;
       pool_within = omega (arith, grown, h.pool_within, p.shortened.few, host, slot);
       pool_reserved = omega (arith, h.pool_reserved, p.host_limit_is, p.slot_limit_is, p.pool_room);
+      marked = marked-pushed j n most_seen_bytes s e h p;
+      last_marked = slot-last j n most_seen_bytes s e h p kind mark;
     }

@@ -5,6 +5,7 @@ use Rattle.fr_frame.specs.Payload.{most_payload_bytes}
 use Rattle.fr_journal.specs.declared.journal.Journal.TheInside.{Inside}
 use Rattle.fr_journal.specs.Entries.{is_host, is_slot}
 use Rattle.fr_journal.specs.Kept.{Kept}
+use Rattle.fr_journal.specs.Marks.{AreMarked, TellsOpen}
 use Rattle.fr_journal.specs.Shortened.{restored, IsShort, most_seen_bytes}
 use Rattle.fr_slots.specs.Numbers.{most_host_entries, most_slot_entries}
 
@@ -19,8 +20,8 @@ kept_in j = record {
 abbrev pub pool_room : ℕ → ℕ → ℕ
 pool_room host slot = most_payload_bytes * host + most_seen_bytes * slot
 
--- the counts are those of the entries, the short entries have their bytes in the pool, and the room for both is
--- reserved
+-- the counts are those of the entries, the short entries have their bytes in the pool, the room for both is reserved,
+-- and the last mark of each observe and of all entries tells what is open there
 pub record IsCounted (j : Inside) : Type 0 where
   pub host_is : j.host_count ≡ count_by is_host (map (restored j.pool.items) j.shorts.items)
   pub slot_is : j.slot_count ≡ count_by is_slot (map (restored j.pool.items) j.shorts.items)
@@ -32,3 +33,6 @@ pub record IsCounted (j : Inside) : Type 0 where
   pub are_short : All (IsShort (length j.pool.items)) j.shorts.items
   pub pool_within : length j.pool.items ≤ pool_room j.host_count j.slot_count
   pub pool_reserved : pool_room j.host_limit j.slot_limit ≤ vec_capacity j.pool
+  pub marked : AreMarked j.shorts.items (map (restored j.pool.items) j.shorts.items)
+  pub last_marked : TellsOpen j.shorts.items (map (restored j.pool.items) j.shorts.items) (length j.shorts.items)
+      j.last_mark

@@ -7,6 +7,7 @@ pub mod JournalFields
 pub mod Kept
 pub mod Legal
 pub mod Lent
+pub mod Marks
 pub mod Offers
 pub mod OpenWindow
 pub mod Shortened

@@ -17,6 +17,15 @@ window_mark before (Observe window a b) = Some None
 abbrev pub open_window : List Entry → Option Opportunity
 open_window entries = option_and_then (λ w. w) (last_after window_mark [] entries)
 
+-- the window that an entry closes, where these are before it
+abbrev pub closed_window : List Entry → Entry → Option Opportunity
+closed_window before (Commit task buffer payload) = None
+closed_window before (Withdraw task buffer of) = None
+closed_window before (Read task buffer from) = None
+closed_window before (Pop task from) = None
+closed_window before (Fetch window a b) = None
+closed_window before (Observe window a b) = open_window before
+
 abbrev pub fetched_number : List Entry → Entry → Option ℕ
 fetched_number before (Commit task buffer payload) = None
 fetched_number before (Withdraw task buffer of) = None

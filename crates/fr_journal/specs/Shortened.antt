@@ -28,7 +28,7 @@ restored pool (short.Withdraw task buffer of) = Withdraw task buffer of
 restored pool (short.Read task buffer from) = Read task buffer from
 restored pool (short.Pop task from) = Pop task from
 restored pool (short.Fetch window a b) = Fetch window a b
-restored pool (short.Observe window a b) = Observe window (restored_seen pool a) (restored_seen pool b)
+restored pool (short.Observe window mark a b) = Observe window (restored_seen pool a) (restored_seen pool b)
 
 -- ---- what stands in the pool
 
@@ -66,7 +66,7 @@ IsShort size (short.Withdraw task buffer of) = Unit {0}
 IsShort size (short.Read task buffer from) = Unit {0}
 IsShort size (short.Pop task from) = Unit {0}
 IsShort size (short.Fetch window a b) = Unit {0}
-IsShort size (short.Observe window a b) = IsShortSeen size a × IsShortSeen size b
+IsShort size (short.Observe window mark a b) = IsShortSeen size a × IsShortSeen size b
 
 -- ---- what becomes of the pool
 

@@ -1,19 +1,19 @@
 //! A journal, which takes all its memory when it is made.
 
 ghost use Rattle.std.specs.Prelude.{◌≡◌, ◌<◌, ◌≤◌, ◌∷◌, [], ◌++◌, IfOk, IfSome, IsTrue, ◌↔◌, false, length, option_map};
-ghost use Rattle.std.specs.Prelude.{slice_get};
+ghost use Rattle.std.specs.Prelude.{slice_get, take};
 ghost use Rattle.std.specs.Option.{option_and_then};
 ghost use Rattle.fr_journal.specs.Entries.{is_host};
 ghost use Rattle.fr_journal.specs.Kept.{host_room, slot_room};
 ghost use Rattle.fr_journal.specs.Lent.{whole, HasPayload};
-ghost use Rattle.fr_journal.specs.OpenWindow.{window_mark};
+ghost use Rattle.fr_journal.specs.OpenWindow.{closed_window};
 ghost use Rattle.fr_slots.specs.Numbers.{most_host_entries, most_slot_entries, most_entries};
 
 use crate::entry::Entry;
 use crate::lent::LentEntry;
 use crate::short::{
-    ShortEntry, lent_entry, shortened_commit, shortened_host, shortened_observe, shortened_slot,
-    whole_entry,
+    ShortEntry, fetched_at, lent_entry, mark_at, shortened_commit, shortened_host,
+    shortened_observe, shortened_slot, whole_entry,
 };
 use fr_frame::frame::FRAME_BYTES;
 use fr_frame::payload::{PAYLOAD_BYTES, Payload};
@@ -30,6 +30,8 @@ pub struct Journal {
     slot_limit: u32,
     host_count: u32,
     slot_count: u32,
+    /// Where the last fetch or observe stands, or 0 where none does.
+    last_mark: u32,
     /// The entries in short form, whose bytes stand in the pool one after another.
     shorts: Vec<ShortEntry>,
     pool: Vec<u8>,
@@ -66,6 +68,7 @@ impl Journal {
             slot_limit: slot,
             host_count: 0,
             slot_count: 0,
+            last_mark: 0,
             shorts,
             pool,
         })
@@ -114,9 +117,11 @@ impl Journal {
         requires room { 0 < slot_room self.old }
         ensures { self.new ≡ record self.old { entries = self.old.entries ++ entry ∷ [] } }
     {
-        let short = shortened_slot(&mut self.pool, &entry);
+        let place = self.len();
+        let short = shortened_slot(&mut self.pool, self.last_mark, &entry);
         self.shorts.push_reserved(short);
         self.slot_count += 1;
+        self.last_mark = place;
     }
 
     /// Appends an observe, in the room that was reserved: `slot_room` isn't 0 before.
@@ -126,9 +131,11 @@ impl Journal {
           entries = self.old.entries ++ entries.Observe window a.now b.now ∷ [];
         } }
     {
-        let short = shortened_observe(&mut self.pool, window, a, b);
+        let place = self.len();
+        let short = shortened_observe(&mut self.pool, self.last_mark, window, a, b);
         self.shorts.push_reserved(short);
         self.slot_count += 1;
+        self.last_mark = place;
     }
 
     /// The number of entries.
@@ -164,11 +171,14 @@ impl Journal {
         Some(lent_entry(self.pool.as_slice(), *short))
     }
 
-    /// What the entry of this number says of the open window, if there is such an entry and it says something: a fetch
-    /// opens one, and an observe closes it.
-    pub fn window_mark(&self, number: u32) -> Option<Option<Window>>
-        ensures { result ≡ option_and_then (window_mark []) (slice_get self.now.entries number) }
+    /// The window that the entry of this number closes: the one that is open before it, if one is and the entry is an
+    /// observe. `None` too where there is no such entry.
+    pub fn closed_window(&self, number: u32) -> Option<Window>
+        ensures { result
+            ≡ option_and_then (closed_window (take number self.now.entries)) (slice_get self.now.entries number) }
     {
-        self.shorts.as_slice().get(number as usize)?.window_mark()
+        let shorts = self.shorts.as_slice();
+        let mark = mark_at(shorts, number)?;
+        fetched_at(shorts, mark)
     }
 }

@@ -1,9 +1,11 @@
 //! Entries in short form: the numbers of an entry, and where its bytes stand in a pool.
 
 ghost use Rattle.std.specs.Prelude.{◌≡◌, ◌+◌, ◌<◌, ◌≤◌, ◌^◌, ◌++◌, length, vec_capacity, IsTrue, false};
+ghost use Rattle.std.specs.Prelude.{Some, IfSome};
 ghost use Rattle.fr_frame.specs.Payload.{most_payload_bytes, most_frame_bytes};
 ghost use Rattle.fr_journal.specs.Entries.{is_host};
 ghost use Rattle.fr_journal.specs.Lent.{whole, HasPayload};
+ghost use Rattle.fr_journal.specs.Marks.{last_mark, fetched_at, mark_at};
 ghost use Rattle.fr_journal.specs.Shortened.{bytes_at, restored_seen, restored, bytes_in_seen, most_seen_bytes};
 ghost use Rattle.fr_journal.specs.Shortened.{IsShortSeen, IsShort, IsShortened};
 ghost use Rattle.fr_journal.specs.declared.entry.Entry.TheVariants as entries;
@@ -66,29 +68,58 @@ pub(crate) enum ShortEntry {
     },
     Observe {
         window: u32,
+        /// Where the last fetch or observe before it stands, or 0 where none does.
+        last_mark: u32,
         a: ShortSeen,
         b: ShortSeen,
     },
 }
 
 impl ShortEntry {
-    ghost use Rattle.std.specs.Prelude.{◌≡◌, List, ℕ, []};
-    ghost use Rattle.fr_journal.specs.OpenWindow.{window_mark};
-    ghost use Rattle.fr_journal.specs.Shortened.{restored};
+    ghost use Rattle.std.specs.Prelude.{◌≡◌};
+    ghost use Rattle.fr_journal.specs.Marks.{fetched_window, last_mark};
 
-    /// What the entry says of the open window, if it says something: a fetch opens one, and an observe closes it.
-    pub(crate) fn window_mark(&self) -> Option<Option<Window>>
-        ensures { (pool : List ℕ) → result ≡ window_mark [] (restored pool self.now) }
+    /// The window that the entry fetched, if it is a fetch.
+    fn fetched_window(&self) -> Option<Window>
+        ensures { result ≡ fetched_window self.now }
     {
         match self {
-            ShortEntry::Fetch { window, .. } => Some(Some(*window)),
-            ShortEntry::Observe { .. } => Some(None),
+            ShortEntry::Fetch { window, .. } => Some(*window),
             ShortEntry::Commit { .. }
             | ShortEntry::Withdraw { .. }
             | ShortEntry::Read { .. }
-            | ShortEntry::Pop { .. } => None,
+            | ShortEntry::Pop { .. }
+            | ShortEntry::Observe { .. } => None,
         }
     }
+
+    /// Where the last fetch or observe before the entry stands, or 0 where none does, if the entry is an observe.
+    fn last_mark(&self) -> Option<u32>
+        ensures { result ≡ last_mark self.now }
+    {
+        match self {
+            ShortEntry::Observe { last_mark, .. } => Some(*last_mark),
+            ShortEntry::Commit { .. }
+            | ShortEntry::Withdraw { .. }
+            | ShortEntry::Read { .. }
+            | ShortEntry::Pop { .. }
+            | ShortEntry::Fetch { .. } => None,
+        }
+    }
+}
+
+/// The window that the entry at this place fetched, if there is a fetch.
+pub(crate) fn fetched_at(shorts: &[ShortEntry], place: u32) -> Option<Window>
+    ensures { result ≡ fetched_at shorts.now place }
+{
+    shorts.get(place as usize)?.fetched_window()
+}
+
+/// Where the last fetch or observe before the entry at this place stands, or 0 where none does, if there is an observe.
+pub(crate) fn mark_at(shorts: &[ShortEntry], place: u32) -> Option<u32>
+    ensures { result ≡ mark_at shorts.now place }
+{
+    shorts.get(place as usize)?.last_mark()
 }
 
 /// Appends the bytes to the pool, in the room that was reserved, and says where they stand.
@@ -152,17 +183,29 @@ pub(crate) fn shortened_commit(
     }
 }
 
-/// An observe in short form, its bytes at the end of the pool.
-pub(crate) fn shortened_observe(pool: &mut Vec<u8>, window: u32, a: &Seen, b: &Seen) -> ShortEntry
+/// An observe in short form, with where the last fetch or observe before it stands, its bytes at the end of the pool.
+pub(crate) fn shortened_observe(
+    pool: &mut Vec<u8>,
+    mark: u32,
+    window: u32,
+    a: &Seen,
+    b: &Seen,
+) -> ShortEntry
     requires room { length pool.old.items + most_seen_bytes ≤ vec_capacity pool.old }
     requires few { length pool.old.items + most_seen_bytes < 2 ^ 32 }
     ensures entry { IsShortened pool.old.items pool.new.items most_seen_bytes result
         (entries.Observe window a.now b.now) }
+    ensures mark { last_mark result ≡ Some mark }
     ensures room { vec_capacity pool.old ≤ vec_capacity pool.new }
 {
     let a = shortened_seen(pool, a);
     let b = shortened_seen(pool, b);
-    ShortEntry::Observe { window, a, b }
+    ShortEntry::Observe {
+        window,
+        last_mark: mark,
+        a,
+        b,
+    }
 }
 
 /// An entry of the host in short form, its bytes at the end of the pool.
@@ -197,12 +240,14 @@ pub(crate) fn shortened_host(pool: &mut Vec<u8>, entry: &Entry) -> ShortEntry
     }
 }
 
-/// An entry of the controller in short form, its bytes at the end of the pool.
-pub(crate) fn shortened_slot(pool: &mut Vec<u8>, entry: &Entry) -> ShortEntry
+/// An entry of the controller in short form, with where the last fetch or observe before it stands, its bytes at the
+/// end of the pool.
+pub(crate) fn shortened_slot(pool: &mut Vec<u8>, mark: u32, entry: &Entry) -> ShortEntry
     requires kind { is_host entry.now ≡ false }
     requires room { length pool.old.items + most_seen_bytes ≤ vec_capacity pool.old }
     requires few { length pool.old.items + most_seen_bytes < 2 ^ 32 }
     ensures entry { IsShortened pool.old.items pool.new.items most_seen_bytes result entry.now }
+    ensures mark { IfSome (last_mark result) (λ place. place ≡ mark) }
     ensures room { vec_capacity pool.old ≤ vec_capacity pool.new }
 {
     match entry {
@@ -211,7 +256,7 @@ pub(crate) fn shortened_slot(pool: &mut Vec<u8>, entry: &Entry) -> ShortEntry
             a: *a,
             b: *b,
         },
-        Entry::Observe { window, a, b } => shortened_observe(pool, *window, a, b),
+        Entry::Observe { window, a, b } => shortened_observe(pool, mark, *window, a, b),
         Entry::Commit { .. } | Entry::Withdraw { .. } | Entry::Read { .. } | Entry::Pop { .. } =>
             unreachable!(),
     }
@@ -288,7 +333,7 @@ pub(crate) fn lent_entry(pool: &[u8], entry: ShortEntry) -> LentEntry<'_>
         ShortEntry::Read { task, buffer, from } => LentEntry::Read { task, buffer, from },
         ShortEntry::Pop { task, from } => LentEntry::Pop { task, from },
         ShortEntry::Fetch { window, a, b } => LentEntry::Fetch { window, a, b },
-        ShortEntry::Observe { window, a, b } => LentEntry::Observe {
+        ShortEntry::Observe { window, a, b, .. } => LentEntry::Observe {
             window,
             a: lent_seen(pool, a),
             b: lent_seen(pool, b),
@@ -315,7 +360,7 @@ pub(crate) fn whole_entry(pool: &[u8], entry: ShortEntry) -> Entry
         ShortEntry::Read { task, buffer, from } => Entry::Read { task, buffer, from },
         ShortEntry::Pop { task, from } => Entry::Pop { task, from },
         ShortEntry::Fetch { window, a, b } => Entry::Fetch { window, a, b },
-        ShortEntry::Observe { window, a, b } => Entry::Observe {
+        ShortEntry::Observe { window, a, b, .. } => Entry::Observe {
             window,
             a: restored_seen(pool, a),
             b: restored_seen(pool, b),

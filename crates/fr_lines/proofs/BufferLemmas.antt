@@ -30,8 +30,15 @@ buffer m f w p = record { mode = m; filter = f; words = w; preamble = p }
 
 -- ---- what is read is spelled so
 
-transmits : (word : List ℕ) (words : List (List ℕ)) (m : Mode) (f : Filter) (w : Option ℕ) (p : Bool) (b : Buffer) → IsFilter f → words_fit w ≡ true
-    → words ≡ decimal f.slot ∷ channels_word f.channels ∷ decimal f.cycles.base ∷ decimal f.cycles.repetition ∷ optional_number w ∷ flag_word p ∷ []
+-- the words after a transmit buffer's mode
+abbrev parts_of : Filter → Option ℕ → Bool → List (List ℕ)
+parts_of f w p =
+    decimal f.slot ∷ channels_word f.channels ∷ decimal f.cycles.base ∷ decimal f.cycles.repetition
+    ∷ optional_number w ∷ flag_word p ∷ []
+
+transmits : (word : List ℕ) (words : List (List ℕ)) (m : Mode) (f : Filter) (w : Option ℕ) (p : Bool) (b : Buffer)
+    → IsFilter f → words_fit w ≡ true
+    → words ≡ parts_of f w p
     → ((word ≡ codes "event") × (m ≡ Event)) ⊎ ((word ≡ codes "state") × (m ≡ State)) → buffer m f w p ≡ b
     → (codes "tx" ∷ word ∷ words ≡ buffer_words b) × IsSpelledBuffer b
 transmits word words m f w p b is fits rest (inl event) made =
@@ -41,7 +48,8 @@ transmits word words m f w p b is fits rest (inr state) made =
     let same : buffer State f w p ≡ b = ap (λ (n : Mode). buffer n f w p) (sym state.1) ∙ made in
     rw (← same) (cons_same refl (cons_same state.0 rest), record { is = is; fits = rw fits refl })
 
-transmit_takes : (words : List (List ℕ)) (b : Buffer) → transmit_in words ≡ Some b → (codes "tx" ∷ words ≡ buffer_words b) × IsSpelledBuffer b
+transmit_takes : (words : List (List ℕ)) (b : Buffer) → transmit_in words ≡ Some b
+    → (codes "tx" ∷ words ≡ buffer_words b) × IsSpelledBuffer b
 unfolding transmit_in
 transmit_takes [] b h = cc h
 transmit_takes (m ∷ []) b h = cc h
@@ -59,12 +67,14 @@ transmit_takes (m ∷ s ∷ c ∷ p ∷ q ∷ z ∷ r ∷ []) b h =
     let tf = filter_takes s c p q filter hf in
     let tz = size_takes z size hz in
     let tp = flag_takes r preamble hp in
-    let rest : s ∷ c ∷ p ∷ q ∷ z ∷ r ∷ [] ≡ decimal filter.slot ∷ channels_word filter.channels ∷ decimal filter.cycles.base ∷ decimal filter.cycles.repetition ∷ optional_number size ∷ flag_word preamble ∷ [] =
-    cons_same tf.slot_is (cons_same tf.channels_is (cons_same tf.base_is (cons_same tf.repetition_is (cons_same tz.0 (cons_same tp refl))))) in
+    let last = cons_same tf.repetition_is (cons_same tz.0 (cons_same tp refl)) in
+    let rest : s ∷ c ∷ p ∷ q ∷ z ∷ r ∷ [] ≡ parts_of filter size preamble =
+    cons_same tf.slot_is (cons_same tf.channels_is (cons_same tf.base_is last)) in
     transmits m (s ∷ c ∷ p ∷ q ∷ z ∷ r ∷ []) mode filter size preamble b tf.fits tz.1 rest (mode_takes m mode hm) is
 transmit_takes (m ∷ s ∷ c ∷ p ∷ q ∷ z ∷ r ∷ more ∷ words) b h = cc h
 
-receive_takes : (words : List (List ℕ)) (b : Buffer) → receive_in words ≡ Some b → (codes "rx" ∷ words ≡ buffer_words b) × IsSpelledBuffer b
+receive_takes : (words : List (List ℕ)) (b : Buffer) → receive_in words ≡ Some b
+    → (codes "rx" ∷ words ≡ buffer_words b) × IsSpelledBuffer b
 unfolding receive_in
 receive_takes [] b h = cc h
 receive_takes (s ∷ []) b h = cc h
@@ -75,7 +85,8 @@ receive_takes (s ∷ c ∷ p ∷ q ∷ []) b h =
     let is : buffer Receive filter None false ≡ b = cc h1 in
     let tf = filter_takes s c p q filter hf in
     rw (← is) (
-      cons_same refl (cons_same tf.slot_is (cons_same tf.channels_is (cons_same tf.base_is (cons_same tf.repetition_is refl)))),
+      cons_same refl
+          (cons_same tf.slot_is (cons_same tf.channels_is (cons_same tf.base_is (cons_same tf.repetition_is refl)))),
       record { is = tf.fits; fits = refl },
     )
 receive_takes (s ∷ c ∷ p ∷ q ∷ more ∷ words) b h = cc h
@@ -100,7 +111,8 @@ buffer_takes words b h = (taken words b h).0
 pub buffer_line_fits : (words : List (List ℕ)) (b : Buffer) → buffer_in words ≡ Some b → IsSpelledBuffer b
 buffer_line_fits words b h = (taken words b h).1
 
-pub buffer_line_takes : (line : List ℕ) (b : Buffer) → buffer_in (words_of line) ≡ Some b → line ≡ line_of (buffer_words b)
+pub buffer_line_takes : (line : List ℕ) (b : Buffer) → buffer_in (words_of line) ≡ Some b
+    → line ≡ line_of (buffer_words b)
 buffer_line_takes line b h = sym (line_of-words_of line) ∙ ap line_of (buffer_takes (words_of line) b h)
 
 -- ---- what a line of a buffer is made of
@@ -120,21 +132,24 @@ parts_at Receive f (Some w) p fits = cc ((and_parts (words_fit (Some w)) false f
 
 -- ---- what is spelled so is read
 
-again_at : (m : Mode) (f : Filter) (w : Option ℕ) (p : Bool) → IsFilter f → Parts m w p → buffer_in (words_of_mode m (buffer m f w p)) ≡ Some (buffer m f w p)
+again_at : (m : Mode) (f : Filter) (w : Option ℕ) (p : Bool) → IsFilter f → Parts m w p
+    → buffer_in (words_of_mode m (buffer m f w p)) ≡ Some (buffer m f w p)
 unfolding buffer_in transmit_in receive_in
 again_at Event f w p is fits = rw (mode_again.0, filter_again f is, size_again w fits, flag_again p) refl
 again_at State f w p is fits = rw (mode_again.1, filter_again f is, size_again w fits, flag_again p) refl
 again_at Receive f w p is fits = rw (filter_again f is, fits.0, fits.1) refl
 
 pub buffer_again : (b : Buffer) → IsSpelledBuffer b → buffer_in (buffer_words b) ≡ Some b
-buffer_again b is = again_at b.mode b.filter b.words b.preamble is.is (parts_at b.mode b.filter b.words b.preamble is.fits)
+buffer_again b is =
+    again_at b.mode b.filter b.words b.preamble is.is (parts_at b.mode b.filter b.words b.preamble is.fits)
 
 -- ---- the words are plain, and the line is short
 
 abbrev IsPlainLine : List (List ℕ) → Type 0
 IsPlainLine words = ArePlain words × (length (line_of words) ≤ 1200)
 
-transmit_plain : (mode : List ℕ) (f : Filter) (w : Option ℕ) (p : Bool) → has_no_feed mode ≡ true → ArePlain (mode ∷ []) → length mode ≤ 5 → IsFilter f → words_fit w ≡ true
+transmit_plain : (mode : List ℕ) (f : Filter) (w : Option ℕ) (p : Bool) → has_no_feed mode ≡ true → ArePlain (mode ∷ [])
+    → length mode ≤ 5 → IsFilter f → words_fit w ≡ true
     → IsPlainLine (transmit_words mode (buffer Event f w p))
 transmit_plain mode f w p unfed plain short is fits =
     let high = is.slot_is.at_most in
@@ -147,7 +162,9 @@ transmit_plain mode f w p unfed plain short is fits =
     let size_is = size_word w fits in
     let preamble_is = flag_plain p in
     let all = length-line_of-le (transmit_words mode (buffer Event f w p)) in
-    ((refl, (plain.0, (slot_is.plain, (channels_are.plain, (base_is.plain, (repetition_is.plain, (size_is.plain, (preamble_is.plain, tt)))))))), omega arith)
+    let last : ArePlain (decimal f.cycles.repetition ∷ optional_number w ∷ flag_word p ∷ []) =
+    (repetition_is.plain, (size_is.plain, (preamble_is.plain, tt))) in
+    ((refl, (plain.0, (slot_is.plain, (channels_are.plain, (base_is.plain, last))))), omega arith)
 
 receive_plain : (f : Filter) → IsFilter f → IsPlainLine (receive_words f)
 receive_plain f is =
@@ -161,13 +178,15 @@ receive_plain f is =
     let all = length-line_of-le (receive_words f) in
     ((refl, (slot_is.plain, (channels_are.plain, (base_is.plain, (repetition_is.plain, tt))))), omega arith)
 
-plain_at : (m : Mode) (f : Filter) (w : Option ℕ) (p : Bool) → IsFilter f → Parts m w p → IsPlainLine (words_of_mode m (buffer m f w p))
+plain_at : (m : Mode) (f : Filter) (w : Option ℕ) (p : Bool) → IsFilter f → Parts m w p
+    → IsPlainLine (words_of_mode m (buffer m f w p))
 plain_at Event f w p is fits = transmit_plain (codes "event") f w p refl (refl, tt) (omega arith) is fits
 plain_at State f w p is fits = transmit_plain (codes "state") f w p refl (refl, tt) (omega arith) is fits
 plain_at Receive f w p is fits = receive_plain f is
 
 both_plain : (b : Buffer) → IsSpelledBuffer b → IsPlainLine (buffer_words b)
-both_plain b is = plain_at b.mode b.filter b.words b.preamble is.is (parts_at b.mode b.filter b.words b.preamble is.fits)
+both_plain b is =
+    plain_at b.mode b.filter b.words b.preamble is.is (parts_at b.mode b.filter b.words b.preamble is.fits)
 
 pub buffer_plain : (b : Buffer) → IsSpelledBuffer b → ArePlain (buffer_words b)
 buffer_plain b is = (both_plain b is).0
@@ -181,14 +200,18 @@ buffer_short b is = (both_plain b is).1
 -- so the line is cut into them
 abbrev rest_of : Buffer → List (List ℕ)
 rest_of b =
-    decimal b.filter.slot ∷ channels_word b.filter.channels ∷ decimal b.filter.cycles.base ∷ decimal b.filter.cycles.repetition
-    ∷ optional_number b.words ∷ flag_word b.preamble ∷ []
+    decimal b.filter.slot ∷ channels_word b.filter.channels ∷ decimal b.filter.cycles.base
+    ∷ decimal b.filter.cycles.repetition ∷ optional_number b.words ∷ flag_word b.preamble ∷ []
 
-cut_at : (m : Mode) (b : Buffer) → ArePlain (words_of_mode m b) → words_of (line_of (words_of_mode m b)) ≡ words_of_mode m b
+cut_at : (m : Mode) (b : Buffer) → ArePlain (words_of_mode m b)
+    → words_of (line_of (words_of_mode m b)) ≡ words_of_mode m b
 cut_at Event b plain = words_of-line_of (codes "tx") (codes "event" ∷ rest_of b) plain
 cut_at State b plain = words_of-line_of (codes "tx") (codes "state" ∷ rest_of b) plain
 cut_at Receive b plain =
-    words_of-line_of (codes "rx") (decimal b.filter.slot ∷ channels_word b.filter.channels ∷ decimal b.filter.cycles.base ∷ decimal b.filter.cycles.repetition ∷ []) plain
+    words_of-line_of (codes "rx")
+    (decimal b.filter.slot ∷ channels_word b.filter.channels ∷ decimal b.filter.cycles.base
+    ∷ decimal b.filter.cycles.repetition ∷ [])
+    plain
 
 pub buffer_cut : (b : Buffer) → IsSpelledBuffer b → words_of (line_of (buffer_words b)) ≡ buffer_words b
 buffer_cut b is = cut_at b.mode b (buffer_plain b is)
@@ -204,7 +227,8 @@ not_own_at v Event b = refl
 not_own_at v State b = refl
 not_own_at v Receive b = refl
 
-pub buffer_not_own : (v : Version) (b : Buffer) → IsSpelledBuffer b → own_in v (words_of (line_of (buffer_words b))) ≡ None
+pub buffer_not_own : (v : Version) (b : Buffer) → IsSpelledBuffer b
+    → own_in v (words_of (line_of (buffer_words b))) ≡ None
 buffer_not_own v b is = ap (own_in v) (buffer_cut b is) ∙ not_own_at v b.mode b
 
 not_begin_at : (b : Buffer) (m : Mode) → b.mode ≡ m → bytes_eq (line_of (buffer_words b)) begin_line ≡ false

@@ -36,7 +36,8 @@ use Rattle.fr_text.specs.Spelling.{hex_text}
 abbrev Takes : Version → List (List ℕ) → Entry → Type 0
 Takes v words e = (words ≡ entry_words e) × IsSpelledEntry e × (tells v e ≡ true)
 
-commit_takes : (v : Version) (words : List (List ℕ)) (e : Entry) → commit_in words ≡ Some e → Takes v (codes "commit" ∷ words) e
+commit_takes : (v : Version) (words : List (List ℕ)) (e : Entry) → commit_in words ≡ Some e
+    → Takes v (codes "commit" ∷ words) e
 unfolding commit_in
 commit_takes v [] e h = cc h
 commit_takes v (a ∷ []) e h = cc h
@@ -51,10 +52,15 @@ commit_takes v (a ∷ b ∷ c ∷ []) e h =
     let payload = payload_takes c p hp in
     let low = task.1 in
     let few = buffer.1 in
-    rw (← is) (cons_same refl (cons_same (sym task.0) (cons_same (sym buffer.0) (cons_same payload.0 refl))), ((low, omega arith, payload.1, payload.2), few), refl)
+    rw (← is) (
+      cons_same refl (cons_same (sym task.0) (cons_same (sym buffer.0) (cons_same payload.0 refl))),
+      ((low, omega arith, payload.1, payload.2), few),
+      refl,
+    )
 commit_takes v (a ∷ b ∷ c ∷ d ∷ words) e h = cc h
 
-told_withdraw_takes : (v : Version) (words : List (List ℕ)) (e : Entry) → has_withdraws v ≡ true → told_withdraw_in words ≡ Some e → Takes v (codes "withdraw" ∷ words) e
+told_withdraw_takes : (v : Version) (words : List (List ℕ)) (e : Entry) → has_withdraws v ≡ true
+    → told_withdraw_in words ≡ Some e → Takes v (codes "withdraw" ∷ words) e
 unfolding told_withdraw_in
 told_withdraw_takes v [] e told h = cc h
 told_withdraw_takes v (a ∷ []) e told h = cc h
@@ -69,10 +75,15 @@ told_withdraw_takes v (a ∷ b ∷ c ∷ []) e told h =
     let commit = taken_back_takes c of ho in
     let low = task.1 in
     let few = buffer.1 in
-    rw (← is) (cons_same refl (cons_same (sym task.0) (cons_same (sym buffer.0) (cons_same commit.0 refl))), ((low, omega arith, commit.1), few), told)
+    rw (← is) (
+      cons_same refl (cons_same (sym task.0) (cons_same (sym buffer.0) (cons_same commit.0 refl))),
+      ((low, omega arith, commit.1), few),
+      told,
+    )
 told_withdraw_takes v (a ∷ b ∷ c ∷ d ∷ words) e told h = cc h
 
-withdraw_takes : (v : Version) (words : List (List ℕ)) (e : Entry) → withdraw_in v words ≡ Some e → Takes v (codes "withdraw" ∷ words) e
+withdraw_takes : (v : Version) (words : List (List ℕ)) (e : Entry) → withdraw_in v words ≡ Some e
+    → Takes v (codes "withdraw" ∷ words) e
 unfolding withdraw_in
 withdraw_takes v words e h =
     elim (cases_Bool (has_withdraws v)) [
@@ -80,7 +91,8 @@ withdraw_takes v words e h =
       | inr untold ↦ cc (rw untold at h)
     ]
 
-read_takes : (v : Version) (words : List (List ℕ)) (e : Entry) → read_in words ≡ Some e → Takes v (codes "read" ∷ words) e
+read_takes : (v : Version) (words : List (List ℕ)) (e : Entry) → read_in words ≡ Some e
+    → Takes v (codes "read" ∷ words) e
 unfolding read_in
 read_takes v [] e h = cc h
 read_takes v (a ∷ []) e h = cc h
@@ -95,7 +107,11 @@ read_takes v (a ∷ b ∷ c ∷ []) e h =
     let origin = from_takes c from hf in
     let low = task.1 in
     let few = buffer.1 in
-    rw (← is) (cons_same refl (cons_same (sym task.0) (cons_same (sym buffer.0) (cons_same origin.0 refl))), ((low, omega arith, origin.1), few), refl)
+    rw (← is) (
+      cons_same refl (cons_same (sym task.0) (cons_same (sym buffer.0) (cons_same origin.0 refl))),
+      ((low, omega arith, origin.1), few),
+      refl,
+    )
 read_takes v (a ∷ b ∷ c ∷ d ∷ words) e h = cc h
 
 pop_takes : (v : Version) (words : List (List ℕ)) (e : Entry) → pop_in words ≡ Some e → Takes v (codes "pop" ∷ words) e
@@ -111,7 +127,8 @@ pop_takes v (a ∷ b ∷ []) e h =
     rw (← is) (cons_same refl (cons_same (sym task.0) (cons_same origin.0 refl)), (task.1, origin.1), refl)
 pop_takes v (a ∷ b ∷ c ∷ words) e h = cc h
 
-fetch_takes : (v : Version) (words : List (List ℕ)) (e : Entry) → fetch_in words ≡ Some e → Takes v (codes "fetch" ∷ words) e
+fetch_takes : (v : Version) (words : List (List ℕ)) (e : Entry) → fetch_in words ≡ Some e
+    → Takes v (codes "fetch" ∷ words) e
 unfolding fetch_in
 fetch_takes v [] e h = cc h
 fetch_takes v (n ∷ []) e h = cc h
@@ -130,14 +147,16 @@ fetch_takes v (n ∷ c ∷ m ∷ sa ∷ sb ∷ oa ∷ ob ∷ []) e h =
     let fits = window.1 in
     let ta = offered_takes oa a ha in
     let tb = offered_takes ob b hb in
+    let rest = cons_same words.slot_a_is (cons_same words.slot_b_is (cons_same ta.0 (cons_same tb.0 refl))) in
     rw (← is) (
-      cons_same refl (cons_same words.number_is (cons_same words.cycle_is (cons_same words.minislot_is (cons_same words.slot_a_is (cons_same words.slot_b_is (cons_same ta.0 (cons_same tb.0 refl))))))),
+      cons_same refl (cons_same words.number_is (cons_same words.cycle_is (cons_same words.minislot_is rest))),
       record { window_is = fits; a_fits = ta.1; b_fits = tb.1 },
       refl,
     )
 fetch_takes v (n ∷ c ∷ m ∷ sa ∷ sb ∷ oa ∷ ob ∷ more ∷ words) e h = cc h
 
-observe_takes : (v : Version) (words : List (List ℕ)) (e : Entry) → observe_in words ≡ Some e → Takes v (codes "see" ∷ words) e
+observe_takes : (v : Version) (words : List (List ℕ)) (e : Entry) → observe_in words ≡ Some e
+    → Takes v (codes "see" ∷ words) e
 unfolding observe_in
 observe_takes v [] e h = cc h
 observe_takes v (w ∷ []) e h = cc h
@@ -150,16 +169,22 @@ observe_takes v (w ∷ sa ∷ sb ∷ []) e h =
     let window = number_takes (2 ^ 32) w n hn in
     let ta = seen_takes sa a ha in
     let tb = seen_takes sb b hb in
-    rw (← is) (cons_same refl (cons_same (sym window.0) (cons_same ta.0 (cons_same tb.0 refl))), (window.1, ta.1, tb.1), refl)
+    rw (← is) (
+      cons_same refl (cons_same (sym window.0) (cons_same ta.0 (cons_same tb.0 refl))),
+      (window.1, ta.1, tb.1),
+      refl,
+    )
 observe_takes v (w ∷ sa ∷ sb ∷ more ∷ words) e h = cc h
 
 -- the first word, and those after it
-taken_of : (v : Version) (kind this : List ℕ) (words : List (List ℕ)) (e : Entry) → kind ≡ this → Takes v (this ∷ words) e → Takes v (kind ∷ words) e
+taken_of : (v : Version) (kind this : List ℕ) (words : List (List ℕ)) (e : Entry) → kind ≡ this
+    → Takes v (this ∷ words) e → Takes v (kind ∷ words) e
 taken_of v kind this words e same t = (cons_same same refl ∙ t.0, t.1, t.2)
 
 -- a fetch or an observe, where it is no entry of the host
 slot_taken : (v : Version) (kind : List ℕ) (words : List (List ℕ)) (e : Entry)
-    → (if bytes_eq kind (codes "fetch") then fetch_in words else if bytes_eq kind (codes "see") then observe_in words else None) ≡ Some e
+    → (if bytes_eq kind (codes "fetch") then fetch_in words
+    else if bytes_eq kind (codes "see") then observe_in words else None) ≡ Some e
     → Takes v (kind ∷ words) e
 slot_taken v kind words e h =
     elim (word_or kind (codes "fetch") (fetch_in words) _ e h) [
@@ -203,24 +228,39 @@ entry_fits v words e h = (taken v words e h).1
 pub entry_told : (v : Version) (words : List (List ℕ)) (e : Entry) → entry_in v words ≡ Some e → tells v e ≡ true
 entry_told v words e h = (taken v words e h).2
 
-pub entry_line_takes : (v : Version) (line : List ℕ) (e : Entry) → entry_in v (words_of line) ≡ Some e → line ≡ line_of (entry_words e)
+pub entry_line_takes : (v : Version) (line : List ℕ) (e : Entry) → entry_in v (words_of line) ≡ Some e
+    → line ≡ line_of (entry_words e)
 entry_line_takes v line e h = sym (line_of-words_of line) ∙ ap line_of (entry_takes v (words_of line) e h)
 
 -- ---- what is spelled so is read
 
-withdraw_again : (v : Version) (task buffer : ℕ) (of : Option ℕ) → IsSpelledEntry (Withdraw task buffer of) → has_withdraws v ≡ true
+withdraw_again : (v : Version) (task buffer : ℕ) (of : Option ℕ) → IsSpelledEntry (Withdraw task buffer of)
+    → has_withdraws v ≡ true
     → withdraw_in v (decimal task ∷ decimal buffer ∷ optional_number of ∷ []) ≡ Some (Withdraw task buffer of)
 unfolding withdraw_in told_withdraw_in
 withdraw_again v task buffer of fits told =
-    rw (told, number_again 8 task fits.0.0 (omega arith), number_again 64 buffer fits.1 (omega arith), taken_back_again of fits.0.2) refl
+    rw (
+      told,
+      number_again 8 task fits.0.0 (omega arith),
+      number_again 64 buffer fits.1 (omega arith),
+      taken_back_again of fits.0.2,
+    ) refl
 
 pub entry_again : (v : Version) (e : Entry) → IsSpelledEntry e → tells v e ≡ true → entry_in v (entry_words e) ≡ Some e
 unfolding entry_in commit_in read_in pop_in fetch_in observe_in
 entry_again v (Commit task buffer payload) fits told =
-    rw (number_again 8 task fits.0.0 (omega arith), number_again 64 buffer fits.1 (omega arith), payload_again payload fits.0.2 fits.0.3) refl
+    rw (
+      number_again 8 task fits.0.0 (omega arith),
+      number_again 64 buffer fits.1 (omega arith),
+      payload_again payload fits.0.2 fits.0.3,
+    ) refl
 entry_again v (Withdraw task buffer of) fits told = withdraw_again v task buffer of fits told
 entry_again v (Read task buffer from) fits told =
-    rw (number_again 8 task fits.0.0 (omega arith), number_again 64 buffer fits.1 (omega arith), from_again from fits.0.2) refl
+    rw (
+      number_again 8 task fits.0.0 (omega arith),
+      number_again 64 buffer fits.1 (omega arith),
+      from_again from fits.0.2,
+    ) refl
 entry_again v (Pop task from) fits told = rw (number_again 8 task fits.0 (omega arith), from_again from fits.1) refl
 entry_again v (Fetch window a b) fits told =
     let is : IsInRange window = fits.window_is in
@@ -300,19 +340,27 @@ entry_no_feed e fits = has_no_feed-line_of (entry_words e) (entry_plain e fits)
 -- so the line is cut into them
 pub entry_cut : (e : Entry) → IsSpelledEntry e → words_of (line_of (entry_words e)) ≡ entry_words e
 entry_cut (Commit task buffer payload) fits =
-    words_of-line_of (codes "commit") (decimal task ∷ decimal buffer ∷ hex_text payload ∷ []) (entry_plain (Commit task buffer payload) fits)
+    words_of-line_of (codes "commit") (decimal task ∷ decimal buffer ∷ hex_text payload ∷ [])
+    (entry_plain (Commit task buffer payload) fits)
 entry_cut (Withdraw task buffer of) fits =
-    words_of-line_of (codes "withdraw") (decimal task ∷ decimal buffer ∷ optional_number of ∷ []) (entry_plain (Withdraw task buffer of) fits)
+    words_of-line_of (codes "withdraw") (decimal task ∷ decimal buffer ∷ optional_number of ∷ [])
+    (entry_plain (Withdraw task buffer of) fits)
 entry_cut (Read task buffer from) fits =
-    words_of-line_of (codes "read") (decimal task ∷ decimal buffer ∷ from_word from ∷ []) (entry_plain (Read task buffer from) fits)
-entry_cut (Pop task from) fits = words_of-line_of (codes "pop") (decimal task ∷ from_word from ∷ []) (entry_plain (Pop task from) fits)
+    words_of-line_of (codes "read") (decimal task ∷ decimal buffer ∷ from_word from ∷ [])
+    (entry_plain (Read task buffer from) fits)
+entry_cut (Pop task from) fits =
+    words_of-line_of (codes "pop") (decimal task ∷ from_word from ∷ []) (entry_plain (Pop task from) fits)
 entry_cut (Fetch window a b) fits =
-    words_of-line_of (codes "fetch") (decimal window.number ∷ decimal window.cycle ∷ decimal window.minislot ∷ optional_number window.a ∷ optional_number window.b ∷ offered_word a ∷ offered_word b ∷ [])
+    words_of-line_of (codes "fetch")
+    (decimal window.number ∷ decimal window.cycle ∷ decimal window.minislot ∷ optional_number window.a
+    ∷ optional_number window.b ∷ offered_word a ∷ offered_word b ∷ [])
     (entry_plain (Fetch window a b) fits)
 entry_cut (Observe window a b) fits =
-    words_of-line_of (codes "see") (decimal window ∷ seen_word a ∷ seen_word b ∷ []) (entry_plain (Observe window a b) fits)
+    words_of-line_of (codes "see") (decimal window ∷ seen_word a ∷ seen_word b ∷ [])
+    (entry_plain (Observe window a b) fits)
 
-pub entry_line_again : (v : Version) (e : Entry) → IsSpelledEntry e → tells v e ≡ true → entry_in v (words_of (line_of (entry_words e))) ≡ Some e
+pub entry_line_again : (v : Version) (e : Entry) → IsSpelledEntry e → tells v e ≡ true
+    → entry_in v (words_of (line_of (entry_words e))) ≡ Some e
 entry_line_again v e fits told = ap (entry_in v) (entry_cut e fits) ∙ entry_again v e fits told
 
 -- ---- the line is short

@@ -10,9 +10,9 @@ use Rattle.fr_lines.specs.Parts.{absent}
 use Rattle.fr_lines.specs.Reading.{window_first, fetch_in}
 use Rattle.fr_slots.specs.Numbers.{last_slot, number_within}
 use Rattle.fr_slots.specs.Windows.{Opportunity}
-use Rattle.fr_text.proofs.NumberLemmas.{number_takes, decimal_other}
 use Rattle.fr_status.specs.declared.seen.Seen.TheVariants as seen
 use Rattle.fr_text.proofs.HexTextLemmas.{bytes_takes}
+use Rattle.fr_text.proofs.NumberLemmas.{number_takes, decimal_other}
 use Rattle.fr_text.specs.Reading.{◌>>=◌, number_in, bytes_in, first_in}
 use Rattle.std.specs.Fmt.{decimal}
 use Rattle.std.specs.Str.{bytes_eq}

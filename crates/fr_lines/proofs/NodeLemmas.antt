@@ -22,7 +22,8 @@ use Rattle.fr_text.specs.Spaces.{words_of, line_of}
 
 limits_is : (t a b h s : ℕ) → limits_fit t a b h s ≡ true → IsPlan (empty_plan t a b h s)
 limits_is t a b h s pass =
-    let (six, slot_high) = and_parts (leb t 8 && leb a 8000 && leb b 8000 && leb 1 h && leb h 16384 && leb 2 s) (leb s 65536) pass in
+    let (six, slot_high) =
+    and_parts (leb t 8 && leb a 8000 && leb b 8000 && leb 1 h && leb h 16384 && leb 2 s) (leb s 65536) pass in
     let (five, slot_low) = and_parts (leb t 8 && leb a 8000 && leb b 8000 && leb 1 h && leb h 16384) (leb 2 s) six in
     let (four, host_high) = and_parts (leb t 8 && leb a 8000 && leb b 8000 && leb 1 h) (leb h 16384) five in
     let (three, host_low) = and_parts (leb t 8 && leb a 8000 && leb b 8000) (leb 1 h) four in
@@ -46,14 +47,16 @@ limits_is t a b h s pass =
       queue_is = tt;
     }
 
-plan_takes : (t a b h s : ℕ) (p : Plan) → result_ok (plan_of t a b h s) ≡ Some p → (empty_plan t a b h s ≡ p) × IsPlan (empty_plan t a b h s)
+plan_takes : (t a b h s : ℕ) (p : Plan) → result_ok (plan_of t a b h s) ≡ Some p
+    → (empty_plan t a b h s ≡ p) × IsPlan (empty_plan t a b h s)
 plan_takes t a b h s p read =
     elim (cases_Bool (limits_fit t a b h s)) [
       | inl pass ↦ (cc (rw pass at read), limits_is t a b h s pass)
       | inr fail ↦ cc (rw fail at read)
     ]
 
-limits_takes : (words : List (List ℕ)) (p : Plan) → limits_in words ≡ Some p → (codes "node" ∷ words ≡ node_words p) × (p ≡ bare_plan p) × IsPlan p
+limits_takes : (words : List (List ℕ)) (p : Plan) → limits_in words ≡ Some p
+    → (codes "node" ∷ words ≡ node_words p) × (p ≡ bare_plan p) × IsPlan p
 unfolding limits_in
 limits_takes [] p h = cc h
 limits_takes (t ∷ []) p h = cc h
@@ -72,10 +75,12 @@ limits_takes (t ∷ a ∷ b ∷ host ∷ slot ∷ []) p h =
     let tb = (number_takes 8001 b latest_b hb).0 in
     let th = (number_takes 16385 host host_entries hh).0 in
     let ts = (number_takes 65537 slot slot_entries hs).0 in
-    rw (← is.0) (cons_same refl (cons_same (sym tt_is) (cons_same (sym ta) (cons_same (sym tb) (cons_same (sym th) (cons_same (sym ts) refl))))), refl, is.1)
+    let rest = cons_same (sym tb) (cons_same (sym th) (cons_same (sym ts) refl)) in
+    rw (← is.0) (cons_same refl (cons_same (sym tt_is) (cons_same (sym ta) rest)), refl, is.1)
 limits_takes (t ∷ a ∷ b ∷ host ∷ slot ∷ more ∷ words) p h = cc h
 
-taken : (words : List (List ℕ)) (p : Plan) → node_in words ≡ Some p → (words ≡ node_words p) × (p ≡ bare_plan p) × IsPlan p
+taken : (words : List (List ℕ)) (p : Plan) → node_in words ≡ Some p
+    → (words ≡ node_words p) × (p ≡ bare_plan p) × IsPlan p
 unfolding node_in
 taken [] p h = cc h
 taken (kind ∷ words) p h =
@@ -94,7 +99,8 @@ node_bare words p h = (taken words p h).1
 pub node_fits : (words : List (List ℕ)) (p : Plan) → node_in words ≡ Some p → IsPlan p
 node_fits words p h = (taken words p h).2
 
-pub node_no_lines : (words : List (List ℕ)) (p : Plan) → node_in words ≡ Some p → (p.owned ≡ []) × (p.buffers ≡ []) × (p.queue ≡ None)
+pub node_no_lines : (words : List (List ℕ)) (p : Plan) → node_in words ≡ Some p
+    → (p.owned ≡ []) × (p.buffers ≡ []) × (p.queue ≡ None)
 node_no_lines words p h =
     let is = node_bare words p h in
     (ap (λ (q : Plan). q.owned) is, ap (λ (q : Plan). q.buffers) is, ap (λ (q : Plan). q.queue) is)
@@ -106,9 +112,18 @@ node_line_takes line p h = sym (line_of-words_of line) ∙ ap line_of (node_take
 
 limits_are : (p : Plan) → IsPlan p → limits_fit p.tasks p.latest_a p.latest_b p.host_entries p.slot_entries ≡ true
 limits_are p is =
-    rw (le-leb p.tasks 8 is.few_tasks, le-leb p.latest_a 8000 is.latest_a_fits, le-leb p.latest_b 8000 is.latest_b_fits, le-leb 1 p.host_entries is.some_host_entries, le-leb p.host_entries 16384 is.few_host_entries, le-leb 2 p.slot_entries is.some_slot_entries, le-leb p.slot_entries 65536 is.few_slot_entries) refl
+    rw (
+      le-leb p.tasks 8 is.few_tasks,
+      le-leb p.latest_a 8000 is.latest_a_fits,
+      le-leb p.latest_b 8000 is.latest_b_fits,
+      le-leb 1 p.host_entries is.some_host_entries,
+      le-leb p.host_entries 16384 is.few_host_entries,
+      le-leb 2 p.slot_entries is.some_slot_entries,
+      le-leb p.slot_entries 65536 is.few_slot_entries,
+    ) refl
 
-plan_again : (p : Plan) → IsPlan p → result_ok (plan_of p.tasks p.latest_a p.latest_b p.host_entries p.slot_entries) ≡ Some (bare_plan p)
+plan_again : (p : Plan) → IsPlan p
+    → result_ok (plan_of p.tasks p.latest_a p.latest_b p.host_entries p.slot_entries) ≡ Some (bare_plan p)
 plan_again p is = rw (limits_are p is) refl
 
 pub node_again : (p : Plan) → IsPlan p → node_in (node_words p) ≡ Some (bare_plan p)
@@ -124,8 +139,13 @@ node_again p is =
     let b1 : p.latest_b < 8001 = omega arith in
     let h1 : p.host_entries < 16385 = omega arith in
     let s1 : p.slot_entries < 65537 = omega arith in
-    rw (number_again 9 p.tasks t1 (omega arith), number_again 8001 p.latest_a a1 (omega arith), number_again 8001 p.latest_b b1 (omega arith), number_again 16385 p.host_entries h1 (omega arith), number_again 65537 p.slot_entries s1 (omega arith))
-    (plan_again p is)
+    rw (
+      number_again 9 p.tasks t1 (omega arith),
+      number_again 8001 p.latest_a a1 (omega arith),
+      number_again 8001 p.latest_b b1 (omega arith),
+      number_again 16385 p.host_entries h1 (omega arith),
+      number_again 65537 p.slot_entries s1 (omega arith),
+    ) (plan_again p is)
 
 -- ---- the words are plain, and the line is short
 
@@ -156,7 +176,9 @@ node_short p is = (both p is).1
 -- so the line is cut into them
 pub node_cut : (p : Plan) → IsPlan p → words_of (line_of (node_words p)) ≡ node_words p
 node_cut p is =
-    words_of-line_of (codes "node") (decimal p.tasks ∷ decimal p.latest_a ∷ decimal p.latest_b ∷ decimal p.host_entries ∷ decimal p.slot_entries ∷ []) (node_plain p is)
+    words_of-line_of (codes "node")
+    (decimal p.tasks ∷ decimal p.latest_a ∷ decimal p.latest_b ∷ decimal p.host_entries ∷ decimal p.slot_entries ∷ [])
+    (node_plain p is)
 
 pub node_line_again : (p : Plan) → IsPlan p → node_in (words_of (line_of (node_words p))) ≡ Some (bare_plan p)
 node_line_again p is = ap node_in (node_cut p is) ∙ node_again p is

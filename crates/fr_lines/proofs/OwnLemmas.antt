@@ -34,13 +34,19 @@ record TellsCycles (v : Version) (words : List (List ℕ)) (c : CycleClass) : Ty
   pub cycles_are : IsCycleClass c
   pub told : (has_own_cycles v || is_every_cycle c) ≡ true
 
-every_takes : (v : Version) (words : List (List ℕ)) (c : CycleClass) → has_own_cycles v ≡ false → at_end every_cycle words ≡ Some c → TellsCycles v words c
+every_takes : (v : Version) (words : List (List ℕ)) (c : CycleClass) → has_own_cycles v ≡ false
+    → at_end every_cycle words ≡ Some c → TellsCycles v words c
 every_takes v [] c short h =
     let is : every_cycle ≡ c = cc h in
-    rw (← is) (record { words_are = rw short refl; cycles_are = record { repetition_is = refl; base_below = omega arith }; told = rw short refl })
+    rw (← is) (record {
+      words_are = rw short refl;
+      cycles_are = record { repetition_is = refl; base_below = omega arith };
+      told = rw short refl;
+    })
 every_takes v (w ∷ words) c short h = cc h
 
-last_takes : (v : Version) (words : List (List ℕ)) (c : CycleClass) → has_own_cycles v ≡ true → last_cycles_in words ≡ Some c → TellsCycles v words c
+last_takes : (v : Version) (words : List (List ℕ)) (c : CycleClass) → has_own_cycles v ≡ true
+    → last_cycles_in words ≡ Some c → TellsCycles v words c
 unfolding last_cycles_in
 last_takes v [] c long h = cc h
 last_takes v (b ∷ []) c long h = cc h
@@ -49,7 +55,8 @@ last_takes v (b ∷ r ∷ []) c long h =
     record { words_are = rw long (cons_same t.0 (cons_same t.1 refl)); cycles_are = t.2; told = rw long refl }
 last_takes v (b ∷ r ∷ more ∷ words) c long h = cc h
 
-own_cycles_takes : (v : Version) (words : List (List ℕ)) (c : CycleClass) → own_cycles_in v words ≡ Some c → TellsCycles v words c
+own_cycles_takes : (v : Version) (words : List (List ℕ)) (c : CycleClass) → own_cycles_in v words ≡ Some c
+    → TellsCycles v words c
 unfolding own_cycles_in
 own_cycles_takes v words c h =
     elim (cases_Bool (has_own_cycles v)) [
@@ -64,7 +71,8 @@ every_is c h =
     let repetition_is : 1 ≡ c.repetition = sym (eqb-true c.repetition 1 parts.1) in
     λ i. record { base = base_is i; repetition = repetition_is i }
 
-own_cycles_again : (v : Version) (c : CycleClass) → IsCycleClass c → (has_own_cycles v || is_every_cycle c) ≡ true → own_cycles_in v (own_cycles_words v c) ≡ Some c
+own_cycles_again : (v : Version) (c : CycleClass) → IsCycleClass c → (has_own_cycles v || is_every_cycle c) ≡ true
+    → own_cycles_in v (own_cycles_words v c) ≡ Some c
 unfolding own_cycles_in last_cycles_in
 own_cycles_again One c lawful told = ap Some (every_is c told)
 own_cycles_again Two c lawful told = ap Some (every_is c told)
@@ -82,7 +90,8 @@ fitting_takes o found h =
 abbrev Takes : Version → List (List ℕ) → Own → Type 0
 Takes v words o = (words ≡ own_words v o) × IsSpelledOwn o × (tells_own v o ≡ true)
 
-ownership_takes : (v : Version) (words : List (List ℕ)) (o : Own) → ownership_in v words ≡ Some o → Takes v (codes "own" ∷ words) o
+ownership_takes : (v : Version) (words : List (List ℕ)) (o : Own) → ownership_in v words ≡ Some o
+    → Takes v (codes "own" ∷ words) o
 unfolding ownership_in
 ownership_takes v [] o h = cc h
 ownership_takes v (s ∷ []) o h = cc h
@@ -94,11 +103,13 @@ ownership_takes v (s ∷ c ∷ y ∷ t ∷ rest) o h =
     let (sync, hy, h3) = bind_some (flag_in y) _ o h2 in
     let (startup, ht, h4) = bind_some (flag_in t) _ o h3 in
     let (cycles, hr, h5) = bind_some (own_cycles_in v rest) _ o h4 in
-    let fitting = fitting_takes o (record { slot = slot; channels = channels; cycles = cycles; sync = sync; startup = startup }) h5 in
+    let fitting =
+    fitting_takes o (record { slot = slot; channels = channels; cycles = cycles; sync = sync; startup = startup }) h5 in
     let ts = slot_takes s slot hs in
     let tr = own_cycles_takes v rest cycles hr in
+    let last = cons_same (flag_takes y sync hy) (cons_same (flag_takes t startup ht) tr.words_are) in
     rw (← fitting.0) (
-      cons_same refl (cons_same ts.0 (cons_same (channels_takes c channels hc) (cons_same (flag_takes y sync hy) (cons_same (flag_takes t startup ht) tr.words_are)))),
+      cons_same refl (cons_same ts.0 (cons_same (channels_takes c channels hc) last)),
       record { is = record { slot_is = ts.1; cycles_are = tr.cycles_are }; fits = fitting.1 },
       tr.told,
     )
@@ -123,7 +134,8 @@ own_line_fits v words o h = (taken v words o h).1
 pub own_line_told : (v : Version) (words : List (List ℕ)) (o : Own) → own_in v words ≡ Some o → tells_own v o ≡ true
 own_line_told v words o h = (taken v words o h).2
 
-pub own_line_takes : (v : Version) (line : List ℕ) (o : Own) → own_in v (words_of line) ≡ Some o → line ≡ line_of (own_words v o)
+pub own_line_takes : (v : Version) (line : List ℕ) (o : Own) → own_in v (words_of line) ≡ Some o
+    → line ≡ line_of (own_words v o)
 own_line_takes v line o h = sym (line_of-words_of line) ∙ ap line_of (own_takes v (words_of line) o h)
 
 -- ---- what is spelled so is read
@@ -131,7 +143,14 @@ own_line_takes v line o h = sym (line_of-words_of line) ∙ ap line_of (own_take
 pub own_again : (v : Version) (o : Own) → IsSpelledOwn o → tells_own v o ≡ true → own_in v (own_words v o) ≡ Some o
 unfolding own_in ownership_in
 own_again v o is told =
-    rw (slot_again o.slot is.is.slot_is, channels_again o.channels, flag_again o.sync, flag_again o.startup, own_cycles_again v o.cycles is.is.cycles_are told, is.fits) refl
+    rw (
+      slot_again o.slot is.is.slot_is,
+      channels_again o.channels,
+      flag_again o.sync,
+      flag_again o.startup,
+      own_cycles_again v o.cycles is.is.cycles_are told,
+      is.fits,
+    ) refl
 
 -- ---- the words are plain, and the line is short
 
@@ -145,7 +164,8 @@ short_plain v o is short =
     let channels_are = channels_plain o.channels in
     let sync_is = flag_plain o.sync in
     let startup_is = flag_plain o.startup in
-    let words : List (List ℕ) = codes "own" ∷ decimal o.slot ∷ channels_word o.channels ∷ flag_word o.sync ∷ flag_word o.startup ∷ [] in
+    let words : List (List ℕ) =
+    codes "own" ∷ decimal o.slot ∷ channels_word o.channels ∷ flag_word o.sync ∷ flag_word o.startup ∷ [] in
     let all = length-line_of-le words in
     let slot_short = slot_is.short in
     let channels_short = channels_are.short in
@@ -165,7 +185,8 @@ long_plain v o is long =
     let base_is = number_word 2 o.cycles.base (omega arith) (omega arith) (omega arith) in
     let repetition_is = number_word 2 o.cycles.repetition (omega arith) (omega arith) (omega arith) in
     let words : List (List ℕ) =
-    codes "own" ∷ decimal o.slot ∷ channels_word o.channels ∷ flag_word o.sync ∷ flag_word o.startup ∷ decimal o.cycles.base ∷ decimal o.cycles.repetition ∷ [] in
+    codes "own" ∷ decimal o.slot ∷ channels_word o.channels ∷ flag_word o.sync ∷ flag_word o.startup
+    ∷ decimal o.cycles.base ∷ decimal o.cycles.repetition ∷ [] in
     let all = length-line_of-le words in
     let slot_short = slot_is.short in
     let channels_short = channels_are.short in
@@ -173,7 +194,9 @@ long_plain v o is long =
     let startup_short = startup_is.short in
     let base_short = base_is.short in
     let repetition_short = repetition_is.short in
-    rw long ((refl, (slot_is.plain, (channels_are.plain, (sync_is.plain, (startup_is.plain, (base_is.plain, (repetition_is.plain, tt))))))), omega arith)
+    let last : ArePlain (flag_word o.startup ∷ decimal o.cycles.base ∷ decimal o.cycles.repetition ∷ []) =
+    (startup_is.plain, (base_is.plain, (repetition_is.plain, tt))) in
+    rw long ((refl, (slot_is.plain, (channels_are.plain, (sync_is.plain, last)))), omega arith)
 
 both_plain : (v : Version) (o : Own) → IsSpelledOwn o → IsPlainLine (own_words v o)
 both_plain v o is =
@@ -194,9 +217,12 @@ own_short v o is = (both_plain v o is).1
 -- so the line is cut into them
 pub own_cut : (v : Version) (o : Own) → IsSpelledOwn o → words_of (line_of (own_words v o)) ≡ own_words v o
 own_cut v o is =
-    words_of-line_of (codes "own") (decimal o.slot ∷ channels_word o.channels ∷ flag_word o.sync ∷ flag_word o.startup ∷ own_cycles_words v o.cycles) (own_plain v o is)
+    words_of-line_of (codes "own")
+    (decimal o.slot ∷ channels_word o.channels ∷ flag_word o.sync ∷ flag_word o.startup ∷ own_cycles_words v o.cycles)
+    (own_plain v o is)
 
-pub own_line_again : (v : Version) (o : Own) → IsSpelledOwn o → tells_own v o ≡ true → own_in v (words_of (line_of (own_words v o))) ≡ Some o
+pub own_line_again : (v : Version) (o : Own) → IsSpelledOwn o → tells_own v o ≡ true
+    → own_in v (words_of (line_of (own_words v o))) ≡ Some o
 own_line_again v o is told = ap (own_in v) (own_cut v o is) ∙ own_again v o is told
 
 -- ---- no ownership line begins the entries

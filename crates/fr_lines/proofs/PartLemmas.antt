@@ -35,7 +35,8 @@ use Rattle.fr_text.specs.Reading.{number_in, bytes_in}
 -- ---- a word among some
 
 -- a test for one word, and what comes of it
-pub word_or : {A : Type 0} (word this : List ℕ) (o other : Option A) (y : A) → (if bytes_eq word this then o else other) ≡ Some y
+pub word_or : {A : Type 0} (word this : List ℕ) (o other : Option A) (y : A)
+    → (if bytes_eq word this then o else other) ≡ Some y
     → ((word ≡ this) × (o ≡ Some y)) ⊎ (other ≡ Some y)
 word_or word this o other y h =
     elim (cases_Bool (bytes_eq word this)) [
@@ -45,7 +46,8 @@ word_or word this o other y h =
 
 -- ---- slots
 
-pub within_takes : (least greatest n m : ℕ) → number_within least greatest n ≡ Some m → (n ≡ m) × (least ≤ n) × (n ≤ greatest)
+pub within_takes : (least greatest n m : ℕ) → number_within least greatest n ≡ Some m
+    → (n ≡ m) × (least ≤ n) × (n ≤ greatest)
 within_takes least greatest n m h =
     elim (cases_Bool (leb least n && leb n greatest)) [
       | inl pass ↦
@@ -74,7 +76,8 @@ slot_again slot fits =
     let high : slot ≤ 2047 = omega arith in
     rw (number_again 2048 slot below (omega arith), le-leb 1 slot low, le-leb slot 2047 high) refl
 
-pub optional_slot_takes : (word : List ℕ) (o : Option ℕ) → optional_slot_in word ≡ Some o → (word ≡ optional_number o) × IsSlotOrNone o
+pub optional_slot_takes : (word : List ℕ) (o : Option ℕ) → optional_slot_in word ≡ Some o
+    → (word ≡ optional_number o) × IsSlotOrNone o
 unfolding optional_slot_in
 optional_slot_takes word o h =
     elim (word_or word absent (Some None) _ o h) [
@@ -120,7 +123,8 @@ channels_again channels.Both = refl
 pub repetition_small : (n : ℕ) → is_repetition n ≡ true → n ≤ 64
 repetition_small n h = grind (arith, nat_tests)
 
-class_takes : (b r : ℕ) (c : CycleClass) → result_ok (cycle_class b r) ≡ Some c → (b ≡ c.base) × (r ≡ c.repetition) × IsCycleClass c
+class_takes : (b r : ℕ) (c : CycleClass) → result_ok (cycle_class b r) ≡ Some c
+    → (b ≡ c.base) × (r ≡ c.repetition) × IsCycleClass c
 class_takes b r c h =
     elim (cases_Bool (is_repetition r)) [
       | inl power ↦
@@ -144,7 +148,9 @@ cycles_takes base repetition c h =
     let (b, hb, h1) = bind_some (number_in 64 base) _ c h in
     let (r, hr, h2) = bind_some (number_in 65 repetition) _ c h1 in
     let taken = class_takes b r c h2 in
-    (sym (number_takes 64 base b hb).0 ∙ ap decimal taken.0, sym (number_takes 65 repetition r hr).0 ∙ ap decimal taken.1, taken.2)
+    let base_is = sym (number_takes 64 base b hb).0 ∙ ap decimal taken.0 in
+    let repetition_is = sym (number_takes 65 repetition r hr).0 ∙ ap decimal taken.1 in
+    (base_is, repetition_is, taken.2)
 
 pub cycles_again : (c : CycleClass) → IsCycleClass c → cycles_in (decimal c.base) (decimal c.repetition) ≡ Some c
 unfolding cycles_in
@@ -153,11 +159,17 @@ cycles_again c lawful =
     let below = lawful.base_below in
     let base : c.base < 64 = omega arith in
     let repetition : c.repetition < 65 = omega arith in
-    rw (number_again 64 c.base base (omega arith), number_again 65 c.repetition repetition (omega arith), lawful.repetition_is, lt-leb c.repetition c.base below) refl
+    rw (
+      number_again 64 c.base base (omega arith),
+      number_again 65 c.repetition repetition (omega arith),
+      lawful.repetition_is,
+      lt-leb c.repetition c.base below,
+    ) refl
 
 -- ---- what is taken back
 
-pub taken_back_takes : (word : List ℕ) (o : Option ℕ) → taken_back_in word ≡ Some o → (word ≡ optional_number o) × IfSome o (λ n. n < 2 ^ 32)
+pub taken_back_takes : (word : List ℕ) (o : Option ℕ) → taken_back_in word ≡ Some o
+    → (word ≡ optional_number o) × IfSome o (λ n. n < 2 ^ 32)
 unfolding taken_back_in
 taken_back_takes word o h =
     elim (word_or word absent (Some None) _ o h) [
@@ -209,7 +221,9 @@ origin_takes word o h =
     let number = number_takes (2 ^ 32) (take at word) n hn in
     let mark = channel_takes (drop at word) c hc in
     let below = number.1 in
-    rw (← is) (sym (take-append-drop at word) ∙ ap (λ xs. xs ++ drop at word) (sym number.0) ∙ ap (λ xs. decimal n ++ xs) mark, below)
+    let front = ap (λ xs. xs ++ drop at word) (sym number.0) in
+    let back = ap (λ xs. decimal n ++ xs) mark in
+    rw (← is) (sym (take-append-drop at word) ∙ front ∙ back, below)
 
 pub origin_again : (o : Origin) → o.entry < 2 ^ 32 → origin_in (origin_word o) ≡ Some o
 unfolding origin_in
@@ -218,8 +232,10 @@ origin_again o below =
     let all = length-append (decimal o.entry) (channel_mark o.channel) in
     let two = length-channel_mark o.channel in
     let at : length word - 2 ≡ length (decimal o.entry) = omega arith in
-    let front : take (length word - 2) word ≡ decimal o.entry = ap (λ n. take n word) at ∙ take-append_seam (decimal o.entry) (channel_mark o.channel) in
-    let back : drop (length word - 2) word ≡ channel_mark o.channel = ap (λ n. drop n word) at ∙ drop-append_seam (decimal o.entry) (channel_mark o.channel) in
+    let front : take (length word - 2) word ≡ decimal o.entry =
+    ap (λ n. take n word) at ∙ take-append_seam (decimal o.entry) (channel_mark o.channel) in
+    let back : drop (length word - 2) word ≡ channel_mark o.channel =
+    ap (λ n. drop n word) at ∙ drop-append_seam (decimal o.entry) (channel_mark o.channel) in
     rw (back, front, channel_again o.channel, number_again (2 ^ 32) o.entry below (omega arith)) refl
 
 origin_present : (o : Origin) → bytes_eq (origin_word o) absent ≡ false
@@ -234,7 +250,8 @@ origin_present o =
       | inr differ ↦ differ
     ]
 
-pub from_takes : (word : List ℕ) (from : Option Origin) → from_in word ≡ Some from → (word ≡ from_word from) × IsOrigin from
+pub from_takes : (word : List ℕ) (from : Option Origin) → from_in word ≡ Some from
+    → (word ≡ from_word from) × IsOrigin from
 unfolding from_in
 from_takes word from h =
     elim (word_or word absent (Some None) _ from h) [
@@ -275,7 +292,11 @@ offered_again offered.Nothing fits = refl
 offered_again offered.Null fits = refl
 offered_again (offered.Data n) fits =
     let small : n < 2 ^ 64 = omega arith in
-    rw (decimal_other n absent small refl, decimal_other n (codes "null") small refl, number_again (2 ^ 32) n fits (omega arith)) refl
+    rw (
+      decimal_other n absent small refl,
+      decimal_other n (codes "null") small refl,
+      number_again (2 ^ 32) n fits (omega arith),
+    ) refl
 
 seen_bytes_takes : (word : List ℕ) (s : Seen) → seen_bytes_in word ≡ Some s → (word ≡ seen_word s) × IsSeen s
 unfolding seen_bytes_in

@@ -14,15 +14,18 @@ use Rattle.fr_slots.specs.declared.plan.Own.{Own}
 use Rattle.fr_slots.specs.declared.plan.Queue.{Queue}
 
 -- what is told as one kind of line was read as that kind
-own_mapped : (r : Option Own) (line : PlanLine) → option_map plan_line.Own r ≡ Some line → (o : Own) × (line ≡ plan_line.Own o) × (r ≡ Some o)
+own_mapped : (r : Option Own) (line : PlanLine) → option_map plan_line.Own r ≡ Some line
+    → (o : Own) × (line ≡ plan_line.Own o) × (r ≡ Some o)
 own_mapped None line h = cc h
 own_mapped (Some o) line h = (o, cc h, refl)
 
-buffer_mapped : (r : Option Buffer) (line : PlanLine) → option_map plan_line.Buffer r ≡ Some line → (b : Buffer) × (line ≡ plan_line.Buffer b) × (r ≡ Some b)
+buffer_mapped : (r : Option Buffer) (line : PlanLine) → option_map plan_line.Buffer r ≡ Some line
+    → (b : Buffer) × (line ≡ plan_line.Buffer b) × (r ≡ Some b)
 buffer_mapped None line h = cc h
 buffer_mapped (Some b) line h = (b, cc h, refl)
 
-queue_mapped : (r : Option Queue) (line : PlanLine) → option_map plan_line.Queue r ≡ Some line → (q : Queue) × (line ≡ plan_line.Queue q) × (r ≡ Some q)
+queue_mapped : (r : Option Queue) (line : PlanLine) → option_map plan_line.Queue r ≡ Some line
+    → (q : Queue) × (line ≡ plan_line.Queue q) × (r ≡ Some q)
 queue_mapped None line h = cc h
 queue_mapped (Some q) line h = (q, cc h, refl)
 
@@ -32,27 +35,33 @@ IsReadAs v words (plan_line.Own o) = own_in v words ≡ Some o
 IsReadAs v words (plan_line.Buffer b) = buffer_in words ≡ Some b
 IsReadAs v words (plan_line.Queue q) = queue_in words ≡ Some q
 
-as_read : (v : Version) (words : List (List ℕ)) (line told : PlanLine) → line ≡ told → IsReadAs v words told → IsReadAs v words line
+as_read : (v : Version) (words : List (List ℕ)) (line told : PlanLine) → line ≡ told → IsReadAs v words told
+    → IsReadAs v words line
 as_read v words line told is read = subst (IsReadAs v words) (sym is) read
 
-own_read : (v : Version) (kind : List ℕ) (rest : List (List ℕ)) (o : Own) → bytes_eq kind (codes "own") ≡ true → ownership_in v rest ≡ Some o → own_in v (kind ∷ rest) ≡ Some o
+own_read : (v : Version) (kind : List ℕ) (rest : List (List ℕ)) (o : Own) → bytes_eq kind (codes "own") ≡ true
+    → ownership_in v rest ≡ Some o → own_in v (kind ∷ rest) ≡ Some o
 unfolding own_in
 own_read v kind rest o own read = rw own read
 
-transmit_read : (kind : List ℕ) (rest : List (List ℕ)) (b : Buffer) → bytes_eq kind (codes "tx") ≡ true → transmit_in rest ≡ Some b → buffer_in (kind ∷ rest) ≡ Some b
+transmit_read : (kind : List ℕ) (rest : List (List ℕ)) (b : Buffer) → bytes_eq kind (codes "tx") ≡ true
+    → transmit_in rest ≡ Some b → buffer_in (kind ∷ rest) ≡ Some b
 unfolding buffer_in
 transmit_read kind rest b tx read = rw tx read
 
-receive_read : (kind : List ℕ) (rest : List (List ℕ)) (b : Buffer) → bytes_eq kind (codes "tx") ≡ false → bytes_eq kind (codes "rx") ≡ true → receive_in rest ≡ Some b
+receive_read : (kind : List ℕ) (rest : List (List ℕ)) (b : Buffer) → bytes_eq kind (codes "tx") ≡ false
+    → bytes_eq kind (codes "rx") ≡ true → receive_in rest ≡ Some b
     → buffer_in (kind ∷ rest) ≡ Some b
 unfolding buffer_in
 receive_read kind rest b not_tx rx read = rw (not_tx, rx) read
 
-queue_read : (kind : List ℕ) (rest : List (List ℕ)) (q : Queue) → bytes_eq kind (codes "queue") ≡ true → reception_in rest ≡ Some q → queue_in (kind ∷ rest) ≡ Some q
+queue_read : (kind : List ℕ) (rest : List (List ℕ)) (q : Queue) → bytes_eq kind (codes "queue") ≡ true
+    → reception_in rest ≡ Some q → queue_in (kind ∷ rest) ≡ Some q
 unfolding queue_in
 queue_read kind rest q queue read = rw queue read
 
-pub told_read : (v : Version) (words : List (List ℕ)) (line : PlanLine) → plan_line_in v words ≡ Some line → IsReadAs v words line
+pub told_read : (v : Version) (words : List (List ℕ)) (line : PlanLine) → plan_line_in v words ≡ Some line
+    → IsReadAs v words line
 unfolding plan_line_in
 told_read v [] line h = cc h
 told_read v (kind ∷ rest) line h =
@@ -85,7 +94,8 @@ told_read v (kind ∷ rest) line h =
     ]
 
 -- and what its own reader reads, a line tells
-pub own_told : (v : Version) (words : List (List ℕ)) (o : Own) → own_in v words ≡ Some o → plan_line_in v words ≡ Some (plan_line.Own o)
+pub own_told : (v : Version) (words : List (List ℕ)) (o : Own) → own_in v words ≡ Some o
+    → plan_line_in v words ≡ Some (plan_line.Own o)
 unfolding plan_line_in own_in
 own_told v [] o h = cc h
 own_told v (kind ∷ rest) o h =
@@ -96,29 +106,39 @@ own_told v (kind ∷ rest) o h =
 
 -- a word is no other word
 not_both : (word a b : List ℕ) → bytes_eq word a ≡ true → bytes_eq a b ≡ false → bytes_eq word b ≡ false
-not_both word a b is other = let same : word ≡ a = (bytes_eq-Decides word a).0 is in subst (λ w. bytes_eq w b ≡ false) (sym same) other
+not_both word a b is other =
+    let same : word ≡ a = (bytes_eq-Decides word a).0 is in subst (λ w. bytes_eq w b ≡ false) (sym same) other
 
-pub buffer_told : (v : Version) (words : List (List ℕ)) (b : Buffer) → buffer_in words ≡ Some b → plan_line_in v words ≡ Some (plan_line.Buffer b)
+pub buffer_told : (v : Version) (words : List (List ℕ)) (b : Buffer) → buffer_in words ≡ Some b
+    → plan_line_in v words ≡ Some (plan_line.Buffer b)
 unfolding plan_line_in buffer_in
 buffer_told v [] b h = cc h
 buffer_told v (kind ∷ rest) b h =
     elim (cases_Bool (bytes_eq kind (codes "tx"))) [
-      | inl tx ↦ rw (not_both kind (codes "tx") (codes "own") tx refl, tx) (ap (option_map plan_line.Buffer) (rw tx at h))
+      | inl tx ↦
+          rw (not_both kind (codes "tx") (codes "own") tx refl, tx) (ap (option_map plan_line.Buffer) (rw tx at h))
       | inr not_tx ↦
           let h1 = rw not_tx at h in
           elim (cases_Bool (bytes_eq kind (codes "rx"))) [
-            | inl rx ↦ rw (not_both kind (codes "rx") (codes "own") rx refl, not_tx, rx) (ap (option_map plan_line.Buffer) (rw rx at h1))
+            | inl rx ↦
+                let not_own = not_both kind (codes "rx") (codes "own") rx refl in
+                rw (not_own, not_tx, rx) (ap (option_map plan_line.Buffer) (rw rx at h1))
             | inr other ↦ cc (rw other at h1)
           ]
     ]
 
-pub queue_told : (v : Version) (words : List (List ℕ)) (q : Queue) → queue_in words ≡ Some q → plan_line_in v words ≡ Some (plan_line.Queue q)
+pub queue_told : (v : Version) (words : List (List ℕ)) (q : Queue) → queue_in words ≡ Some q
+    → plan_line_in v words ≡ Some (plan_line.Queue q)
 unfolding plan_line_in queue_in
 queue_told v [] q h = cc h
 queue_told v (kind ∷ rest) q h =
     elim (cases_Bool (bytes_eq kind (codes "queue"))) [
       | inl queue ↦
-          rw (not_both kind (codes "queue") (codes "own") queue refl, not_both kind (codes "queue") (codes "tx") queue refl, not_both kind (codes "queue") (codes "rx") queue refl, queue)
-          (ap (option_map plan_line.Queue) (rw queue at h))
+          rw (
+            not_both kind (codes "queue") (codes "own") queue refl,
+            not_both kind (codes "queue") (codes "tx") queue refl,
+            not_both kind (codes "queue") (codes "rx") queue refl,
+            queue,
+          ) (ap (option_map plan_line.Queue) (rw queue at h))
       | inr other ↦ cc (rw other at h)
     ]

@@ -30,7 +30,8 @@ pub record AreFilterWords (slot channels base repetition : List ℕ) (f : Filter
   pub repetition_is : repetition ≡ decimal f.cycles.repetition
   pub fits : IsFilter f
 
-pub filter_takes : (slot channels base repetition : List ℕ) (f : Filter) → filter_in slot channels base repetition ≡ Some f → AreFilterWords slot channels base repetition f
+pub filter_takes : (slot channels base repetition : List ℕ) (f : Filter)
+    → filter_in slot channels base repetition ≡ Some f → AreFilterWords slot channels base repetition f
 unfolding filter_in
 filter_takes slot channels base repetition f h =
     let (s, hs, h1) = bind_some (slot_in slot) _ f h in
@@ -39,11 +40,20 @@ filter_takes slot channels base repetition f h =
     let is : record { slot = s; channels = c; cycles = cycles } ≡ f = cc h3 in
     let ts = slot_takes slot s hs in
     let ty = cycles_takes base repetition cycles hy in
-    rw (← is) (record { slot_is = ts.0; channels_is = channels_takes channels c hc; base_is = ty.0; repetition_is = ty.1; fits = record { slot_is = ts.1; cycles_are = ty.2 } })
+    rw (← is) (record {
+      slot_is = ts.0;
+      channels_is = channels_takes channels c hc;
+      base_is = ty.0;
+      repetition_is = ty.1;
+      fits = record { slot_is = ts.1; cycles_are = ty.2 };
+    })
 
-pub filter_again : (f : Filter) → IsFilter f → filter_in (decimal f.slot) (channels_word f.channels) (decimal f.cycles.base) (decimal f.cycles.repetition) ≡ Some f
+pub filter_again : (f : Filter) → IsFilter f
+    → filter_in (decimal f.slot) (channels_word f.channels) (decimal f.cycles.base) (decimal f.cycles.repetition)
+    ≡ Some f
 unfolding filter_in
-filter_again f fits = rw (slot_again f.slot fits.slot_is, channels_again f.channels, cycles_again f.cycles fits.cycles_are) refl
+filter_again f fits =
+    rw (slot_again f.slot fits.slot_is, channels_again f.channels, cycles_again f.cycles fits.cycles_are) refl
 
 -- ---- flags and modes
 
@@ -64,7 +74,8 @@ unfolding flag_in
 flag_again true = refl
 flag_again false = refl
 
-pub mode_takes : (word : List ℕ) (m : Mode) → mode_in word ≡ Some m → ((word ≡ codes "event") × (m ≡ Event)) ⊎ ((word ≡ codes "state") × (m ≡ State))
+pub mode_takes : (word : List ℕ) (m : Mode) → mode_in word ≡ Some m
+    → ((word ≡ codes "event") × (m ≡ Event)) ⊎ ((word ≡ codes "state") × (m ≡ State))
 unfolding mode_in
 mode_takes word m h =
     elim (word_or word (codes "event") (Some Event) _ m h) [
@@ -82,7 +93,8 @@ mode_again = (refl, refl)
 
 -- ---- words of two bytes
 
-pub size_takes : (word : List ℕ) (o : Option ℕ) → size_in word ≡ Some o → (word ≡ optional_number o) × (words_fit o ≡ true)
+pub size_takes : (word : List ℕ) (o : Option ℕ) → size_in word ≡ Some o
+    → (word ≡ optional_number o) × (words_fit o ≡ true)
 unfolding size_in
 size_takes word o h =
     elim (word_or word absent (Some None) _ o h) [

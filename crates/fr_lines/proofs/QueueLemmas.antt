@@ -33,7 +33,8 @@ fitting_takes q found h =
       | inr fail ↦ cc (rw fail at h)
     ]
 
-reception_takes : (words : List (List ℕ)) (q : Queue) → reception_in words ≡ Some q → (codes "queue" ∷ words ≡ queue_words q) × IsSpelledQueue q
+reception_takes : (words : List (List ℕ)) (q : Queue) → reception_in words ≡ Some q
+    → (codes "queue" ∷ words ≡ queue_words q) × IsSpelledQueue q
 unfolding reception_in
 reception_takes [] q h = cc h
 reception_takes (n ∷ []) q h = cc h
@@ -47,13 +48,16 @@ reception_takes (n ∷ f ∷ l ∷ c ∷ b ∷ r ∷ []) q h =
     let (last, hl, h3) = bind_some (slot_in l) _ q h2 in
     let (channels, hc, h4) = bind_some (channels_in c) _ q h3 in
     let (cycles, hy, h5) = bind_some (cycles_in b r) _ q h4 in
-    let fitting = fitting_takes q (record { capacity = capacity; first = first; last = last; channels = channels; cycles = cycles }) h5 in
+    let found : Queue =
+    record { capacity = capacity; first = first; last = last; channels = channels; cycles = cycles } in
+    let fitting = fitting_takes q found h5 in
     let tn = number_takes 257 n capacity hn in
     let tf = slot_takes f first hf in
     let tl = slot_takes l last hl in
     let ty = cycles_takes b r cycles hy in
+    let rest = cons_same (channels_takes c channels hc) (cons_same ty.0 (cons_same ty.1 refl)) in
     rw (← fitting.0) (
-      cons_same refl (cons_same (sym tn.0) (cons_same tf.0 (cons_same tl.0 (cons_same (channels_takes c channels hc) (cons_same ty.0 (cons_same ty.1 refl)))))),
+      cons_same refl (cons_same (sym tn.0) (cons_same tf.0 (cons_same tl.0 rest))),
       record { is = record { first_is = tf.1; last_is = tl.1; cycles_are = ty.2 }; fits = fitting.1 },
     )
 reception_takes (n ∷ f ∷ l ∷ c ∷ b ∷ r ∷ more ∷ words) q h = cc h
@@ -88,7 +92,14 @@ pub queue_again : (q : Queue) → IsSpelledQueue q → queue_in (queue_words q) 
 unfolding queue_in reception_in
 queue_again q is =
     let few = few_frames q is.fits in
-    rw (number_again 257 q.capacity (omega arith) (omega arith), slot_again q.first is.is.first_is, slot_again q.last is.is.last_is, channels_again q.channels, cycles_again q.cycles is.is.cycles_are, is.fits) refl
+    rw (
+      number_again 257 q.capacity (omega arith) (omega arith),
+      slot_again q.first is.is.first_is,
+      slot_again q.last is.is.last_is,
+      channels_again q.channels,
+      cycles_again q.cycles is.is.cycles_are,
+      is.fits,
+    ) refl
 
 -- ---- the words are plain, and the line is short
 
@@ -112,7 +123,9 @@ both_plain q is =
     let channels_short = channels_are.short in
     let base_short = base_is.short in
     let repetition_short = repetition_is.short in
-    ((refl, (capacity_is.plain, (first_is.plain, (last_is.plain, (channels_are.plain, (base_is.plain, (repetition_is.plain, tt))))))), omega arith)
+    let rest : ArePlain (channels_word q.channels ∷ decimal q.cycles.base ∷ decimal q.cycles.repetition ∷ []) =
+    (channels_are.plain, (base_is.plain, (repetition_is.plain, tt))) in
+    ((refl, (capacity_is.plain, (first_is.plain, (last_is.plain, rest)))), omega arith)
 
 pub queue_plain : (q : Queue) → IsSpelledQueue q → ArePlain (queue_words q)
 queue_plain q is = (both_plain q is).0
@@ -126,7 +139,10 @@ queue_short q is = (both_plain q is).1
 -- so the line is cut into them
 pub queue_cut : (q : Queue) → IsSpelledQueue q → words_of (line_of (queue_words q)) ≡ queue_words q
 queue_cut q is =
-    words_of-line_of (codes "queue") (decimal q.capacity ∷ decimal q.first ∷ decimal q.last ∷ channels_word q.channels ∷ decimal q.cycles.base ∷ decimal q.cycles.repetition ∷ []) (queue_plain q is)
+    words_of-line_of (codes "queue")
+    (decimal q.capacity ∷ decimal q.first ∷ decimal q.last ∷ channels_word q.channels ∷ decimal q.cycles.base
+    ∷ decimal q.cycles.repetition ∷ [])
+    (queue_plain q is)
 
 pub queue_line_again : (q : Queue) → IsSpelledQueue q → queue_in (words_of (line_of (queue_words q))) ≡ Some q
 queue_line_again q is = ap queue_in (queue_cut q is) ∙ queue_again q is

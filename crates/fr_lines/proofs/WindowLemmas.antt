@@ -17,7 +17,8 @@ window number cycle minislot a b = record { number = number; cycle = cycle; mini
 
 -- ---- at minislot 0
 
-same_takes : (n c : ℕ) (a b : Option ℕ) (w : Opportunity) → same_slot n c a b ≡ Some w → (window n c 0 a b ≡ w) × (a ≡ b) × ((is_some a || is_some b) ≡ true)
+same_takes : (n c : ℕ) (a b : Option ℕ) (w : Opportunity) → same_slot n c a b ≡ Some w
+    → (window n c 0 a b ≡ w) × (a ≡ b) × ((is_some a || is_some b) ≡ true)
 same_takes n c None b w h = cc h
 same_takes n c (Some a) None w h = cc h
 same_takes n c (Some a) (Some b) w h =
@@ -29,7 +30,8 @@ same_takes n c (Some a) (Some b) w h =
       | inr fail ↦ cc (rw fail at h)
     ]
 
-same_again : (n c : ℕ) (a b : Option ℕ) → a ≡ b → (is_some a || is_some b) ≡ true → same_slot n c a b ≡ Some (window n c 0 a b)
+same_again : (n c : ℕ) (a b : Option ℕ) → a ≡ b → (is_some a || is_some b) ≡ true
+    → same_slot n c a b ≡ Some (window n c 0 a b)
 same_again n c None None same some = cc some
 same_again n c None (Some b) same some = cc same
 same_again n c (Some a) None same some = cc same
@@ -51,7 +53,8 @@ dynamic_takes n c m a b w h =
       | inr fail ↦ cc (rw fail at h)
     ]
 
-window_of_takes : (n c m : ℕ) (a b : Option ℕ) (w : Opportunity) → window_of n c m a b ≡ Some w → (window n c m a b ≡ w) × IsOpportunity (window n c m a b)
+window_of_takes : (n c m : ℕ) (a b : Option ℕ) (w : Opportunity) → window_of n c m a b ≡ Some w
+    → (window n c m a b ≡ w) × IsOpportunity (window n c m a b)
 window_of_takes n c m a b w h =
     elim (cases_Bool (m == 0)) [
       | inl pass ↦
@@ -64,7 +67,8 @@ window_of_takes n c m a b w h =
           (taken.0, record { minislot_fits = taken.2; static_same = λ none. absurd (omega arith); some_slot = taken.3 })
     ]
 
-window_of_again : (n c m : ℕ) (a b : Option ℕ) → IsOpportunity (window n c m a b) → window_of n c m a b ≡ Some (window n c m a b)
+window_of_again : (n c m : ℕ) (a b : Option ℕ) → IsOpportunity (window n c m a b)
+    → window_of n c m a b ≡ Some (window n c m a b)
 window_of_again n c m a b is =
     elim (cases_Bool (m == 0)) [
       | inl pass ↦
@@ -87,7 +91,8 @@ pub record AreWindowWords (number cycle minislot slot_a slot_b : List ℕ) (w : 
   pub slot_a_is : slot_a ≡ optional_number w.a
   pub slot_b_is : slot_b ≡ optional_number w.b
 
-pub window_takes : (number cycle minislot slot_a slot_b : List ℕ) (w : Opportunity) → window_in number cycle minislot slot_a slot_b ≡ Some w
+pub window_takes : (number cycle minislot slot_a slot_b : List ℕ) (w : Opportunity)
+    → window_in number cycle minislot slot_a slot_b ≡ Some w
     → AreWindowWords number cycle minislot slot_a slot_b w × IsInRange w
 unfolding window_in
 window_takes number cycle minislot slot_a slot_b w h =
@@ -108,10 +113,16 @@ window_takes number cycle minislot slot_a slot_b w h =
     )
 
 pub window_again : (w : Opportunity) → IsInRange w
-    → window_in (decimal w.number) (decimal w.cycle) (decimal w.minislot) (optional_number w.a) (optional_number w.b) ≡ Some w
+    → window_in (decimal w.number) (decimal w.cycle) (decimal w.minislot) (optional_number w.a) (optional_number w.b)
+    ≡ Some w
 unfolding window_in
 window_again w is =
     let high = is.window_is.minislot_fits in
     let below : w.minislot < 8001 = omega arith in
-    rw (number_again (2 ^ 32) w.number is.number_fits (omega arith), number_again 64 w.cycle is.cycle_fits (omega arith), number_again 8001 w.minislot below (omega arith), optional_slot_again w.a is.slot_a, optional_slot_again w.b is.slot_b)
-    (window_of_again w.number w.cycle w.minislot w.a w.b is.window_is)
+    rw (
+      number_again (2 ^ 32) w.number is.number_fits (omega arith),
+      number_again 64 w.cycle is.cycle_fits (omega arith),
+      number_again 8001 w.minislot below (omega arith),
+      optional_slot_again w.a is.slot_a,
+      optional_slot_again w.b is.slot_b,
+    ) (window_of_again w.number w.cycle w.minislot w.a w.b is.window_is)

@@ -30,7 +30,8 @@ pub record IsWord (most : ℕ) (word : List ℕ) : Type 0 where
   pub short : length word ≤ most
 
 pub number_word : (digits n : ℕ) → 0 < digits → n < 10 ^ digits → n < 2 ^ 64 → IsWord digits (decimal n)
-number_word digits n some few small = record { plain = IsPlain-decimal n small; short = length-decimal-le digits n some few small }
+number_word digits n some few small =
+    record { plain = IsPlain-decimal n small; short = length-decimal-le digits n some few small }
 
 -- a number of 32 bits
 pub long_word : (n : ℕ) → n < 2 ^ 32 → IsWord 10 (decimal n)
@@ -77,7 +78,10 @@ from_plain (Some origin) fits =
     let all = length-append (decimal origin.entry) (channel_mark origin.channel) in
     let digits = number.short in
     let two = mark.short in
-    record { plain = IsPlain-append (decimal origin.entry) (channel_mark origin.channel) number.plain mark.plain; short = omega arith }
+    record {
+      plain = IsPlain-append (decimal origin.entry) (channel_mark origin.channel) number.plain mark.plain;
+      short = omega arith;
+    }
 
 pub offered_plain : (o : Offered) → IsOffered o → IsWord 10 (offered_word o)
 offered_plain offered.Nothing fits = record { plain = refl; short = omega arith }

@@ -55,8 +55,13 @@ pub struct EntryBytes {
 }
 
 impl EntryBytes {
-    /// The place before an entry was read.
-    pub fn new() -> EntryBytes {
+    ghost use Rattle.std.specs.Prelude.{◌≡◌, []};
+    ghost use Rattle.fr_status.specs.declared.seen.Seen.TheVariants as seen;
+
+    /// The place before an entry was read: a payload without bytes, and silence on both channels.
+    pub fn new() -> EntryBytes
+        ensures { result ≡ record { payload = []; a = seen.Silence; b = seen.Silence } }
+    {
         EntryBytes {
             payload: Payload::default(),
             a: Seen::Silence,

@@ -2,7 +2,7 @@
 
 ghost use Rattle.std.specs.Prelude.{◌≡◌, true, Some, IfSome, option_map, drop};
 ghost use Rattle.fr_journal.specs.declared.entry.Entry.{Entry};
-ghost use Rattle.fr_text.specs.Reading.{first_in};
+ghost use Rattle.fr_text.specs.Reading.{number_in, first_in};
 ghost use Rattle.fr_text.specs.Spaces.{words_of, line_of};
 ghost use Rattle.fr_lines.specs.PartReading.{optional_slot_in, offered_in};
 ghost use Rattle.fr_lines.specs.Bare.{with_bytes};
@@ -14,25 +14,33 @@ ghost use Rattle.fr_lines.specs.Spelling.{entry_words};
 ghost use Rattle.fr_lines.specs.Versions.{tells};
 
 use crate::bare::{BareEntry, EntryBytes};
-use crate::parts::{from_of, next_seen_into, payload_into, taken_back_of, task_of, window_at};
+use crate::parts::{from_of, next_seen_into, payload_into, taken_back_of, window_at};
 use crate::versions::Version;
 use fr_journal::entry::Offered;
-use fr_slots::numbers::{Cycle, SlotId};
+use fr_slots::numbers::{Cycle, SlotId, TaskId};
 use fr_slots::window::Window;
-use fr_text::numbers::number_of;
 use fr_text::words::Words;
+
+/// The task that the next word spells.
+fn next_task(words: &mut Words<'_>) -> Option<TaskId>
+    ensures task { result ≡ first_in (number_in 8) words.old }
+    ensures left { words.new ≡ drop 1 words.old }
+{
+    let number = words.next_number(8)?;
+    TaskId::new(number as u8)
+}
 
 /// The commit that the words spell.
 #[tactic(auto, unfolding(crate::specs::Reading::commit_in))]
 fn commit_of(words: &mut Words<'_>, bytes: &mut EntryBytes) -> Option<BareEntry>
     ensures { option_map (with_bytes bytes.new) result ≡ commit_in words.old }
 {
-    let (task, buffer, payload) = words.three()?;
-    let task = task_of(task)?;
-    let buffer = number_of(buffer, 64)?;
-    if !payload_into(payload, &mut bytes.payload) {
+    let task = next_task(words)?;
+    let buffer = words.next_number(64)?;
+    if !payload_into(words.next_word()?, &mut bytes.payload) {
         return None;
     }
+    words.end()?;
     Some(BareEntry::Commit {
         task,
         buffer: buffer as u8,
@@ -44,10 +52,10 @@ fn commit_of(words: &mut Words<'_>, bytes: &mut EntryBytes) -> Option<BareEntry>
 fn told_withdraw_of(words: &mut Words<'_>) -> Option<BareEntry>
     ensures { (bytes : EntryBytes) → option_map (with_bytes bytes) result ≡ told_withdraw_in words.old }
 {
-    let (task, buffer, of) = words.three()?;
-    let task = task_of(task)?;
-    let buffer = number_of(buffer, 64)?;
-    let of = taken_back_of(of)?;
+    let task = next_task(words)?;
+    let buffer = words.next_number(64)?;
+    let of = taken_back_of(words.next_word()?)?;
+    words.end()?;
     Some(BareEntry::Withdraw {
         task,
         buffer: buffer as u8,
@@ -71,10 +79,10 @@ fn withdraw_of(version: Version, words: &mut Words<'_>) -> Option<BareEntry>
 fn read_of(words: &mut Words<'_>) -> Option<BareEntry>
     ensures { (bytes : EntryBytes) → option_map (with_bytes bytes) result ≡ read_in words.old }
 {
-    let (task, buffer, from) = words.three()?;
-    let task = task_of(task)?;
-    let buffer = number_of(buffer, 64)?;
-    let from = from_of(from)?;
+    let task = next_task(words)?;
+    let buffer = words.next_number(64)?;
+    let from = from_of(words.next_word()?)?;
+    words.end()?;
     Some(BareEntry::Read {
         task,
         buffer: buffer as u8,
@@ -87,9 +95,9 @@ fn read_of(words: &mut Words<'_>) -> Option<BareEntry>
 fn pop_of(words: &mut Words<'_>) -> Option<BareEntry>
     ensures { (bytes : EntryBytes) → option_map (with_bytes bytes) result ≡ pop_in words.old }
 {
-    let (task, from) = words.two()?;
-    let task = task_of(task)?;
-    let from = from_of(from)?;
+    let task = next_task(words)?;
+    let from = from_of(words.next_word()?)?;
+    words.end()?;
     Some(BareEntry::Pop { task, from })
 }
 

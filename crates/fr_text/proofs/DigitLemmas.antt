@@ -1,20 +1,18 @@
 -- Digits read by their values are those of the bytes that they make.
-use Rattle.std.proofs.Common.{◌≡◌, ◌≢◌, ℕ, zero, suc, ◌+◌, ◌*◌, ◌/◌, ◌%◌, ◌<◌, ◌≤◌, List, [], ◌∷◌, ◌++◌}
-use Rattle.std.proofs.Common.{length, length-take, get_or, set, take, slice_index, Some, None, refl, sym, ap, subst, ◌∙◌, arith}
-use Rattle.std.proofs.Common.{bit_or}
-use Rattle.std.proofs.Common.{Option, IfSome, inl, inr, lit<, drop, take-add, replicate, ◌-◌}
-use Rattle.std.proofs.lemmas.Bool.{le-leb, cases_lt}
-use Rattle.std.proofs.lemmas.List.{get_or-set_same, get_or-set_other, take_all, drop-drop, take-append-drop}
-use Rattle.std.proofs.lemmas.List.{get_or-drop, get_or-take}
-use Rattle.std.proofs.lemmas.List.{get_or_append_left}
-use Rattle.std.proofs.lemmas.Simd.{get_or-chunk, get_or-replicate}
+use Rattle.std.proofs.Common.{◌≡◌, ◌≢◌, ℕ, zero, suc, ◌+◌, ◌-◌, ◌*◌, ◌/◌, ◌%◌, ◌<◌, ◌≤◌, List, [], ◌∷◌, ◌++◌}
+use Rattle.std.proofs.Common.{length, length-take, get_or, set, take, take-add, drop, replicate, slice_index, bit_or}
+use Rattle.std.proofs.Common.{Option, Some, None, IfSome, inl, inr, refl, sym, ap, subst, ◌∙◌, arith, lit<}
 use Rattle.std.proofs.Math.Seq.{get_or-append_right, take-append_seam}
-use Rattle.fr_text.specs.Digits.{IsDigit, AreDigits, AreValues, ArePacked}
+use Rattle.std.proofs.lemmas.Bool.{le-leb, cases_lt}
+use Rattle.std.proofs.lemmas.List.{get_or-set_same, get_or-set_other, get_or-drop, get_or-take, get_or_append_left}
+use Rattle.std.proofs.lemmas.List.{take_all, take-append-drop, drop-drop}
 use Rattle.std.proofs.lemmas.Nat.{or_shifted}
+use Rattle.std.proofs.lemmas.Simd.{get_or-chunk, get_or-replicate}
 use Rattle.std.proofs.lemmas.Slice.Eq.{bytes_eq-Decides}
 use Rattle.std.specs.Simd.{first_chunks}
 use Rattle.hex.proofs.HexLemmas.{length-encode_with, decode_of-encode_lower, decode_of-ok}
 use Rattle.hex.specs.Hex.{decode_of, encode_lower, encode_with, lower_digits, IsBytes}
+use Rattle.fr_text.specs.Digits.{IsDigit, AreDigits, AreValues, ArePacked}
 use Rattle.fr_text.specs.Reading.{bytes_as, bytes_in}
 use Rattle.fr_text.specs.Spelling.{hex_text}
 use Rattle.fr_text.proofs.HexTextLemmas.{as_takes, none_from, bytes_again}
@@ -38,7 +36,8 @@ SpelledAt room digits k =
     × (slice_index lower_digits (get_or room k 0 % 16) ≡ get_or digits (2 * k + 1) 0)
 
 -- what holds of each number so far, with one number more
-pub set_each : (P : ℕ → ℕ → Type 0) (xs : List ℕ) (place x : ℕ) → place < length xs → P place x → ((k : ℕ) → k < place → P k (slice_index xs k))
+pub set_each : (P : ℕ → ℕ → Type 0) (xs : List ℕ) (place x : ℕ) → place < length xs → P place x
+    → ((k : ℕ) → k < place → P k (slice_index xs k))
     → (k : ℕ) → k < place + 1 → P k (slice_index (set xs place x) k)
 set_each P xs place x within here before k lt =
     elim (cases_lt k place) [
@@ -52,17 +51,25 @@ set_each P xs place x within here before k lt =
           subst (λ (n : ℕ). P n (get_or (set xs place x) n 0)) is (subst (P place) (sym now) here)
     ]
 
+-- this is the byte of the two values at a place, where both are those of digits
+abbrev IsPackedAt : List ℕ → ℕ → ℕ → Type 0
+IsPackedAt values k byte =
+    get_or values (2 * k) 0 < 16 → get_or values (2 * k + 1) 0 < 16
+    → (byte / 16 ≡ get_or values (2 * k) 0) × (byte % 16 ≡ get_or values (2 * k + 1) 0)
+
 -- one byte more of two values
 pub packed_more : (values bytes : List ℕ) (place : ℕ) → place < length bytes → ArePacked place values bytes
-    → ArePacked (place + 1) values (set bytes place (bit_or (get_or values (2 * place) 0 * 16 % 256) (get_or values (2 * place + 1) 0)))
+    → ArePacked (place + 1) values
+    (set bytes place (bit_or (get_or values (2 * place) 0 * 16 % 256) (get_or values (2 * place + 1) 0)))
 packed_more values bytes place within before =
     let high = get_or values (2 * place) 0 in
     let low = get_or values (2 * place + 1) 0 in
-    set_each (λ k byte. get_or values (2 * k) 0 < 16 → get_or values (2 * k + 1) 0 < 16 → (byte / 16 ≡ get_or values (2 * k) 0) × (byte % 16 ≡ get_or values (2 * k + 1) 0))
-    bytes place (bit_or (high * 16 % 256) low) within (λ h l. (high_digit_of high low h l, low_digit_of high low h l)) before
+    set_each (IsPackedAt values) bytes place (bit_or (high * 16 % 256) low) within
+    (λ h l. (high_digit_of high low h l, low_digit_of high low h l)) before
 
 -- digits that are spelled at each place
-pub spelled_by_places : (count : ℕ) (room digits : List ℕ) → length digits ≡ 2 * count → count ≤ length room → ((k : ℕ) → k < count → SpelledAt room digits k)
+pub spelled_by_places : (count : ℕ) (room digits : List ℕ) → length digits ≡ 2 * count → count ≤ length room
+    → ((k : ℕ) → k < count → SpelledAt room digits k)
     → encode_lower (take count room) ≡ digits
 unfolding encode_with
 spelled_by_places zero room [] long fits each = refl
@@ -76,20 +83,9 @@ spelled_by_places (suc count) (b ∷ room) (d ∷ e ∷ digits) long fits each =
     let next = each (suc k) (omega arith) in
     let high : 2 * suc k ≡ suc (suc (2 * k)) = omega arith in
     let low : 2 * suc k + 1 ≡ suc (suc (2 * k + 1)) = omega arith in
-    (next.0 ∙ ap (λ (n : ℕ). get_or (d ∷ e ∷ digits) n 0) high, next.1 ∙ ap (λ (n : ℕ). get_or (d ∷ e ∷ digits) n 0) low)) in
+    let digit_at = λ (n : ℕ). get_or (d ∷ e ∷ digits) n 0 in
+    (next.0 ∙ ap digit_at high, next.1 ∙ ap digit_at low)) in
     rw (first.0, first.1, rest) refl
-
--- a block of digits is spelled by the bytes of their values
-pub block_spelled : (values bytes digits : List ℕ) → length bytes ≡ 16 → length digits ≡ 32 → AreValues 32 values digits → ArePacked 16 values bytes
-    → encode_lower bytes ≡ digits
-block_spelled values bytes digits bytes_len digits_len are packed =
-    let whole : take 16 bytes ≡ bytes = take_all 16 bytes (omega arith) in
-    ap encode_lower (sym whole)
-    ∙ spelled_by_places 16 bytes digits (omega arith) (omega arith) (λ k lt.
-    let high = are (2 * k) (omega arith) in
-    let low = are (2 * k + 1) (omega arith) in
-    let byte = packed k lt high.0 low.0 in
-    (ap (slice_index lower_digits) byte.0 ∙ high.1, ap (slice_index lower_digits) byte.1 ∙ low.1))
 
 -- the digits in front of a block are spelled by the bytes of their values
 pub front_spelled : (count : ℕ) (values bytes digits : List ℕ) → count ≤ 32 → length bytes ≡ 16 → length digits ≡ 32
@@ -102,13 +98,19 @@ front_spelled count values bytes digits few bytes_len digits_len are packed =
     let high = are (2 * k) (omega arith) in
     let low = are (2 * k + 1) (omega arith) in
     let byte = packed k (omega arith) high.0 low.0 in
-    (ap (slice_index lower_digits) byte.0 ∙ high.1 ∙ sym (get_or-take twice digits (2 * k) 0 (omega arith)), ap (slice_index lower_digits) byte.1 ∙ low.1 ∙ sym (get_or-take twice digits (2 * k + 1) 0 (omega arith))))
+    let high_digit = get_or-take twice digits (2 * k) 0 (omega arith) in
+    let low_digit = get_or-take twice digits (2 * k + 1) 0 (omega arith) in
+    let high_is = ap (slice_index lower_digits) byte.0 ∙ high.1 ∙ sym high_digit in
+    let low_is = ap (slice_index lower_digits) byte.1 ∙ low.1 ∙ sym low_digit in
+    (high_is, low_is))
 
 -- the digits of bytes after others
 pub encode-append : (xs ys : List ℕ) → encode_lower (xs ++ ys) ≡ encode_lower xs ++ encode_lower ys
 unfolding encode_with
 encode-append [] ys = refl
-encode-append (x ∷ xs) ys = ap (λ (ds : List ℕ). slice_index lower_digits (x / 16) ∷ slice_index lower_digits (x % 16) ∷ ds) (encode-append xs ys)
+encode-append (x ∷ xs) ys =
+    let onto = λ (ds : List ℕ). slice_index lower_digits (x / 16) ∷ slice_index lower_digits (x % 16) ∷ ds in
+    ap onto (encode-append xs ys)
 
 -- the digits of the first bytes
 pub encode-take : (n : ℕ) (xs : List ℕ) → encode_lower (take n xs) ≡ take (2 * n) (encode_lower xs)
@@ -117,10 +119,12 @@ encode-take zero xs = refl
 encode-take (suc n) [] = let twice : 2 * suc n ≡ suc (suc (2 * n)) = omega arith in rw twice refl
 encode-take (suc n) (x ∷ xs) =
     let twice : 2 * suc n ≡ suc (suc (2 * n)) = omega arith in
-    rw twice (ap (λ (ds : List ℕ). slice_index lower_digits (x / 16) ∷ slice_index lower_digits (x % 16) ∷ ds) (encode-take n xs))
+    let onto = λ (ds : List ℕ). slice_index lower_digits (x / 16) ∷ slice_index lower_digits (x % 16) ∷ ds in
+    rw twice (ap onto (encode-take n xs))
 
 -- the digits of bytes, place by place
-pub places_spelled : (bs digits : List ℕ) (k : ℕ) → encode_lower bs ≡ digits → 2 * k < length digits → SpelledAt bs digits k
+pub places_spelled : (bs digits : List ℕ) (k : ℕ) → encode_lower bs ≡ digits → 2 * k < length digits
+    → SpelledAt bs digits k
 unfolding encode_with
 places_spelled [] digits k is lt = let none : 0 ≡ length digits = ap length is in absurd (omega arith)
 places_spelled (b ∷ bs) digits zero is lt = rw (← is) (refl, refl)
@@ -131,28 +135,36 @@ places_spelled (b ∷ bs) (d ∷ e ∷ digits) (suc k) is lt =
     let rest = places_spelled bs digits k same (omega arith) in
     let high : suc (suc (2 * k)) ≡ 2 * suc k = omega arith in
     let low : suc (suc (2 * k + 1)) ≡ 2 * suc k + 1 = omega arith in
-    (rest.0 ∙ ap (λ (n : ℕ). get_or (d ∷ e ∷ digits) n 0) high, rest.1 ∙ ap (λ (n : ℕ). get_or (d ∷ e ∷ digits) n 0) low)
+    let digit_at = λ (n : ℕ). get_or (d ∷ e ∷ digits) n 0 in
+    (rest.0 ∙ ap digit_at high, rest.1 ∙ ap digit_at low)
 
 -- a block stands at its place
-pub block_at : (count i : ℕ) (digits default : List ℕ) → i < count → get_or (first_chunks 32 count digits) i default ≡ take 32 (drop (32 * i) digits)
+pub block_at : (count i : ℕ) (digits default : List ℕ) → i < count
+    → get_or (first_chunks 32 count digits) i default ≡ take 32 (drop (32 * i) digits)
 block_at zero i digits default lt = absurd (omega arith)
 block_at (suc count) zero digits default lt = refl
 block_at (suc count) (suc i) digits default lt =
     let more : 32 + 32 * i ≡ 32 * suc i = omega arith in
-    block_at count i (drop 32 digits) default (omega arith) ∙ ap (take 32) (drop-drop (32 * i) 32 digits ∙ ap (λ (n : ℕ). drop n digits) more)
+    block_at count i (drop 32 digits) default (omega arith)
+    ∙ ap (take 32) (drop-drop (32 * i) 32 digits ∙ ap (λ (n : ℕ). drop n digits) more)
 
 -- the digits of one block more
-pub take_block : (i : ℕ) (digits : List ℕ) → take (32 * i) digits ++ take 32 (drop (32 * i) digits) ≡ take (32 * (i + 1)) digits
+pub take_block : (i : ℕ) (digits : List ℕ)
+    → take (32 * i) digits ++ take 32 (drop (32 * i) digits) ≡ take (32 * (i + 1)) digits
 take_block i digits =
     let more : 32 * (i + 1) ≡ 32 * i + 32 = omega arith in
     sym (ap (λ (n : ℕ). take n digits) more ∙ take-add (32 * i) 32 digits)
 
 -- what is spelled is found, and where nothing is spelled nothing is
-pub bytes_found : (most : ℕ) (digits bs : List ℕ) → IsBytes bs → encode_lower bs ≡ digits → length bs ≤ most → bytes_as most digits (decode_of digits) ≡ Some bs
+pub bytes_found : (most : ℕ) (digits bs : List ℕ) → IsBytes bs → encode_lower bs ≡ digits → length bs ≤ most
+    → bytes_as most digits (decode_of digits) ≡ Some bs
 bytes_found most digits bs fits is few =
-    rw (← is) (rw (decode_of-encode_lower bs fits, (bytes_eq-Decides (encode_lower bs) (encode_lower bs)).1 refl, le-leb (length bs) most few) refl)
+    let digits_same = (bytes_eq-Decides (encode_lower bs) (encode_lower bs)).1 refl in
+    rw (← is) (rw (decode_of-encode_lower bs fits, digits_same, le-leb (length bs) most few) refl)
 
-pub bytes_missing : (most : ℕ) (digits : List ℕ) → ((bs : List ℕ) → IsBytes bs → encode_lower bs ≡ digits → length bs ≤ most → ⊥) → bytes_as most digits (decode_of digits) ≡ None
+pub bytes_missing : (most : ℕ) (digits : List ℕ)
+    → ((bs : List ℕ) → IsBytes bs → encode_lower bs ≡ digits → length bs ≤ most → ⊥)
+    → bytes_as most digits (decode_of digits) ≡ None
 bytes_missing most digits none =
     none_from (bytes_as most digits (decode_of digits)) (λ bs read.
     let taken = as_takes most digits bs (decode_of digits) read in
@@ -177,11 +189,14 @@ digits_of_bytes digits bs fits is k lt =
           (get_or bs (k / 2) 0 / 16, omega arith, spelled.0 ∙ ap (λ (n : ℕ). get_or digits n 0) here)
     ]
 
-pub missing_long : (most : ℕ) (digits : List ℕ) → most < length digits / 2 → bytes_as most digits (decode_of digits) ≡ None
-missing_long most digits long = bytes_missing most digits (λ bs fits is few. let twice = spelled_length bs digits is in omega arith)
+pub missing_long : (most : ℕ) (digits : List ℕ) → most < length digits / 2
+    → bytes_as most digits (decode_of digits) ≡ None
+missing_long most digits long =
+    bytes_missing most digits (λ bs fits is few. let twice = spelled_length bs digits is in omega arith)
 
 pub missing_odd : (most : ℕ) (digits : List ℕ) → length digits % 2 ≡ 1 → bytes_as most digits (decode_of digits) ≡ None
-missing_odd most digits odd = bytes_missing most digits (λ bs fits is few. let twice = spelled_length bs digits is in omega arith)
+missing_odd most digits odd =
+    bytes_missing most digits (λ bs fits is few. let twice = spelled_length bs digits is in omega arith)
 
 -- ---- blocks
 
@@ -190,13 +205,16 @@ unfolding encode_with
 encode-none = refl
 
 -- a block of digits has digits alone
-pub digits_in_block : (i : ℕ) (digits block : List ℕ) → block ≡ take 32 (drop (32 * i) digits) → AreDigits (32 * (i + 1)) digits → AreDigits 32 block
+pub digits_in_block : (i : ℕ) (digits block : List ℕ) → block ≡ take 32 (drop (32 * i) digits)
+    → AreDigits (32 * (i + 1)) digits → AreDigits 32 block
 digits_in_block i digits block is are k lt =
-    let at : get_or block k 0 ≡ get_or digits (32 * i + k) 0 = ap (λ (b : List ℕ). get_or b k 0) is ∙ get_or-chunk (32 * i) 32 digits k 0 lt in
+    let at : get_or block k 0 ≡ get_or digits (32 * i + k) 0 =
+    ap (λ (b : List ℕ). get_or b k 0) is ∙ get_or-chunk (32 * i) 32 digits k 0 lt in
     subst IsDigit (sym at) (are (32 * i + k) (omega arith))
 
 -- so has the last one, which is filled with zeros
-pub digits_in_last : (i : ℕ) (digits rest block : List ℕ) → rest ≡ drop (32 * i) digits → block ≡ rest ++ replicate (32 - length rest) 48
+pub digits_in_last : (i : ℕ) (digits rest block : List ℕ) → rest ≡ drop (32 * i) digits
+    → block ≡ rest ++ replicate (32 - length rest) 48
     → length rest + 32 * i ≡ length digits → AreDigits (length digits) digits → AreDigits 32 block
 digits_in_last i digits rest block rest_is is long are k lt =
     elim (cases_lt k (length rest)) [
@@ -220,7 +238,8 @@ blocks_spelled i digits rest head last rest_is even head_is last_is =
     let twice : 2 * (length rest / 2) ≡ length rest = omega arith in
     let tail : encode_lower (take (length rest / 2) last) ≡ drop (32 * i) digits =
     encode-take (length rest / 2) last ∙ ap (take (2 * (length rest / 2))) last_is
-    ∙ ap (λ (n : ℕ). take n (rest ++ replicate (32 - length rest) 48)) twice ∙ take-append_seam rest (replicate (32 - length rest) 48) ∙ rest_is in
+    ∙ ap (λ (n : ℕ). take n (rest ++ replicate (32 - length rest) 48)) twice
+    ∙ take-append_seam rest (replicate (32 - length rest) 48) ∙ rest_is in
     encode-append head (take (length rest / 2) last) ∙ (λ j. head_is j ++ tail j) ∙ take-append-drop (32 * i) digits
 
 -- ---- lists of bytes
@@ -248,7 +267,8 @@ front_whole i c digits head read block head_is read_is even block_is =
     encode-append head (take (c / 2) read) ∙ (λ j. head_is j ++ tail j) ∙ sym (take-add (32 * i) c digits)
 
 -- are as many as the bytes have
-front_long : (n : ℕ) (digits bytes : List ℕ) → encode_lower bytes ≡ take n digits → n ≤ length digits → 2 * length bytes ≡ n
+front_long : (n : ℕ) (digits bytes : List ℕ) → encode_lower bytes ≡ take n digits → n ≤ length digits
+    → 2 * length bytes ≡ n
 front_long n digits bytes is within =
     let long = spelled_length bytes (take n digits) is in
     let taken = length-take n digits in
@@ -260,7 +280,8 @@ pub word_found : (most i c : ℕ) (digits head read block : List ℕ) → encode
     → take c block ≡ take c (drop (32 * i) digits) → 32 * i + c ≤ length digits → IsBytes head → IsBytes read
     → length (head ++ take (c / 2) read) ≤ most
     → (2 * length (head ++ take (c / 2) read) + 1 ≤ length digits + 1)
-    × (bytes_in most (take (2 * length (head ++ take (c / 2) read) + 1) (120 ∷ digits)) ≡ Some (head ++ take (c / 2) read))
+    × (bytes_in most (take (2 * length (head ++ take (c / 2) read) + 1) (120 ∷ digits))
+    ≡ Some (head ++ take (c / 2) read))
 word_found most i c digits head read block head_is read_is even block_is within head_fits read_fits few =
     let bytes = head ++ take (c / 2) read in
     let spelled = front_whole i c digits head read block head_is read_is even block_is in
@@ -271,13 +292,6 @@ word_found most i c digits head read block head_is read_is even block_is within 
     let fits = IsBytes-append head (take (c / 2) read) head_fits (IsBytes-take (c / 2) read read_fits) in
     (omega arith, rw word (bytes_again most bytes fits few))
 
--- the first elements of the first elements
-pub take_within : (m n : ℕ) (xs : List ℕ) → m ≤ n → take m (take n xs) ≡ take m xs
-take_within zero n xs few = refl
-take_within (suc m) zero xs few = absurd (omega arith)
-take_within (suc m) (suc n) [] few = refl
-take_within (suc m) (suc n) (x ∷ xs) few = ap (λ (ys : List ℕ). x ∷ ys) (take_within m n xs (omega arith))
-
 -- where what was read is found to end
 pub word_if : (most i c : ℕ) (text digits head read block new : List ℕ) (found : Option ℕ) → text ≡ 120 ∷ digits
     → encode_lower head ≡ take (32 * i) (drop 1 text) → encode_lower (take (c / 2) read) ≡ take (2 * (c / 2)) block
@@ -285,12 +299,18 @@ pub word_if : (most i c : ℕ) (text digits head read block new : List ℕ) (fou
     → IfSome found (λ len. c ≡ 2 * (c / 2)) → IfSome found (λ len. new ≡ head ++ take (c / 2) read)
     → IfSome found (λ len. len ≡ 2 * length new + 1) → IfSome found (λ len. length new ≤ most)
     → IfSome found (λ len. bytes_in most (take len text) ≡ Some new)
-word_if most i c text digits head read block new None text_is head_is read_is block_is within head_fits read_fits even new_is long few = tt
-word_if most i c text digits head read block new (Some len) text_is head_is read_is block_is within head_fits read_fits even new_is long few =
-    let head_here : encode_lower head ≡ take (32 * i) digits = head_is ∙ ap (λ (t : List ℕ). take (32 * i) (drop 1 t)) text_is in
+word_if most i c text digits head read block new None text_is head_is read_is block_is within
+    head_fits read_fits even new_is long few =
+    tt
+word_if most i c text digits head read block new (Some len) text_is head_is read_is block_is within
+    head_fits read_fits even new_is long few =
+    let head_here : encode_lower head ≡ take (32 * i) digits =
+    head_is ∙ ap (λ (t : List ℕ). take (32 * i) (drop 1 t)) text_is in
     let few_here : length (head ++ take (c / 2) read) ≤ most = rw (← new_is) few in
-    let found = word_found most i c digits head read block head_here read_is even block_is within head_fits read_fits few_here in
-    let len_is : len ≡ 2 * length (head ++ take (c / 2) read) + 1 = long ∙ ap (λ (n : List ℕ). 2 * length n + 1) new_is in
+    let found =
+    word_found most i c digits head read block head_here read_is even block_is within head_fits read_fits few_here in
+    let len_is : len ≡ 2 * length (head ++ take (c / 2) read) + 1 =
+    long ∙ ap (λ (n : List ℕ). 2 * length n + 1) new_is in
     rw (text_is, len_is, new_is) found.1
 
 -- a block of digits alone

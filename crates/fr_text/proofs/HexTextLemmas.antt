@@ -19,7 +19,8 @@ as_takes most digits bs (Ok found) read =
       | inl pass ↦
           let parts = and_parts (bytes_eq (encode_lower found) digits) (leb (length found) most) pass in
           let is : found ≡ bs = cc (rw pass at read) in
-          rw (← is) (refl, (bytes_eq-Decides (encode_lower found) digits).0 parts.0, leb-true (length found) most parts.1)
+          rw (← is)
+          (refl, (bytes_eq-Decides (encode_lower found) digits).0 parts.0, leb-true (length found) most parts.1)
       | inr fail ↦ cc (rw fail at read)
     ]
 
@@ -37,7 +38,8 @@ too_long most digits long =
     let few = taken.2 in
     omega arith)
 
-pub bytes_takes : (most : ℕ) (word bs : List ℕ) → bytes_in most word ≡ Some bs → (word ≡ hex_text bs) × (length bs ≤ most) × IsBytes bs
+pub bytes_takes : (most : ℕ) (word bs : List ℕ) → bytes_in most word ≡ Some bs
+    → (word ≡ hex_text bs) × (length bs ≤ most) × IsBytes bs
 unfolding bytes_in
 bytes_takes most [] bs read = cc read
 bytes_takes most (mark ∷ digits) bs read =
@@ -54,7 +56,8 @@ bytes_takes most (mark ∷ digits) bs read =
 pub bytes_again : (most : ℕ) (bs : List ℕ) → IsBytes bs → length bs ≤ most → bytes_in most (hex_text bs) ≡ Some bs
 unfolding bytes_in
 bytes_again most bs fits few =
-    rw (decode_of-encode_lower bs fits, (bytes_eq-Decides (encode_lower bs) (encode_lower bs)).1 refl, le-leb (length bs) most few) refl
+    let digits_same = (bytes_eq-Decides (encode_lower bs) (encode_lower bs)).1 refl in
+    rw (decode_of-encode_lower bs fits, digits_same, le-leb (length bs) most few) refl
 
 pub length-hex_text : (bs : List ℕ) → length (hex_text bs) ≡ 1 + 2 * length bs
 length-hex_text bs = let digits = length-encode_with lower_digits bs in omega arith

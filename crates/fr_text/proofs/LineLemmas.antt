@@ -8,7 +8,8 @@ use Rattle.fr_text.specs.Spaces.{is_space, words_of, line_of, room_of}
 pub line_of-words_of : (line : List ℕ) → line_of (words_of line) ≡ line
 line_of-words_of line = join_with_byte-slice_split 32 line
 
-pub words_of-line_of : (word : List ℕ) (words : List (List ℕ)) → ArePlain (word ∷ words) → words_of (line_of (word ∷ words)) ≡ word ∷ words
+pub words_of-line_of : (word : List ℕ) (words : List (List ℕ)) → ArePlain (word ∷ words)
+    → words_of (line_of (word ∷ words)) ≡ word ∷ words
 words_of-line_of word [] plain = slice_split_none is_space word (no_space word plain.0)
 words_of-line_of word (next ∷ words) plain =
     slice_split_at is_space word 32 (line_of (next ∷ words)) (no_space word plain.0) refl
@@ -18,10 +19,12 @@ pub has_no_feed-line_of : (words : List (List ℕ)) → ArePlain words → has_n
 has_no_feed-line_of [] plain = refl
 has_no_feed-line_of (word ∷ []) plain = has_no_feed-plain word plain.0
 has_no_feed-line_of (word ∷ next ∷ words) plain =
-    has_no_feed-append word (32 ∷ line_of (next ∷ words)) (has_no_feed-plain word plain.0) (has_no_feed-line_of (next ∷ words) plain.1)
+    has_no_feed-append word (32 ∷ line_of (next ∷ words)) (has_no_feed-plain word plain.0)
+    (has_no_feed-line_of (next ∷ words) plain.1)
 
 -- the last word has no space after it
-pub length-line_of : (word : List ℕ) (words : List (List ℕ)) → length (line_of (word ∷ words)) + 1 ≡ room_of (word ∷ words)
+pub length-line_of : (word : List ℕ) (words : List (List ℕ))
+    → length (line_of (word ∷ words)) + 1 ≡ room_of (word ∷ words)
 length-line_of word [] = omega arith
 length-line_of word (next ∷ words) =
     let rest = length-line_of next words in

@@ -21,7 +21,8 @@ pub own : IsNumeralModel (AllDigits 10) (digits_value 10)
 own = numerals_by_value (AllDigits 10) tells_digits
 
 -- no number below the bound is spelled so
-pub number_none : (bound : ℕ) (word : List ℕ) → ((n : ℕ) → n < bound → decimal n ≡ word → ⊥) → number_in bound word ≡ None
+pub number_none : (bound : ℕ) (word : List ℕ) → ((n : ℕ) → n < bound → decimal n ≡ word → ⊥)
+    → number_in bound word ≡ None
 unfolding number_in
 number_none bound word none =
     let n = digits_value 10 word in
@@ -33,14 +34,16 @@ number_none bound word none =
     ]
 
 -- this number is spelled so
-pub number_some : (bound : ℕ) (word : List ℕ) (n : ℕ) → n < 2 ^ 64 → n < bound → decimal n ≡ word → number_in bound word ≡ Some n
+pub number_some : (bound : ℕ) (word : List ℕ) (n : ℕ) → n < 2 ^ 64 → n < bound → decimal n ≡ word
+    → number_in bound word ≡ Some n
 unfolding number_in
 number_some bound word n small below same =
     let value : digits_value 10 word ≡ n = rw (← same) (digits_value-decimal own n small) in
     rw (value, (bytes_eq-Decides (decimal n) word).1 same, lt-ltb n bound below) refl
 
 -- what is read is spelled so
-pub number_takes : (bound : ℕ) (word : List ℕ) (n : ℕ) → number_in bound word ≡ Some n → (decimal n ≡ word) × (n < bound)
+pub number_takes : (bound : ℕ) (word : List ℕ) (n : ℕ) → number_in bound word ≡ Some n
+    → (decimal n ≡ word) × (n < bound)
 unfolding number_in
 number_takes bound word n read =
     let v = digits_value 10 word in
@@ -57,7 +60,8 @@ pub number_again : (bound n : ℕ) → n < bound → bound ≤ 2 ^ 64 → number
 number_again bound n below small = number_some bound (decimal n) n (omega arith) below refl
 
 -- a word that begins with another byte than a digit is no number's; the premise is `refl` at a literal
-pub decimal_other : (n : ℕ) (word : List ℕ) → n < 2 ^ 64 → (leb 48 (get_or word 0 0) && leb (get_or word 0 0) 57) ≡ false → bytes_eq (decimal n) word ≡ false
+pub decimal_other : (n : ℕ) (word : List ℕ) → n < 2 ^ 64
+    → (leb 48 (get_or word 0 0) && leb (get_or word 0 0) 57) ≡ false → bytes_eq (decimal n) word ≡ false
 decimal_other n word small other =
     elim (cases_Bool (bytes_eq (decimal n) word)) [
       | inl same ↦
@@ -74,12 +78,15 @@ decimal_other n word small other =
 -- a decimal text is text
 pub not_text : (bound : ℕ) (word : List ℕ) → bound ≤ 2 ^ 64 → (IsUtf8 word → ⊥) → number_in bound word ≡ None
 not_text bound word small bad =
-    number_none bound word (λ n below same. bad (rw (← same) (IsUtf8-from_ascii (decimal n) (IsAscii-decimal n (omega arith)))))
+    number_none bound word
+    (λ n below same. bad (rw (← same) (IsUtf8-from_ascii (decimal n) (IsAscii-decimal n (omega arith)))))
 
 -- what `parse` refuses is no decimal text
-pub not_parsed : {E : Type 0} (bound : ℕ) (word : List ℕ) (r : Result ℕ E) (e : E) → bound ≤ 2 ^ 64 → ParsesUnsigned 64 10 word r → r ≡ Err e → number_in bound word ≡ None
+pub not_parsed : {E : Type 0} (bound : ℕ) (word : List ℕ) (r : Result ℕ E) (e : E) → bound ≤ 2 ^ 64
+    → ParsesUnsigned 64 10 word r → r ≡ Err e → number_in bound word ≡ None
 not_parsed bound word r e small parses refused =
-    number_none bound word (λ n below same. cc (parse-decimal 64 n word r (omega arith) (omega arith) (sym same) parses, refused))
+    number_none bound word
+    (λ n below same. cc (parse-decimal 64 n word r (omega arith) (omega arith) (sym same) parses, refused))
 
 -- a decimal text begins with a digit
 pub not_sign : (bound : ℕ) (word : List ℕ) → bound ≤ 2 ^ 64 → get_or word 0 0 ≡ 43 → number_in bound word ≡ None
@@ -91,7 +98,8 @@ not_sign bound word small sign =
     omega arith)
 
 -- and not with a 0 before another
-pub not_padded : (bound : ℕ) (word : List ℕ) → bound ≤ 2 ^ 64 → get_or word 0 0 ≡ 48 → 1 < length word → number_in bound word ≡ None
+pub not_padded : (bound : ℕ) (word : List ℕ) → bound ≤ 2 ^ 64 → get_or word 0 0 ≡ 48 → 1 < length word
+    → number_in bound word ≡ None
 not_padded bound word small zero_first long =
     number_none bound word (λ n below same.
     let lt : n < 2 ^ 64 = omega arith in
@@ -106,7 +114,8 @@ not_padded bound word small zero_first long =
     ])
 
 -- a number from the bound on
-pub not_below : {E : Type 0} (bound : ℕ) (word : List ℕ) (r : Result ℕ E) (n : ℕ) → bound ≤ 2 ^ 64 → ParsesUnsigned 64 10 word r → r ≡ Ok n → bound ≤ n → number_in bound word ≡ None
+pub not_below : {E : Type 0} (bound : ℕ) (word : List ℕ) (r : Result ℕ E) (n : ℕ) → bound ≤ 2 ^ 64
+    → ParsesUnsigned 64 10 word r → r ≡ Ok n → bound ≤ n → number_in bound word ≡ None
 not_below bound word r n small parses read high =
     number_none bound word (λ m below same.
     let is : Ok n ≡ Ok m = sym read ∙ parse-decimal 64 m word r (omega arith) (omega arith) (sym same) parses in
@@ -114,13 +123,15 @@ not_below bound word r n small parses read high =
     omega arith)
 
 -- what `parse` reads, with no sign and no 0 before it
-pub parsed : {E : Type 0} (bound : ℕ) (word : List ℕ) (r : Result ℕ E) (n : ℕ) → ParsesUnsigned 64 10 word r → r ≡ Ok n → get_or word 0 0 ≢ 43
+pub parsed : {E : Type 0} (bound : ℕ) (word : List ℕ) (r : Result ℕ E) (n : ℕ) → ParsesUnsigned 64 10 word r → r ≡ Ok n
+    → get_or word 0 0 ≢ 43
     → (get_or word 0 0 ≡ 48 → length word ≤ 1) → n < bound → number_in bound word ≡ Some n
 parsed bound word r n parses read sign padded below =
     let facts = OkIff-at_ok r _ _ n (parse_plain own 64 word r parses sign) read in
     let value : n ≡ digits_value 10 word = facts.1 in
     let text = facts.0 in
-    let canonical : decimal (digits_value 10 word) ≡ word = decimal-digits_value own word text.0 text.1 (λ z. let le = padded z in let some = text.1 in omega arith) text.2 in
+    let canonical : decimal (digits_value 10 word) ≡ word =
+    decimal-digits_value own word text.0 text.1 (λ z. let le = padded z in let some = text.1 in omega arith) text.2 in
     number_some bound word n (rw value text.2) below (rw value canonical)
 
 -- ---- what few digits write
@@ -129,21 +140,25 @@ digit_byte : (b : ℕ) → b < 256 → (b + 208) % 256 ≤ 9 → (48 ≤ b) × (
 digit_byte b small few = (omega arith, omega arith)
 
 -- one digit more
-pub digits-value_more : (word : List ℕ) (i n : ℕ) → i < length word → n ≡ digits_value 10 (take i word) → get_or word i 0 < 256 → (get_or word i 0 + 208) % 256 ≤ 9
+pub digits-value_more : (word : List ℕ) (i n : ℕ) → i < length word → n ≡ digits_value 10 (take i word)
+    → get_or word i 0 < 256 → (get_or word i 0 + 208) % 256 ≤ 9
     → n * 10 + (get_or word i 0 + 208) % 256 ≡ digits_value 10 (take (i + 1) word)
 digits-value_more word i n within is small few =
     let range = digit_byte (get_or word i 0) small few in
     let digit = digit_value_digit (get_or word i 0) range in
     omega (arith, digits_value_more 10 word i within, digit, range.0, range.1)
 
-pub digits-all_more : (word : List ℕ) (i : ℕ) → i < length word → AllDigits 10 (take i word) → get_or word i 0 < 256 → (get_or word i 0 + 208) % 256 ≤ 9 → AllDigits 10 (take (i + 1) word)
+pub digits-all_more : (word : List ℕ) (i : ℕ) → i < length word → AllDigits 10 (take i word) → get_or word i 0 < 256
+    → (get_or word i 0 + 208) % 256 ≤ 9 → AllDigits 10 (take (i + 1) word)
 digits-all_more word i within all small few =
     let range = digit_byte (get_or word i 0) small few in
     digits_more 10 word i within all (omega (arith, digit_value_digit (get_or word i 0) range, range.1))
 
 -- what digits write of a word of at most nine is small
-pub digits-small : (word : List ℕ) (i n : ℕ) → length word ≤ 9 → n ≡ digits_value 10 (take i word) → AllDigits 10 (take i word) → n < 10 ^ 9
-digits-small word i n few is all = omega (arith, is, digits_value_short own (take i word) 9 all (omega (arith, length-take i word)))
+pub digits-small : (word : List ℕ) (i n : ℕ) → length word ≤ 9 → n ≡ digits_value 10 (take i word)
+    → AllDigits 10 (take i word) → n < 10 ^ 9
+digits-small word i n few is all =
+    omega (arith, is, digits_value_short own (take i word) 9 all (omega (arith, length-take i word)))
 
 pub digits-few : (bytes : List ℕ) (i n : ℕ) → i ≤ 9 → n ≡ digits_value 10 (take i bytes)
     → AllDigits 10 (take i bytes) → n < 10 ^ 9
@@ -154,7 +169,8 @@ digits-few bytes i n few is all =
 pub digits-other : (word : List ℕ) (i : ℕ) → i < length word → 9 < (get_or word i 0 + 208) % 256 → AllDigits 10 word → ⊥
 digits-other word i within high all = let range = digit_at word i all within in omega (arith, range.0, range.1)
 
-pub number-no_digits : (bound : ℕ) (word : List ℕ) → bound ≤ 2 ^ 64 → (AllDigits 10 word → ⊥) → number_in bound word ≡ None
+pub number-no_digits : (bound : ℕ) (word : List ℕ) → bound ≤ 2 ^ 64 → (AllDigits 10 word → ⊥)
+    → number_in bound word ≡ None
 number-no_digits bound word small bad =
     number_none bound word (λ n below same. bad (subst (AllDigits 10) same (digits_decimal own n (omega arith))))
 
@@ -162,16 +178,19 @@ pub number-empty : (bound : ℕ) (word : List ℕ) → bound ≤ 2 ^ 64 → leng
 number-empty bound word small empty =
     number_none bound word (λ n below same. omega (arith, decimal_nonempty n (omega arith), ap length same))
 
-pub number-high : (bound : ℕ) (word : List ℕ) (n : ℕ) → bound ≤ 2 ^ 64 → n ≡ digits_value 10 word → bound ≤ n → number_in bound word ≡ None
+pub number-high : (bound : ℕ) (word : List ℕ) (n : ℕ) → bound ≤ 2 ^ 64 → n ≡ digits_value 10 word → bound ≤ n
+    → number_in bound word ≡ None
 number-high bound word n small is high =
     number_none bound word (λ m below same.
     let value : digits_value 10 word ≡ m = rw (← same) (digits_value-decimal own m (omega arith)) in
     omega arith)
 
-pub number-digits : (bound : ℕ) (word : List ℕ) (n : ℕ) → bound ≤ 2 ^ 64 → n ≡ digits_value 10 word → AllDigits 10 word → 0 < length word
+pub number-digits : (bound : ℕ) (word : List ℕ) (n : ℕ) → bound ≤ 2 ^ 64 → n ≡ digits_value 10 word → AllDigits 10 word
+    → 0 < length word
     → (get_or word 0 0 ≡ 48 → length word ≤ 1) → n < bound → number_in bound word ≡ Some n
 number-digits bound word n small is all some padded below =
-    let canonical : decimal (digits_value 10 word) ≡ word = decimal-digits_value own word all some (λ z. let le = padded z in omega arith) (omega arith) in
+    let canonical : decimal (digits_value 10 word) ≡ word =
+    decimal-digits_value own word all some (λ z. let le = padded z in omega arith) (omega arith) in
     number_some bound word n (omega arith) below (rw is canonical)
 
 -- a word that is the one byte `-`

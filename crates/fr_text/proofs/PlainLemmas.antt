@@ -20,7 +20,8 @@ abbrev is_plain_byte : ℕ → Bool
 is_plain_byte b = not (is_space b) && not (is_feed b)
 
 -- what the test shows of a first byte and of the others
-pub plain_parts : (b : ℕ) (bytes : List ℕ) → IsPlain (b ∷ bytes) → (is_space b ≡ false) × (is_feed b ≡ false) × IsPlain bytes
+pub plain_parts : (b : ℕ) (bytes : List ℕ) → IsPlain (b ∷ bytes)
+    → (is_space b ≡ false) × (is_feed b ≡ false) × IsPlain bytes
 plain_parts b bytes h =
     let parts = and_parts (is_plain_byte b) (is_plain bytes) h in
     let here = and_parts (not (is_space b)) (not (is_feed b)) parts.0 in
@@ -48,7 +49,8 @@ has_no_feed-plain (b ∷ bytes) h =
     let parts = plain_parts b bytes h in
     rw (parts.1, has_no_feed-plain bytes parts.2) refl
 
-pub has_no_feed-append : (xs ys : List ℕ) → has_no_feed xs ≡ true → has_no_feed ys ≡ true → has_no_feed (xs ++ ys) ≡ true
+pub has_no_feed-append : (xs ys : List ℕ) → has_no_feed xs ≡ true → has_no_feed ys ≡ true
+    → has_no_feed (xs ++ ys) ≡ true
 has_no_feed-append [] ys hx hy = hy
 has_no_feed-append (x ∷ xs) ys hx hy =
     let parts = and_parts (not (is_feed x)) (has_no_feed xs) hx in

@@ -31,7 +31,8 @@ split_none (x ∷ xs) h =
     ]
 
 -- at the first space
-pub cut_at : (line : List ℕ) (at : ℕ) → position is_space line ≡ Some at → words_of line ≡ take at line ∷ words_of (drop (at + 1) line)
+pub cut_at : (line : List ℕ) (at : ℕ) → position is_space line ≡ Some at
+    → words_of line ≡ take at line ∷ words_of (drop (at + 1) line)
 cut_at line at found =
     let first = position_or_len is_space line in
     elim (cases_Bool (ltb first (length line))) [
@@ -60,35 +61,43 @@ words_some line = words_by line _ refl
 
 -- ---- the first space, by what a search of it says
 
-first_at : (line : List ℕ) (k : ℕ) → k < length line → is_space (get_or line k 0) ≡ true → ((j : ℕ) → j < k → is_space (get_or line j 0) ≡ true → ⊥) → position_or_len is_space line ≡ k
+first_at : (line : List ℕ) (k : ℕ) → k < length line → is_space (get_or line k 0) ≡ true
+    → ((j : ℕ) → j < k → is_space (get_or line j 0) ≡ true → ⊥) → position_or_len is_space line ≡ k
 first_at [] k lt here before = absurd (omega arith)
 first_at (b ∷ line) zero lt here before = rw here refl
 first_at (b ∷ line) (suc k) lt here before =
     elim (cases_Bool (is_space b)) [
       | inl pass ↦ absurd (before 0 (omega arith) pass)
       | inr fail ↦
-          let rest : position_or_len is_space line ≡ k = first_at line k (omega arith) here (λ j less. before (suc j) (omega arith)) in
+          let rest : position_or_len is_space line ≡ k =
+          first_at line k (omega arith) here (λ j less. before (suc j) (omega arith)) in
           rw fail (omega arith)
     ]
 
-first_none : (line : List ℕ) → ((j : ℕ) → j < length line → is_space (get_or line j 0) ≡ true → ⊥) → length line ≤ position_or_len is_space line
+first_none : (line : List ℕ) → ((j : ℕ) → j < length line → is_space (get_or line j 0) ≡ true → ⊥)
+    → length line ≤ position_or_len is_space line
 first_none [] none = omega arith
 first_none (b ∷ line) none =
     elim (cases_Bool (is_space b)) [
       | inl pass ↦ absurd (none 0 (omega arith) pass)
       | inr fail ↦
-          let rest : length line ≤ position_or_len is_space line = first_none line (λ j less. none (suc j) (omega arith)) in
+          let rest : length line ≤ position_or_len is_space line =
+          first_none line (λ j less. none (suc j) (omega arith)) in
           rw fail (omega arith)
     ]
 
-space_at : (line : List ℕ) (k : ℕ) → k < length line → is_space (get_or line k 0) ≡ true → ((j : ℕ) → j < k → is_space (get_or line j 0) ≡ true → ⊥) → Some k ≡ position is_space line
+space_at : (line : List ℕ) (k : ℕ) → k < length line → is_space (get_or line k 0) ≡ true
+    → ((j : ℕ) → j < k → is_space (get_or line j 0) ≡ true → ⊥) → Some k ≡ position is_space line
 space_at line k lt here before = rw (first_at line k lt here before, lt-ltb k (length line) lt) refl
 
-space_nowhere : (line : List ℕ) → ((j : ℕ) → j < length line → is_space (get_or line j 0) ≡ true → ⊥) → None ≡ position is_space line
+space_nowhere : (line : List ℕ) → ((j : ℕ) → j < length line → is_space (get_or line j 0) ≡ true → ⊥)
+    → None ≡ position is_space line
 space_nowhere line none = rw (le-ltb (position_or_len is_space line) (length line) (first_none line none)) refl
 
-pub first_space : (line : List ℕ) (found : Option ℕ) → IsFirstByte (is_byte 32) line found → found ≡ position is_space line
-first_space line (Some k) first = space_at line k first.0.high first.1 (λ j less is. first.0.before j (omega arith) less is)
+pub first_space : (line : List ℕ) (found : Option ℕ) → IsFirstByte (is_byte 32) line found
+    → found ≡ position is_space line
+first_space line (Some k) first =
+    space_at line k first.0.high first.1 (λ j less is. first.0.before j (omega arith) less is)
 first_space line None none = space_nowhere line (λ j less is. none j (omega arith) less is)
 
 -- ---- a word in front, without a space

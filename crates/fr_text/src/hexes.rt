@@ -1,6 +1,6 @@
 //! The bytes that words spell: the letter `x`, and two lower-case hexadecimal digits for each byte.
-ghost use Rattle.std.specs.Prelude.{ℕ, List, ◌≡◌, ◌+◌, ◌-◌, ◌<◌, ◌≤◌, ◌++◌, length, option_map, replicate, slice_index};
-ghost use Rattle.std.specs.Prelude.{◌*◌, ◌/◌, max, min, take, Some, IfSome};
+ghost use Rattle.std.specs.Prelude.{ℕ, ◌≡◌, ◌+◌, ◌-◌, ◌<◌, ◌≤◌, ◌++◌, length, option_map, replicate, slice_index};
+ghost use Rattle.std.specs.Prelude.{◌*◌, ◌/◌, min, take, Some, IfSome};
 ghost use Rattle.arrayvec.specs.ArrayVec.{array_vec_len};
 ghost use Rattle.fr_text.specs.Digits.{AreDigits, AreValues, ArePacked};
 ghost use Rattle.fr_text.specs.Writing.{Writes};
@@ -33,23 +33,6 @@ fn digit_value(digit: u8) -> u8
     if number < 10 { number } else { letter }
 }
 
-/// The values of the digits of a block, and the greatest of them.
-///
-/// Each digit is a value of its own, and none is answered early: so the compiler reads many of them at once.
-fn values_of(digits: &[u8; BLOCK]) -> ([u8; BLOCK], u8)
-    ensures are { result.1 < 16 → AreValues BLOCK result.0 digits.now }
-    ensures only { AreDigits BLOCK digits.now → result.1 < 16 }
-{
-    let mut values = [0u8; BLOCK];
-    let mut most = 0;
-    for place in 0..BLOCK {
-        let value = digit_value(digits[place]);
-        values[place] = value;
-        most = greater(most, value);
-    }
-    (values, most)
-}
-
 /// The bytes of each two values.
 fn packed_bytes(values: &[u8; BLOCK]) -> [u8; BLOCK_BYTES]
     ensures { ArePacked BLOCK_BYTES values.now result }
@@ -61,25 +44,13 @@ fn packed_bytes(values: &[u8; BLOCK]) -> [u8; BLOCK_BYTES]
     bytes
 }
 
-/// The bytes that the digits of a block spell, and a number below 16 exactly if each is a digit.
-///
-/// It is inlined, so that the compiler keeps what it compares digits with from block to block.
-#[inline(always)]
-fn block_of(digits: &[u8; BLOCK]) -> ([u8; BLOCK_BYTES], u8)
-    ensures spelled { result.1 < 16 → encode_lower result.0 ≡ digits.now }
-    ensures only { AreDigits BLOCK digits.now → result.1 < 16 }
-    ensures fits { IsBytes result.0 }
-{
-    let (values, most) = values_of(digits);
-    (packed_bytes(&values), most)
-}
-
 /// The values of the digits of a block, and how many digits stand before the first byte that is none.
 ///
 /// Each digit is a value of its own, and none is answered early: so the compiler reads many of them at once.
 fn values_in_front(digits: &[u8; BLOCK]) -> ([u8; BLOCK], u8)
     ensures few { result.1 ≤ BLOCK }
     ensures are { AreValues result.1 result.0 digits.now }
+    ensures only { AreDigits BLOCK digits.now → result.1 ≡ BLOCK }
 {
     let mut values = [0u8; BLOCK];
     let mut front = BLOCK as u8;
@@ -100,6 +71,7 @@ fn values_in_front(digits: &[u8; BLOCK]) -> ([u8; BLOCK], u8)
 fn front_of(digits: &[u8; BLOCK], most: usize) -> ([u8; BLOCK_BYTES], usize)
     ensures few { (result.1 ≤ BLOCK) × (result.1 ≤ most) }
     ensures spelled { encode_lower (take (result.1 / 2) result.0) ≡ take (2 * (result.1 / 2)) digits.now }
+    ensures only { AreDigits BLOCK digits.now → result.1 ≡ min BLOCK most }
     ensures fits { IsBytes result.0 }
 {
     let (values, front) = values_in_front(digits);
@@ -126,15 +98,16 @@ fn digits_into<const N: usize>(digits: &[u8], bytes: &mut ArrayVec<u8, N>) -> bo
     }
     bytes.clear();
     let (blocks, rest) = digits.as_chunks::<BLOCK>();
-    let mut most = 0;
     for block in blocks {
-        let (read, greatest) = block_of(block);
+        let (read, front) = front_of(block, BLOCK);
+        if front < BLOCK {
+            return false;
+        }
         append(bytes, &read);
-        most = greater(most, greatest);
     }
-    let (read, greatest) = block_of(&whole_block(rest));
+    let (read, front) = front_of(&whole_block(rest), BLOCK);
     append(bytes, &read[..rest.len() / 2]);
-    greater(most, greatest) < 16
+    front == BLOCK
 }
 
 /// The lesser of two numbers.
@@ -142,13 +115,6 @@ fn lesser(first: u8, second: u8) -> u8
     ensures { result ≡ min first second }
 {
     if second < first { second } else { first }
-}
-
-/// The greater of two numbers.
-fn greater(first: u8, second: u8) -> u8
-    ensures { result ≡ max first second }
-{
-    if first < second { second } else { first }
 }
 
 /// Appends bytes for which there is room.

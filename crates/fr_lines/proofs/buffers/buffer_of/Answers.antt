@@ -8,7 +8,8 @@ use Rattle.fr_slots.specs.declared.plan.Buffer.{Buffer}
 use Rattle.fr_text.specs.Spaces.{words_of, line_of}
 use Rattle.fr_lines.proofs.buffers.buffer_of.Goals as goal
 
-found : (o : Option Buffer) (line : List ℕ) → o ≡ buffer_in (words_of line) → IfSome o (λ b. line ≡ line_of (buffer_words b))
+found : (o : Option Buffer) (line : List ℕ) → o ≡ buffer_in (words_of line)
+    → IfSome o (λ b. line ≡ line_of (buffer_words b))
 found None line h = tt
 found (Some b) line h = buffer_line_takes line b (sym h)
 

@@ -12,17 +12,20 @@ use Rattle.fr_lines.specs.Versions.{tells}
 use Rattle.fr_text.specs.Spaces.{words_of, line_of}
 use Rattle.fr_lines.proofs.entries.entry_into.Goals as goal
 
-found : (v : Version) (bytes : EntryBytes) (o : Option BareEntry) (line : List ℕ) → option_map (with_bytes bytes) o ≡ entry_in v (words_of line)
+found : (v : Version) (bytes : EntryBytes) (o : Option BareEntry) (line : List ℕ)
+    → option_map (with_bytes bytes) o ≡ entry_in v (words_of line)
     → IfSome o (λ e. line ≡ line_of (entry_words (with_bytes bytes e)))
 found v bytes None line h = tt
 found v bytes (Some e) line h = entry_line_takes v line (with_bytes bytes e) (sym h)
 
-fits : (v : Version) (bytes : EntryBytes) (o : Option BareEntry) (line : List ℕ) → option_map (with_bytes bytes) o ≡ entry_in v (words_of line)
+fits : (v : Version) (bytes : EntryBytes) (o : Option BareEntry) (line : List ℕ)
+    → option_map (with_bytes bytes) o ≡ entry_in v (words_of line)
     → IfSome o (λ e. IsSpelledEntry (with_bytes bytes e))
 fits v bytes None line h = tt
 fits v bytes (Some e) line h = entry_fits v (words_of line) (with_bytes bytes e) (sym h)
 
-told : (v : Version) (bytes : EntryBytes) (o : Option BareEntry) (line : List ℕ) → option_map (with_bytes bytes) o ≡ entry_in v (words_of line)
+told : (v : Version) (bytes : EntryBytes) (o : Option BareEntry) (line : List ℕ)
+    → option_map (with_bytes bytes) o ≡ entry_in v (words_of line)
     → IfSome o (λ e. tells v (with_bytes bytes e) ≡ true)
 told v bytes None line h = tt
 told v bytes (Some e) line h = entry_told v (words_of line) (with_bytes bytes e) (sym h)

@@ -10,7 +10,8 @@ use Rattle.fr_slots.specs.declared.plan.Own.{Own}
 use Rattle.fr_text.specs.Spaces.{words_of, line_of}
 use Rattle.fr_lines.proofs.owned.own_of.Goals as goal
 
-found : (v : Version) (o : Option Own) (line : List ℕ) → o ≡ own_in v (words_of line) → IfSome o (λ b. line ≡ line_of (own_words v b))
+found : (v : Version) (o : Option Own) (line : List ℕ) → o ≡ own_in v (words_of line)
+    → IfSome o (λ b. line ≡ line_of (own_words v b))
 found v None line h = tt
 found v (Some b) line h = own_line_takes v line b (sym h)
 
@@ -18,7 +19,8 @@ fits : (v : Version) (o : Option Own) (line : List ℕ) → o ≡ own_in v (word
 fits v None line h = tt
 fits v (Some b) line h = own_line_fits v (words_of line) b (sym h)
 
-told : (v : Version) (o : Option Own) (line : List ℕ) → o ≡ own_in v (words_of line) → IfSome o (λ b. tells_own v b ≡ true)
+told : (v : Version) (o : Option Own) (line : List ℕ) → o ≡ own_in v (words_of line)
+    → IfSome o (λ b. tells_own v b ≡ true)
 told v None line h = tt
 told v (Some b) line h = own_line_told v (words_of line) b (sym h)
 
@@ -32,4 +34,5 @@ pub returns-clause-told : goal.returns-clause-told
 returns-clause-told c = told c.args.version c.own_in.result c.args.line.now c.own_in.ensures
 
 pub returns-clause-only : goal.returns-clause-only
-returns-clause-only c b is told text = c.own_in.ensures ∙ ap (λ l. own_in c.args.version (words_of l)) text ∙ own_line_again c.args.version b is told
+returns-clause-only c b is told text =
+    c.own_in.ensures ∙ ap (λ l. own_in c.args.version (words_of l)) text ∙ own_line_again c.args.version b is told

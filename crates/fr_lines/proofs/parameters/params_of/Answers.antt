@@ -23,4 +23,5 @@ returns-clause-found c = found c.params_in.result c.args.line.now c.params_in.en
 
 pub returns-clause-only : goal.returns-clause-only
 returns-clause-only c p is text =
-    some_and c.params_in.result (parameter_numbers p) p (c.params_in.ensures ∙ ap (λ l. params_in (words_of l)) text ∙ params_line_again p is) (parameters_again p is)
+    some_and c.params_in.result (parameter_numbers p) p
+    (c.params_in.ensures ∙ ap (λ l. params_in (words_of l)) text ∙ params_line_again p is) (parameters_again p is)

@@ -8,7 +8,8 @@ use Rattle.fr_slots.specs.declared.plan.Queue.{Queue}
 use Rattle.fr_text.specs.Spaces.{words_of, line_of}
 use Rattle.fr_lines.proofs.queues.queue_of.Goals as goal
 
-found : (o : Option Queue) (line : List ℕ) → o ≡ queue_in (words_of line) → IfSome o (λ q. line ≡ line_of (queue_words q))
+found : (o : Option Queue) (line : List ℕ) → o ≡ queue_in (words_of line)
+    → IfSome o (λ q. line ≡ line_of (queue_words q))
 found None line h = tt
 found (Some q) line h = queue_line_takes line q (sym h)
 

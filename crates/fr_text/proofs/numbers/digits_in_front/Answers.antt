@@ -23,6 +23,7 @@ loop-at-preserved c =
           ∙ digits-value_more c.args.bytes.now i c.loop-at.number (omega arith) c.loop-at.invariant.value
           (omega (arith, c.type_inv.bytes i)) c.if-value-gt9.false;
       digits =
-          digits-all_more c.args.bytes.now i (omega arith) c.loop-at.invariant.digits (omega (arith, c.type_inv.bytes i))
+          digits-all_more c.args.bytes.now i (omega arith) c.loop-at.invariant.digits
+          (omega (arith, c.type_inv.bytes i))
           c.if-value-gt9.false;
     }

@@ -2,7 +2,8 @@ use Rattle.std.proofs.Common.{◌≡◌, length, take, arith, length-take}
 use Rattle.std.proofs.lemmas.List.{get_or-take}
 use Rattle.fr_text.proofs.NumberLemmas.{number-digits}
 use Rattle.fr_text.proofs.numbers.number_in_front.Goals as goal
-use Rattle.fr_text.proofs.numbers.number_in_front.Goals.{else-bytes-eq48-via-then-bytes-eq48+else-len-gt1, else-bytes-eq48-via-else-bytes-eq48}
+use Rattle.fr_text.proofs.numbers.number_in_front.Goals.{else-bytes-eq48-via-then-bytes-eq48+else-len-gt1}
+use Rattle.fr_text.proofs.numbers.number_in_front.Goals.{else-bytes-eq48-via-else-bytes-eq48}
 
 pub returns-clause-number : goal.returns-clause-number
 returns-clause-number c =

@@ -4,7 +4,8 @@ use Rattle.fr_text.proofs.numbers.short_number_of.Goals as goal
 
 pub returns-in_err-number-clause-number : goal.returns-in_err-number-clause-number
 returns-in_err-number-clause-number c =
-    c.from_residual.ensures ∙ sym (number-no_digits c.args.bound c.args.word.now (omega arith) c.in_err-number.ensures.none)
+    c.from_residual.ensures
+    ∙ sym (number-no_digits c.args.bound c.args.word.now (omega arith) c.in_err-number.ensures.none)
 
 pub returns-then-is_empty-clause-number : goal.returns-then-is_empty-clause-number
 returns-then-is_empty-clause-number c =
@@ -17,7 +18,8 @@ returns-then-word-gt1-clause-number c =
 
 pub returns-then-number-bound-clause-number : goal.returns-then-number-bound-clause-number
 returns-then-number-bound-clause-number c =
-    sym (number-high c.args.bound c.args.word.now c.in_ok-number.number (omega arith) c.in_ok-number.ensures.value c.if-number-bound.true)
+    let value = c.in_ok-number.ensures.value in
+    sym (number-high c.args.bound c.args.word.now c.in_ok-number.number (omega arith) value c.if-number-bound.true)
 
 pub returns-clause-number : goal.returns-clause-number
 returns-clause-number c =

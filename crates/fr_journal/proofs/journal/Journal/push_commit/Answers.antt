@@ -1,7 +1,9 @@
-use Rattle.std.proofs.Common.{◌+◌, refl, arith}
+use Rattle.std.proofs.Common.{◌≡◌, ◌+◌, refl, ap, arith}
 use Rattle.fr_frame.specs.Payload.{most_payload_bytes}
 use Rattle.fr_journal.specs.declared.entry.Entry.TheVariants.{Commit}
 use Rattle.fr_journal.specs.declared.journal.Journal.TheInside.{Inside}
+use Rattle.fr_journal.specs.Entries.{is_host}
+use Rattle.fr_journal.proofs.MarkLemmas.{host_knows}
 use Rattle.fr_journal.proofs.ShortLemmas.{counts-fill, kept-pushed, host-room, host-pushed}
 use Rattle.fr_journal.proofs.journal.Journal.push_commit.Goals as goal
 
@@ -12,14 +14,17 @@ push_reserved-requires c =
 
 pub invariant_of-self : goal.invariant_of-self
 invariant_of-self c =
-    host-pushed c.self.inside _ c.shortened_commit-short.result (Commit c.args.task c.args.buffer c.args.payload.now) c.self.invariant (record {
+    host-pushed c.self.inside _ c.shortened_commit-short.result
+    (Commit c.args.task c.args.buffer c.args.payload.now) c.self.invariant (record {
       host_limit_is = refl;
       slot_limit_is = refl;
       shorts_are = c.push_reserved.ensures.items;
       shorts_room = c.push_reserved.ensures.capacity;
+      knows = host_knows c.shortened_commit-short.new.pool.items c.shortened_commit-short.result
+          (λ mark. mark ≡ c.self.inside.last_mark) (ap is_host c.shortened_commit-short.ensures.entry.entry_is);
       shortened = c.shortened_commit-short.ensures.entry;
       pool_room = c.shortened_commit-short.ensures.room;
-    }) refl refl refl
+    }) refl refl refl refl
     (host-room c.self.inside _ c.self.invariant c.self.view_is c.requires.room)
 
 pub returns : goal.returns
@@ -29,14 +34,18 @@ returns c =
       slot_limit = c.self.inside.slot_limit;
       host_count = c.self.inside.host_count + 1;
       slot_count = c.self.inside.slot_count;
+      last_mark = c.self.inside.last_mark;
       shorts = c.push_reserved.new.self;
       pool = c.shortened_commit-short.new.pool;
     } in
-    kept-pushed c.self.inside n _ most_payload_bytes c.shortened_commit-short.result (Commit c.args.task c.args.buffer c.args.payload.now) c.self.invariant (record {
+    kept-pushed c.self.inside n _ most_payload_bytes c.shortened_commit-short.result
+    (Commit c.args.task c.args.buffer c.args.payload.now) c.self.invariant (record {
       host_limit_is = refl;
       slot_limit_is = refl;
       shorts_are = c.push_reserved.ensures.items;
       shorts_room = c.push_reserved.ensures.capacity;
+      knows = host_knows c.shortened_commit-short.new.pool.items c.shortened_commit-short.result
+          (λ mark. mark ≡ c.self.inside.last_mark) (ap is_host c.shortened_commit-short.ensures.entry.entry_is);
       shortened = c.shortened_commit-short.ensures.entry;
       pool_room = c.shortened_commit-short.ensures.room;
     }) c.self.view_is

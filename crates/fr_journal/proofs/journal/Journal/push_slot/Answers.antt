@@ -1,7 +1,7 @@
 use Rattle.std.proofs.Common.{◌+◌, refl, arith}
 use Rattle.fr_journal.specs.Shortened.{most_seen_bytes}
 use Rattle.fr_journal.specs.declared.journal.Journal.TheInside.{Inside}
-use Rattle.fr_journal.proofs.ShortLemmas.{counts-fill, kept-pushed, slot-room, slot-pushed}
+use Rattle.fr_journal.proofs.ShortLemmas.{next-place, counts-fill, kept-pushed, slot-room, slot-pushed}
 use Rattle.fr_journal.proofs.journal.Journal.push_slot.Goals as goal
 
 pub push_reserved-requires : goal.push_reserved-requires
@@ -16,9 +16,11 @@ invariant_of-self c =
       slot_limit_is = refl;
       shorts_are = c.push_reserved.ensures.items;
       shorts_room = c.push_reserved.ensures.capacity;
+      knows = c.shortened_slot-short.ensures.mark;
       shortened = c.shortened_slot-short.ensures.entry;
       pool_room = c.shortened_slot-short.ensures.room;
     }) c.requires.kind refl refl
+    (next-place c.self.inside _ c.len-place.result c.self.view_is c.len-place.ensures.value)
     (slot-room c.self.inside _ c.self.invariant c.self.view_is c.requires.room)
 
 pub returns : goal.returns
@@ -28,6 +30,7 @@ returns c =
       slot_limit = c.self.inside.slot_limit;
       host_count = c.self.inside.host_count;
       slot_count = c.self.inside.slot_count + 1;
+      last_mark = c.len-place.result;
       shorts = c.push_reserved.new.self;
       pool = c.shortened_slot-short.new.pool;
     } in
@@ -36,6 +39,7 @@ returns c =
       slot_limit_is = refl;
       shorts_are = c.push_reserved.ensures.items;
       shorts_room = c.push_reserved.ensures.capacity;
+      knows = c.shortened_slot-short.ensures.mark;
       shortened = c.shortened_slot-short.ensures.entry;
       pool_room = c.shortened_slot-short.ensures.room;
     }) c.self.view_is

@@ -9,4 +9,5 @@ returns-in-Some-clause-words c =
     rw (c.if-self.false, take_rest) (sym view ∙ cut_at _ _ (sym c.in-Some.ensures))
 
 pub returns-in-None-clause-words : goal.returns-in-None-clause-words
-returns-in-None-clause-words c = let view = rw c.if-self.false at c.self.view_is in sym view ∙ cut_none _ (sym c.in-None.ensures)
+returns-in-None-clause-words c =
+    let view = rw c.if-self.false at c.self.view_is in sym view ∙ cut_none _ (sym c.in-None.ensures)
