@@ -1,17 +1,18 @@
 """All faults of a list, each in a run of its own, held against the run without it."""
-from collections.abc import Callable, Iterator
+from collections.abc import Callable, Collection, Iterator
 from dataclasses import dataclass
 
-from musmyrtle.cluster import Cluster, Queue
-from musmyrtle.fault_costs import Difference, Ended, differences, ended
+from musmyrtle.cluster import LAST_SLOT, Cluster, Queue
+from musmyrtle.fault_costs import IDLE, Difference, Ended, differences, ended
 from musmyrtle.fault_hosts import Hosts, answers
 from musmyrtle.fault_list import Listing, Selection, SingleFault
 from musmyrtle.fault_runs import OUTCOME, Answer, Folder, Log, pooled
 from musmyrtle.fault_table import Done
 from musmyrtle.outcomes import BadOutcome, Known, read_outcome
-from musmyrtle.played import Played, Player
-from musmyrtle.refusals import SessionOver
+from musmyrtle.played import Begun, Occasion, Played, Player
+from musmyrtle.refusals import Refused, SessionOver
 from musmyrtle.scenario import Scenario
+from musmyrtle.visible import visible
 
 
 @dataclass(frozen=True)
@@ -29,7 +30,7 @@ class NoReference(Exception):
 
 
 def failed(effect: str, why: str) -> list[Difference]:
-    return [Difference(None, "-", effect, 1, "-", why.replace("\t", " ").replace("\n", " "))]
+    return [Difference(None, "-", effect, 1, "-", visible(why))]
 
 
 class Campaign:
@@ -37,10 +38,10 @@ class Campaign:
 
     def __init__(self, cluster: Cluster, scenario: Scenario, folder: Folder, means: Means):
         self.cluster, self.scenario, self.folder, self.means = cluster, scenario, folder, means
-        self.player = Player(means.world, folder.cluster, cluster, scenario, folder.cycles)
+        self.player = Player(means.world, means.program, folder.cluster, cluster, scenario, folder.cycles)
         try:
-            self.recorded = self.player.play(is_recorded=cluster.parameters.minislots > 0)
-        except SessionOver as error:
+            self.recorded = self.player.record()
+        except (SessionOver, Refused) as error:
             raise NoReference(f"{means.world}: {error}") from None
         self.known: Known = {}
         self.reference = self.read_reference()
@@ -55,8 +56,12 @@ class Campaign:
             raise NoReference(f"{self.means.program} doesn't answer as {OUTCOME[0]} does: {error}") from None
 
     def listing(self, selection: Selection) -> Listing:
-        return Listing(self.cluster, self.scenario, self.folder.cycles, selection, lambda: self.recorded,
-                       lambda node, channel: self.player.play(lost=(node, channel)))
+        return Listing(self.cluster, self.scenario, self.folder.cycles, selection, ListPlays(self.recorded, self.player))
+
+    def overwritten(self) -> dict[int, int]:
+        """For each node whose FIFO overwrites frames without any fault how many it overwrites."""
+        counts = ((number, node.queue) for number, node in enumerate(self.reference.outcome.nodes))
+        return {number: it.lost for number, it in counts if it and it.lost}
 
     def measure(self, fault: SingleFault, answer: Answer) -> list[Difference]:
         """What differs by the fault, or how its run failed."""
@@ -64,13 +69,17 @@ class Campaign:
             return failed(*answer.failure)
         try:
             outcome = read_outcome(answer.output, self.cluster, self.known)
-            played = self.player.play(fault.lines) if self.is_played(fault) else self.recorded
+            watched = fault.minislot if fault.kind == "forged" else None
+            played = self.player.play(fault.lines, watched) if self.is_played(fault) else self.recorded
         except BadOutcome as error:
             return failed("unreadable", str(error))
-        except SessionOver as error:
-            return failed("killed", f"fr_world: {error}")
+        except (SessionOver, Refused) as error:
+            return failed("killed" if isinstance(error, SessionOver) else "refused", f"fr_world: {error}")
+        wrong = misplaced(fault, played)
+        if wrong:
+            return failed("unreadable", wrong)
         if played is self.recorded:
-            return differences(self.reference, Ended(outcome, self.reference.calendar, played.came))
+            return differences(self.reference, Ended(outcome, self.reference.calendar, self.reference.fifos))
         return differences(self.reference, ended(self.scenario, outcome, played))
 
     def is_played(self, fault: SingleFault) -> bool:
@@ -80,15 +89,17 @@ class Campaign:
     def may_reach(self, fault: SingleFault, queue: Queue) -> bool:
         last = min(queue.last, self.cluster.parameters.static_slots)
         is_in_range = queue.first <= last if fault.slot is None else queue.first <= fault.slot <= last
-        return is_in_range and fault.channel in queue.channels
+        return is_in_range and any(it in queue.channels for it in fault.channels)
 
     def run(self, faults: list[SingleFault], log: Log, tell: Callable[[int, int], None]) -> Done:
         """All faults in the order of the list, whatever order they are done in. TELL is told how many are done."""
-        todo = [it for it in faults if str(it) not in log.done]
+        runs = [it for it in faults if not it.is_idle]
+        todo = [it for it in runs if str(it) not in log.done]
         for number, (fault, found) in enumerate(self.measured(todo), 1):
             log.add(fault, found)
-            tell(len(faults) - len(todo) + number, len(faults))
-        return [(it, log.done[str(it)]) for it in faults]
+            tell(len(runs) - len(todo) + number, len(runs))
+        idle = [Difference(None, "-", IDLE, 0, "-", "-")]
+        return [(it, idle if it.is_idle else log.done[str(it)]) for it in faults]
 
     def measured(self, faults: list[SingleFault]) -> Iterator[tuple[SingleFault, list[Difference]]]:
         rest = faults
@@ -104,3 +115,33 @@ class Campaign:
 
     def here(self, fault: SingleFault) -> list[Difference]:
         return self.measure(fault, self.folder.run(self.means.program, fault.lines))
+
+
+@dataclass(frozen=True)
+class ListPlays:
+    """The runs that a list follows from, played in sessions."""
+
+    base: Played
+    player: Player
+
+    def recorded(self) -> list[Begun]:
+        return self.base.begun
+
+    def lose(self, node: int, channels: str, cycles: range) -> list[Begun]:
+        return self.player.lose(node, channels, cycles)
+
+    def forge(self, node: int, minislot: int, occasions: Collection[Occasion]) -> dict[Occasion, int]:
+        return self.player.forge(node, minislot, occasions)
+
+
+def misplaced(fault: SingleFault, played: Played) -> str | None:
+    """What is wrong with a frame that is forged in a minislot: it has to carry the slot that is open in its own run."""
+    if fault.kind != "forged" or fault.minislot is None:
+        return None
+    for line in (it.split(" ") for it in fault.lines):
+        cycle, channel, frame = int(line[3]), line[2], bytes.fromhex(line[5][1:])
+        slot = int.from_bytes(frame[:2], "big") & LAST_SLOT
+        if played.slots.get((cycle, channel)) != slot:
+            found = played.slots.get((cycle, channel), "no slot")
+            return f"in cycle {cycle} the forged frame is of slot {slot} on {channel}, where {found} is open"
+    return None

@@ -5,29 +5,30 @@ import re
 import sys
 import tempfile
 import time
-from dataclasses import dataclass
 from pathlib import Path
 
 from musmyrtle.cluster import Cluster
 from musmyrtle.cluster import Reading as ClusterReading
 from musmyrtle.command import Parser, Stop, cycles_of, is_bold_on, lasting, told, write
 from musmyrtle.fault_campaign import Campaign, Means, NoReference
-from musmyrtle.fault_costs import FAILED
+from musmyrtle.fault_costs import FAILED, Difference
 from musmyrtle.fault_hosts import Hosts, NoParallel
+from musmyrtle.fault_labels import Labels, fault_label
 from musmyrtle.fault_list import ALL, ALL_STATIC, KINDS, Selection, SingleFault
 from musmyrtle.fault_page import Subject, page
 from musmyrtle.fault_runs import OUTCOME, Folder, Log, outcome_words
-from musmyrtle.fault_table import BadTable, Done, Ranks, has_effect, read_ranks, summary, table, worse
+from musmyrtle.fault_table import BadTable, Ranks, Results, has_effect, listed, not_compared, read_ranks, summary, table
 from musmyrtle.fault_table import told as told_difference
+from musmyrtle.fault_table import worse
 from musmyrtle.findings import counted
 from musmyrtle.lint import Task, lint
-from musmyrtle.names import Names
 from musmyrtle.program import ask, itself, usual_program
 from musmyrtle.refusals import SessionOver
 from musmyrtle.scenario import Reading as ScenarioReading
 from musmyrtle.scenario import Scenario
 from musmyrtle.session import usual_world
 from musmyrtle.texts import read_text
+from musmyrtle.visible import visible
 
 FINE, REFUSED, USAGE, FOUND, UNDONE, BROKEN_OFF = 0, 1, 2, 3, 4, 130
 FAIL_ON = ("lost", "older", "changed", "worse")
@@ -214,17 +215,7 @@ def means_of(given: argparse.Namespace) -> Means:
     return Means(str(Path(itself(given.program)).resolve()), world, given.cores, hosts)
 
 
-@dataclass(frozen=True)
-class Measured:
-    """All faults with what they cost, the cluster and the names of its nodes, and how many faults aren't listed."""
-
-    done: Done
-    cluster: Cluster
-    names: list[str]
-    left_out: int
-
-
-def measured(given: argparse.Namespace, folder: Path) -> Measured | None:
+def measured(given: argparse.Namespace, folder: Path) -> Results | None:
     """All faults with what they cost, or nothing where they were only to be listed."""
     cluster, scenario, *inputs = accepted(given)
     selection = Selection(given.kinds, given.nodes, given.slots, given.in_cycle)
@@ -239,31 +230,33 @@ def measured(given: argparse.Namespace, folder: Path) -> Measured | None:
     listing = campaign.listing(selection)
     faults = listing.faults()
     if given.list:
-        write(sys.stdout, ("\t".join(it.words) + "\n" for it in faults))
+        write(sys.stdout, listed(faults))
         return None
     log = opened_log(given, (*inputs, str(given.cycles).encode(), Path(means.program).read_bytes()))
     try:
         done = campaign.run(faults, log, Progress())
     finally:
         log.close()
-    return Measured(done, cluster, names_of(files.cluster, cluster), listing.left_out)
+    labels = Labels.read(inputs[0])
+    return Results(done, cluster, given.cycles, listing.left_out, campaign.overwritten(), labels)
 
 
-def concluded(given: argparse.Namespace, found: Measured, before: Ranks | None) -> int:
+def concluded(given: argparse.Namespace, found: Results, before: Ranks | None) -> int:
     """Prints all that is to be said. Answers the status."""
     done = found.done
     write(sys.stdout, table(done))
-    say("".join(summary(done, found.cluster, given.cycles, found.left_out)))
+    say("".join(summary(found)))
     if given.html:
         try:
-            subject = Subject(given.cluster, given.scenario, given.cycles, found.names)
-            Path(given.html).write_text(page(subject, done, found.cluster, found.left_out), encoding="utf-8")
+            text = page(Subject(given.cluster, given.scenario), found)
+            Path(given.html).write_text(text, encoding="utf-8")
         except OSError as error:
             raise Stop(USAGE, f"--html {given.html}: {error.strerror}") from None
     greater = [] if before is None else worse(done, before)
     if before is not None:
-        say(f"{counted(len(greater), 'thing')} worse than in {given.against}\n")
-        say("".join(worse_line(*it) for it in greater[:MOST_WORSE]))
+        say("".join(not_compared(done, before)))
+        say(f"{counted(len(greater), 'thing')} worse than in {visible(given.against)}\n")
+        say("".join(worse_line(*it, found.labels) for it in greater[:MOST_WORSE]))
         say(f"and {len(greater) - MOST_WORSE} more\n" if len(greater) > MOST_WORSE else "")
     if has_effect(done, FAILED):
         return UNDONE
@@ -271,14 +264,8 @@ def concluded(given: argparse.Namespace, found: Measured, before: Ranks | None) 
     return FOUND if is_found else FINE
 
 
-def names_of(file: Path, cluster: Cluster) -> list[str]:
-    """Each node's number, and after it its key `name` where it has one."""
-    named = {number: name for name, number in Names.read(file).nodes.items()}
-    return [" ".join(filter(None, (f"node {it.number}", named.get(it.number)))) for it in cluster.nodes]
-
-
-def worse_line(fault: SingleFault, found) -> str:
-    return f"  {fault}: {told_difference(found)}\n"
+def worse_line(fault: SingleFault, found: Difference, labels: Labels) -> str:
+    return f"  {fault_label(fault)}: {told_difference(found, labels)}\n"
 
 
 def ran(given: argparse.Namespace) -> int:

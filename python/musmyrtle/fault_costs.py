@@ -1,31 +1,37 @@
-"""What a fault costs: the end of a run that has it, held against the end of the run without it."""
+"""What a fault costs: the end of a run that has it, compared with the end of the run without it."""
 from bisect import bisect_right
-from collections import Counter
 from collections.abc import Iterator
 from dataclasses import dataclass
 
+from musmyrtle.fifo_costs import fifo_effects
+from musmyrtle.fifos import Fifo
 from musmyrtle.outcomes import NodeOutcome, Outcome
-from musmyrtle.played import Played
-from musmyrtle.replies import Counters, ReceiveBuffer, TransmitBuffer
+from musmyrtle.played import Fifos, Played
+from musmyrtle.replies import Counters, Queue, ReceiveBuffer, TransmitBuffer
 from musmyrtle.scenario import Scenario
 
+NOT_COMPARABLE, IDLE = "not comparable", "idle"
 EFFECTS = {
     "refused": "the run was refused",
     "killed": "the run was killed",
     "unreadable": "what the run printed is no outcome",
-    "lost": "a buffer holds nothing, or a queue lost frames or never got them",
+    NOT_COMPARABLE: "the content of a FIFO isn't known, so that a frame of it may be lost",
+    "lost": "a buffer holds nothing, or a FIFO lost frames or never got them",
     "older": "a buffer holds an older frame",
-    "changed": "a buffer holds another payload, or a queue got other frames",
+    "changed": "a buffer holds another payload, or a FIFO got other frames",
     "pending": "more commits are still pending",
     "unsent": "fewer commits were sent",
     "counted": "the counters differ, and nothing is lost",
     "newer": "a buffer holds a newer frame of the same payload",
     "channel": "the same frame came by the other channel",
-    "sent": "a commit was sent that stays behind else",
+    "sent": "a commit was sent that stays behind without the fault",
+    IDLE: "the node sends nothing there, so that there is no run",
 }
 """All effects, the worst first."""
 FAILED = ("refused", "killed", "unreadable")
-COSTS = ("lost", "older", "changed", "pending", "unsent")
+COSTS = (NOT_COMPARABLE, "lost", "older", "changed", "pending", "unsent")
+LOSSES = (NOT_COMPARABLE, "lost")
+HARMLESS = ("counted", "newer", "channel", "sent")
 RANKS = {name: rank for rank, name in enumerate(reversed(EFFECTS))}
 
 
@@ -35,11 +41,10 @@ class Difference:
 
     node: int | None
     thing: str
-    """`rx B`, `tx B`, `queue`, the channel of the counters, or `-` for a run that failed."""
+    """`rx B`, `tx B`, `queue` for the receive FIFO, the channel of the counters, or `-` where there is no outcome."""
     effect: str
     amount: int
-    """Cycles for `older` and `newer`, frames for a queue, commits for a transmit buffer, counts of a channel, else
-    1."""
+    """Cycles for `older` and `newer`, frames of a FIFO, commits of a transmit buffer, counts of a channel, else 1."""
     without: str
     having: str
 
@@ -82,16 +87,22 @@ class Calendar:
 
 @dataclass(frozen=True)
 class Ended:
-    """How a run ended: its outcome, the cycles of its entries, and what came to its queues."""
+    """How a run ended: its outcome, the cycles of its entries, and the frames of its FIFOs."""
 
     outcome: Outcome
     calendar: Calendar
-    came: dict[int, list[str]]
-    """The frames that came to the queue of a node and weren't lost there, where that is known."""
+    fifos: Fifos
+
+    def fifo(self, node: int) -> Fifo | str:
+        """What became of the frames of a node's FIFO, or why that isn't known."""
+        found, counts = self.fifos.get(node, "it wasn't read"), self.outcome.nodes[node].queue
+        if isinstance(found, str) or counts == Queue(len(found.waiting), len(found.overwritten)):
+            return found
+        return f"its trace has {len(found.waiting)} frames waiting and {len(found.overwritten)} overwritten"
 
 
 def ended(scenario: Scenario, outcome: Outcome, played: Played) -> Ended:
-    return Ended(outcome, Calendar(scenario, played.starts), played.came)
+    return Ended(outcome, Calendar(scenario, played.starts), played.fifos)
 
 
 def differences(without: Ended, having: Ended) -> list[Difference]:
@@ -163,22 +174,22 @@ def spelled_sent(it: TransmitBuffer) -> str:
 
 
 def queued_otherwise(node: int, without: Ended, having: Ended) -> Iterator[Difference]:
-    """What the tasks popped or can still pop. A frame that isn't among it any more was lost to a later one, or never
-    came. Where only counts are known, fewer frames are lost ones and more are others."""
+    """What the tasks popped or can still pop, compared frame by frame."""
     one, other = without.outcome.nodes[node].queue, having.outcome.nodes[node].queue
-    came, came_then = without.came.get(node), having.came.get(node)
-    if one == other and came == came_then:
+    if one is None or other is None:
         return
-    if came is None or came_then is None:
-        change = other.waiting - one.waiting
-        lost, others = max(0, -change, other.lost - one.lost), max(0, change)
-    else:
-        lost, others = (Counter(came) - Counter(came_then)).total(), (Counter(came_then) - Counter(came)).total()
-    texts = [f"{it.waiting} {it.lost}" for it in (one, other)]
-    if lost:
-        yield Difference(node, "queue", "lost", lost, *texts)
-    if others or not lost:
-        yield Difference(node, "queue", "changed", max(1, others), *texts)
+    texts = f"{one.waiting} {one.lost}", f"{other.waiting} {other.lost}"
+    if without.fifos is having.fifos and one == other:
+        # No frame of a FIFO can have changed: the fault can't reach one.
+        return
+    before, after = without.fifo(node), having.fifo(node)
+    for why in (before, after):
+        if isinstance(why, str):
+            yield Difference(node, "queue", NOT_COMPARABLE, 1, texts[0], f"{texts[1]}: {why}")
+            return
+    if isinstance(before, Fifo) and isinstance(after, Fifo):
+        for effect, amount in fifo_effects(before, after):
+            yield Difference(node, "queue", effect, amount, *texts)
 
 
 def counted_otherwise(node: int, before: NodeOutcome, after: NodeOutcome) -> Iterator[Difference]:

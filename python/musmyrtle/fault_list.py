@@ -1,27 +1,32 @@
-"""The single faults that a network can have: each node and channel lost or babbling, each frame disturbed.
+"""The single faults that a network can have: each node lost or babbling, each frame disturbed, on one channel or both.
 
 A fault is some fault lines beside those of a scenario. Where the scenario has a fault of the same kind in a window
 already, the window is left out, since it takes one of a kind; a fault that has no window left isn't listed.
 """
-from collections.abc import Callable, Iterable, Iterator
+from collections.abc import Collection, Iterable, Iterator
 from dataclasses import dataclass, field
+from typing import Protocol
 
-from musmyrtle.cluster import CYCLES, LAST_SLOT, Cluster, Node
+from musmyrtle.cluster import CYCLES, Cluster, Node
 from musmyrtle.frames import data_frame
-from musmyrtle.played import Played
+from musmyrtle.played import FORGED_WORD, Begun, Occasion, forged_babble
 from musmyrtle.scenario import EVERY, FaultLine, FaultLines, Scenario
 
 KINDS = {
+    "lost": "all that a node sends is lost, in the static and in the dynamic segment",
     "mute": "what a node sends in a static slot of its own is lost, or in all of these (`s*`)",
-    "lost": "all that a node sends on a channel is lost, in the dynamic segment too",
     "noise": "a node sends a byte that is no frame beside all others",
     "forged": "a node sends a valid data frame of the slot's own ID beside all others",
-    "header": "a bit of the header of a static frame is turned",
-    "payload": "a bit of its payload is turned",
-    "trailer": "a bit of its trailer is turned",
+    "header": "a bit of the header of a static frame is flipped",
+    "payload": "a bit of its payload is flipped",
+    "trailer": "a bit of its trailer is flipped",
 }
+CHANNELS = ("AB", "A", "B")
+BOTH = "AB"
+OF_BOTH = ("lost", "noise", "forged")
+"""The kinds of which a fault can be on both channels at once."""
+OF_FRAMES = ("header", "payload", "trailer")
 NOISE = b"\xff"
-FORGED_WORD = b"\xa5\x5a"
 HEADER_BIT = 15
 """The lowest bit of the frame ID (chapter 4)."""
 HEADER_BITS = 40
@@ -30,28 +35,44 @@ ALL_STATIC, ALL = "s*", "all"
 
 @dataclass(frozen=True)
 class SingleFault:
-    """One fault: its kind, the node that has it or none for a disturbed frame, its channel, `*` or its cycle, and its
-    place: `sN` for a static slot, `s*` for all of them, `mN` for a minislot, `all` for all that a node sends."""
+    """One fault: its kind, the node that has it or none for a disturbed frame, its channel or both, `*` or its cycle,
+    and its place: `sN` for a static slot, `s*` for all of them, `mN` for a minislot, `all` for all that a node sends.
+    """
 
     kind: str
     node: int | None
-    channel: str
+    channels: str
     cycles: str
     place: str
     lines: tuple[str, ...] = field(compare=False)
-    """What stands of it in a scenario."""
+    """What stands of it in a scenario: nothing where the node is idle."""
 
     @property
     def words(self) -> tuple[str, ...]:
-        return self.kind, "-" if self.node is None else str(self.node), self.channel, self.cycles, self.place
+        return self.kind, "-" if self.node is None else str(self.node), self.channels, self.cycles, self.place
 
     def __str__(self) -> str:
         return " ".join(self.words)
 
     @property
+    def is_of_both(self) -> bool:
+        """Whether it is on both channels at once."""
+        return self.channels == BOTH
+
+    @property
+    def is_idle(self) -> bool:
+        """Whether its node sends nothing there, so that nothing can be lost and there is no run."""
+        return not self.lines
+
+    @property
     def slot(self) -> int | None:
         """The static slot, if it is for one."""
         return int(self.place[1:]) if self.place[0] == "s" and self.place != ALL_STATIC else None
+
+    @property
+    def minislot(self) -> int | None:
+        """The minislot, if it is for one."""
+        return int(self.place[1:]) if self.place[0] == "m" else None
 
     @property
     def is_babble(self) -> bool:
@@ -94,24 +115,41 @@ class Selection:
         return [int(it[1:]) for it in self.places or () if it[0] == front and it != ALL_STATIC]
 
 
+class Plays(Protocol):
+    """The runs that a list follows from. Each is asked for only where the list needs it."""
+
+    def recorded(self) -> list[Begun]:
+        """What begins in the dynamic segment in the run without a fault."""
+
+    def lose(self, node: int, channels: str, cycles: range) -> list[Begun]:
+        """What the node offers in the dynamic segment where all of that is lost."""
+
+    def forge(self, node: int, minislot: int, occasions: Collection[Occasion]) -> dict[Occasion, int]:
+        """The slots that are open at the minislot where the node forges a frame of the open slot there."""
+
+
+@dataclass
+class LeftOut:
+    """How many faults aren't listed, and why."""
+
+    taken: int = 0
+    """The scenario has one of their kind in each of their windows."""
+    unopened: int = 0
+    """No slot opens at their minislot."""
+
+
 class Listing:
-    """The faults of a cluster beside a scenario, in a fixed order: by kind, node, channel and place.
+    """The faults of a cluster beside a scenario, in a fixed order: by kind, node, channels (AB, A, B) and place."""
 
-    RECORDED is the run without them, and LOST tells it with all lost that a node sends on a channel. Both are asked for
-    only where the cluster has a dynamic segment and the selection needs it.
-    """
-
-    def __init__(self, cluster: Cluster, scenario: Scenario, cycles: int, selection: Selection,
-                 recorded: Callable[[], Played], lost: Callable[[int, str], Played]):
-        self.cluster, self.cycles, self.selection = cluster, cycles, selection
-        self.recorded, self.lost = recorded, lost
+    def __init__(self, cluster: Cluster, scenario: Scenario, cycles: int, selection: Selection, plays: Plays) -> None:
+        self.cluster, self.cycles, self.selection, self.plays = cluster, cycles, selection, plays
         self.taken = FaultLines()
         for line in scenario.faults:
             self.taken.add(line)
         self.has_calls = {(line.value("NODE"), line.value("BUFFER")) for lines in scenario.scripts.values()
                           for line in lines if line.kind == "commit"}
-        self.left_out = 0
-        """How many faults aren't listed, since the scenario has one of their kind in each of their windows."""
+        self.left_out = LeftOut()
+        self.opened: dict[tuple[int, frozenset[Occasion]], dict[Occasion, int]] = {}
 
     @property
     def is_all_cycles(self) -> bool:
@@ -123,91 +161,131 @@ class Listing:
 
     def each_cycle(self) -> range:
         """The cycles of the run that the faults are in."""
-        return range(self.cycles) if self.is_all_cycles else range(self.selection.cycle, self.selection.cycle + 1)
+        cycle = self.selection.cycle
+        return range(self.cycles) if cycle is None else range(cycle, cycle + 1)
 
     def faults(self) -> list[SingleFault]:
-        found = []
-        for kind in (it for it in KINDS if it in self.selection.kinds):
-            made = self.of_channels(kind) if kind in ("header", "payload", "trailer") else self.of_nodes(kind)
-            for fault in made:
-                if fault.lines:
-                    found.append(fault)
-                else:
-                    self.left_out += 1
-        return found
+        return [fault for kind in KINDS if kind in self.selection.kinds
+                for fault in (self.of_frames(kind) if kind in OF_FRAMES else self.of_nodes(kind))]
 
     def of_nodes(self, kind: str) -> Iterator[SingleFault]:
         made = {"mute": self.mutes, "lost": self.losses, "noise": self.babbles, "forged": self.babbles}[kind]
         for node in self.cluster.nodes:
-            for channel in "AB":
-                for place, lines in made(kind, node, channel):
-                    yield SingleFault(kind, node.number, channel, self.word, place, tuple(lines))
+            for channels in CHANNELS if kind in OF_BOTH else "AB":
+                for place, lines in made(kind, node, channels):
+                    yield SingleFault(kind, node.number, channels, self.word, place, tuple(lines))
 
-    def slots_of(self, node: Node, channel: str) -> list[int]:
-        """The static slots that the node owns on the channel in one of the cycles."""
-        return sorted({it.slot for it in node.owned if channel in it.channels
+    # ---- what is lost
+
+    def slots_of(self, node: Node, channels: str) -> list[int]:
+        """The static slots that the node owns on one of the channels in one of the cycles."""
+        return sorted({it.slot for it in node.owned if set(channels) & set(it.channels)
                        and any(it.cycles.admit(cycle % len(CYCLES)) for cycle in self.each_cycle())})
 
     def mutes(self, kind: str, node: Node, channel: str) -> Iterator[tuple[str, list[str]]]:
         owned = self.slots_of(node, channel)
         for place in [*(f"s{slot}" for slot in owned), *([ALL_STATIC] if owned else [])]:
             if self.selection.wants(kind, [node.number], place):
-                yield place, self.spread(f"mute {node.number} {channel}", place)
+                yield from self.listed(place, self.spread(f"mute {node.number} {channel}", place))
 
-    def losses(self, kind: str, node: Node, channel: str) -> Iterator[tuple[str, list[str]]]:
+    def losses(self, kind: str, node: Node, channels: str) -> Iterator[tuple[str, list[str]]]:
+        """All that the node sends on the channels, or no line at all where it sends nothing there: then it is idle."""
         if not self.selection.wants(kind, [node.number], ALL):
             return
-        front, is_sending = f"mute {node.number} {channel}", self.may_send_dynamic(node, channel)
-        lines = self.spread(front, ALL_STATIC) if self.slots_of(node, channel) else []
-        for it in self.lost(node.number, channel).begun if is_sending else ():
-            is_its_own = it.node == node.number and it.channel == channel and not it.is_babble
-            if is_its_own and it.cycle in self.each_cycle():
-                lines += self.free(front, it.cycle, f"m{it.minislot}")
-        if lines or self.slots_of(node, channel):
-            yield ALL, lines
+        lines: list[str] = []
+        static = [it for it in channels if self.slots_of(node, it)]
+        for channel in static:
+            lines += self.spread(f"mute {node.number} {channel}", ALL_STATIC)
+        dynamic = "".join(it for it in channels if self.may_send_dynamic(node, it))
+        begun = self.plays.lose(node.number, dynamic, self.each_cycle()) if dynamic else []
+        for it in begun:
+            lines += self.free(f"mute {node.number} {it.channel}", it.cycle, f"m{it.minislot}")
+        if static or begun:
+            yield from self.listed(ALL, lines)
+        else:
+            yield ALL, []
 
     def may_send_dynamic(self, node: Node, channel: str) -> bool:
         return any(it.transmits and not self.cluster.is_static(it.slot) and it.channels == channel
                    and (node.number, it.number) in self.has_calls for it in node.buffers)
 
-    def babbles(self, kind: str, node: Node, channel: str) -> Iterator[tuple[str, list[str]]]:
-        front = f"babble {node.number} {channel}"
-        static = [f"s{slot}" for slot in range(1, self.cluster.parameters.static_slots + 1)]
-        for place in [*static, ALL_STATIC, *(f"m{it}" for it in self.minislots(channel))]:
-            if self.selection.wants(kind, [node.number], place):
-                forged = kind == "forged"
-                yield place, self.forged(front, channel, place) if forged else self.spread(front, place, NOISE)
+    def listed(self, place: str, lines: list[str]) -> Iterator[tuple[str, list[str]]]:
+        """The fault, or none where the scenario has left no window to it."""
+        if lines:
+            yield place, lines
+        else:
+            self.left_out.taken += 1
 
-    def minislots(self, channel: str) -> list[int]:
-        """The first minislot, those at which something begins in the run without the fault, and those asked for."""
+    # ---- babbles
+
+    def babbles(self, kind: str, node: Node, channels: str) -> Iterator[tuple[str, list[str]]]:
+        static = [f"s{slot}" for slot in range(1, self.cluster.parameters.static_slots + 1)]
+        for place in [*static, ALL_STATIC]:
+            if self.selection.wants(kind, [node.number], place):
+                made = self.forged if kind == "forged" else self.noisy
+                yield from self.listed(place, [line for it in channels for line in made(node, it, place)])
+        for minislot in self.minislots(channels):
+            if self.selection.wants(kind, [node.number], f"m{minislot}"):
+                if kind == "forged":
+                    yield from self.forged_at(node, channels, minislot)
+                else:
+                    lines = [line for it in channels for line in self.noisy(node, it, f"m{minislot}")]
+                    yield from self.listed(f"m{minislot}", lines)
+
+    def minislots(self, channels: str) -> list[int]:
+        """The first minislot, those at which something begins in the run without the fault on one of the channels, or
+        those asked for."""
         most = self.cluster.parameters.minislots
         if most == 0:
             return []
-        places = self.selection.places
-        if places is not None:
-            asked = sorted(int(it[1:]) for it in places if it[0] == "m")
-            return [it for it in asked if it <= most]
+        if self.selection.places is not None:
+            return [it for it in sorted(self.selection.numbers("m")) if it <= most]
         cycles = self.each_cycle()
-        return sorted({1} | {it.minislot for it in self.recorded().begun
-                             if it.channel == channel and it.cycle in cycles and it.fate == "passed"})
+        return sorted({1} | {it.minislot for it in self.plays.recorded()
+                             if it.channel in channels and it.cycle in cycles and it.fate == "passed"})
 
-    def forged(self, front: str, channel: str, place: str) -> list[str]:
-        """A line for each window, since a frame names its slot and its cycle."""
+    def noisy(self, node: Node, channel: str, place: str) -> list[str]:
+        return self.spread(f"babble {node.number} {channel}", place, NOISE)
+
+    def forged(self, node: Node, channel: str, place: str) -> list[str]:
+        """A line for each static window, since a frame names its slot and its cycle."""
         lines = []
-        static, words = self.cluster.parameters.static_slots, self.cluster.parameters.static_words
-        slots = range(1, static + 1) if place == ALL_STATIC else () if place[0] == "m" else [int(place[1:])]
+        front, payload = f"babble {node.number} {channel}", FORGED_WORD * self.cluster.parameters.static_words
+        slots = range(1, self.cluster.parameters.static_slots + 1) if place == ALL_STATIC else [int(place[1:])]
         for cycle in self.each_cycle():
-            if place[0] == "m":
-                slot = self.recorded().opened.get((channel, cycle, int(place[1:])))
-                named = [] if slot is None or slot > LAST_SLOT else [(slot, place, FORGED_WORD)]
-            else:
-                named = [(slot, f"s{slot}", FORGED_WORD * words) for slot in slots]
-            for slot, where, payload in named:
+            for slot in slots:
                 frame = data_frame(slot, cycle % len(CYCLES), payload, channel)
-                lines += self.free(front, cycle, where, frame)
+                lines += self.free(front, cycle, f"s{slot}", frame)
         return lines
 
-    def of_channels(self, kind: str) -> Iterator[SingleFault]:
+    def forged_at(self, node: Node, channels: str, minislot: int) -> Iterator[tuple[str, list[str]]]:
+        """A line for each cycle and channel in which a slot is open at the minislot in the run with the fault."""
+        place = f"m{minislot}"
+        free = frozenset((cycle, channel) for cycle in self.each_cycle() for channel in channels
+                         if self.free(f"babble {node.number} {channel}", cycle, place, NOISE))
+        if not free:
+            self.left_out.taken += 1
+            return
+        lines = []
+        for (cycle, channel), slot in sorted(self.opened_at(node, minislot, free).items()):
+            kind, number, _, frame = forged_babble(node.number, channel, slot, cycle).split(" ")
+            lines.append(f"{kind} {number} {channel} {cycle} {place} {frame}")
+        if lines:
+            yield place, lines
+        else:
+            self.left_out.unopened += 1
+
+    def opened_at(self, node: Node, minislot: int, free: frozenset[Occasion]) -> dict[Occasion, int]:
+        """The slots that are open in the run with the fault. The dynamic segment isn't guarded and no task acts on what
+        it receives, so they are the same whichever node forges the frames, and one run tells them for all nodes."""
+        key = minislot, free
+        if key not in self.opened:
+            self.opened[key] = self.plays.forge(node.number, minislot, free)
+        return self.opened[key]
+
+    # ---- disturbed frames
+
+    def of_frames(self, kind: str) -> Iterator[SingleFault]:
         words = self.cluster.parameters.static_words
         bit = {"header": HEADER_BIT, "payload": HEADER_BITS, "trailer": HEADER_BITS + 16 * words}[kind]
         if kind == "payload" and words == 0:
@@ -219,8 +297,8 @@ class Listing:
                     owners.setdefault(slot, []).append(node.number)
             for slot, nodes in sorted(owners.items()):
                 if self.selection.wants(kind, nodes, f"s{slot}"):
-                    lines = self.spread(f"corrupt {channel}", f"s{slot}", bit)
-                    yield SingleFault(kind, None, channel, self.word, f"s{slot}", tuple(lines))
+                    for place, lines in self.listed(f"s{slot}", self.spread(f"corrupt {channel}", f"s{slot}", bit)):
+                        yield SingleFault(kind, None, channel, self.word, place, tuple(lines))
 
     # ---- lines
 
@@ -250,9 +328,11 @@ def worded(front: str, cycles: str, place: str, last: bytes | int | None) -> Fau
 
 
 def is_stopped(fault: SingleFault, cluster: Cluster, cycles: int) -> bool:
-    """Whether it is a babble in a guarded static slot that its node doesn't own in any of the fault's cycles."""
-    if not fault.is_babble or fault.slot is None or fault.channel not in cluster.guard:
+    """Whether it is a babble in a static slot that is guarded on all its channels, and that its node doesn't own on any
+    of them in any of the fault's cycles."""
+    slot = fault.slot
+    if not fault.is_babble or fault.node is None or slot is None or not set(fault.channels) <= set(cluster.guard):
         return False
     node = cluster.nodes[fault.node]
     named = range(cycles) if fault.cycles == EVERY else [int(fault.cycles)]
-    return not any(node.owns(fault.slot, fault.channel, cycle % len(CYCLES)) for cycle in named)
+    return not any(node.owns(slot, it, cycle % len(CYCLES)) for cycle in named for it in fault.channels)

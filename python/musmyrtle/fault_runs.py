@@ -15,7 +15,7 @@ from musmyrtle.fault_list import SingleFault
 OUTCOME = ("fr_view", "outcome")
 """The program and its command that print the outcome of a run."""
 CLUSTER_FILE, SCENARIO_FILE = "cluster.toml", "scenario"
-LOG_VERSION = 1
+LOG_VERSION = 2
 
 
 def outcome_words(cluster: str, scenario: str, cycles: int) -> list[str]:

@@ -1,19 +1,48 @@
 """The table of what faults cost, as a text, its summary, and what is worse than in an earlier one."""
 from collections.abc import Iterable, Iterator
+from dataclasses import dataclass, field
 
 from musmyrtle.cluster import Cluster
-from musmyrtle.fault_costs import COSTS, EFFECTS, FAILED, RANKS, Difference
-from musmyrtle.fault_list import KINDS, SingleFault, is_stopped
+from musmyrtle.fault_costs import COSTS, EFFECTS, FAILED, IDLE, LOSSES, NOT_COMPARABLE, RANKS, Difference, worst
+from musmyrtle.fault_labels import ONE_CHANNEL, Labels
+from musmyrtle.fault_list import KINDS, LeftOut, SingleFault, is_stopped
 from musmyrtle.findings import counted
 
-COLUMNS = ("kind", "node", "channel", "cycles", "place", "receiver", "thing", "effect", "amount", "without", "with")
+COLUMNS = ("kind", "node", "channels", "cycles", "place", "receiver", "thing", "effect", "amount", "without", "with")
 HEADING = "\t".join(COLUMNS) + "\n"
+HEADING_OF_ONE_CHANNEL = HEADING.replace("channels", "channel")
+"""The heading of earlier versions, whose faults are all of one channel."""
 Done = list[tuple[SingleFault, list[Difference]]]
 """Faults in the order of their list, each with what differs in its run."""
+HARMLESS_WORDS = ("harmless: nothing that a receiver holds is lost or worse; the counters may differ (counted), the same "
+                  "frame may come by the other channel (channel), a newer frame may come (newer), and more commits may "
+                  "be sent (sent)")
 
 
 class BadTable(ValueError):
     """A text that is no table of this form."""
+
+
+@dataclass(frozen=True)
+class Results:
+    """All faults with what they cost, and what is told beside them."""
+
+    done: Done
+    cluster: Cluster
+    cycles: int
+    left_out: LeftOut = field(default_factory=LeftOut)
+    overwritten: dict[int, int] = field(default_factory=dict)
+    """For each node whose FIFO overwrites frames without any fault how many."""
+    labels: Labels = field(default_factory=Labels)
+
+    @property
+    def runs(self) -> Done:
+        """The faults that have a run: all but those of idle nodes."""
+        return [(fault, found) for fault, found in self.done if not fault.is_idle]
+
+    @property
+    def idle(self) -> list[SingleFault]:
+        return [fault for fault, _ in self.done if fault.is_idle]
 
 
 def table(done: Done) -> Iterator[str]:
@@ -25,43 +54,70 @@ def table(done: Done) -> Iterator[str]:
             yield "\t".join(words) + "\n"
 
 
-Ranks = dict[tuple[str, ...], tuple[int, int]]
+def listed(faults: Iterable[SingleFault]) -> Iterator[str]:
+    """A line for each fault: its words, and `idle` where its node sends nothing there."""
+    for fault in faults:
+        yield "\t".join((*fault.words, IDLE) if fault.is_idle else fault.words) + "\n"
+
+
+@dataclass(frozen=True)
+class Ranks:
+    """How bad each thing is in a table that was printed: by the words of the fault, the receiver and the thing."""
+
+    ranks: dict[tuple[str, ...], tuple[int, int]]
+    is_of_one_channel: bool
+    """Whether it is of an earlier version, which had no faults of both channels."""
+
+    def has(self, fault: SingleFault) -> bool:
+        """Whether the list of the table can have had the fault."""
+        return not (self.is_of_one_channel and fault.is_of_both)
 
 
 def read_ranks(text: str) -> Ranks:
-    """How bad each thing is in a table that was printed: by the words of the fault, the receiver and the thing."""
     lines = text.split("\n")
-    if lines[0] + "\n" != HEADING or lines[-1]:
+    if lines[0] + "\n" not in (HEADING, HEADING_OF_ONE_CHANNEL) or lines[-1]:
         raise BadTable("isn't a table of fr_faults that is whole")
-    ranks = {}
+    ranks: dict[tuple[str, ...], tuple[int, int]] = {}
     for number, line in enumerate(lines[1:-1], 2):
         words = line.split("\t")
         if len(words) != len(COLUMNS) or words[7] not in EFFECTS or not words[8].isdecimal():
             raise BadTable(f"has no fault in line {number}")
         key = tuple(words[:7])
         ranks[key] = max(ranks.get(key, (-1, 0)), (RANKS[words[7]], int(words[8])))
-    return ranks
+    return Ranks(ranks, lines[0] + "\n" != HEADING)
 
 
 def worse(done: Done, before: Ranks) -> list[tuple[SingleFault, Difference]]:
-    """What costs more than in an earlier table, or did not cost anything in it."""
+    """What costs more than in an earlier table, or did not cost anything in it. A fault that its list can't have had
+    isn't compared."""
     found = []
     for fault, differences in done:
-        for it in differences:
+        for it in differences if before.has(fault) else ():
             key = (*fault.words, "-" if it.node is None else str(it.node), it.thing)
-            if (it.is_cost or it.effect in FAILED) and it.rank > before.get(key, (-1, 0)):
+            if it.is_cost and it.rank > before.ranks.get(key, (-1, 0)):
                 found.append((fault, it))
     return found
 
 
+def not_compared(done: Done, before: Ranks) -> Iterator[str]:
+    """The lines that say what isn't held against an earlier table."""
+    new = sum(not before.has(fault) for fault, _ in done)
+    if new:
+        yield (f"{counted(new, 'fault')} on both channels aren't compared: the table is of an earlier version, which "
+               "had none; make it anew\n")
+    failures = sum(is_failed(found) for _, found in done)
+    if failures:
+        yield f"{counted(failures, 'run')} failed, and aren't compared\n"
+
+
 # ---- in words
 
-def told(it: Difference, nodes: list[str] | None = None) -> str:
+def told(it: Difference, labels: Labels = Labels()) -> str:
     """What a difference means, as `node 3 has lost rx 2`."""
-    if it.effect in FAILED:
-        return f"{it.effect}: {it.having}"
-    who = f"node {it.node}" if nodes is None else nodes[it.node]
+    if it.node is None:
+        return f"{it.effect}: {it.having}" if it.effect in FAILED else it.effect
     more = {
+        NOT_COMPARABLE: f"{NOT_COMPARABLE}, which counts as a loss",
         "lost": counted(it.amount, "frame") + " lost" if it.thing == "queue" else "lost",
         "older": f"older by {counted(it.amount, 'cycle')}",
         "changed": counted(it.amount, "other frame") if it.thing == "queue" else "another payload",
@@ -72,48 +128,90 @@ def told(it: Difference, nodes: list[str] | None = None) -> str:
         "counted": "counted otherwise",
         "sent": "sent otherwise",
     }
-    return f"{who} {it.thing}: {more[it.effect]}"
+    return f"{labels.node(it.node)} {labels.thing(it.node, it.thing)}: {more[it.effect]}"
 
 
-def summary(done: Done, cluster: Cluster, cycles: int, left_out: int) -> Iterator[str]:
-    """For each kind how many runs there were, how many of them cost nothing, and what the others cost."""
-    names = ("runs", "harmless", *COSTS, "failed")
-    rows = [("kind", *names)]
-    for kind in KINDS:
-        of_kind = [found for fault, found in done if fault.kind == kind]
-        if of_kind:
-            rows.append((kind, *map(str, counts(of_kind))))
-    rows.append(("all", *map(str, counts([found for _, found in done]))))
-    widths = [max(len(row[column]) for row in rows) for column in range(len(rows[0]))]
-    for row in rows:
-        first, *rest = (word.rjust(width) for word, width in zip(row, widths))
-        yield "  ".join([row[0].ljust(widths[0]), *rest]) + "\n"
-    yield "harmless: nothing differs but counters, and the channel that a frame came by; the rest count faults\n"
-    yield from stopped(done, cluster, cycles)
-    if left_out:
-        yield f"{counted(left_out, 'fault')} left out: the scenario has one of the kind in each of their windows\n"
+def kind_label(kind: str, is_of_both: bool) -> str:
+    return f"{kind}, both channels" if is_of_both else f"{kind}, {ONE_CHANNEL}"
 
 
-def counts(of_kind: list[list[Difference]]) -> list[int]:
-    """Runs, harmless ones, those with each of the costs, and those that failed."""
-    harmless = sum(not any(it.is_cost or it.effect in FAILED for it in found) for found in of_kind)
-    of_costs = [sum(any(it.effect == cost for it in found) for found in of_kind) for cost in COSTS]
-    return [len(of_kind), harmless, *of_costs, sum(any(it.effect in FAILED for it in found) for found in of_kind)]
+def rows(results: Results) -> Iterator[tuple[str, str, list[int]]]:
+    """For each kind, on both channels and on one, its label, what it is, and the counts of its runs; at last of all."""
+    runs = results.runs
+    for kind, what in KINDS.items():
+        for is_of_both in (True, False):
+            found = [it for fault, it in runs if fault.kind == kind and fault.is_of_both == is_of_both]
+            if found:
+                yield kind_label(kind, is_of_both), what, counts(found)
+    yield "all", "", counts([it for _, it in runs])
 
 
-def stopped(done: Done, cluster: Cluster, cycles: int) -> Iterator[str]:
-    """What the guardians stop, and that nothing comes of it."""
-    found = [found for fault, found in done if is_stopped(fault, cluster, cycles)]
-    if found:
-        costing = sum(bool(it) for it in found)
-        yield (f"of the babbles in guarded static slots that aren't the node's own, {len(found)}, "
-               f"{costing or 'none'} made any difference to anybody\n")
+COUNTED = ("runs", "harmless", *COSTS, "failed")
+"""What the counts of runs are of. Each run is counted once after the first, by its worst effect."""
+
+
+def counts(runs: list[list[Difference]]) -> list[int]:
+    words = [verdict(it) for it in runs]
+    return [len(runs), *(words.count(it) for it in COUNTED[1:])]
+
+
+def verdict(found: list[Difference]) -> str:
+    """The worst that a run showed: a cost, `failed` where it has no outcome, or `harmless`."""
+    bad = worst(found)
+    if bad is None:
+        return "harmless"
+    return "failed" if bad.effect in FAILED else bad.effect if bad.is_cost else "harmless"
+
+
+def is_failed(found: list[Difference]) -> bool:
+    return any(it.effect in FAILED for it in found)
+
+
+def summary(results: Results) -> Iterator[str]:
+    """For each kind how many runs there were, how many of them cost nothing, and what the others cost at worst."""
+    lines = [("kind", *COUNTED), *((label, *map(str, numbers)) for label, _, numbers in rows(results))]
+    widths = [max(len(line[column]) for line in lines) for column in range(len(lines[0]))]
+    for line in lines:
+        rest = (word.rjust(width) for word, width in zip(line[1:], widths[1:]))
+        yield "  ".join([line[0].ljust(widths[0]), *rest]) + "\n"
+    yield "each run is counted once, by the worst that it costs\n"
+    yield HARMLESS_WORDS + "\n"
+    for note in notes(results):
+        yield note + "\n"
+
+
+def notes(results: Results) -> Iterator[str]:
+    """Sentences on the runs as a whole."""
+    yield from stopped(results)
+    for node, count in sorted(results.overwritten.items()):
+        yield (f"{results.labels.node(node)}: FIFO not emptied by the scenario: {counted(count, 'frame')} overwritten "
+               "without any fault")
+    if results.idle:
+        yield (f"{counted(len(results.idle), 'fault')} idle, without a run, since the node sends nothing there: "
+               + ", ".join(f"node {it.node} on {' and '.join(it.channels)}" for it in results.idle))
+    if results.left_out.taken:
+        yield (f"{counted(results.left_out.taken, 'fault')} left out: the scenario has one of the kind in each of their "
+               "windows")
+    if results.left_out.unopened:
+        yield f"{counted(results.left_out.unopened, 'fault')} left out: no slot opens at their minislot"
+
+
+def stopped(results: Results) -> Iterator[str]:
+    """What the guardians stop, and that nothing comes of it. Only runs with an outcome count."""
+    of_others = [found for fault, found in results.runs if is_stopped(fault, results.cluster, results.cycles)]
+    completed = [found for found in of_others if not is_failed(found)]
+    if not of_others:
+        return
+    costing, failures = sum(bool(it) for it in completed), len(of_others) - len(completed)
+    is_told = f"{costing or 'none'} made any difference to anybody" if completed else "no run completed"
+    yield (f"of the babbles in guarded static slots that aren't the node's own, {len(completed)}, {is_told}"
+           + (f"; {counted(failures, 'run')} of such babbles failed and aren't counted" if failures else ""))
 
 
 def hurting(done: Done) -> list[tuple[list[SingleFault], list[Difference]]]:
-    """The faults that cost something, together where they cost the same, and those first that cost the most: by what is
-    lost, then older, then changed, and of each by how many things, with how much of it."""
-    alike: dict[tuple, tuple[list[SingleFault], list[Difference]]] = {}
+    """The faults that cost something, together where they cost the same, and those first that cost the most: by how
+    many things aren't comparable, then lost, older, changed, and of each by how much."""
+    alike: dict[tuple[object, ...], tuple[list[SingleFault], list[Difference]]] = {}
     for fault, found in done:
         costs = [it for it in found if it.is_cost]
         if costs:
@@ -122,11 +220,14 @@ def hurting(done: Done) -> list[tuple[list[SingleFault], list[Difference]]]:
     return sorted(alike.values(), key=lambda it: weight(it[1]), reverse=True)
 
 
-def weight(found: list[Difference]) -> tuple:
+def weight(found: list[Difference]) -> tuple[tuple[int, int], ...]:
     of_each = ([it.amount for it in found if it.effect == cost] for cost in COSTS)
     return tuple((len(amounts), sum(amounts)) for amounts in of_each)
 
 
 def has_effect(done: Done, effects: Iterable[str]) -> bool:
+    """Whether a fault has one of the effects. What isn't comparable counts as lost."""
     wanted = set(effects)
+    wanted |= set(LOSSES) if "lost" in wanted else set()
     return any(it.effect in wanted for _, found in done for it in found)
+

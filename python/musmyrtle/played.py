@@ -1,20 +1,30 @@
-"""A scenario's run done by requests to its world, for what the run's outcome doesn't say.
+"""Runs played in a session with `fr_world`, for what the outcome of a run doesn't say.
 
-An outcome names the entry of a journal that a frame came by, and not the cycle; it doesn't say which frames came to a
-queue; and where in the dynamic segment nodes send follows only from what is sent before. A session with `fr_world`
-tells all three.
+An outcome names the journal entry that brought a frame, and not its cycle. It counts the frames of a receive FIFO, and
+doesn't say which they are. The minislots at which nodes send follow only from what is sent before them.
 """
-from collections.abc import Iterable
+from collections.abc import Callable, Collection, Iterable
 from dataclasses import dataclass, field
 
-from musmyrtle.cluster import Cluster
+from musmyrtle.cluster import CYCLES, Cluster
+from musmyrtle.fifos import Fifo, Unread, read_fifo
+from musmyrtle.frames import data_frame
+from musmyrtle.refusals import Refused, SessionOver, refusal
 from musmyrtle.replies import Window, record_of, window_of
 from musmyrtle.scenario import FaultLine, Line, Scenario
 from musmyrtle.session import FileName
+from musmyrtle.traces import fetched
 from musmyrtle.world import World
 
 AT_ONCE = 50
 """Requests that are written before their replies are read: both have to fit a pipe."""
+FORGED_WORD = b"\xa5\x5a"
+"""The payload of a forged frame in the dynamic segment, and each word of one in a static slot."""
+
+Fifos = dict[int, Fifo | str]
+"""For each node that has a receive FIFO what became of its frames, or why that can't be read."""
+Occasion = tuple[int, str]
+"""A cycle of the run, and a channel."""
 
 
 @dataclass(frozen=True)
@@ -23,10 +33,7 @@ class Begun:
 
     cycle: int
     minislot: int
-    slot: int
     channel: str
-    node: int
-    is_babble: bool
     fate: str
 
 
@@ -36,99 +43,163 @@ class Played:
 
     starts: list[int] = field(default_factory=list)
     """The number of the first window of each cycle."""
-    came: dict[int, list[str]] = field(default_factory=dict)
-    """The frames that the tasks of each node popped, and then those that were still in its queue, as the world tells
-    them. A node whose task can't pop what is left isn't there."""
+    fifos: Fifos = field(default_factory=dict)
     begun: list[Begun] = field(default_factory=list)
     """What was begun in the dynamic segment, if that was asked for."""
-    opened: dict[tuple[str, int, int], int] = field(default_factory=dict)
-    """The slot that a channel opened in a cycle at a minislot, if that was asked for."""
+    slots: dict[Occasion, int] = field(default_factory=dict)
+    """The slot that a channel opened in a cycle at the minislot that was watched, if one was."""
 
 
 class Player:
-    """Plays a cluster and a scenario for some cycles, with further fault lines beside those of the scenario."""
+    """Plays a cluster and a scenario for some cycles, with further faults beside those of the scenario.
 
-    def __init__(self, program: FileName | None, file: FileName, cluster: Cluster, scenario: Scenario, cycles: int):
-        self.program, self.file, self.cluster = program, file, cluster
+    PROGRAM is `fr_world` and VIEWER is `fr_view`. Each call plays one run. All raise `SessionOver` where the session
+    ends early, and `Refused` where it refuses a request.
+    """
+
+    def __init__(self, program: FileName | None, viewer: FileName, file: FileName, cluster: Cluster,
+                 scenario: Scenario, cycles: int) -> None:
+        self.program, self.viewer, self.file, self.cluster = program, viewer, file, cluster
         self.scenario, self.cycles = scenario, cycles
         self.calls: dict[int, list[Line]] = {}
         for _, lines in scenario.numbered():
             for line in lines:
                 self.calls.setdefault(line.value("CYCLE"), []).append(line)
 
-    def play(self, lines: Iterable[str] = (), is_recorded: bool = False, lost: tuple[int, str] | None = None) -> Played:
-        """The run with these fault lines. With LOST, a node and a channel, what that node offers there in the dynamic
-        segment is lost too, wherever it comes."""
-        added = [FaultLine(0, tuple(it.split(" "))) for it in lines]
-        faults = [*self.scenario.faults, *added]
-        with World(self.file, self.cycles, program=self.program) as world:
-            return Play(self, world, faults, is_recorded, lost).run()
+    def play(self, lines: Iterable[str] = (), watched: int | None = None) -> Played:
+        """Returns what the run with these fault lines showed, with the slots that were open at the minislot WATCHED."""
+        with self.opened(lines) as world:
+            play = Play(self, world)
+            play.run()
+            if watched is not None:
+                play.watch(watched)
+            play.read_fifos()
+            return play.played
+
+    def record(self) -> Played:
+        """Returns what the run of the scenario showed, with what was begun in the dynamic segment."""
+        with self.opened() as world:
+            play = Play(self, world)
+            is_stepped = self.cluster.parameters.minislots > 0
+            play.run(range(self.cycles) if is_stepped else (), lambda cycle, window: [], play.record)
+            play.read_fifos()
+            return play.played
+
+    def lose(self, node: int, channels: str, cycles: range) -> list[Begun]:
+        """Returns what the node offers in the dynamic segment in a run in which all of that is lost, on these channels
+        and in these cycles."""
+        def due(cycle: int, window: Window) -> list[str]:
+            return [f"mute {node} {channel}" for channel in channels]
+
+        with self.opened() as world:
+            Play(self, world).run(cycles, due)
+            return [Begun(it.cycle, it.minislot, channel, "muted") for it in fetched(world.block(f"trace {node}"))
+                    for channel in channels if it.minislot and it.cycle in cycles and it.offers[channel] != "-"]
+
+    def forge(self, node: int, minislot: int, occasions: Collection[Occasion]) -> dict[Occasion, int]:
+        """Returns the slots that are open at the minislot in a run in which the node babbles a frame of the open slot
+        there, on each occasion on which one is open."""
+        found: dict[Occasion, int] = {}
+        channels = sorted({channel for _, channel in occasions})
+
+        def due(cycle: int, window: Window) -> list[str] | None:
+            if window.minislot < minislot:
+                return []
+            slots = {channel: window.slot(channel) for channel in channels if window.minislot == minislot}
+            here = {channel: slot for channel, slot in slots.items() if slot and (cycle, channel) in occasions}
+            found.update({(cycle, channel): slot for channel, slot in here.items()})
+            return [forged_babble(node, channel, slot, cycle) for channel, slot in here.items()] or None
+
+        with self.opened() as world:
+            Play(self, world).run({cycle for cycle, _ in occasions}, due)
+        return found
+
+    def opened(self, lines: Iterable[str] = ()) -> World:
+        world = World(self.file, self.cycles, program=self.program)
+        try:
+            for line in (*self.scenario.faults, *(FaultLine(0, tuple(it.split(" "))) for it in lines)):
+                world.keep(" ".join(line.words))
+        except BaseException:
+            world.close()
+            raise
+        return world
+
+
+def forged_babble(node: int, channel: str, slot: int, cycle: int) -> str:
+    return f"babble {node} {channel} x{data_frame(slot, cycle % len(CYCLES), FORGED_WORD, channel).hex()}"
+
+
+Due = Callable[[int, Window], list[str] | None]
+"""The requests that come in a dynamic window of a cycle before it is done, or None where the rest of the cycle isn't
+done window by window."""
+Seen = Callable[[int, Window], None]
 
 
 class Play:
     """One run that is played."""
 
-    def __init__(self, player: Player, world: World, faults: list[FaultLine], is_recorded: bool, lost):
-        self.player, self.world, self.faults, self.lost = player, world, faults, lost
-        self.is_recorded, self.played = is_recorded or lost is not None, Played()
+    def __init__(self, player: Player, world: World) -> None:
+        self.player, self.world, self.played = player, world, Played()
 
-    def run(self) -> Played:
-        for it in self.faults:
-            self.world.keep(" ".join(it.words))
+    def run(self, stepped: Collection[int] = (), due: Due | None = None, seen: Seen | None = None) -> None:
+        """Does all cycles, those STEPPED with DUE and SEEN for each dynamic window."""
         window = self.world.now()
         for cycle in range(self.player.cycles):
+            if window is None:
+                raise SessionOver(f"the run is over before cycle {cycle}")
             self.played.starts.append(window.number)
             self.call(cycle)
-            window = self.shown(cycle) if self.is_recorded else self.world.cycle()
-        for node in self.player.cluster.nodes:
-            if node.queue:
-                self.empty(node.number)
-        return self.played
-
-    def empty(self, node: int) -> None:
-        """Pops what is left in the queue of a node, now that its run is over."""
-        reply = self.world.send([f"pop {node} 0"])[0]
-        while reply.startswith("frame ") and reply != "frame -":
-            self.played.came.setdefault(node, []).append(reply)
-            reply = self.world.send([f"pop {node} 0"])[0]
-        if reply == "frame -":
-            self.played.came.setdefault(node, [])
-        else:
-            self.played.came.pop(node, None)
+            window = self.step(cycle, due, seen) if due and cycle in stepped else self.world.cycle()
 
     def call(self, cycle: int) -> None:
         """Does the lines of the tasks, as a scenario orders them."""
         for line in self.player.calls.get(cycle, ()):
-            words = [line.kind, *line.words[1:3], *line.words[4:]]
-            reply = self.world.send([" ".join(words)])[0]
-            if line.kind == "pop" and reply != "frame -":
-                self.played.came.setdefault(line.value("NODE"), []).append(reply)
+            self.world.ask(" ".join([line.kind, *line.words[1:3], *line.words[4:]]))
 
-    def shown(self, cycle: int) -> Window | None:
-        """Does the windows of the cycle, the dynamic ones one by one. Answers the first window of the next."""
-        static_slots, reply = self.player.cluster.parameters.static_slots, ""
+    def step(self, cycle: int, due: Due, seen: Seen | None) -> Window | None:
+        """Does the windows of the cycle, the dynamic ones one by one. Returns the first window of the next."""
+        static_slots, window = self.player.cluster.parameters.static_slots, None
         for at in range(0, static_slots, AT_ONCE):
-            reply = self.world.send(["window"] * min(AT_ONCE, static_slots - at))[-1]
-        window = moved(reply)
+            window = self.moved(["window"] * min(AT_ONCE, static_slots - at))
         while window and not window.opens_cycle:
-            requests = [f"mute {self.lost[0]} {self.lost[1]}"] if self.lost else []
-            after = moved(self.world.send([*requests, "window"])[-1])
-            self.record(cycle, window)
+            requests = due(cycle, window)
+            if requests is None:
+                return self.world.cycle()
+            after = self.moved([*requests, "window"])
+            if seen:
+                seen(cycle, window)
             window = after
         return window
 
+    def moved(self, requests: list[str]) -> Window | None:
+        """Makes the requests. Returns the window that is open then, or nothing once the run is over."""
+        replies = self.world.send(requests)
+        for request, reply in zip(requests, replies):
+            if reply.startswith("refused "):
+                raise refusal(reply, request)
+        kind, *words = replies[-1].split(" ")
+        return None if kind == "over" else window_of(words)
+
     def record(self, cycle: int, window: Window) -> None:
-        for channel in "AB":
-            if window.slot(channel) is not None:
-                self.played.opened[channel, cycle, window.minislot] = window.slot(channel)
         for it in record_of(self.world.block(f"record {window.number}")).sent:
-            slot = window.slot(it.channel)
-            if slot is not None:
-                begun = Begun(cycle, window.minislot, slot, it.channel, it.node, it.babble, it.fate)
-                self.played.begun.append(begun)
+            if window.slot(it.channel) is not None:
+                self.played.begun.append(Begun(cycle, window.minislot, it.channel, it.fate))
 
+    def watch(self, minislot: int) -> None:
+        """Reads which slots were open at the minislot. All nodes fetch the same windows."""
+        for it in fetched(self.world.block("trace 0")):
+            if it.minislot == minislot:
+                open_slots = {channel: slot for channel, slot in it.slots.items() if slot != "-"}
+                self.played.slots |= {(it.cycle, channel): int(slot) for channel, slot in open_slots.items()}
 
-def moved(reply: str) -> Window | None:
-    """The window that is open then, or nothing once the run is over."""
-    kind, *words = reply.split(" ")
-    return None if kind == "over" else window_of(words)
+    def read_fifos(self) -> None:
+        for node in self.player.cluster.nodes:
+            if node.queue:
+                self.played.fifos[node.number] = self.read_fifo(node.number, node.queue.capacity)
+
+    def read_fifo(self, node: int, capacity: int) -> Fifo | str:
+        try:
+            trace = self.world.block(f"trace {node}")
+            return read_fifo(self.player.viewer, trace, capacity, self.player.cluster.parameters)
+        except (Unread, Refused) as error:
+            return str(error)

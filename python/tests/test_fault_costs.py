@@ -1,33 +1,15 @@
-"""What a fault costs: outcomes are read strictly, and one is held against another."""
-import os
+"""What a fault costs: outcomes are read strictly, and one is compared with another."""
 import unittest
-from pathlib import Path
-from tempfile import TemporaryDirectory
 
-from musmyrtle.cluster import Reading as ClusterReading
-from musmyrtle.fault_campaign import Campaign, Means
-from musmyrtle.fault_costs import Calendar, Difference, Ended, differences
+from musmyrtle.fault_costs import COSTS, EFFECTS, FAILED, HARMLESS, IDLE, Calendar, Ended, differences
 from musmyrtle.fault_list import Selection
-from musmyrtle.fault_runs import OUTCOME as FORM
-from musmyrtle.fault_runs import Folder, Log
+from musmyrtle.fault_table import verdict
 from musmyrtle.outcomes import BadOutcome, read_outcome
-from musmyrtle.program import usual_program
-from musmyrtle.scenario import Reading as ScenarioReading
-from musmyrtle.session import usual_world
-from musmyrtle.texts import read_text
-from tests.cases import CLUSTER, EXAMPLES, SCENARIO
+from tests.campaigns import PROGRAM, CampaignCases, cluster_of, scenario_of
+from tests.cases import CLUSTER, SCENARIO
 from tests.two_nodes import OUTCOME, SCENE, TWO_NODES
 
-PROGRAM = os.environ.get(FORM[0].upper()) or usual_program(FORM[0])
 FRESH_A, FRESH_B, PERIODIC = "1:A x0c0d", "1:B x0c0d", "1:A x1111"
-
-
-def cluster_of(text: str):
-    return ClusterReading(read_text("cluster.toml", text.encode()).document).cluster
-
-
-def scenario_of(text: str):
-    return ScenarioReading("scenario", text.encode()).scenario
 
 
 class TestOutcomes(unittest.TestCase):
@@ -59,10 +41,9 @@ class TestOutcomes(unittest.TestCase):
         self.assertEqual([calendar.cycle(1, it) for it in (2, 4, 6, 10, 12)], [0, 0, 1, 1, 2])
         self.assertEqual([calendar.cycle(2, it) for it in (1, 3, 5, 9, 11)], [0, 0, 1, 1, 2])
 
-    def compared(self, without: str, having: str, cluster: str = TWO_NODES, came=({}, {})) -> list[tuple]:
+    def compared(self, without: str, having: str) -> list[tuple]:
         calendar = Calendar(scenario_of(SCENE), [0, 2])
-        ends = [Ended(read_outcome(text, cluster_of(cluster)), calendar, frames)
-                for text, frames in zip((without, having), came)]
+        ends = [Ended(read_outcome(text, cluster_of(TWO_NODES)), calendar, {}) for text in (without, having)]
         return [(it.node, it.thing, it.effect, it.amount) for it in differences(*ends)]
 
     def changed(self, *changes: str) -> list[tuple]:
@@ -88,21 +69,9 @@ class TestOutcomes(unittest.TestCase):
         waiting = OUTCOME.replace("2 2 0 0 0", "2 1 0 1 0")
         self.assertEqual(self.compared(waiting, OUTCOME), [(0, "tx 0", "sent", 1)])
 
-    def test_queues(self):
-        """By the frames that came, where these are known, and by counts where not."""
-        queue = 'queue = {capacity = 4, first = 1, last = 2, channels = "A"}\n'
-        cluster = TWO_NODES.replace("[[node]]\n", f"[[node]]\n{queue}", 1)
-        one, two = (OUTCOME.replace("A 2", f"queue {it}\nA 2", 1) for it in ("2 0", "1 0"))
-        for frames, wanted in ((("ab", "a"), [("lost", 1)]), (("ab", "bc"), [("lost", 1), ("changed", 1)]),
-                               (("ab", "abc"), [("changed", 1)]), (("ab", "ba"), [("changed", 1)])):
-            found = self.compared(one, two, cluster, [{0: list(it)} for it in frames])
-            self.assertEqual(found, [(0, "queue", *it) for it in wanted], frames)
-        self.assertEqual(self.compared(one, one, cluster, ({0: ["a", "b"]}, {0: ["b", "c"]})),
-                         [(0, "queue", "lost", 1), (0, "queue", "changed", 1)])
-        self.assertEqual(self.compared(one, two, cluster), [(0, "queue", "lost", 1)])
-        self.assertEqual(self.compared(two, one, cluster), [(0, "queue", "changed", 1)])
-        with self.assertRaises(BadOutcome):
-            read_outcome(one.replace("queue 2", "queue 5"), cluster_of(cluster))
+    def test_words_of_effects(self):
+        """Each effect is a cost, harmless, a failure, or that there was no run."""
+        self.assertEqual(sorted(EFFECTS), sorted((*FAILED, *COSTS, *HARMLESS, IDLE)))
 
 
 def heard(node: int, without: str, having: str, channel: str) -> tuple:
@@ -124,11 +93,13 @@ def slot_2_lost(counts: str) -> list[tuple]:
     return [(0, "rx 1", "lost", 1, PERIODIC, "-"), heard(0, TWICE, counts, "A")]
 
 
+LOST_1 = (1, "rx 1", "lost", 1, FRESH_A, "-")
+SLOT_2_GONE_A = slot_2_lost(QUIET)[0]
 FORGED_HELD = (0, "rx 2", "changed", 1, "-", "1:B xa55a")
 OWN_CONFLICT_1 = [heard(0, TWICE, "2 0 0 0 2", "A"), *by_other_channel("0 2 0 0 0")]
 OWN_CONFLICT_2 = [*slot_2_lost("0 2 0 0 0"), heard(1, TWICE, "2 0 0 0 2", "A")]
-TURNED_1, TURNED_2 = by_other_channel("0 2 0 0 0"), slot_2_lost("0 2 0 0 0")
-TURNED_B = [heard(1, TWICE, "0 2 0 0 0", "B")]
+FLIPPED_1, FLIPPED_2 = by_other_channel("0 2 0 0 0"), slot_2_lost("0 2 0 0 0")
+FLIPPED_B = [heard(1, TWICE, "0 2 0 0 0", "B")]
 SLOT_1_GONE = (("mute", "s1"), ("mute", "s*"), ("lost", "all"))
 SLOT_2_GONE = (("mute", "s2"), ("mute", "s*"), ("lost", "all"))
 BY_HAND = {
@@ -152,29 +123,36 @@ BY_HAND = {
     "forged 0 B * s*": [heard(0, QUIET, "0 0 0 0 2", "B"), heard(1, TWICE, "2 2 0 0 0", "B")],
     "forged 1 B * s2": [FORGED_HELD, heard(0, QUIET, TWICE, "B")],
     "forged 1 B * s*": [FORGED_HELD, heard(0, QUIET, "2 0 0 0 2", "B"), heard(1, TWICE, "0 0 0 0 2", "B")],
-    # A turned bit makes a frame one that can't be read.
+    # Both channels: what the guardian of A stops is as on B alone; what it lets pass spoils the node's own slot.
+    "lost 0 AB * all": [LOST_1, heard(1, TWICE, QUIET, "A"), heard(1, TWICE, QUIET, "B")],
+    "lost 1 AB * all": slot_2_lost(QUIET),
+    "lost 1 B * all": [(None, "-", "idle", 0, "-", "-")],
+    **{f"{kind} 0 AB * {place}": [
+        heard(0, TWICE, "2 0 0 0 2", "A"), heard(0, QUIET, "0 0 0 0 2", "B"), LOST_1,
+        heard(1, TWICE, "0 2 0 0 0", "A"), heard(1, TWICE, counts, "B")]
+       for kind, place, counts in (("noise", "s1", "0 2 0 0 0"), ("forged", "s1", "0 2 0 0 0"),
+                                   ("noise", "s*", "0 4 0 0 0"), ("forged", "s*", "2 2 0 0 0"))},
+    "noise 0 AB * s2": [heard(1, TWICE, "2 2 0 0 0", "B")],
+    "forged 0 AB * s2": [heard(1, TWICE, "4 0 0 0 0", "B")],
+    **{f"{kind} 1 AB * s1": [heard(0, QUIET, "0 0 0 0 2", "B"), heard(1, TWICE, "0 0 0 0 2", "B")]
+       for kind in ("noise", "forged")},
+    "noise 1 AB * s2": [*slot_2_lost("0 2 0 0 0"), heard(0, QUIET, "0 2 0 0 0", "B"),
+                        heard(1, TWICE, "2 0 0 0 2", "A")],
+    "forged 1 AB * s2": [SLOT_2_GONE_A, FORGED_HELD, heard(0, TWICE, "0 2 0 0 0", "A"), heard(0, QUIET, TWICE, "B"),
+                         heard(1, TWICE, "2 0 0 0 2", "A")],
+    "noise 1 AB * s*": [*slot_2_lost("0 2 0 0 0"), heard(0, QUIET, "0 2 0 0 2", "B"),
+                        heard(1, TWICE, "2 0 0 0 2", "A"), heard(1, TWICE, "0 0 0 0 2", "B")],
+    "forged 1 AB * s*": [SLOT_2_GONE_A, FORGED_HELD, heard(0, TWICE, "0 2 0 0 0", "A"),
+                         heard(0, QUIET, "2 0 0 0 2", "B"), heard(1, TWICE, "2 0 0 0 2", "A"),
+                         heard(1, TWICE, "0 0 0 0 2", "B")],
+    # A flipped bit makes a frame one that can't be read.
     **{f"{kind} - {place}": found for kind in ("header", "payload", "trailer")
-       for place, found in (("A * s1", TURNED_1), ("A * s2", TURNED_2), ("B * s1", TURNED_B))},
+       for place, found in (("A * s1", FLIPPED_1), ("A * s2", FLIPPED_2), ("B * s1", FLIPPED_B))},
 }
 """What each fault of the two nodes does, in both cycles, by the rules of docs/RULES.md."""
 
 
-class TestRuns(unittest.TestCase):
-    def setUp(self):
-        folder = TemporaryDirectory()
-        self.addCleanup(folder.cleanup)
-        self.folder = Path(folder.name)
-
-    def campaign(self, cluster: str, scenario: str, cycles: int) -> Campaign:
-        files = Folder(self.folder, cluster.encode(), scenario.encode(), cycles)
-        return Campaign(cluster_of(cluster), scenario_of(scenario), files, Means(PROGRAM, usual_world(), 4))
-
-    def found(self, campaign: Campaign, selection: Selection = Selection()) -> dict[str, list[Difference]]:
-        faults = campaign.listing(selection).faults()
-        done = campaign.run(faults, Log(None, (), False), lambda done, of: None)
-        self.assertEqual([str(fault) for fault, _ in done], [str(it) for it in faults])
-        return {str(fault): found for fault, found in done}
-
+class TestRuns(CampaignCases):
     def test_two_nodes_by_hand(self):
         campaign = self.campaign(TWO_NODES, SCENE, 2)
         self.assertEqual(campaign.folder.run(PROGRAM, ()).output, OUTCOME)
@@ -196,7 +174,7 @@ class TestRuns(unittest.TestCase):
         which has popped one: a noise there costs these three, and so does the loss of node 2."""
         narrowed = Selection(frozenset(["noise", "lost"]), None, frozenset(["m1", "all"]))
         found = self.found(self.campaign(CLUSTER, SCENARIO, 4), narrowed)
-        for name in ("lost 2 A * all", "noise 0 A * m1", "noise 1 A * m1", "noise 2 A * m1"):
+        for name in ("lost 2 AB * all", "lost 2 A * all", "noise 0 A * m1", "noise 1 AB * m1", "noise 2 A * m1"):
             got = [(it.node, it.effect, it.amount, it.without, it.having) for it in found[name] if it.thing == "queue"]
             self.assertEqual(got, [(0, "lost", 3, "2 0", "0 0")], name)
 
@@ -215,3 +193,13 @@ class TestRuns(unittest.TestCase):
             self.assertEqual(lost[f"{kind} 2 A * s2"], [(0, "rx 1")])
             self.assertEqual(lost[f"{kind} 2 B * s1"], [(1, "rx 2")])
             self.assertEqual(lost[f"{kind} 2 B * s2"], [])
+            self.assertEqual(lost[f"{kind} 2 AB * s1"], [(1, "rx 1"), (1, "rx 2")])
+
+    def test_a_node_that_fails_on_both_channels(self):
+        """What node 0 sends on both channels arrives as long as one of them works, and not where it is dead. So with
+        noise in its slot, which no guardian stops here."""
+        campaign = self.campaign(TWO_NODES.replace('guard = "A"', 'guard = "none"'), SCENE, 2)
+        found = self.found(campaign, Selection(frozenset(["lost", "noise"]), None, frozenset(["all", "s1"])))
+        for fault in ("lost 0 {} * all", "noise 1 {} * s1", "noise 0 {} * s1"):
+            verdicts = [verdict(found[fault.format(channels)]) for channels in ("A", "B", "AB")]
+            self.assertEqual(verdicts, ["harmless", "harmless", "lost"], fault)

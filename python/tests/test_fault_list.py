@@ -5,9 +5,10 @@ from argparse import ArgumentTypeError
 from musmyrtle.cluster import Cluster
 from musmyrtle.cluster import Reading as ClusterReading
 from musmyrtle.fault_command import numbers_of, places_of
-from musmyrtle.fault_list import Listing, Selection, SingleFault, is_stopped
+from musmyrtle.fault_list import LeftOut, Listing, Selection, SingleFault, is_stopped
+from musmyrtle.fault_table import listed
 from musmyrtle.frames import data_frame
-from musmyrtle.played import Begun, Played
+from musmyrtle.played import Begun
 from musmyrtle.scenario import Reading as ScenarioReading
 from musmyrtle.texts import read_text
 from tests.cases import CLUSTER
@@ -18,10 +19,26 @@ def cluster_of(text: str) -> Cluster:
     return ClusterReading(read_text("cluster.toml", text.encode()).document).cluster
 
 
+class Plays:
+    """Runs that showed what a test says."""
+
+    def __init__(self, recorded: list[Begun] = [], lost: list[Begun] = [], opened: dict = {}):
+        self.begun, self.lost, self.opened = recorded, lost, opened
+
+    def recorded(self):
+        return self.begun
+
+    def lose(self, node, channels, cycles):
+        return [it for it in self.lost if it.channel in channels and it.cycle in cycles]
+
+    def forge(self, node, minislot, occasions):
+        return {it: slot for it, slot in self.opened.get(minislot, {}).items() if it in occasions}
+
+
 def faults_of(text: str, cycles: int, selection: Selection = Selection(), lines: str = "",
-              recorded: Played = Played(), lost: Played = Played()) -> tuple[list[SingleFault], int]:
+              plays: Plays = Plays()) -> tuple[list[SingleFault], LeftOut]:
     scenario = ScenarioReading("scenario", f"frscenario 2\n{lines}end\n".encode()).scenario
-    listing = Listing(cluster_of(text), scenario, cycles, selection, lambda: recorded, lambda node, channel: lost)
+    listing = Listing(cluster_of(text), scenario, cycles, selection, plays)
     return listing.faults(), listing.left_out
 
 
@@ -34,14 +51,40 @@ class TestList(unittest.TestCase):
         return [str(it) for it in faults_of(*given, **more)[0]]
 
     def test_all_of_two_nodes(self):
-        """Node 0 owns slot 1 on both channels and node 1 slot 2 on A; there is no dynamic segment."""
-        babbles = [f"{node} {channel} * {place}" for node in "01" for channel in "AB" for place in ("s1", "s2", "s*")]
-        turned = ["- A * s1", "- A * s2", "- B * s1"]
+        """Node 0 owns slot 1 on both channels and node 1 slot 2 on A; there is no dynamic segment. What is on both
+        channels comes first."""
+        lost = [f"lost {node} {channels} * all" for node in "01" for channels in ("AB", "A", "B")]
+        babbles = [f"{node} {channels} * {place}" for node in "01" for channels in ("AB", "A", "B")
+                   for place in ("s1", "s2", "s*")]
+        flipped = ["- A * s1", "- A * s2", "- B * s1"]
         self.assertEqual(self.names(TWO_NODES, 2), [
-            "mute 0 A * s1", "mute 0 A * s*", "mute 0 B * s1", "mute 0 B * s*", "mute 1 A * s2", "mute 1 A * s*",
-            "lost 0 A * all", "lost 0 B * all", "lost 1 A * all", *(f"noise {it}" for it in babbles),
-            *(f"forged {it}" for it in babbles), *(f"header {it}" for it in turned),
-            *(f"payload {it}" for it in turned), *(f"trailer {it}" for it in turned)])
+            *lost, "mute 0 A * s1", "mute 0 A * s*", "mute 0 B * s1", "mute 0 B * s*", "mute 1 A * s2",
+            "mute 1 A * s*", *(f"noise {it}" for it in babbles), *(f"forged {it}" for it in babbles),
+            *(f"header {it}" for it in flipped), *(f"payload {it}" for it in flipped),
+            *(f"trailer {it}" for it in flipped)])
+
+    def test_both_channels(self):
+        """A fault of both channels has the lines of each, and a forged frame the CRC of its channel."""
+        lines = {str(it): list(it.lines) for it in faults_of(TWO_NODES, 1)[0]}
+        self.assertEqual(lines["lost 0 AB * all"], ["mute 0 A * s*", "mute 0 B * s*"])
+        self.assertEqual(lines["lost 1 AB * all"], ["mute 1 A * s*"])
+        self.assertEqual(lines["noise 1 AB * s2"], ["babble 1 A * s2 xff", "babble 1 B * s2 xff"])
+        frames = [data_frame(2, 0, bytes.fromhex("a55a"), channel).hex() for channel in "AB"]
+        self.assertEqual(lines["forged 0 AB * s2"], [f"babble 0 A 0 s2 x{frames[0]}", f"babble 0 B 0 s2 x{frames[1]}"])
+
+    def test_idle(self):
+        """Node 1 of the two sends nothing on B, and node 2 of the three, which owns no slot, nothing before a commit.
+        That is listed, and nothing else is idle."""
+        idle = [str(it) for it in faults_of(TWO_NODES, 2)[0] if it.is_idle]
+        self.assertEqual(idle, ["lost 1 B * all"])
+        found, left_out = faults_of(CLUSTER, 2, only("lost", nodes=frozenset([2])))
+        self.assertEqual([(str(it), it.is_idle) for it in found],
+                         [("lost 2 AB * all", True), ("lost 2 A * all", True), ("lost 2 B * all", True)])
+        self.assertEqual(left_out, LeftOut())
+        self.assertEqual(list(listed(found))[0], "lost\t2\tAB\t*\tall\tidle\n")
+        taken, left_out = faults_of(TWO_NODES, 2, only("lost"), "mute 1 A * s*\n")
+        self.assertEqual([str(it) for it in taken if it.node == 1], ["lost 1 B * all"])
+        self.assertEqual(left_out, LeftOut(taken=2))
 
     def test_lines(self):
         """Bit 15 is the lowest one of the frame ID, 40 the first of the payload, 56 the first after a word of it."""
@@ -59,7 +102,7 @@ class TestList(unittest.TestCase):
         self.assertEqual(self.names(TWO_NODES, 2, only("mute", nodes=frozenset([1]))),
                          ["mute 1 A * s2", "mute 1 A * s*"])
         self.assertEqual(self.names(TWO_NODES, 2, only("noise", places=places_of("2"), nodes=frozenset([0]))),
-                         ["noise 0 A * s2", "noise 0 B * s2"])
+                         ["noise 0 AB * s2", "noise 0 A * s2", "noise 0 B * s2"])
         self.assertEqual(self.names(TWO_NODES, 2, only("header", nodes=frozenset([1]))), ["header - A * s2"])
         found = faults_of(TWO_NODES, 2, only("mute", cycle=1, places=places_of("s*")))[0]
         self.assertEqual([it.lines for it in found], [("mute 0 A 1 s*",), ("mute 0 B 1 s*",), ("mute 1 A 1 s*",)])
@@ -92,29 +135,45 @@ class TestList(unittest.TestCase):
         self.assertEqual([(str(it), it.lines) for it in found], [
             ("mute 0 A * s1", ("mute 0 A 0 s1", "mute 0 A 2 s1")),
             ("mute 0 A * s*", ("mute 0 A 0 s*", "mute 0 A 1 s2", "mute 0 A 2 s*"))])
-        self.assertEqual(left_out, 2)
+        self.assertEqual(left_out, LeftOut(taken=2))
 
     def test_dynamic_segment(self):
         """Of the three nodes node 2 commits to slot 4, and sends at minislot 2 of cycle 1 in the recorded run."""
-        begun = Begun(1, 2, 4, "A", 2, False, "passed")
-        recorded = Played(begun=[begun], opened={("A", 0, 1): 4, ("A", 1, 1): 4, ("A", 1, 2): 5})
-        lost = Played(begun=[Begun(1, 1, 4, "A", 2, False, "muted"), Begun(1, 1, 4, "A", 1, True, "passed")])
+        plays = Plays([Begun(1, 2, "A", "passed")], [Begun(1, 1, "A", "muted")],
+                      {1: {(0, "A"): 4, (1, "A"): 4, (0, "B"): 4, (1, "B"): 4}, 2: {(1, "A"): 5}})
         commit = "commit 2 0 1 0 x7001\n"
-        found = faults_of(CLUSTER, 2, only("lost", nodes=frozenset([2])), commit, recorded, lost)[0]
-        self.assertEqual([(str(it), it.lines) for it in found], [("lost 2 A * all", ("mute 2 A 1 m1",))])
-        places = ["m1", "m2"]
-        found = faults_of(CLUSTER, 2, only("noise", nodes=frozenset([0])), commit, recorded)[0]
-        self.assertEqual([it.place for it in found if it.channel == "A" and it.is_dynamic], places)
-        found = faults_of(CLUSTER, 2, only("forged", nodes=frozenset([0])), commit, recorded)[0]
-        lines = [it.lines for it in found if it.channel == "A" and it.place in places]
-        frames = [data_frame(4, cycle, bytes.fromhex("a55a"), "A").hex() for cycle in (0, 1)]
-        self.assertEqual(lines[0], (f"babble 0 A 0 m1 x{frames[0]}", f"babble 0 A 1 m1 x{frames[1]}"))
-        self.assertEqual([it[:15] for it in lines[1]], ["babble 0 A 1 m2"])
+        found = faults_of(CLUSTER, 2, only("lost", nodes=frozenset([2])), commit, plays)[0]
+        self.assertEqual([(str(it), it.lines) for it in found], [
+            ("lost 2 AB * all", ("mute 2 A 1 m1",)), ("lost 2 A * all", ("mute 2 A 1 m1",)), ("lost 2 B * all", ())])
+        found = faults_of(CLUSTER, 2, only("noise", nodes=frozenset([0])), commit, plays)[0]
+        dynamic = [(it.channels, it.place) for it in found if it.is_dynamic]
+        self.assertEqual(dynamic, [("AB", "m1"), ("AB", "m2"), ("A", "m1"), ("A", "m2"), ("B", "m1")])
+        found, left_out = faults_of(CLUSTER, 2, only("forged", nodes=frozenset([0])), commit, plays)
+        lines = {(it.channels, it.place): it.lines for it in found if it.is_dynamic}
+        frames = {(cycle, channel): data_frame(4, cycle, bytes.fromhex("a55a"), channel).hex()
+                  for cycle in (0, 1) for channel in "AB"}
+        self.assertEqual(lines["A", "m1"], tuple(f"babble 0 A {it} m1 x{frames[it, 'A']}" for it in (0, 1)))
+        self.assertEqual(lines["AB", "m1"], tuple(f"babble 0 {channel} {cycle} m1 x{frames[cycle, channel]}"
+                                                  for cycle in (0, 1) for channel in "AB"))
+        self.assertEqual([it[:15] for it in lines["A", "m2"]], ["babble 0 A 1 m2"])
+        self.assertEqual(left_out, LeftOut())
+
+    def test_no_slot_at_a_minislot(self):
+        """Where no slot opens no frame can be forged; that isn't the scenario's doing."""
+        asked = only("forged", nodes=frozenset([0]), places=places_of("m3"))
+        self.assertEqual(faults_of(CLUSTER, 2, asked), ([], LeftOut(unopened=3)))
+        found, left_out = faults_of(CLUSTER, 2, asked, "babble 0 A * m3 x00\nbabble 0 B * m3 x00\n")
+        self.assertEqual((found, left_out), ([], LeftOut(taken=3)))
 
     def test_who_is_stopped(self):
-        cluster = cluster_of(TWO_NODES)
-        found = [str(it) for it in faults_of(TWO_NODES, 2, only("noise"))[0] if is_stopped(it, cluster, 2)]
-        self.assertEqual(found, ["noise 0 A * s2", "noise 1 A * s1"])
+        """Of both channels a babble is stopped only where both are guarded, and neither is the node's own."""
+        for guard, wanted in (("A", ["noise 0 A * s2", "noise 1 A * s1"]),
+                              ("AB", ["noise 0 AB * s2", "noise 0 A * s2", "noise 0 B * s2", "noise 1 AB * s1",
+                                      "noise 1 A * s1", "noise 1 B * s1", "noise 1 B * s2"])):
+            text = TWO_NODES.replace('guard = "A"', f'guard = "{guard}"')
+            cluster = cluster_of(text)
+            found = [str(it) for it in faults_of(text, 2, only("noise"))[0] if is_stopped(it, cluster, 2)]
+            self.assertEqual(found, wanted)
 
     def test_frames(self):
         """The frames of docs/FORMATS.md, which the papers have as well."""

@@ -1,0 +1,16 @@
+"""Text from files and programs, made safe to show on a page, in a table and on a terminal."""
+
+
+def visible(text: str) -> str:
+    r"""Returns the text with an escape, as `\x1b` or `\u202e`, for each character that isn't printable.
+
+    Control characters, line ends, tabs, formatting characters such as those that turn the direction of writing, and
+    surrogates, which stand for bytes of a file name that are no UTF-8, aren't printable. A space is.
+    """
+    return "".join(it if it.isprintable() else escaped(ord(it)) for it in text)
+
+
+def escaped(code: int) -> str:
+    if code < 0x100:
+        return f"\\x{code:02x}"
+    return f"\\u{code:04x}" if code < 0x10000 else f"\\U{code:08x}"

@@ -1,0 +1,47 @@
+"""What tests of campaigns share: a campaign over texts, and what its faults cost."""
+import os
+import unittest
+from pathlib import Path
+from tempfile import TemporaryDirectory
+
+from musmyrtle.cluster import Cluster
+from musmyrtle.cluster import Reading as ClusterReading
+from musmyrtle.fault_campaign import Campaign, Means
+from musmyrtle.fault_costs import Difference
+from musmyrtle.fault_list import Selection
+from musmyrtle.fault_runs import OUTCOME, Folder, Log
+from musmyrtle.program import usual_program
+from musmyrtle.scenario import Reading as ScenarioReading
+from musmyrtle.scenario import Scenario
+from musmyrtle.session import usual_world
+from musmyrtle.texts import read_text
+
+PROGRAM = os.environ.get(OUTCOME[0].upper()) or usual_program(OUTCOME[0])
+
+
+def cluster_of(text: str) -> Cluster:
+    return ClusterReading(read_text("cluster.toml", text.encode()).document).cluster
+
+
+def scenario_of(text: str) -> Scenario:
+    return ScenarioReading("scenario", text.encode()).scenario
+
+
+class CampaignCases(unittest.TestCase):
+    def setUp(self):
+        folder = TemporaryDirectory()
+        self.addCleanup(folder.cleanup)
+        self.folder = Path(folder.name)
+
+    def campaign(self, cluster: str, scenario: str, cycles: int, program: str = PROGRAM) -> Campaign:
+        files = Folder(self.folder, cluster.encode(), scenario.encode(), cycles)
+        return Campaign(cluster_of(cluster), scenario_of(scenario), files, Means(program, usual_world(), 4))
+
+    def found(self, campaign: Campaign, selection: Selection = Selection()) -> dict[str, list[Difference]]:
+        faults = campaign.listing(selection).faults()
+        done = campaign.run(faults, Log(None, (), False), lambda done, of: None)
+        self.assertEqual([str(fault) for fault, _ in done], [str(it) for it in faults])
+        return {str(fault): found for fault, found in done}
+
+    def told(self, found: list[Difference]) -> list[tuple]:
+        return [(it.node, it.thing, it.effect, it.amount) for it in found]
