@@ -1,0 +1,167 @@
+"""What a fault costs a receive FIFO: its frames are compared one by one, also where no task can pop them."""
+import unittest
+
+from musmyrtle.fault_campaign import Campaign
+from musmyrtle.fault_list import Selection
+from musmyrtle.fault_table import Results, has_effect, summary, verdict
+from musmyrtle.fifo_costs import fifo_effects
+from musmyrtle.fifos import Fifo, StoredFrame
+from tests.campaigns import PROGRAM, CampaignCases
+
+PARAMETERS = """guard = "none"
+
+[params]
+static_slots = 2
+minislots = 0
+static_words = 1
+static_mt = 20
+minislot_mt = 5
+symbol_mt = 0
+nit_mt = 10
+cycle_mt = 50
+idle = 0
+words_per_minislot = 5
+"""
+TWO = PARAMETERS + """
+[[node]]
+own = [{{slot = 1, channels = "{sent}"}}]
+buffer = [{{kind = "{kind}", slot = 1, channels = "{sent}"}}]
+
+[[node]]
+{host}
+queue = {{capacity = {capacity}, first = 1, last = 2, channels = "AB"}}
+"""
+"""Node 0 sends in slot 1, slot 2 is nobody's, and node 1 has a FIFO for both slots."""
+SCENE = "frscenario 1\ncommit 0 0 0 0 x0001\ncommit 0 0 1 0 x0002\nend\n"
+POPPED = SCENE.replace("end\n", "pop 1 0 1\nend\n")
+
+
+def two(host: str = "", capacity: int = 4, sent: str = "A", kind: str = "event") -> str:
+    return TWO.format(host=host, capacity=capacity, sent=sent, kind=kind)
+
+
+FORGED_AT_LAST = "forged 0 A {} s*"
+"""Node 0 forges frames in slots 1 and 2: that of slot 1 collides with its own frame, and that of slot 2 arrives. So the
+FIFO has one frame less and another one more, and as many as before."""
+
+
+class TestContent(CampaignCases):
+    def queue(self, campaign: Campaign, name: str) -> list[tuple]:
+        kind, node, _, cycle, place = name.split(" ")
+        selection = Selection(frozenset([kind]), frozenset([int(node)]), frozenset([place]),
+                              None if cycle == "*" else int(cycle))
+        return [(it.effect, it.amount, it.without, it.having) for it in self.found(campaign, selection)[name]
+                if it.thing == "queue"]
+
+    def test_a_node_without_tasks(self):
+        """The node has no task that could pop a frame."""
+        found = self.queue(self.campaign(two("tasks = 0"), SCENE, 2), FORGED_AT_LAST.format(1))
+        self.assertEqual(found, [("lost", 1, "2 0", "2 0"), ("changed", 1, "2 0", "2 0")])
+
+    def test_one_frame_less_without_tasks(self):
+        """The FIFO holds one frame and overwrites the first. Without the second frame that first one is left, so that
+        one frame waits as before, and the second one is lost all the same."""
+        campaign = self.campaign(two("tasks = 0", capacity=1), SCENE, 2)
+        self.assertEqual(self.queue(campaign, "mute 0 A 1 s1"), [("lost", 1, "1 1", "1 0")])
+
+    def test_fewer_host_entries_than_frames(self):
+        """The task has room for one host entry, and two frames wait."""
+        found = self.queue(self.campaign(two("host_entries = 1"), SCENE, 2), FORGED_AT_LAST.format(1))
+        self.assertEqual(found, [("lost", 1, "2 0", "2 0"), ("changed", 1, "2 0", "2 0")])
+
+    def test_256_frames(self):
+        """One frame a cycle, 256 of them at the end, and as many host entries: the FIFO can't be seen to be empty."""
+        cluster = two(capacity=256, kind="state")
+        found = self.queue(self.campaign(cluster, SCENE.replace("commit 0 0 1 0 x0002\n", ""), 256),
+                           FORGED_AT_LAST.format(255))
+        self.assertEqual(found, [("lost", 1, "256 0", "256 0"), ("changed", 1, "256 0", "256 0")])
+
+    def test_the_other_channel(self):
+        """Both frames come on both channels. What is lost of one channel still comes by the other."""
+        campaign = self.campaign(two(sent="AB"), SCENE, 2)
+        found = self.found(campaign, Selection(frozenset(["lost"]), frozenset([0])))
+        wanted = {"A": ("channel", 2, "4 0", "2 0"), "B": ("channel", 2, "4 0", "2 0"), "AB": ("lost", 2, "4 0", "0 0")}
+        for channels, row in wanted.items():
+            differences = found[f"lost 0 {channels} * all"]
+            queue = [(it.effect, it.amount, it.without, it.having) for it in differences if it.thing == "queue"]
+            self.assertEqual((queue, verdict(differences)), ([row], "lost" if channels == "AB" else "harmless"))
+
+    def test_the_other_channel_in_a_full_fifo(self):
+        """The FIFO holds one frame: by the end the second one, as it came on B. Without B it is that of A."""
+        campaign = self.campaign(two(sent="AB", capacity=1), SCENE, 2)
+        self.assertEqual(self.queue(campaign, "lost 0 B * all"), [("channel", 1, "1 3", "1 1")])
+        self.assertEqual(self.queue(campaign, "lost 0 A * all"), [("counted", 2, "1 3", "1 1")])
+
+    def test_a_popped_frame(self):
+        """The task pops the first frame in cycle 1, so that this one is lost where it never comes."""
+        campaign = self.campaign(two(), POPPED, 2)
+        self.assertEqual(self.queue(campaign, "mute 0 A 0 s1"), [("lost", 1, "1 0", "1 0")])
+
+    def test_not_comparable(self):
+        """Where the content of a FIFO can't be read, a fault that may reach it counts as a loss."""
+        program = self.folder / "viewer"
+        program.write_text(f"#!/bin/sh\n[ \"$1\" = frames ] && exit 3\nexec '{PROGRAM}' \"$@\"\n")
+        program.chmod(0o755)
+        campaign = self.campaign(two(), SCENE, 2, str(program))
+        faults = campaign.listing(Selection(frozenset(["lost"]), frozenset([0]))).faults()
+        done = [(it, campaign.here(it) if it.lines else []) for it in faults]
+        row = next(it for it in done[0][1] if it.thing == "queue")
+        self.assertEqual((row.effect, row.amount, row.without, row.having.split(":")[0]),
+                         ("not comparable", 1, "2 0", "0 0"))
+        self.assertIn("status 3", row.having)
+        self.assertEqual((row.is_cost, verdict(done[0][1]), has_effect(done, ["lost"])), (True, "not comparable", True))
+        told = "".join(summary(Results(done[:1], campaign.cluster, 2)))
+        self.assertIn("all                     1         0               1     0", told)
+
+    def test_counts_that_disagree(self):
+        """A FIFO whose trace doesn't have the counts of the outcome isn't compared."""
+        campaign = self.campaign(two(), SCENE, 2)
+        campaign.reference.fifos[1].waiting.pop()
+        found = self.queue(campaign, "mute 0 A 0 s1")
+        self.assertEqual(found, [("not comparable", 1, "2 0",
+                                  "1 0: its trace has 1 frames waiting and 0 overwritten")])
+
+    def test_a_fifo_that_is_not_emptied(self):
+        """It holds one frame and is sent two, so it overwrites one without any fault, which is told once."""
+        campaign = self.campaign(two(capacity=1), SCENE, 2)
+        self.assertEqual(campaign.overwritten(), {1: 1})
+        told = "".join(summary(Results([], campaign.cluster, 2, overwritten=campaign.overwritten())))
+        wanted = "node 1: FIFO not emptied by the scenario: 1 frame overwritten without any fault\n"
+        self.assertEqual(told.count(wanted), 1)
+
+
+def frames(text: str) -> list[StoredFrame]:
+    """A frame for each word: a letter for the frame and its channel."""
+    return [StoredFrame(ord(it[0]), 1, "----", it[0], it[1]) for it in text.split()]
+
+
+def fifo(popped: str, waiting: str, overwritten: str = "") -> Fifo:
+    return Fifo(frames(popped), frames(waiting), frames(overwritten))
+
+
+class TestEffects(unittest.TestCase):
+    def effects(self, before: Fifo, after: Fifo) -> list[tuple[str, int]]:
+        return list(fifo_effects(before, after))
+
+    def test_a_fifo_that_is_emptied(self):
+        before = fifo("aA", "bA")
+        for after, wanted in (
+                (fifo("aA", "bA"), []), (fifo("", "aA bA"), [("counted", 1)]), (fifo("aA", ""), [("lost", 1)]),
+                (fifo("aA", "cA"), [("lost", 1), ("changed", 1)]), (fifo("aA", "bA cA"), [("changed", 1)]),
+                (fifo("bA", "aA"), [("changed", 1)]), (fifo("aA", "bB"), [("channel", 1)]),
+                (fifo("aA aB", "bB"), [("channel", 2)]), (fifo("aA", "", "bA"), [("lost", 1)]),
+                (fifo("aB", "", ""), [("lost", 1)])):
+            self.assertEqual(self.effects(before, after), wanted, after)
+
+    def test_a_fifo_that_overwrites(self):
+        """Two frames are overwritten without any fault, one is popped and two wait."""
+        before = fifo("aA", "dA eA", "bA cA")
+        for after, wanted in (
+                # Frames that are overwritten without the fault can't be lost, nor are they others where they are kept.
+                (fifo("aA", "dA eA", "cA"), [("counted", 1)]), (fifo("aA", "cA dA eA", "bA"), [("counted", 2)]),
+                # A waiting frame is lost where it never came, and a popped one where the host can't get it.
+                (fifo("aA", "cA eA", "bA"), [("lost", 1)]), (fifo("aA", "cA eA", "bA dA"), []),
+                (fifo("", "dA eA", "aA bA cA"), [("lost", 1)]),
+                (fifo("fA", "dA eA", "bA cA"), [("lost", 1), ("changed", 1)]),
+                (fifo("aA", "eA fA", "bA cA dA"), [("changed", 1)])):
+            self.assertEqual(self.effects(before, after), wanted, after)
