@@ -103,11 +103,11 @@ def not_compared(done: Done, before: Ranks) -> Iterator[str]:
     """The lines that say what isn't held against an earlier table."""
     new = sum(not before.has(fault) for fault, _ in done)
     if new:
-        yield (f"{counted(new, 'fault')} on both channels aren't compared: the table is of an earlier version, which "
-               "had none; make it anew\n")
+        yield (f"not compared: {counted(new, 'fault')} on both channels, since the table is of an earlier version, "
+               "which had none; make it anew\n")
     failures = sum(is_failed(found) for _, found in done)
     if failures:
-        yield f"{counted(failures, 'run')} failed, and aren't compared\n"
+        yield f"not compared: {counted(failures, 'run')} that failed\n"
 
 
 # ---- in words
@@ -205,7 +205,7 @@ def stopped(results: Results) -> Iterator[str]:
     costing, failures = sum(bool(it) for it in completed), len(of_others) - len(completed)
     is_told = f"{costing or 'none'} made any difference to anybody" if completed else "no run completed"
     yield (f"of the babbles in guarded static slots that aren't the node's own, {len(completed)}, {is_told}"
-           + (f"; {counted(failures, 'run')} of such babbles failed and aren't counted" if failures else ""))
+           + (f"; {failures} more failed" if failures else ""))
 
 
 def hurting(done: Done) -> list[tuple[list[SingleFault], list[Difference]]]:

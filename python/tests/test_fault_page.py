@@ -1,0 +1,197 @@
+"""How the table, the summary and the page tell what faults cost."""
+import unittest
+
+from musmyrtle.fault_costs import IDLE, Difference
+from musmyrtle.fault_labels import Labels, grouped, ranges
+from musmyrtle.fault_list import BOTH, LeftOut, SingleFault
+from musmyrtle.fault_page import Subject, page
+from musmyrtle.fault_table import BadTable, Done, Results, not_compared, read_ranks, summary, table, worse
+from musmyrtle.visible import visible
+from tests.campaigns import cluster_of
+from tests.two_nodes import TWO_NODES
+
+BIDI = "\u202e"
+NAMED = TWO_NODES.replace("[[node]]\n", '[[node]]\nname = "pe\\u001b[31mdal"\n', 1) \
+    .replace('{kind = "receive", slot = 2, channels = "A"}', f'{{kind = "receive", slot = 2, channels = "A", '
+             f'name = "an{BIDI}gle <b>"}}')
+
+
+def fault(kind: str, node: int | None, channels: str, place: str, lines: tuple[str, ...] = ("mute 0 A * s1",)):
+    return SingleFault(kind, node, channels, "*", place, lines)
+
+
+def lost(node: int, thing: str = "rx 1") -> Difference:
+    return Difference(node, thing, "lost", 1, "1:A x1111", "-")
+
+
+def killed(told: str = "signal 9") -> Difference:
+    return Difference(None, "-", "killed", 1, "-", told)
+
+
+COUNTED = Difference(1, "A", "counted", 2, "2 0 0 0 0", "0 0 0 0 0")
+NO_RUN = Difference(None, "-", IDLE, 0, "-", "-")
+DONE: Done = [
+    (fault("lost", 0, BOTH, "all"), [Difference(0, "rx 1", "changed", 1, "1:A x1111", "1:A x2222"), lost(1)]),
+    (fault("lost", 1, BOTH, "all"), [killed()]),
+    (fault("lost", 1, "B", "all", ()), [NO_RUN]),
+    (fault("mute", 0, "A", "s1"), [COUNTED]),
+    (fault("noise", 0, BOTH, "s2"), []),
+    (fault("noise", 1, BOTH, "s1"), [killed()]),
+    (fault("noise", 1, "A", "s1"), [COUNTED, lost(1)]),
+]
+
+
+def results(done: Done = DONE, cluster: str = TWO_NODES, **more) -> Results:
+    return Results(done, cluster_of(cluster.replace('guard = "A"', 'guard = "AB"')), 2, **more)
+
+
+class TestSummary(unittest.TestCase):
+    def lines(self, *given, **more) -> list[str]:
+        return "".join(summary(results(*given, **more))).splitlines()
+
+    def test_each_run_is_counted_once(self):
+        """The seven faults have six runs, two of which failed, and one costs something lost and something changed."""
+        rows = [line.split() for line in self.lines()]
+        columns = "harmless not comparable lost older changed pending unsent failed".split()
+        self.assertEqual(rows[0], ["kind", "runs", *columns])
+        numbers = {" ".join(it[:-9]): [int(number) for number in it[-9:]] for it in rows[1:6]}
+        self.assertEqual(numbers, {
+            "lost, both channels": [2, 0, 0, 1, 0, 0, 0, 0, 1], "mute, one channel": [1, 1, 0, 0, 0, 0, 0, 0, 0],
+            "noise, both channels": [2, 1, 0, 0, 0, 0, 0, 0, 1], "noise, one channel": [1, 0, 0, 1, 0, 0, 0, 0, 0],
+            "all": [6, 2, 0, 2, 0, 0, 0, 0, 2]})
+        for counts in numbers.values():
+            self.assertEqual(counts[0], sum(counts[1:]))
+        kinds = [it for name, it in numbers.items() if name != "all"]
+        self.assertEqual([sum(column) for column in zip(*kinds)], numbers["all"])
+
+    def test_runs_that_failed_say_nothing_of_guardians(self):
+        """Of the three babbles in guarded slots of others one failed, one makes a difference, one none."""
+        told = "of the babbles in guarded static slots that aren't the node's own, 2, 1 made any difference to anybody; " \
+            "1 more failed"
+        self.assertIn(told, self.lines())
+        failed = [(fault("noise", 1, BOTH, "s1"), [killed()])]
+        self.assertIn("of the babbles in guarded static slots that aren't the node's own, 0, no run completed; "
+                      "1 more failed", self.lines(failed))
+
+    def test_harmless_effects_are_named(self):
+        told = next(line for line in self.lines() if line.startswith("harmless: "))
+        for effect in ("counted", "channel", "newer", "sent"):
+            self.assertIn(f"({effect})", told)
+
+    def test_notes(self):
+        lines = self.lines(left_out=LeftOut(2, 1), overwritten={1: 561})
+        self.assertIn("node 1: FIFO not emptied by the scenario: 561 frames overwritten without any fault", lines)
+        self.assertIn("1 fault idle, without a run, since the node sends nothing there: node 1 on B", lines)
+        self.assertIn("2 faults left out: the scenario has one of the kind in each of their windows", lines)
+        self.assertIn("1 fault left out: no slot opens at their minislot", lines)
+
+
+class TestAgainst(unittest.TestCase):
+    HEAD = "kind\tnode\tchannel{}\tcycles\tplace\treceiver\tthing\teffect\tamount\twithout\twith\n"
+
+    def test_the_same_table(self):
+        """An idle fault and runs that failed cost nothing more."""
+        before = read_ranks("".join(table(DONE)))
+        self.assertEqual(worse(DONE, before), [])
+        self.assertEqual(list(not_compared(DONE, before)), ["not compared: 2 runs that failed\n"])
+        self.assertIn("lost\t1\tB\t*\tall\t-\t-\tidle\t0\t-\t-\n", list(table(DONE)))
+
+    def test_an_idle_node_that_sends_now(self):
+        before = read_ranks("".join(table(DONE)))
+        now = [(fault("lost", 1, "B", "all"), [lost(0)])]
+        self.assertEqual([str(it) for it, _ in worse(now, before)], ["lost 1 B * all"])
+
+    def test_a_run_that_failed_is_not_worse(self):
+        found = worse([(fault("mute", 0, "A", "s1"), [killed()])], read_ranks(self.HEAD.format("s")))
+        self.assertEqual(found, [])
+
+    def test_a_table_of_an_earlier_version(self):
+        """It has no faults of both channels, so these aren't compared, and that is said. All others are."""
+        before = read_ranks(self.HEAD.format(""))
+        done = DONE[:1] + DONE[-1:]
+        self.assertEqual([str(it) for it, _ in worse(done, before)], ["noise 1 A * s1"])
+        self.assertEqual(list(not_compared(done, before)), [
+            "not compared: 1 fault on both channels, since the table is of an earlier version, which had none; make it "
+            "anew\n"])
+
+    def test_no_table(self):
+        for text in ("", "kind\n", self.HEAD.format("s")[:-1], self.HEAD.format("s") + "lost\t0\n"):
+            with self.assertRaises(BadTable):
+                read_ranks(text)
+
+
+class TestPage(unittest.TestCase):
+    def page(self, *given, **more) -> str:
+        return page(Subject("cluster.toml", "scenario"), results(*given, **more))
+
+    def test_the_first_tables(self):
+        text = self.page()
+        heads = [text.index(f"<h2>{it}</h2>") for it in (
+            "Node fails silent", "Node babbles", "One channel disturbed", "The faults that cost most")]
+        self.assertEqual(heads, sorted(heads))
+        silent, babbles, one = (text[begin:end] for begin, end in zip(heads, heads[1:]))
+        self.assertIn('<td class="lost"><a href="#c0-0-1">lost<br>1 fault</a></td>', silent)
+        self.assertIn('<td class="changed"><a href="#c0-0-0">changed<br>1 fault</a></td>', silent)
+        self.assertIn("<td>lost 0 AB * all</td>", silent)
+        self.assertNotIn("one channel", silent)
+        self.assertIn('<th>node 0</th><td class="nothing"><span>-</span></td>', babbles)
+        self.assertIn("<td>noise 1 A * s1 (one channel)</td>", one)
+        self.assertIn("Harmless: mute on A (one channel) s1.", one)
+        self.assertIn("sends nothing on B", one)
+
+    def test_a_sort_that_is_not_listed(self):
+        """A table without faults doesn't look as if nothing came of them."""
+        text = self.page(DONE[:1])
+        self.assertEqual(text.count("None of these faults was listed, so nothing is said of them."), 2)
+
+    def test_runs_that_failed(self):
+        """The only run of node 1 that fails silent was killed: its cells say neither harmless nor harmful."""
+        text = self.page()
+        row = '<tr><th>node 1<br><small>1 run failed</small></th>' + 2 * \
+            '<td class="nothing"><span>no outcome</span></td>' + "</tr>"
+        self.assertEqual(text.count(row), 2)
+
+    def test_an_idle_node(self):
+        text = self.page([(fault("lost", 1, BOTH, "all", ()), [NO_RUN])])
+        row = "<tr><th>node 1<br><small>sends nothing on A and B</small></th>" + 2 * \
+            '<td class="nothing"><span>idle</span></td>' + "</tr>"
+        self.assertIn(row, text)
+
+    def test_not_comparable(self):
+        found = Difference(1, "queue", "not comparable", 1, "1 0", "1 0: fr_view can't be run")
+        text = self.page([(fault("lost", 0, BOTH, "all"), [found])])
+        self.assertIn('<td class="lost"><a href="#c0-0-1">not comparable<br>1 fault</a></td>', text)
+        self.assertIn("node 1 FIFO: not comparable, which counts as a loss", text)
+
+    def test_names(self):
+        """Names of nodes and buffers stand beside their numbers, and nothing in them reaches a reader raw."""
+        labels = Labels.read(NAMED.encode())
+        self.assertEqual(labels.node(0), "node 0 pe\\x1b[31mdal")
+        self.assertEqual(labels.thing(0, "rx 1"), "rx 1 (an\\u202egle <b>)")
+        self.assertEqual((labels.node(1), labels.thing(0, "rx 2"), labels.thing(1, "queue")), ("node 1", "rx 2", "FIFO"))
+        done = [(fault("lost", 1, BOTH, "all"), [lost(0)]), (fault("mute", 0, "A", "s1"), [killed(visible("\x1b[2J\t"))])]
+        subject = Subject(f"a{BIDI}.toml", "b\udcff\x07")
+        text = page(subject, results(done, NAMED, labels=labels))
+        self.assertIn("rx 1 (an\\u202egle &lt;b&gt;): lost", text)
+        self.assertIn("a\\u202e.toml", text)
+        self.assertIn("b\\udcff\\x07", text)
+        self.assertIn("\\x1b[2J\\x09", text)
+        told = "".join(summary(results(done, NAMED, labels=labels, overwritten={0: 1})))
+        for shown in (text, told):
+            self.assertEqual([it for it in shown if not it.isprintable() and it != "\n"], [])
+
+    def test_a_file_that_has_no_names(self):
+        for data in (b"\xff", b"= 1", b"node = 3", b"node = [1, {buffer = 2}, {buffer = [3]}]", b"name = \"x\""):
+            self.assertEqual(Labels.read(data), Labels())
+        self.assertEqual(Labels.read(b'\xef\xbb\xbfnode = [{name = "a"}]').node(0), "node 0 a")
+
+    def test_ranges(self):
+        self.assertEqual(ranges(["s1", "s2", "s3", "s5", "s*", "m7", "m8", "all"]), ["s1-s3", "s5", "s*", "m7-m8", "all"])
+        places = [f"s{it}" for it in range(1, 51)]
+        self.assertEqual(grouped(fault("noise", 0, BOTH, it) for it in places), "noise on A and B s1-s50")
+
+    def test_visible(self):
+        for text, wanted in (("a b\u00e9", "a b\u00e9"), ("\x00\n\t\x7f\x85", "\\x00\\x0a\\x09\\x7f\\x85"),
+                             ("\u202e\u2066\u200b\u2028\ufeff", "\\u202e\\u2066\\u200b\\u2028\\ufeff"),
+                             ("\U000e0001", "\\U000e0001"), ("\udc80", "\\udc80")):
+            self.assertEqual(visible(text), wanted)
