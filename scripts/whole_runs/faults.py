@@ -13,7 +13,7 @@ from .runner import EXAMPLES, SECONDS, run
 
 TOP = EXAMPLES.parent
 THREE_NODES = ["three-nodes/cluster.toml", "three-nodes/scenario", "--cycles", "4"]
-HEADING = "kind\tnode\tchannel\tcycles\tplace\treceiver\tthing\teffect\tamount\twithout\twith\n"
+HEADING = "kind\tnode\tchannels\tcycles\tplace\treceiver\tthing\teffect\tamount\twithout\twith\n"
 KILLED_AT = "#!/bin/sh\nfor last; do :; done\nif grep -q 'mute 0 A \\* s1$' \"$last\"; then kill -9 $$; fi\n" \
     "if grep -q 'mute 0 B \\* s1$' \"$last\"; then echo 'refused Memory' >&2; exit 1; fi\n" \
     "if grep -q 'mute 1 A \\* s2$' \"$last\"; then echo nothing; exit; fi\nexec '{}' \"$@\"\n"
@@ -46,14 +46,18 @@ class Faults:
         self.runs.compare("the status of a whole list", (status, table[:len(HEADING)]), (0, HEADING))
         self.runs.compare("the words of each line", {line.count("\t") for line in lines}, {10})
         listed = self.ask(*THREE_NODES, "--list")
-        places = {line: number for number, line in enumerate(listed[0].splitlines())}
+        places = {line.removesuffix("\tidle"): number for number, line in enumerate(listed[0].splitlines())}
         order = [places["\t".join(line.split("\t")[:5])] for line in lines[1:]]
         self.runs.compare("the order of the lines", (order, listed[1:]), (sorted(order), ("", 0)))
         for cores in ("1", "3"):
             self.runs.compare(f"the table by {cores} cores", self.ask(*THREE_NODES, "--cores", cores), (table, told, 0))
         stopped = "in guarded static slots that aren't the node's own, 8, none made any difference to anybody\n"
         count = re.search(r"^all +(\d+)", told, re.MULTILINE)
-        self.runs.compare("what guardians stop", (stopped in told, count and int(count[1])), (True, len(places)))
+        idle = ["lost\t2\tB\t*\tall"]
+        found = [line.removesuffix("\tidle") for line in listed[0].splitlines() if line.endswith("\tidle")]
+        self.runs.compare("what is idle", (found, [f"{it}\t-\t-\tidle\t0\t-\t-" in lines for it in idle]), (idle, [True]))
+        wanted = (True, len(places) - len(idle))
+        self.runs.compare("what guardians stop", (stopped in told, count and int(count[1])), wanted)
         return table
 
     def statuses(self, table):
@@ -68,8 +72,37 @@ class Faults:
         kept = [line for line in table.splitlines(True) if not line.startswith("mute\t1\tA\t*\ts2\t2\trx")]
         earlier.write_text("".join(kept))
         told, status = self.ask(*THREE_NODES, "--against", earlier, "--fail-on", "worse")[1:]
-        wanted = [f"1 thing worse than in {earlier}", "  mute 1 A * s2: node 2 rx 1: lost"]
+        wanted = [f"1 thing worse than in {earlier}", "  mute 1 A * s2 (one channel): node 2 rx 1: lost"]
         self.runs.compare("one thing that is worse", (told.splitlines()[-2:], status), (wanted, 3))
+
+    def earlier_table(self, table):
+        """A table of an earlier version, whose faults are all of one channel, is compared with these."""
+        earlier = self.folder / "earlier"
+        lines = [it for it in table.splitlines(True) if "\tAB\t" not in it and "\tidle\t" not in it]
+        earlier.write_text("".join(lines).replace("\tchannels\t", "\tchannel\t", 1))
+        told, status = self.ask(*THREE_NODES, "--against", earlier, "--fail-on", "worse")[1:]
+        wanted = ["not compared: 25 faults on both channels, since the table is of an earlier version, which had none; "
+                  "make it anew", f"no things worse than in {earlier}"]
+        self.runs.compare("a table of an earlier version", (told.splitlines()[-2:], status), (wanted, 0))
+
+    def guarded(self):
+        """On both channels too no babble in a guarded static slot of another node makes any difference: in the three
+        nodes with guardians on both channels each, in the car those of node 9 and node 5 in some slots."""
+        both = self.folder / "both.toml"
+        text = (EXAMPLES / THREE_NODES[0]).read_text()
+        both.write_text(text.replace('guard = "A"', 'guard = "AB"'))
+        scene = self.folder / "quiet"
+        lines = (EXAMPLES / THREE_NODES[1]).read_text().splitlines(True)
+        scene.write_text("".join(it for it in lines if not it.startswith("babble")))
+        babbles = ["--kinds", "noise,forged"]
+        car = ["vehicle/cluster.toml", "vehicle/scenario", "--cycles", "8", "--nodes", "5,9", "--slots", "1,12,16,56,62"]
+        # The three nodes have 9 places in static slots, two of which are the node's own: 7 on AB, A and B, of 2 kinds. In
+        # the car the scenario has a babble of node 9 in each static slot of A, so 5 of it are left on AB and B. Slot 56
+        # on B is node 5's own in some cycles, so of it 4 are left on AB and B, and 5 on A.
+        for words, count in (([both, scene, "--cycles", "4"], 7 * 3 * 2), (car, (5 + 5 + 4 + 4 + 5) * 2)):
+            told, status = self.ask(*words, *babbles)[1:]
+            wanted = f"in guarded static slots that aren't the node's own, {count}, none made any difference to anybody\n"
+            self.runs.compare(f"babbles on both channels in {words[0]}", (wanted in told, status), (True, 0))
 
     def refused(self):
         """What is refused is told once, as the other tool tells it, and nothing is printed."""
@@ -172,10 +205,10 @@ class Faults:
         is_told = f"--joblog {log} --resume goes on".encode() in told
         self.runs.compare("a run that is broken off", (output, is_told, running.returncode), (b"", True, 130))
         done = log.read_text().splitlines(True)
-        self.runs.compare("what is done by then", 5 < len(done) < 69, True)
+        self.runs.compare("what is done by then", 5 < len(done) < 94, True)
         log.write_text("".join(done)[:-20])
         self.runs.compare("it goes on", self.ask(*words, "--resume")[::2], (table, 0))
-        self.runs.compare("each fault is noted once", len(log.read_text().splitlines()), 70)
+        self.runs.compare("each fault is noted once", len(log.read_text().splitlines()), 95)
         self.runs.compare("nothing is left to do", self.ask(*words, "--resume")[::2], (table, 0))
         other = [*THREE_NODES[:3], "5", "--joblog", str(log), "--program", slow, "--resume"]
         self.runs.compare("a log of another run", self.ask(*other)[::2], ("", 2))
@@ -190,7 +223,9 @@ class Faults:
         self.runs.compare("nothing comes from outside", outside, [])
         opened, sections = re.findall('href="#(c[^"]*)"', text), re.findall('id="(c[^"]*)"', text)
         self.runs.compare("each cell opens its faults", sorted(opened), sorted(sections))
-        self.runs.compare("the cells of the matrix", len(re.findall('<td class="[a-z]*">(?:<a|<span)', text)), 5 * 3)
+        cells = len(re.findall('<td class="[a-z]*">(?:<a|<span)', text))
+        # Three nodes that fail silent, three that babble, and of one channel also the frames of A and of B.
+        self.runs.compare("the cells of the matrices", cells, (3 + 3 + 5) * 3)
 
     def parallel(self, table):
         """By GNU parallel on this machine, where it is there."""
@@ -200,6 +235,8 @@ class Faults:
     def all(self):
         table = self.whole()
         self.statuses(table)
+        self.earlier_table(table)
+        self.guarded()
         self.refused()
         self.absent()
         self.outputs()
