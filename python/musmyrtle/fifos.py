@@ -3,13 +3,15 @@
 A trace costs no host entry, so it tells the content also where no task can pop the FIFO. `fr_view frames` says which
 frames the FIFO stored; the `pop` entries of the trace say which of them a task took.
 """
+import math
 import os
 import subprocess
-from collections.abc import Iterable
+from bisect import bisect_right
+from collections import deque
+from collections.abc import Iterable, Iterator
 from dataclasses import dataclass, field
 
 from musmyrtle.cluster import Parameters
-from musmyrtle.traces import Fetched, Fetches, entries_of
 from musmyrtle.visible import visible
 
 TABLE = ("time", "cycle", "slot", "channel", "status", "error", "id", "flags", "taker", "bytes")
@@ -59,52 +61,82 @@ class Fifo:
         return self.kept + self.overwritten
 
 
-Key = tuple[int, str]
-"""The macrotick of the run at which a window begins, and a channel."""
+class Trace:
+    """The entries of a trace that begins with its run, whose cycles begin with the windows STARTS."""
+
+    def __init__(self, lines: list[str], starts: list[int], parameters: Parameters) -> None:
+        self.entries = lines[lines.index("begin") + 1 : -1]
+        self.starts, self.parameters = starts, parameters
+
+    def pops(self) -> list[int]:
+        """Returns the numbers of the entries by which tasks popped the FIFO."""
+        return [number for number, line in enumerate(self.entries) if line[0] == "p"]
+
+    def begin_before(self, number: int) -> int:
+        """Returns the macrotick of the run at which the last window before an entry begins, or -1 before the first."""
+        while number:
+            number -= 1
+            if self.entries[number].startswith("fetch "):
+                return self.begin_of(self.entries[number])
+        return -1
+
+    def begin_of(self, fetch: str) -> int:
+        it = self.parameters
+        window, _, minislot, slot = (int(word) if word != "-" else 0 for word in fetch.split(" ")[1:5])
+        cycle = bisect_right(self.starts, window) - 1
+        place = (slot - 1) * it.static_mt
+        if minislot:
+            place = it.static_slots * it.static_mt + (minislot - 1) * it.minislot_mt
+        return cycle * it.cycle_mt + place
 
 
-def read_fifo(program: str | os.PathLike[str], trace: list[str], capacity: int, parameters: Parameters) -> Fifo:
-    """Returns what became of the frames of a node's FIFO, by PROGRAM, which is `fr_view`. Raises `Unread`."""
-    stored = stored_frames(table_of(program, trace), parameters)
-    fifo, fetches, window = Fifo(), Fetches(), Fetched(-1, 0, {}, {})
-    entries: list[tuple[str, StoredFrame]] = []
-    for number, words in enumerate(entries_of(trace)):
-        if words[0] == "fetch":
-            window = fetches.read(words)
-        elif words[0] == "see":
-            keys = ((begin_of(window, parameters), channel) for channel in "AB")
-            entries += [(f"{number}:{key[1]}", stored[key]) for key in keys if key in stored]
-            while len(entries) > capacity:
-                fifo.overwritten.append(entries.pop(0)[1])
-        elif words[0] == "pop":
-            oldest = entries[0][0] if entries else "-"
-            if words[2] != oldest:
-                raise Unread(f"entry {number} pops {words[2]}, but the oldest frame is {oldest}")
-            fifo.popped += [frame for _, frame in entries[:1]]
-            del entries[:1]
-    fifo.waiting = [frame for _, frame in entries]
+def read_fifo(program: str | os.PathLike[str], lines: list[str], starts: list[int], capacity: int,
+              parameters: Parameters) -> Fifo:
+    """Returns what became of the frames of a node's FIFO.
+
+    PROGRAM is `fr_view`, LINES are the node's trace, and STARTS has the number of the first window of each cycle.
+    Raises `Unread` where the content can't be told.
+    """
+    trace, fifo = Trace(lines, starts, parameters), Fifo()
+    stored = deque(stored_frames(table_of(program, lines), parameters))
+    waiting: deque[tuple[int, StoredFrame]] = deque()
+
+    def store(until: float) -> None:
+        while stored and stored[0][0] <= until:
+            waiting.append(stored.popleft())
+            if len(waiting) > capacity:
+                fifo.overwritten.append(waiting.popleft()[1])
+
+    for number in trace.pops():
+        store(trace.begin_before(number))
+        source = trace.entries[number].split(" ")[2]
+        if not is_oldest(trace, source, waiting):
+            raise Unread(f"entry {number} of its trace pops {source}, which isn't the oldest frame")
+        if waiting:
+            fifo.popped.append(waiting.popleft()[1])
+    store(math.inf)
+    fifo.waiting = [frame for _, frame in waiting]
     return fifo
 
 
-def begin_of(window: Fetched, it: Parameters) -> int:
-    """Returns the macrotick of the run at which a window begins, by which `fr_view frames` names it."""
-    if window.minislot:
-        return window.cycle * it.cycle_mt + it.static_slots * it.static_mt + (window.minislot - 1) * it.minislot_mt
-    return window.cycle * it.cycle_mt + (int(window.slots["A"]) - 1) * it.static_mt
+def is_oldest(trace: Trace, source: str, waiting: deque[tuple[int, StoredFrame]]) -> bool:
+    """Whether the frame that a `pop` entry took, as `12:A`, is the oldest one, or there is none where it is `-`."""
+    if source == "-" or not waiting:
+        return source == "-" and not waiting
+    entry, channel = source.split(":")
+    begin, oldest = waiting[0]
+    return channel == oldest.channel and trace.begin_before(int(entry)) == begin
 
 
-def stored_frames(table: Iterable[str], parameters: Parameters) -> dict[Key, StoredFrame]:
-    found = {}
+def stored_frames(table: Iterable[str], parameters: Parameters) -> Iterator[tuple[int, StoredFrame]]:
+    """Returns the frames that the FIFO stored, each with the macrotick of the run at which its window begins."""
     for line in table:
         words = line.split(" ")
         if len(words) != len(TABLE):
             raise Unread(f"`{visible(line[:60])}` is no line of the table of frames")
-        row = dict(zip(TABLE, words))
-        if row["taker"] == FIFO_TAKER:
-            cycle = int(row["time"]) // parameters.cycle_mt
-            frame = StoredFrame(cycle, int(row["id"]), row["flags"], row["bytes"], row["channel"])
-            found[int(row["time"]), row["channel"]] = frame
-    return found
+        if words[8] == FIFO_TAKER:
+            time, _, _, channel, _, _, slot, flags, _, payload = words
+            yield int(time), StoredFrame(int(time) // parameters.cycle_mt, int(slot), flags, payload, channel)
 
 
 def table_of(program: str | os.PathLike[str], trace: list[str]) -> list[str]:

@@ -94,7 +94,7 @@ class Player:
         with self.opened() as world:
             Play(self, world).run(cycles, due)
             return [Begun(it.cycle, it.minislot, channel, "muted") for it in fetched(world.block(f"trace {node}"))
-                    for channel in channels if it.minislot and it.cycle in cycles and it.offers[channel] != "-"]
+                    for channel in channels if it.cycle in cycles and it.offers[channel] != "-"]
 
     def forge(self, node: int, minislot: int, occasions: Collection[Occasion]) -> dict[Occasion, int]:
         """Returns the slots that are open at the minislot in a run in which the node babbles a frame of the open slot
@@ -200,6 +200,6 @@ class Play:
     def read_fifo(self, node: int, capacity: int) -> Fifo | str:
         try:
             trace = self.world.block(f"trace {node}")
-            return read_fifo(self.player.viewer, trace, capacity, self.player.cluster.parameters)
+            return read_fifo(self.player.viewer, trace, self.played.starts, capacity, self.player.cluster.parameters)
         except (Unread, Refused) as error:
             return str(error)

@@ -14,34 +14,14 @@ class Fetched:
     offers: dict[str, str]
 
 
-def entries_of(trace: Iterable[str]) -> Iterator[list[str]]:
-    """Returns the words of each entry of a trace, in order."""
-    is_begun = False
-    for line in trace:
-        if line == "end":
-            return
-        if is_begun:
-            yield line.split(" ")
-        is_begun = is_begun or line == "begin"
-
-
-class Fetches:
-    """Counts the cycles of a run along the `fetch` entries of a trace that begins with the run."""
-
-    def __init__(self) -> None:
-        self.cycle = -1
-
-    def read(self, words: list[str]) -> Fetched:
-        """Returns the window of the next `fetch` entry."""
-        _, _, _, minislot, slot_a, slot_b, offer_a, offer_b = words
-        if (minislot, slot_a) == ("0", "1"):
-            self.cycle += 1
-        return Fetched(self.cycle, int(minislot), {"A": slot_a, "B": slot_b}, {"A": offer_a, "B": offer_b})
-
-
 def fetched(trace: Iterable[str]) -> Iterator[Fetched]:
-    """Returns all windows of a trace, in order."""
-    fetches = Fetches()
-    for words in entries_of(trace):
-        if words[0] == "fetch":
-            yield fetches.read(words)
+    """Returns the dynamic windows of a trace that begins with its run, in order."""
+    cycle = -1
+    for line in trace:
+        if not line.startswith("fetch "):
+            continue
+        _, _, _, minislot, slot_a, slot_b, offer_a, offer_b = line.split(" ")
+        if minislot != "0":
+            yield Fetched(cycle, int(minislot), {"A": slot_a, "B": slot_b}, {"A": offer_a, "B": offer_b})
+        elif slot_a == "1":
+            cycle += 1
