@@ -63,6 +63,13 @@ class Campaign:
         counts = ((number, node.queue) for number, node in enumerate(self.reference.outcome.nodes))
         return {number: it.lost for number, it in counts if it and it.lost}
 
+    def quiet(self) -> tuple[int, ...]:
+        """The nodes that have transmit buffers, and for which the scenario has no commit."""
+        committing = {line.value("NODE") for lines in self.scenario.scripts.values() for line in lines
+                      if line.kind == "commit"}
+        return tuple(it.number for it in self.cluster.nodes
+                     if it.number not in committing and any(buffer.transmits for buffer in it.buffers))
+
     def measure(self, fault: SingleFault, answer: Answer) -> list[Difference]:
         """What differs by the fault, or how its run failed."""
         if answer.failure:

@@ -238,7 +238,7 @@ def measured(given: argparse.Namespace, folder: Path) -> Results | None:
     finally:
         log.close()
     labels = Labels.read(inputs[0])
-    return Results(done, cluster, given.cycles, listing.left_out, campaign.overwritten(), labels)
+    return Results(done, cluster, given.cycles, listing.left_out, campaign.overwritten(), campaign.quiet(), labels)
 
 
 def concluded(given: argparse.Namespace, found: Results, before: Ranks | None) -> int:

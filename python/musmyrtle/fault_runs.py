@@ -9,7 +9,7 @@ from concurrent.futures import FIRST_COMPLETED, Future, ThreadPoolExecutor, wait
 from dataclasses import asdict, dataclass
 from pathlib import Path
 
-from musmyrtle.fault_costs import Difference
+from musmyrtle.fault_costs import NOT_COMPARABLE, Difference
 from musmyrtle.fault_list import SingleFault
 
 OUTCOME = ("fr_view", "outcome")
@@ -107,9 +107,9 @@ class Log:
             self.file.flush()
 
     def add(self, fault: SingleFault, found: list[Difference]) -> None:
-        """Notes a fault. A run that was killed isn't noted, so that it is done again."""
+        """Notes a fault. A run that was killed or can't be compared isn't noted, so that it is done again."""
         self.done[str(fault)] = found
-        if not any(it.effect == "killed" for it in found):
+        if not any(it.effect in ("killed", NOT_COMPARABLE) for it in found):
             self.write([{"fault": str(fault), "differences": [asdict(it) for it in found]}])
 
     def close(self) -> None:

@@ -33,6 +33,8 @@ class Results:
     left_out: LeftOut = field(default_factory=LeftOut)
     overwritten: dict[int, int] = field(default_factory=dict)
     """For each node whose FIFO overwrites frames without any fault how many."""
+    quiet: tuple[int, ...] = ()
+    """The nodes that could send data and for which the scenario has no commit."""
     labels: Labels = field(default_factory=Labels)
 
     @property
@@ -186,6 +188,9 @@ def notes(results: Results) -> Iterator[str]:
     for node, count in sorted(results.overwritten.items()):
         yield (f"{results.labels.node(node)}: FIFO not emptied by the scenario: {counted(count, 'frame')} overwritten "
                "without any fault")
+    if results.quiet:
+        yield ("nothing is committed in the scenario at " + ", ".join(map(results.labels.node, results.quiet))
+               + ": that such a node fails silent says nothing")
     if results.idle:
         yield (f"{counted(len(results.idle), 'fault')} idle, without a run, since the node sends nothing there: "
                + ", ".join(f"node {it.node} on {' and '.join(it.channels)}" for it in results.idle))
