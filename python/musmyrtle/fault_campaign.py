@@ -56,7 +56,8 @@ class Campaign:
             raise NoReference(f"{self.means.program} doesn't answer as {OUTCOME[0]} does: {error}") from None
 
     def listing(self, selection: Selection) -> Listing:
-        return Listing(self.cluster, self.scenario, self.folder.cycles, selection, ListPlays(self.recorded, self.player))
+        plays = ListPlays(self.recorded, self.player)
+        return Listing(self.cluster, self.scenario, self.folder.cycles, selection, plays)
 
     def overwritten(self) -> dict[int, int]:
         """For each node whose FIFO overwrites frames without any fault how many it overwrites."""

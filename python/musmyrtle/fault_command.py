@@ -102,7 +102,8 @@ def arguments() -> argparse.ArgumentParser:
     add("--in-cycle", metavar="C", type=cycle_of, help="in this cycle of the run, instead of in every one")
     add("--html", metavar="FILE", help="write a page with the matrix of nodes as well")
     add("--fail-on", metavar="WORD,..", type=words_of(FAIL_ON), default=frozenset(),
-        help="end with status 3 where a fault costs this: lost, older, changed, or worse with --against")
+        help="end with status 3 where a fault costs this: lost (also what is not comparable), older, changed, or worse "
+             "with --against")
     add("--against", metavar="TABLE", help="tell what is worse than in this earlier table")
     add("--cores", metavar="N", type=cores_of, default=os.cpu_count() or 1, help="how many runs at once (all cores)")
     add("--joblog", metavar="FILE", help="note each fault that is done")

@@ -149,6 +149,7 @@ class Listing:
         self.has_calls = {(line.value("NODE"), line.value("BUFFER")) for lines in scenario.scripts.values()
                           for line in lines if line.kind == "commit"}
         self.left_out = LeftOut()
+        self.lost: dict[tuple[int, str], list[Begun]] = {}
         self.opened: dict[tuple[int, frozenset[Occasion]], dict[Occasion, int]] = {}
 
     @property
@@ -197,13 +198,18 @@ class Listing:
         for channel in static:
             lines += self.spread(f"mute {node.number} {channel}", ALL_STATIC)
         dynamic = "".join(it for it in channels if self.may_send_dynamic(node, it))
-        begun = self.plays.lose(node.number, dynamic, self.each_cycle()) if dynamic else []
+        begun = self.lost_by(node.number, dynamic) if dynamic else []
         for it in begun:
             lines += self.free(f"mute {node.number} {it.channel}", it.cycle, f"m{it.minislot}")
         if static or begun:
             yield from self.listed(ALL, lines)
         else:
             yield ALL, []
+
+    def lost_by(self, node: int, channels: str) -> list[Begun]:
+        if (node, channels) not in self.lost:
+            self.lost[node, channels] = self.plays.lose(node, channels, self.each_cycle())
+        return self.lost[node, channels]
 
     def may_send_dynamic(self, node: Node, channel: str) -> bool:
         return any(it.transmits and not self.cluster.is_static(it.slot) and it.channels == channel

@@ -14,9 +14,8 @@ HEADING_OF_ONE_CHANNEL = HEADING.replace("channels", "channel")
 """The heading of earlier versions, whose faults are all of one channel."""
 Done = list[tuple[SingleFault, list[Difference]]]
 """Faults in the order of their list, each with what differs in its run."""
-HARMLESS_WORDS = ("harmless: nothing that a receiver holds is lost or worse; the counters may differ (counted), the same "
-                  "frame may come by the other channel (channel), a newer frame may come (newer), and more commits may "
-                  "be sent (sent)")
+HARMLESS_WORDS = ("harmless: counters alone (counted), the frame by the other channel (channel), a newer frame "
+                  "(newer), more sent (sent)")
 
 
 class BadTable(ValueError):
@@ -189,14 +188,14 @@ def notes(results: Results) -> Iterator[str]:
         yield (f"{results.labels.node(node)}: FIFO not emptied by the scenario: {counted(count, 'frame')} overwritten "
                "without any fault")
     if results.quiet:
-        yield ("nothing is committed in the scenario at " + ", ".join(map(results.labels.node, results.quiet))
-               + ": that such a node fails silent says nothing")
+        yield ("the scenario has no commit for " + ", ".join(map(results.labels.node, results.quiet))
+               + ": nothing of these can be lost here")
     if results.idle:
         yield (f"{counted(len(results.idle), 'fault')} idle, without a run, since the node sends nothing there: "
                + ", ".join(f"node {it.node} on {' and '.join(it.channels)}" for it in results.idle))
     if results.left_out.taken:
-        yield (f"{counted(results.left_out.taken, 'fault')} left out: the scenario has one of the kind in each of their "
-               "windows")
+        count = counted(results.left_out.taken, "fault")
+        yield f"{count} left out: the scenario has one of the kind in each of their windows"
     if results.left_out.unopened:
         yield f"{counted(results.left_out.unopened, 'fault')} left out: no slot opens at their minislot"
 

@@ -1,6 +1,7 @@
 """How the table, the summary and the page tell what faults cost."""
 import unittest
 
+from musmyrtle.fault_campaign import failed
 from musmyrtle.fault_costs import IDLE, Difference
 from musmyrtle.fault_labels import Labels, grouped, ranges
 from musmyrtle.fault_list import BOTH, LeftOut, SingleFault
@@ -66,12 +67,12 @@ class TestSummary(unittest.TestCase):
 
     def test_runs_that_failed_say_nothing_of_guardians(self):
         """Of the three babbles in guarded slots of others one failed, one makes a difference, one none."""
-        told = "of the babbles in guarded static slots that aren't the node's own, 2, 1 made any difference to anybody; " \
-            "1 more failed"
+        told = "of the babbles in guarded static slots that aren't the node's own, 2, 1 made any difference to " \
+            "anybody; 1 more failed"
         self.assertIn(told, self.lines())
-        failed = [(fault("noise", 1, BOTH, "s1"), [killed()])]
+        alone = [(fault("noise", 1, BOTH, "s1"), [killed()])]
         self.assertIn("of the babbles in guarded static slots that aren't the node's own, 0, no run completed; "
-                      "1 more failed", self.lines(failed))
+                      "1 more failed", self.lines(alone))
 
     def test_harmless_effects_are_named(self):
         told = next(line for line in self.lines() if line.startswith("harmless: "))
@@ -168,8 +169,10 @@ class TestPage(unittest.TestCase):
         labels = Labels.read(NAMED.encode())
         self.assertEqual(labels.node(0), "node 0 pe\\x1b[31mdal")
         self.assertEqual(labels.thing(0, "rx 1"), "rx 1 (an\\u202egle <b>)")
-        self.assertEqual((labels.node(1), labels.thing(0, "rx 2"), labels.thing(1, "queue")), ("node 1", "rx 2", "FIFO"))
-        done = [(fault("lost", 1, BOTH, "all"), [lost(0)]), (fault("mute", 0, "A", "s1"), [killed(visible("\x1b[2J\t"))])]
+        found = labels.node(1), labels.thing(0, "rx 2"), labels.thing(1, "queue")
+        self.assertEqual(found, ("node 1", "rx 2", "FIFO"))
+        done = [(fault("lost", 1, BOTH, "all"), [lost(0)]),
+                (fault("mute", 0, "A", "s1"), failed("killed", "\x1b[2J\t"))]
         subject = Subject(f"a{BIDI}.toml", "b\udcff\x07")
         text = page(subject, results(done, NAMED, labels=labels))
         self.assertIn("rx 1 (an\\u202egle &lt;b&gt;): lost", text)
@@ -186,7 +189,8 @@ class TestPage(unittest.TestCase):
         self.assertEqual(Labels.read(b'\xef\xbb\xbfnode = [{name = "a"}]').node(0), "node 0 a")
 
     def test_ranges(self):
-        self.assertEqual(ranges(["s1", "s2", "s3", "s5", "s*", "m7", "m8", "all"]), ["s1-s3", "s5", "s*", "m7-m8", "all"])
+        found = ranges(["s1", "s2", "s3", "s5", "s*", "m7", "m8", "all"])
+        self.assertEqual(found, ["s1-s3", "s5", "s*", "m7-m8", "all"])
         places = [f"s{it}" for it in range(1, 51)]
         self.assertEqual(grouped(fault("noise", 0, BOTH, it) for it in places), "noise on A and B s1-s50")
 

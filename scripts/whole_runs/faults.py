@@ -55,7 +55,8 @@ class Faults:
         count = re.search(r"^all +(\d+)", told, re.MULTILINE)
         idle = ["lost\t2\tB\t*\tall"]
         found = [line.removesuffix("\tidle") for line in listed[0].splitlines() if line.endswith("\tidle")]
-        self.runs.compare("what is idle", (found, [f"{it}\t-\t-\tidle\t0\t-\t-" in lines for it in idle]), (idle, [True]))
+        in_table = [f"{it}\t-\t-\tidle\t0\t-\t-" in lines for it in idle]
+        self.runs.compare("what is idle", (found, in_table), (idle, [True]))
         wanted = (True, len(places) - len(idle))
         self.runs.compare("what guardians stop", (stopped in told, count and int(count[1])), wanted)
         return table
@@ -95,13 +96,14 @@ class Faults:
         lines = (EXAMPLES / THREE_NODES[1]).read_text().splitlines(True)
         scene.write_text("".join(it for it in lines if not it.startswith("babble")))
         babbles = ["--kinds", "noise,forged"]
-        car = ["vehicle/cluster.toml", "vehicle/scenario", "--cycles", "8", "--nodes", "5,9", "--slots", "1,12,16,56,62"]
-        # The three nodes have 9 places in static slots, two of which are the node's own: 7 on AB, A and B, of 2 kinds. In
-        # the car the scenario has a babble of node 9 in each static slot of A, so 5 of it are left on AB and B. Slot 56
-        # on B is node 5's own in some cycles, so of it 4 are left on AB and B, and 5 on A.
+        car = ["vehicle/cluster.toml", "vehicle/scenario", "--cycles", "8"]
+        car += ["--nodes", "5,9", "--slots", "1,12,16,56,62"]
+        # The three nodes have 9 places in static slots, two of which are the node's own: 7 on AB, A and B, of 2 kinds.
+        # In the car the scenario has a babble of node 9 in each static slot of A, so 5 of it are left on AB and B. Slot
+        # 56 on B is node 5's own in some cycles, so of it 4 are left on AB and B, and 5 on A.
         for words, count in (([both, scene, "--cycles", "4"], 7 * 3 * 2), (car, (5 + 5 + 4 + 4 + 5) * 2)):
             told, status = self.ask(*words, *babbles)[1:]
-            wanted = f"in guarded static slots that aren't the node's own, {count}, none made any difference to anybody\n"
+            wanted = f"in guarded static slots that aren't the node's own, {count}, none made any difference to anybody"
             self.runs.compare(f"babbles on both channels in {words[0]}", (wanted in told, status), (True, 0))
 
     def refused(self):
