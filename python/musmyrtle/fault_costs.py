@@ -59,7 +59,7 @@ class Difference:
 
 
 def worst(differences: list[Difference]) -> Difference | None:
-    return max(differences, key=lambda it: it.rank, default=None)
+    return max(differences, key=lambda it: it.rank) if differences else None
 
 
 class Calendar:
@@ -107,12 +107,12 @@ def ended(scenario: Scenario, outcome: Outcome, played: Played) -> Ended:
 
 def differences(without: Ended, having: Ended) -> list[Difference]:
     """All that differs, by node and number of its buffer, then its queue and its channels."""
-    found = []
+    found: list[Difference] = []
     for number, (before, after) in enumerate(zip(without.outcome.nodes, having.outcome.nodes)):
         for buffer, (one, other) in enumerate(zip(before.buffers, after.buffers)):
-            if isinstance(one, TransmitBuffer):
+            if isinstance(one, TransmitBuffer) and isinstance(other, TransmitBuffer):
                 found += sent_otherwise(number, buffer, one, other)
-            else:
+            elif isinstance(one, ReceiveBuffer) and isinstance(other, ReceiveBuffer):
                 found += held_otherwise(Held(without, number, one), Held(having, number, other), buffer)
         found += queued_otherwise(number, without, having)
         found += counted_otherwise(number, before, after)
@@ -135,7 +135,7 @@ class Held:
 
     def __str__(self) -> str:
         it = self.buffer
-        return "-" if it.entry is None else f"{self.cycle}:{it.channel} x{it.payload.hex()}"
+        return "-" if it.entry is None or it.payload is None else f"{self.cycle}:{it.channel} x{it.payload.hex()}"
 
 
 def held_otherwise(one: Held, other: Held, buffer: int) -> Iterator[Difference]:
@@ -147,15 +147,16 @@ def held_otherwise(one: Held, other: Held, buffer: int) -> Iterator[Difference]:
 
 
 def held_effect(one: Held, other: Held) -> tuple[str, int]:
-    if other.cycle is None:
+    before, after = one.cycle, other.cycle
+    if after is None:
         return "lost", 1
-    if one.cycle is None:
+    if before is None:
         return "changed", 1
-    if other.cycle < one.cycle:
-        return "older", one.cycle - other.cycle
+    if after < before:
+        return "older", before - after
     if one.buffer.payload != other.buffer.payload:
         return "changed", 1
-    return ("newer", other.cycle - one.cycle) if other.cycle > one.cycle else ("channel", 1)
+    return ("newer", after - before) if after > before else ("channel", 1)
 
 
 def sent_otherwise(node: int, buffer: int, one: TransmitBuffer, other: TransmitBuffer) -> Iterator[Difference]:

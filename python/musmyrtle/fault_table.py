@@ -194,8 +194,8 @@ def notes(results: Results) -> Iterator[str]:
         yield (f"{counted(len(results.idle), 'fault')} idle, without a run, since the node sends nothing there: "
                + ", ".join(f"node {it.node} on {' and '.join(it.channels)}" for it in results.idle))
     if results.left_out.taken:
-        count = counted(results.left_out.taken, "fault")
-        yield f"{count} left out: the scenario has one of the kind in each of their windows"
+        taken = counted(results.left_out.taken, "fault")
+        yield f"{taken} left out: the scenario has one of the kind in each of their windows"
     if results.left_out.unopened:
         yield f"{counted(results.left_out.unopened, 'fault')} left out: no slot opens at their minislot"
 

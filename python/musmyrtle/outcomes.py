@@ -2,7 +2,7 @@
 import re
 from dataclasses import dataclass
 
-from musmyrtle.cluster import Cluster, Node
+from musmyrtle.cluster import Buffer, Cluster, Node
 from musmyrtle.replies import Counters, Queue, ReceiveBuffer, TransmitBuffer
 
 NUMBER = r"(0|[1-9][0-9]*)"
@@ -38,7 +38,7 @@ class Lines:
             raise BadOutcome("the last line has no line feed")
         self.lines, self.at = text[:-1].split("\n"), 0
 
-    def take(self, front: str, form: str | re.Pattern) -> re.Match:
+    def take(self, front: str, form: str | re.Pattern[str]) -> re.Match[str]:
         """The next line, which has to begin so and then to have this form whole."""
         line = self.lines[self.at] if self.at < len(self.lines) else None
         found = re.fullmatch(form, line[len(front):]) if line is not None and line.startswith(front) else None
@@ -84,13 +84,17 @@ def known_node(lines: Lines, node: Node, known: Known) -> NodeOutcome:
 
 def read_node(lines: Lines, node: Node) -> NodeOutcome:
     lines.take(f"node {node.number}", "")
-    buffers = tuple(read_sent(lines, it.number) if it.transmits else read_held(lines, it.number) for it in node.buffers)
+    buffers = tuple(read_buffer(lines, it) for it in node.buffers)
     queue = None
     if node.queue:
         queue = Queue(*lines.numbers("queue ", 2))
         if queue.waiting > node.queue.capacity:
             raise BadOutcome(f"line {lines.at} has more frames than the queue holds")
     return NodeOutcome(buffers, queue, {channel: Counters(*lines.numbers(f"{channel} ", 5)) for channel in "AB"})
+
+
+def read_buffer(lines: Lines, buffer: Buffer) -> TransmitBuffer | ReceiveBuffer:
+    return read_sent(lines, buffer.number) if buffer.transmits else read_held(lines, buffer.number)
 
 
 def read_sent(lines: Lines, number: int) -> TransmitBuffer:

@@ -105,7 +105,7 @@ class Player:
         def due(cycle: int, window: Window) -> list[str] | None:
             if window.minislot < minislot:
                 return []
-            slots = {channel: window.slot(channel) for channel in channels if window.minislot == minislot}
+            slots = {channel: slot_of(window, channel) for channel in channels if window.minislot == minislot}
             here = {channel: slot for channel, slot in slots.items() if slot and (cycle, channel) in occasions}
             found.update({(cycle, channel): slot for channel, slot in here.items()})
             return [forged_babble(node, channel, slot, cycle) for channel, slot in here.items()] or None
@@ -123,6 +123,10 @@ class Player:
             world.close()
             raise
         return world
+
+
+def slot_of(window: Window, channel: str) -> int | None:
+    return window.a if channel == "A" else window.b
 
 
 def forged_babble(node: int, channel: str, slot: int, cycle: int) -> str:

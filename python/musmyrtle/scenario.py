@@ -83,7 +83,7 @@ class FaultLines:
 
     ANY = -1
 
-    def __init__(self):
+    def __init__(self) -> None:
         self.lines: dict[tuple, FaultLine] = {}
 
     def add(self, line: FaultLine) -> None:
