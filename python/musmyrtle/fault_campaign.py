@@ -1,5 +1,6 @@
 """All faults of a list, each in a run of its own, held against the run without it."""
 from collections.abc import Callable, Collection, Iterator
+from contextlib import contextmanager
 from dataclasses import dataclass
 
 from musmyrtle.cluster import LAST_SLOT, Cluster, Queue
@@ -127,7 +128,7 @@ class Campaign:
 
 @dataclass(frozen=True)
 class ListPlays:
-    """The runs that a list follows from, played in sessions."""
+    """The runs that a list follows from, played in sessions. Raises `NoReference` where one of them can't be had."""
 
     base: Played
     player: Player
@@ -136,10 +137,21 @@ class ListPlays:
         return self.base.begun
 
     def lose(self, node: int, channels: str, cycles: range) -> list[Begun]:
-        return self.player.lose(node, channels, cycles)
+        with listed():
+            return self.player.lose(node, channels, cycles)
 
     def forge(self, node: int, minislot: int, occasions: Collection[Occasion]) -> dict[Occasion, int]:
-        return self.player.forge(node, minislot, occasions)
+        with listed():
+            return self.player.forge(node, minislot, occasions)
+
+
+@contextmanager
+def listed() -> Iterator[None]:
+    """Turns what ends a session into the one line that says that there is no list."""
+    try:
+        yield
+    except (SessionOver, Refused) as error:
+        raise NoReference(f"fr_world, for the list of faults: {error}") from None
 
 
 def misplaced(fault: SingleFault, played: Played) -> str | None:

@@ -15,8 +15,8 @@ SORTS = (
     ("Node babbles", "A node sends beside all others, at the same place on both channels (`noise N AB`, "
                      "`forged N AB`)."),
     ("One channel disturbed", f"Each fault is on {ONE_CHANNEL}, and the other channel is as it was: a node is lost or "
-                              "babbles there, or a frame is disturbed. What is sent on both channels still arrives by "
-                              "the other one."),
+                              "babbles there, or a frame is disturbed. What is sent on both channels can still arrive "
+                              "by the other one."),
 )
 """The sorts of faults in the order of the page, with what they are."""
 

@@ -114,7 +114,7 @@ def not_compared(done: Done, before: Ranks) -> Iterator[str]:
 # ---- in words
 
 def told(it: Difference, labels: Labels = Labels()) -> str:
-    """What a difference means, as `node 3 has lost rx 2`."""
+    """What a difference means, as `node 3 rx 2: lost`."""
     if it.node is None:
         return f"{it.effect}: {it.having}" if it.effect in FAILED else it.effect
     more = {

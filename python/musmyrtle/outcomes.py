@@ -106,4 +106,6 @@ def read_sent(lines: Lines, number: int) -> TransmitBuffer:
 
 def read_held(lines: Lines, number: int) -> ReceiveBuffer:
     entry, channel, data = lines.take(f"rx {number} ", HELD).groups()
-    return ReceiveBuffer(None, None, None) if entry is None else ReceiveBuffer(int(entry), channel, bytes.fromhex(data))
+    if entry is None:
+        return ReceiveBuffer(None, None, None)
+    return ReceiveBuffer(int(entry), "A" if channel == "A" else "B", bytes.fromhex(data))

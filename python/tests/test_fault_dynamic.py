@@ -1,6 +1,10 @@
 """Faults in the dynamic segment: what a lost node would send, and which slot a forged frame names."""
+from unittest.mock import patch
+
+from musmyrtle.fault_campaign import NoReference
 from musmyrtle.fault_list import Selection, SingleFault
 from musmyrtle.frames import data_frame
+from musmyrtle.refusals import Memory, SessionOver
 from tests.campaigns import CampaignCases
 
 CLUSTER = """guard = "AB"
@@ -93,6 +97,14 @@ class TestForged(CampaignCases):
             found = campaign.here(fault)
             told = [it.having for it in found if it.effect == "unreadable"]
             self.assertEqual(told, [wanted] if wanted else [])
+
+    def test_a_session_that_ends_while_the_list_is_made(self):
+        """A refusal, and the end of the program, end the list with one line."""
+        campaign = self.campaign_of()
+        for error in (Memory(("Memory",), "trace 0"), SessionOver("refused Memory")):
+            with patch("musmyrtle.played.Play.run", side_effect=error), self.assertRaises(NoReference) as raised:
+                self.at(campaign, "all", "lost")
+            self.assertNotIn("\n", str(raised.exception))
 
     def test_all_that_a_node_sends(self):
         """With slot 3 lost slot 4 opens at minislot 2, and is lost there. Slot 5 opens at minislot 3 on B."""
