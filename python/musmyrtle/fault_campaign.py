@@ -137,16 +137,16 @@ class ListPlays:
         return self.base.begun
 
     def lose(self, node: int, channels: str, cycles: range) -> list[Begun]:
-        with listed():
+        with for_a_list():
             return self.player.lose(node, channels, cycles)
 
     def forge(self, node: int, minislot: int, occasions: Collection[Occasion]) -> dict[Occasion, int]:
-        with listed():
+        with for_a_list():
             return self.player.forge(node, minislot, occasions)
 
 
 @contextmanager
-def listed() -> Iterator[None]:
+def for_a_list() -> Iterator[None]:
     """Turns what ends a session into the one line that says that there is no list."""
     try:
         yield
