@@ -1,12 +1,15 @@
 """All faults of a list, each in a run of its own, held against the run without it."""
 from collections.abc import Callable, Iterator
+from contextlib import closing
 from dataclasses import dataclass
 
+from musmyrtle.answers import UNANSWERED, Answer
 from musmyrtle.cluster import Cluster, Queue
 from musmyrtle.fault_costs import Difference, Ended, differences, ended
 from musmyrtle.fault_hosts import Hosts, answers
 from musmyrtle.fault_list import Listing, Selection, SingleFault
-from musmyrtle.fault_runs import OUTCOME, Answer, Folder, Log, pooled
+from musmyrtle.fault_log import Log
+from musmyrtle.fault_runs import OUTCOME, Folder, pooled
 from musmyrtle.fault_table import Done
 from musmyrtle.outcomes import BadOutcome, Known, read_outcome
 from musmyrtle.played import Played, Player
@@ -28,6 +31,13 @@ class NoReference(Exception):
     """The run without a fault has no outcome. The message says why."""
 
 
+def no_outcome(answer: Answer) -> str:
+    """Returns the message for a run without a fault that failed."""
+    effect, why = answer.failure or ("unreadable", "nothing")
+    what = {"killed": "was killed", "refused": "was refused"}.get(effect, "has no outcome")
+    return f"the run without a fault {what}: {why}"
+
+
 def failed(effect: str, why: str) -> list[Difference]:
     return [Difference(None, "-", effect, 1, "-", why.replace("\t", " ").replace("\n", " "))]
 
@@ -43,12 +53,14 @@ class Campaign:
         except SessionOver as error:
             raise NoReference(f"{means.world}: {error}") from None
         self.known: Known = {}
+        self.done_here = 0
+        """The runs that no machine answered, and that were done here."""
         self.reference = self.read_reference()
 
     def read_reference(self) -> Ended:
         answer = self.folder.run(self.means.program, ())
         if answer.failure:
-            raise NoReference(" ".join(answer.failure))
+            raise NoReference(no_outcome(answer))
         try:
             return ended(self.scenario, read_outcome(answer.output, self.cluster), self.recorded)
         except BadOutcome as error:
@@ -83,24 +95,39 @@ class Campaign:
         return is_in_range and fault.channel in queue.channels
 
     def run(self, faults: list[SingleFault], log: Log, tell: Callable[[int, int], None]) -> Done:
-        """All faults in the order of the list, whatever order they are done in. TELL is told how many are done."""
+        """Does all faults. Returns them in the order of the list, and tells TELL how many are done."""
         todo = [it for it in faults if str(it) not in log.done]
-        for number, (fault, found) in enumerate(self.measured(todo), 1):
-            log.add(fault, found)
-            tell(len(faults) - len(todo) + number, len(faults))
+        with closing(self.measured(todo)) as measured:
+            for number, (fault, found) in enumerate(measured, 1):
+                log.add(fault, found)
+                tell(len(faults) - len(todo) + number, len(faults))
         return [(it, log.done[str(it)]) for it in faults]
 
     def measured(self, faults: list[SingleFault]) -> Iterator[tuple[SingleFault, list[Difference]]]:
+        """Yields each fault with its differences, as they come."""
         rest = faults
         if self.means.hosts is not None:
-            told = answers(self.folder, self.means.program, faults, self.means.hosts)
-            answered = set()
-            for (fault, _), found in pooled(lambda it: self.measure(*it), told, self.means.cores):
-                answered.add(str(fault))
-                yield fault, found
-            # What no machine has answered, since it died and no other one could do it, is done here.
+            answered = set[str]()
+            with closing(self.by_hosts(faults, self.means.hosts)) as told:
+                for fault, found in told:
+                    answered.add(str(fault))
+                    yield fault, found
             rest = [it for it in faults if str(it) not in answered]
-        yield from pooled(self.here, rest, self.means.cores)
+            self.done_here = len(rest)
+        with closing(pooled(self.here, rest, self.means.cores, self.folder.children)) as done:
+            yield from done
+
+    def by_hosts(self, faults: list[SingleFault], hosts: Hosts) -> Iterator[tuple[SingleFault, list[Difference]]]:
+        """The same of the faults whose runs a machine has answered."""
+        with closing(answers(self.folder, self.means.program, faults, hosts)) as told, closing(
+                pooled(lambda it: self.measure(*it), told, self.means.cores, self.folder.children)) as done:
+            for (fault, _), found in done:
+                if is_answered(found):
+                    yield fault, found
 
     def here(self, fault: SingleFault) -> list[Difference]:
         return self.measure(fault, self.folder.run(self.means.program, fault.lines))
+
+
+def is_answered(found: list[Difference]) -> bool:
+    return not any(it.effect in UNANSWERED for it in found)

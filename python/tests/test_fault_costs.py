@@ -8,8 +8,9 @@ from musmyrtle.cluster import Reading as ClusterReading
 from musmyrtle.fault_campaign import Campaign, Means
 from musmyrtle.fault_costs import Calendar, Difference, Ended, differences
 from musmyrtle.fault_list import Selection
+from musmyrtle.fault_log import Log
 from musmyrtle.fault_runs import OUTCOME as FORM
-from musmyrtle.fault_runs import Folder, Log
+from musmyrtle.fault_runs import Folder
 from musmyrtle.outcomes import BadOutcome, read_outcome
 from musmyrtle.program import usual_program
 from musmyrtle.scenario import Reading as ScenarioReading
