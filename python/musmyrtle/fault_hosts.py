@@ -5,6 +5,7 @@ files has the same name on each machine, so that one that shares the temporary f
 system, uses the files themselves. The campaign reads none of them, and they are gone from all machines at the end.
 """
 import os
+import re
 import shlex
 import shutil
 import subprocess
@@ -23,6 +24,7 @@ TRIES = 4
 """How many machines are given a job at most, as long as it fails."""
 SSH_OPTIONS = "-o BatchMode=yes -o ConnectTimeout=10 -o ServerAliveInterval=5 -o ServerAliveCountMax=3"
 """The options by which a machine that died is given up after some 15 seconds."""
+THIS_MACHINE = re.compile(r"--sshlogin|([0-9]+/)?:")
 TIDY_SECONDS = 15
 """The seconds for the removal of the files from all machines."""
 
@@ -35,6 +37,11 @@ class Hosts:
     words: tuple[str, ...] = ()
     jobs: int | None = None
 
+    @property
+    def is_far(self) -> bool:
+        """Whether one of the words may name another machine, so that files have to be sent."""
+        return any(not THIS_MACHINE.fullmatch(it) for it in self.words)
+
 
 class NoParallel(Exception):
     """`parallel` can't be started."""
@@ -42,7 +49,7 @@ class NoParallel(Exception):
 
 def command(sent: Sent, hosts: Hosts) -> list[str]:
     """Returns the command that gives the jobs to the machines."""
-    files = [word for name in SENT for word in ("--basefile", name)] if hosts.words else []
+    files = ["--cleanup", *(word for name in SENT for word in ("--basefile", name))] if hosts.is_far else []
     jobs = [] if hosts.jobs is None else ["--jobs", str(hosts.jobs)]
     return ["parallel", "--will-cite", "--retries", str(TRIES), *jobs, *hosts.words, *files, "--workdir",
             str(sent.folder), "--colsep", " ", sent.command]
@@ -80,9 +87,9 @@ def surroundings(folder: Path) -> dict[str, str]:
 
 
 def tidy(sent: Sent, hosts: Hosts, environment: dict[str, str]) -> None:
-    """Removes the files from all machines that still answer."""
+    """Removes the files from all machines that still answer, also those of jobs that were broken off."""
     shutil.rmtree(sent.folder, ignore_errors=True)
-    if not hosts.words:
+    if not hosts.is_far:
         return
     folders = shlex.quote(str(sent.folder)), shlex.quote(str(sent.folder.parent))
     words = ["parallel", "--will-cite", "--nonall", *hosts.words,

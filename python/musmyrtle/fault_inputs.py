@@ -46,7 +46,7 @@ def accepted(given: argparse.Namespace, folder: Path, children: Children) -> Inp
         raise Stop(USAGE if answer.status == USAGE else REFUSED)
     if answer.status:
         said = f"refused {answer.refusal}" if answer.is_named else str(answer.refusal)
-        raise NoReference(no_outcome(Answer(answer.status, "", said)))
+        raise NoReference(no_outcome(Answer(answer.status, "", said.removeprefix(f"status {answer.status}"))))
     cluster, scenario = data[given.cluster], data[given.scenario]
     document = read_text(given.cluster, cluster).document
     tables = document.get("node", [])

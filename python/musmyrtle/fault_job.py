@@ -7,7 +7,6 @@ of fault lines, and the digests of what the run printed. An answer in which one 
 """
 import hashlib
 import re
-import shlex
 from collections.abc import Iterable, Iterator
 from dataclasses import dataclass
 from pathlib import Path
@@ -26,14 +25,6 @@ SCRIPT = """#!/bin/sh
 # that was sent. A line of `jobs` has the number of a run, the first and the last of its lines in `lines`, and the
 # digest of its scenario. The status is 1 where a run has no answer, so that another machine does the job.
 
-digest() {
-    sha256sum | cut -d ' ' -f 1
-}
-
-lines() {
-    wc -l <"$1" | tr -d ' '
-}
-
 fail() {
     echo "fr_faults: ${PARALLEL_SSHHOST:-this machine}: $*" >&2
     failed=1
@@ -42,31 +33,35 @@ fail() {
 # One run, by the words of its line.
 one() {
     { sed '$d' SCENARIO && sed -n "$2,$3p" lines && echo end; } >"$run" || fail "a scenario can't be written"
-    made=$(digest <"$run")
-    added=$(($(lines "$run") - $(lines SCENARIO)))
+    made=$(sha256sum "$run") && made=${made%% *}
+    added=$(($(wc -l <"$run") - before))
     [ "$made" = "$4" ] && [ "$added" = "$(($3 - $2 + 1))" ] || { fail "a scenario isn't whole"; return; }
     ./PROGRAM WORDS >"$run.out" 2>"$run.told" </dev/null
     status=$?
-    last=$(tail -n 1 "$run.told")
-    case "$status $last" in
-    0\\ *) ;;
-    NO_REFUSALS) fail "no answer: $last"; return ;;
-    REFUSED\\ refused\\ [A-Z]*) ;;
-    *) fail "no answer: status $status $last"; return ;;
-    esac
-    echo "run $1 $status $given $made $added $(digest <"$run.out") $(digest <"$run.told")" &&
-        sed 's/^/out /' "$run.out" && sed 's/^/told /' "$run.told" && echo "done $1" || fail "an answer can't be told"
+    if [ "$status" != 0 ]; then
+        last=$(tail -n 1 "$run.told")
+        case "$status $last" in
+        NO_REFUSALS) fail "no answer: $last"; return ;;
+        REFUSED\ refused\ [A-Z]*) ;;
+        *) fail "no answer: status $status $last"; return ;;
+        esac
+    fi
+    front="run $1 $status $given $made $added"
+    set -- "$1" $(sha256sum "$run.out" "$run.told")
+    echo "$front $2 $4" && sed 's/^/out /' "$run.out" && sed 's/^/told /' "$run.told" && echo "done $1" ||
+        fail "an answer can't be told"
 }
 
 all() {
-    given=$(sha256sum FILES | digest)
+    given=$(sha256sum FILES | sha256sum) && given=${given%% *}
     [ "$given" = "$3" ] || { fail "what was sent isn't here whole"; exit 1; }
+    before=$(($(wc -l <SCENARIO)))
     sed -n "$1,$2p" jobs | {
         while read -r number first last sum; do
             run=run-$$-$number
             one "$number" "$first" "$last" "$sum"
-            rm -f -- "$run" "$run.out" "$run.told"
         done
+        rm -f -- run-$$-*
         [ -z "$failed" ]
     }
 }

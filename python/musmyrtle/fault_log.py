@@ -84,6 +84,7 @@ class Log:
             while self.file and data:
                 data = data[self.file.write(data):]
         except OSError as error:
+            self.close()
             raise unusable(f"--joblog {self.name}", error) from None
 
     def add(self, fault: SingleFault, found: list[Difference]) -> None:
@@ -113,5 +114,6 @@ def spelled(entry: dict[str, Any]) -> bytes:
 def is_noted(it: Any) -> bool:
     """Returns whether a value of a log has the fields of a difference, with their types."""
     kinds = {field.name: field.type for field in fields(Difference)}
-    return isinstance(it, dict) and it.keys() == kinds.keys() and it["effect"] in EFFECTS \
-        and all(isinstance(it[name], kind) and not isinstance(it[name], bool) for name, kind in kinds.items())
+    return isinstance(it, dict) and it.keys() == kinds.keys() \
+        and all(isinstance(it[name], kind) and not isinstance(it[name], bool) for name, kind in kinds.items()) \
+        and it["effect"] in EFFECTS

@@ -43,8 +43,8 @@ def replace_file(name: str, data: bytes) -> None:
     """Writes a file beside the named one and puts it in its place, so that a failure leaves the old file whole. What
     is no regular file, as a pipe, is written itself."""
     file = Path(os.path.realpath(name))
-    if file.exists() and not (file.is_file() and os.access(file.parent, os.W_OK)):
-        file.write_bytes(data)
+    if os.path.exists(name) and not (os.path.isfile(name) and os.access(file.parent, os.W_OK)):
+        Path(name).write_bytes(data)
         return
     beside = file.with_name(f".fr_faults-{os.getpid()}")
     try:
