@@ -60,8 +60,8 @@ all() {
         while read -r number first last sum; do
             run=run-$$-$number
             one "$number" "$first" "$last" "$sum"
+            rm -f -- "$run" "$run.out" "$run.told"
         done
-        rm -f -- run-$$-*
         [ -z "$failed" ]
     }
 }
