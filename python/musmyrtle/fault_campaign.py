@@ -45,7 +45,7 @@ def failed(effect: str, why: str) -> list[Difference]:
 class Campaign:
     """A cluster and a scenario with the run without a fault, against which the others are held."""
 
-    def __init__(self, cluster: Cluster, scenario: Scenario, folder: Folder, means: Means):
+    def __init__(self, cluster: Cluster, scenario: Scenario, folder: Folder, means: Means) -> None:
         self.cluster, self.scenario, self.folder, self.means = cluster, scenario, folder, means
         self.player = Player(means.world, folder.cluster, cluster, scenario, folder.cycles)
         try:

@@ -48,7 +48,7 @@ def accepted(given: argparse.Namespace, folder: Path, children: Children) -> Inp
         said = f"refused {answer.refusal}" if answer.is_named else str(answer.refusal)
         raise NoReference(no_outcome(Answer(answer.status, "", said.removeprefix(f"status {answer.status}"))))
     cluster, scenario = data[given.cluster], data[given.scenario]
-    document = read_text(given.cluster, cluster).document
+    document = read_text(given.cluster, cluster).document or {}
     tables = document.get("node", [])
     names = Names(named(tables), [named(it.get("buffer", [])) for it in tables])
     reading = ScenarioReading(given.scenario, scenario)
@@ -57,7 +57,8 @@ def accepted(given: argparse.Namespace, folder: Path, children: Children) -> Inp
 
 def copied(given: argparse.Namespace, folder: Path) -> tuple[Task, dict[str, bytes]]:
     """Copies both files, which may be pipes or change meanwhile. One that can't be read is left to the program."""
-    files, found = {}, {}
+    files: dict[str, str] = {}
+    found: dict[str, bytes] = {}
     for name, copy in ((given.cluster, CLUSTER_FILE), (given.scenario, SCENARIO_FILE)):
         data = read_bytes(name)
         if data is not None:

@@ -4,6 +4,7 @@ import json
 import os
 from collections.abc import Iterable
 from dataclasses import asdict, fields
+from io import FileIO
 from pathlib import Path
 from typing import Any
 
@@ -21,7 +22,8 @@ class Log:
 
     def __init__(self, file: str | None, inputs: Iterable[bytes], is_resumed: bool) -> None:
         """Raises `Unusable`: a log that is there goes on with IS_RESUMED, and then has to be of the same inputs."""
-        self.name, self.file = file, None
+        self.name = file
+        self.file: FileIO | None = None
         digest = hashlib.sha256()
         for data in inputs:
             digest.update(len(data).to_bytes(8, "big") + data)

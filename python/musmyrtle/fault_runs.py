@@ -26,7 +26,8 @@ class Folder:
     """The files of all runs, in a folder of their own: the cluster file and the scenario as they were read, and a
     scenario for each run while that lasts."""
 
-    def __init__(self, path: Path, cluster: bytes, scenario: bytes, cycles: int, children: Children | None = None):
+    def __init__(self, path: Path, cluster: bytes, scenario: bytes, cycles: int,
+                 children: Children | None = None) -> None:
         self.path, self.cycles = path, cycles
         self.children = children or Children()
         write_file(path / CLUSTER_FILE, cluster)

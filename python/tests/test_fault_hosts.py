@@ -145,7 +145,15 @@ class TestMachines(Machines):
         self.assertEqual(told.stdout, f"{SSH_OPTIONS} -p 2222 host true\n")
 
 
-@unittest.skipUnless(shutil.which("parallel") and shutil.which("rsync"), "GNU parallel and rsync aren't installed")
+def is_installed() -> bool:
+    """Returns whether GNU parallel is installed, and not another program of that name, and rsync."""
+    if not shutil.which("parallel") or not shutil.which("rsync"):
+        return False
+    version = subprocess.run(["parallel", "--version"], stdin=subprocess.DEVNULL, capture_output=True)
+    return version.stdout.startswith(b"GNU parallel")
+
+
+@unittest.skipUnless(is_installed(), "GNU parallel and rsync aren't installed")
 class TestParallel(Machines):
     def test_this_machine(self):
         for words in ((), ("--sshlogin", ":"), ("--sshlogin", "2/:")):
