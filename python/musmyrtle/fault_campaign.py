@@ -1,13 +1,15 @@
-"""All faults of a list, each in a run of its own, held against the run without it."""
+"""All faults of a list, each in a run of its own, compared with the run without it."""
 from collections.abc import Callable, Collection, Iterator
-from contextlib import contextmanager
+from contextlib import closing, contextmanager
 from dataclasses import dataclass
 
+from musmyrtle.answers import NO_REFUSALS, UNANSWERED, Answer
 from musmyrtle.cluster import LAST_SLOT, Cluster, Queue
 from musmyrtle.fault_costs import IDLE, Difference, Ended, differences, ended
 from musmyrtle.fault_hosts import Hosts, answers
 from musmyrtle.fault_list import Listing, Selection, SingleFault
-from musmyrtle.fault_runs import OUTCOME, Answer, Folder, Log, pooled
+from musmyrtle.fault_log import Log
+from musmyrtle.fault_runs import OUTCOME, Folder, pooled
 from musmyrtle.fault_table import Done
 from musmyrtle.outcomes import BadOutcome, Known, read_outcome
 from musmyrtle.played import Begun, Occasion, Played, Player
@@ -30,27 +32,44 @@ class NoReference(Exception):
     """The run without a fault has no outcome. The message says why."""
 
 
+def no_outcome(answer: Answer) -> str:
+    """Returns the message for a run without a fault that failed."""
+    effect, why = answer.failure or ("unreadable", "nothing")
+    what = {"killed": "was killed", "refused": "was refused"}.get(effect, "has no outcome")
+    return f"the run without a fault {what}: {why}"
+
+
 def failed(effect: str, why: str) -> list[Difference]:
     return [Difference(None, "-", effect, 1, "-", visible(why))]
 
 
-class Campaign:
-    """A cluster and a scenario with the run without a fault, against which the others are held."""
+def unplayed(error: SessionOver | Refused) -> list[Difference]:
+    """Returns the failure of a session. As of a run, some refusals are of the machine, and no answer."""
+    effect = "killed"
+    if isinstance(error, Refused):
+        effect = "unreadable" if error.names[-1] in NO_REFUSALS else "refused"
+    return failed(effect, f"fr_world: {error}")
 
-    def __init__(self, cluster: Cluster, scenario: Scenario, folder: Folder, means: Means):
+
+class Campaign:
+    """A cluster and a scenario with the run without a fault, with which the others are compared."""
+
+    def __init__(self, cluster: Cluster, scenario: Scenario, folder: Folder, means: Means) -> None:
         self.cluster, self.scenario, self.folder, self.means = cluster, scenario, folder, means
-        self.player = Player(means.world, means.program, folder.cluster, cluster, scenario, folder.cycles)
+        self.player = Player(means.world, means.program, folder, cluster, scenario)
         try:
             self.recorded = self.player.record()
         except (SessionOver, Refused) as error:
             raise NoReference(f"{means.world}: {error}") from None
         self.known: Known = {}
+        self.done_here = 0
+        """The runs that no machine answered, and that were done here."""
         self.reference = self.read_reference()
 
     def read_reference(self) -> Ended:
         answer = self.folder.run(self.means.program, ())
         if answer.failure:
-            raise NoReference(" ".join(answer.failure))
+            raise NoReference(no_outcome(answer))
         try:
             return ended(self.scenario, read_outcome(answer.output, self.cluster), self.recorded)
         except BadOutcome as error:
@@ -61,19 +80,19 @@ class Campaign:
         return Listing(self.cluster, self.scenario, self.folder.cycles, selection, plays)
 
     def overwritten(self) -> dict[int, int]:
-        """For each node whose FIFO overwrites frames without any fault how many it overwrites."""
+        """Returns for each node whose FIFO overwrites frames without any fault how many it overwrites."""
         counts = ((number, node.queue) for number, node in enumerate(self.reference.outcome.nodes))
         return {number: it.lost for number, it in counts if it and it.lost}
 
     def quiet(self) -> tuple[int, ...]:
-        """The nodes that have transmit buffers, and for which the scenario has no commit."""
+        """Returns the nodes that have transmit buffers, and for which the scenario has no commit."""
         committing = {line.value("NODE") for lines in self.scenario.scripts.values() for line in lines
                       if line.kind == "commit"}
         return tuple(it.number for it in self.cluster.nodes
                      if it.number not in committing and any(buffer.transmits for buffer in it.buffers))
 
     def measure(self, fault: SingleFault, answer: Answer) -> list[Difference]:
-        """What differs by the fault, or how its run failed."""
+        """Returns what differs by the fault, or how its run failed."""
         if answer.failure:
             return failed(*answer.failure)
         try:
@@ -83,7 +102,7 @@ class Campaign:
         except BadOutcome as error:
             return failed("unreadable", str(error))
         except (SessionOver, Refused) as error:
-            return failed("killed" if isinstance(error, SessionOver) else "refused", f"fr_world: {error}")
+            return unplayed(error)
         wrong = misplaced(fault, played)
         if wrong:
             return failed("unreadable", wrong)
@@ -101,29 +120,44 @@ class Campaign:
         return is_in_range and any(it in queue.channels for it in fault.channels)
 
     def run(self, faults: list[SingleFault], log: Log, tell: Callable[[int, int], None]) -> Done:
-        """All faults in the order of the list, whatever order they are done in. TELL is told how many are done."""
+        """Does all faults that have a run. Returns all in the order of the list, and tells TELL how many are done."""
         runs = [it for it in faults if not it.is_idle]
         todo = [it for it in runs if str(it) not in log.done]
-        for number, (fault, found) in enumerate(self.measured(todo), 1):
-            log.add(fault, found)
-            tell(len(runs) - len(todo) + number, len(runs))
+        with closing(self.measured(todo)) as measured:
+            for number, (fault, found) in enumerate(measured, 1):
+                log.add(fault, found)
+                tell(len(runs) - len(todo) + number, len(runs))
         idle = [Difference(None, "-", IDLE, 0, "-", "-")]
         return [(it, idle if it.is_idle else log.done[str(it)]) for it in faults]
 
     def measured(self, faults: list[SingleFault]) -> Iterator[tuple[SingleFault, list[Difference]]]:
+        """Yields each fault with its differences, as they come."""
         rest = faults
         if self.means.hosts is not None:
-            told = answers(self.folder, self.means.program, faults, self.means.hosts)
-            answered = set()
-            for (fault, _), found in pooled(lambda it: self.measure(*it), told, self.means.cores):
-                answered.add(str(fault))
-                yield fault, found
-            # What no machine has answered, since it died and no other one could do it, is done here.
+            answered = set[str]()
+            with closing(self.by_hosts(faults, self.means.hosts)) as told:
+                for fault, found in told:
+                    answered.add(str(fault))
+                    yield fault, found
             rest = [it for it in faults if str(it) not in answered]
-        yield from pooled(self.here, rest, self.means.cores)
+            self.done_here = len(rest)
+        with closing(pooled(self.here, rest, self.means.cores, self.folder.children)) as done:
+            yield from done
+
+    def by_hosts(self, faults: list[SingleFault], hosts: Hosts) -> Iterator[tuple[SingleFault, list[Difference]]]:
+        """The same of the faults whose runs a machine has answered."""
+        with closing(answers(self.folder, self.means.program, faults, hosts)) as told, closing(
+                pooled(lambda it: self.measure(*it), told, self.means.cores, self.folder.children)) as done:
+            for (fault, _), found in done:
+                if is_answered(found):
+                    yield fault, found
 
     def here(self, fault: SingleFault) -> list[Difference]:
         return self.measure(fault, self.folder.run(self.means.program, fault.lines))
+
+
+def is_answered(found: list[Difference]) -> bool:
+    return not any(it.effect in UNANSWERED for it in found)
 
 
 @dataclass(frozen=True)

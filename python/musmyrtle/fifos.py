@@ -4,13 +4,12 @@ A trace costs no host entry, so it tells the content also where no task can pop 
 frames the FIFO stored; the `pop` entries of the trace say which of them a task took.
 """
 import math
-import os
-import subprocess
 from bisect import bisect_right
 from collections import deque
 from collections.abc import Iterable, Iterator
 from dataclasses import dataclass, field
 
+from musmyrtle.children import Children
 from musmyrtle.cluster import Parameters
 from musmyrtle.visible import visible
 
@@ -90,15 +89,14 @@ class Trace:
         return cycle * it.cycle_mt + place
 
 
-def read_fifo(program: str | os.PathLike[str], lines: list[str], starts: list[int], capacity: int,
-              parameters: Parameters) -> Fifo:
+def read_fifo(table: list[str], lines: list[str], starts: list[int], capacity: int, parameters: Parameters) -> Fifo:
     """Returns what became of the frames of a node's FIFO.
 
-    PROGRAM is `fr_view`, LINES are the node's trace, and STARTS has the number of the first window of each cycle.
+    LINES are the node's trace, TABLE has the frames of it, and STARTS the number of the first window of each cycle.
     Raises `Unread` where the content can't be told.
     """
     trace, fifo = Trace(lines, starts, parameters), Fifo()
-    stored = deque(stored_frames(table_of(program, lines), parameters))
+    stored = deque(stored_frames(table, parameters))
     waiting: deque[tuple[int, StoredFrame]] = deque()
 
     def store(until: float) -> None:
@@ -139,15 +137,17 @@ def stored_frames(table: Iterable[str], parameters: Parameters) -> Iterator[tupl
             yield int(time), StoredFrame(int(time) // parameters.cycle_mt, int(slot), flags, payload, channel)
 
 
-def table_of(program: str | os.PathLike[str], trace: list[str]) -> list[str]:
-    """Returns the lines of the table of a trace, without its heading."""
-    text = "".join(f"{line}\n" for line in trace)
+def table_of(program: str, trace: list[str], children: Children) -> list[str]:
+    """Returns the lines of the table of a trace, without its heading.
+
+    PROGRAM is `fr_view`. Raises `Unread` where it prints no table.
+    """
     try:
-        ran = subprocess.run([program, "frames"], input=text, capture_output=True, text=True, errors="replace")
+        status, output, told = children.ran([program, "frames"], "".join(f"{line}\n" for line in trace).encode())
     except OSError as error:
-        raise Unread(f"{visible(os.fspath(program))} can't be run: {error.strerror}") from None
-    lines = ran.stdout.split("\n")
-    if ran.returncode or lines[0] != " ".join(TABLE) or lines[-1]:
-        why = ran.stderr.strip().split("\n")[-1] or f"status {ran.returncode}"
-        raise Unread(f"{visible(os.fspath(program))} frames doesn't print the table of a trace: {visible(why)}")
+        raise Unread(f"{visible(program)} can't be run: {error.strerror}") from None
+    lines = output.decode(errors="replace").split("\n")
+    if status or lines[0] != " ".join(TABLE) or lines[-1]:
+        why = told.decode(errors="replace").strip().split("\n")[-1] or f"status {status}"
+        raise Unread(f"{visible(program)} frames doesn't print the table of a trace: {visible(why)}")
     return lines[1:-1]

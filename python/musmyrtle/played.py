@@ -7,12 +7,12 @@ from collections.abc import Callable, Collection, Iterable
 from dataclasses import dataclass, field
 
 from musmyrtle.cluster import CYCLES, Cluster
-from musmyrtle.fifos import Fifo, Unread, read_fifo
+from musmyrtle.fault_runs import Folder
+from musmyrtle.fifos import Fifo, Unread, read_fifo, table_of
 from musmyrtle.frames import data_frame
 from musmyrtle.refusals import Refused, SessionOver, refusal
 from musmyrtle.replies import Window, record_of, window_of
 from musmyrtle.scenario import FaultLine, Line, Scenario
-from musmyrtle.session import FileName
 from musmyrtle.traces import fetched
 from musmyrtle.world import World
 
@@ -57,10 +57,9 @@ class Player:
     ends early, and `Refused` where it refuses a request.
     """
 
-    def __init__(self, program: FileName | None, viewer: FileName, file: FileName, cluster: Cluster,
-                 scenario: Scenario, cycles: int) -> None:
-        self.program, self.viewer, self.file, self.cluster = program, viewer, file, cluster
-        self.scenario, self.cycles = scenario, cycles
+    def __init__(self, program: str, viewer: str, folder: Folder, cluster: Cluster, scenario: Scenario) -> None:
+        self.program, self.viewer, self.folder, self.cluster = program, viewer, folder, cluster
+        self.scenario, self.cycles = scenario, folder.cycles
         self.calls: dict[int, list[Line]] = {}
         for _, lines in scenario.numbered():
             for line in lines:
@@ -115,7 +114,7 @@ class Player:
         return found
 
     def opened(self, lines: Iterable[str] = ()) -> World:
-        world = World(self.file, self.cycles, program=self.program)
+        world = World(self.folder.cluster, self.cycles, program=self.program)
         try:
             for line in (*self.scenario.faults, *(FaultLine(0, tuple(it.split(" "))) for it in lines)):
                 world.keep(" ".join(line.words))
@@ -204,6 +203,7 @@ class Play:
     def read_fifo(self, node: int, capacity: int) -> Fifo | str:
         try:
             trace = self.world.block(f"trace {node}")
-            return read_fifo(self.player.viewer, trace, self.played.starts, capacity, self.player.cluster.parameters)
+            table = table_of(self.player.viewer, trace, self.player.folder.children)
+            return read_fifo(table, trace, self.played.starts, capacity, self.player.cluster.parameters)
         except (Unread, Refused) as error:
             return str(error)

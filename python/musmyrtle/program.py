@@ -3,18 +3,25 @@ import os
 import shutil
 import subprocess
 import sys
+from collections.abc import Callable
+from contextlib import AbstractContextManager
 from dataclasses import dataclass
 from pathlib import Path
+from typing import Any
 
 CHECKOUT = Path(__file__).resolve().parents[2]
 
 
 @dataclass(frozen=True)
 class Answer:
-    """What the program says of its input: nothing where it is taken, and else the words after `refused`."""
+    """What the program says of its input: no refusal where the input is accepted, and otherwise the words after
+    `refused`."""
 
     status: int
     refusal: str | None
+    is_named: bool = True
+    """Whether a refusal is the program's, by a line `refused NAME`. Otherwise the program failed, and the refusal is
+    all that it said."""
 
 
 def usual_program(name: str = "fr_bench") -> str | None:
@@ -40,18 +47,23 @@ def itself(program: str) -> str:
     return str(found) if found.name == launcher.name and os.access(found, os.X_OK) else program
 
 
-def ask(program: str, words: list[str]) -> Answer:
-    """The program's answer. What its launcher has to say meanwhile, as that it builds first, goes to standard error."""
+Started = Callable[..., AbstractContextManager[subprocess.Popen[Any]]]
+"""Starts a program as `subprocess.Popen` does."""
+
+
+def ask(program: str, words: list[str], started: Started = subprocess.Popen) -> Answer:
+    """Returns the program's answer. What its launcher says meanwhile goes to standard error."""
     refusal = None
     told = []
     streams = {"stdin": subprocess.DEVNULL, "stdout": subprocess.DEVNULL, "stderr": subprocess.PIPE}
-    with subprocess.Popen([program, *words], text=True, errors="replace", **streams) as running:
+    with started([program, *words], text=True, errors="replace", **streams) as running:
         for line in running.stderr:
             if line.startswith("refused "):
                 refusal = line.removeprefix("refused ").strip()
             else:
                 told.append(line)
                 print(line, end="", file=sys.stderr, flush=True)
+    is_named = refusal is not None
     if running.returncode != 0 and refusal is None:
         refusal = " ".join(told).strip() or f"status {running.returncode}"
-    return Answer(running.returncode, refusal)
+    return Answer(running.returncode, refusal, is_named)

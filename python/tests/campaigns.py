@@ -9,7 +9,8 @@ from musmyrtle.cluster import Reading as ClusterReading
 from musmyrtle.fault_campaign import Campaign, Means
 from musmyrtle.fault_costs import Difference
 from musmyrtle.fault_list import Selection
-from musmyrtle.fault_runs import OUTCOME, Folder, Log
+from musmyrtle.fault_log import Log
+from musmyrtle.fault_runs import OUTCOME, Folder
 from musmyrtle.program import usual_program
 from musmyrtle.scenario import Reading as ScenarioReading
 from musmyrtle.scenario import Scenario

@@ -4,8 +4,8 @@ from argparse import ArgumentTypeError
 
 from musmyrtle.cluster import Cluster
 from musmyrtle.cluster import Reading as ClusterReading
-from musmyrtle.fault_command import numbers_of, places_of
 from musmyrtle.fault_list import LeftOut, Listing, Selection, SingleFault, is_stopped
+from musmyrtle.fault_options import numbers_of, places_of
 from musmyrtle.fault_table import listed
 from musmyrtle.frames import data_frame
 from musmyrtle.played import Begun

@@ -180,8 +180,8 @@ class Faults:
         got, told, status = self.ask(*THREE_NODES, "--program", program)
         self.runs.compare("the status where runs failed", status, 4)
         lines = [line for line in got.splitlines() if re.search("\t(killed|refused|unreadable)\t", line)]
-        wanted = ["mute\t0\tA\t*\ts1\t-\t-\tkilled\t1\t-\tsignal 9",
-                  "mute\t0\tB\t*\ts1\t-\t-\trefused\t1\t-\tMemory",
+        wanted = ["mute\t0\tA\t*\ts1\t-\t-\tkilled\t1\t-\tsignal 9 (SIGKILL)",
+                  "mute\t0\tB\t*\ts1\t-\t-\tunreadable\t1\t-\trefused Memory",
                   ("mute\t1\tA\t*\ts2\t-\t-\tunreadable\t1\t-\tline 1 is `nothing`, and `node 0..` was due")]
         self.runs.compare("runs that failed", lines, wanted)
         fronts = tuple(line.split("\t-\t")[0] for line in wanted)

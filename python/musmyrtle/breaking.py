@@ -1,0 +1,67 @@
+"""The signals that break a command off, and the folder that is gone even then."""
+import signal
+import threading
+from collections.abc import Iterator
+from contextlib import contextmanager
+from pathlib import Path
+from tempfile import TemporaryDirectory
+from types import FrameType
+
+SIGNALS = (signal.SIGINT, signal.SIGTERM, signal.SIGHUP)
+SIGNALLED = 128
+"""What a shell adds to the number of a signal."""
+
+
+class BrokenOff(BaseException):
+    """A signal breaks the command off."""
+
+    def __init__(self, number: int) -> None:
+        super().__init__(number)
+        self.status = SIGNALLED + number
+
+
+@contextmanager
+def breaking_off() -> Iterator[None]:
+    """Raises `BrokenOff` at the first of the signals, and ignores those after it. A signal that was ignored before, as
+    `nohup` has it, stays so."""
+    if threading.current_thread() is not threading.main_thread():
+        yield
+        return
+    before = {it: signal.getsignal(it) for it in SIGNALS}
+    handled = [it for it, handler in before.items() if handler not in (signal.SIG_IGN, None)]
+
+    def break_off(number: int, _: FrameType | None) -> None:
+        for it in handled:
+            # No SIG_IGN, which programs that are started to clean up would inherit.
+            signal.signal(it, lambda *_: None)
+        raise BrokenOff(number)
+
+    for it in handled:
+        signal.signal(it, break_off)
+    try:
+        yield
+    finally:
+        for it in handled:
+            signal.signal(it, before[it])
+
+
+@contextmanager
+def held() -> Iterator[None]:
+    """Holds the signals back. It does so only while this thread is the only one."""
+    before = signal.pthread_sigmask(signal.SIG_BLOCK, SIGNALS)
+    try:
+        yield
+    finally:
+        signal.pthread_sigmask(signal.SIG_SETMASK, before)
+
+
+@contextmanager
+def temporary_folder(prefix: str) -> Iterator[Path]:
+    """Makes a folder, and removes it with all that is in it."""
+    with held():
+        folder = TemporaryDirectory(prefix=prefix)
+    try:
+        yield Path(folder.name)
+    finally:
+        with held():
+            folder.cleanup()

@@ -1,0 +1,73 @@
+"""The inputs of a campaign, read once, and whether the program accepts them."""
+import argparse
+import sys
+from dataclasses import dataclass
+from pathlib import Path
+
+from musmyrtle.answers import NO_REFUSALS, Answer
+from musmyrtle.children import Children
+from musmyrtle.cluster import Cluster
+from musmyrtle.cluster import Reading as ClusterReading
+from musmyrtle.command import REFUSED, USAGE, Stop, is_bold_on, told, write
+from musmyrtle.fault_campaign import NoReference, no_outcome
+from musmyrtle.fault_runs import CLUSTER_FILE, SCENARIO_FILE, outcome_words
+from musmyrtle.lint import Lint, Task, lint, read_bytes
+from musmyrtle.program import Answer as Asked
+from musmyrtle.program import ask
+from musmyrtle.scenario import Reading as ScenarioReading
+from musmyrtle.scenario import Scenario
+from musmyrtle.texts import read_text
+from musmyrtle.whole_files import write_file
+
+
+@dataclass(frozen=True)
+class Inputs:
+    """The cluster and the scenario, and the bytes of both files."""
+
+    cluster: Cluster
+    scenario: Scenario
+    data: tuple[bytes, bytes]
+
+
+def accepted(given: argparse.Namespace, folder: Path, children: Children) -> Inputs:
+    """Reads the inputs, and does the run without a fault. Tells a refusal as `fr_lint` does. Raises `Stop` for that,
+    and `NoReference` where the program failed."""
+    task, data = copied(given, folder)
+    files = task.file(given.cluster), task.file(given.scenario)
+    try:
+        answer = ask(given.program, outcome_words(*files, given.cycles), children.started)
+    except OSError as error:
+        raise Stop(USAGE, f"{given.program} can't be run: {error.strerror}") from None
+    found = lint(task)
+    if answer.status == USAGE or is_of_inputs(answer, found):
+        write(sys.stderr, ["\n".join(told(answer, found, is_bold_on(sys.stderr)))])
+        raise Stop(USAGE if answer.status == USAGE else REFUSED)
+    if answer.status:
+        said = f"refused {answer.refusal}" if answer.is_named else str(answer.refusal)
+        raise NoReference(no_outcome(Answer(answer.status, "", said.removeprefix(f"status {answer.status}"))))
+    cluster, scenario = data[given.cluster], data[given.scenario]
+    document = read_text(given.cluster, cluster).document or {}
+    reading = ScenarioReading(given.scenario, scenario)
+    return Inputs(ClusterReading(document).cluster, reading.scenario, (cluster, scenario))
+
+
+def copied(given: argparse.Namespace, folder: Path) -> tuple[Task, dict[str, bytes]]:
+    """Copies both files, which may be pipes or change meanwhile. One that can't be read is left to the program."""
+    files: dict[str, str] = {}
+    found: dict[str, bytes] = {}
+    for name, copy in ((given.cluster, CLUSTER_FILE), (given.scenario, SCENARIO_FILE)):
+        data = read_bytes(name)
+        if data is not None:
+            write_file(folder / copy, data)
+            files[name], found[name] = str(folder / copy), data
+    return Task(given.cluster, given.scenario, given.cycles, files), found
+
+
+def is_of_inputs(answer: Asked, found: Lint) -> bool:
+    """Returns whether the inputs are refused, by the program or by what reads them here. Where the program says that
+    it can't read them, or that they are cut, this counts if the same is found here."""
+    if answer.status == 0:
+        return bool(found.refusals)
+    first = found.refusals[0][0] if found.refusals else None
+    is_refused = answer.status == REFUSED and answer.is_named and answer.refusal is not None
+    return is_refused and (answer.refusal not in NO_REFUSALS or answer.refusal == first)

@@ -1,0 +1,58 @@
+"""Files that a command writes: none of its inputs, and whole or not at all."""
+import os
+import shutil
+from contextlib import suppress
+from pathlib import Path
+
+
+class Unusable(Exception):
+    """A file or a folder can't be used. The message names it and says why."""
+
+
+def unusable(name: str, error: OSError) -> Unusable:
+    return Unusable(f"{name}: {error.strerror or error}")
+
+
+def spare_inputs(outputs: dict[str, str], inputs: list[tuple[str, str]]) -> None:
+    """Raises `Unusable` where an output, by its option, is the file of an input, by what that is, or of another
+    output. Another name, a symbolic or a hard link doesn't hide it."""
+    taken = list(inputs)
+    for option, file in outputs.items():
+        for what, other in taken:
+            if is_same(file, other):
+                raise Unusable(f"{option} {file} is {what}, which would be overwritten: name another file")
+        taken.append((f"the file of {option}", file))
+
+
+def is_same(one: str, other: str) -> bool:
+    try:
+        return os.path.samefile(one, other) and os.path.isfile(one)
+    except OSError:
+        return os.path.realpath(one) == os.path.realpath(other)
+
+
+def write_file(file: Path, data: bytes) -> None:
+    """Writes a file of the temporary folder. Raises `Unusable`."""
+    try:
+        file.write_bytes(data)
+    except OSError as error:
+        raise unusable(f"the temporary folder {file.parent} can't be written", error) from None
+
+
+def replace_file(name: str, data: bytes) -> None:
+    """Writes a file beside the named one and puts it in its place, so that a failure leaves the old file whole. What
+    is no regular file, as a pipe, is written itself."""
+    file = Path(os.path.realpath(name))
+    if os.path.exists(name) and not (os.path.isfile(name) and os.access(file.parent, os.W_OK)):
+        Path(name).write_bytes(data)
+        return
+    beside = file.with_name(f".fr_faults-{os.getpid()}")
+    try:
+        beside.write_bytes(data)
+        if file.exists():
+            shutil.copymode(file, beside)
+        os.replace(beside, file)
+    except BaseException:
+        with suppress(OSError):
+            beside.unlink()
+        raise
