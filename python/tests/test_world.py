@@ -178,11 +178,10 @@ class TestWorld(unittest.TestCase):
                     name()
 
     def test_a_world_that_is_not_opened_says_why(self):
-        for cluster, cycles, said in ((THREE_NODES, 0, "usage"),
-                                      ("/dev/null", 1, "refused Params Missing static_slots"),
-                                      (TOP / "no such file", 1, "refused Read")):
+        for cluster, said in (("/dev/null", "refused Params Missing static_slots"),
+                              (TOP / "no such file", "refused Read")):
             with self.assertRaises(SessionOver) as raised:
-                World(cluster, cycles)
+                World(cluster, 1)
             self.assertEqual(str(raised.exception), said)
 
     def test_a_closed_world_is_over(self):
