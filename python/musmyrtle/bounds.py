@@ -11,6 +11,8 @@ MOST_WINDOW = 2**32 - 1
 
 def within(name: str, value: SupportsIndex, least: int, most: int) -> int:
     """Returns the value as a number. Raises `ValueError` out of range, and `TypeError` for what is no integer."""
+    if type(value) is int and least <= value <= most:
+        return value
     try:
         number = int(operator.index(value))
     except TypeError:

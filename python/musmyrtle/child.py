@@ -18,6 +18,7 @@ LONGEST = 65536
 """Bytes of the longest line of a reply. A program that goes on without a line feed isn't read to its end."""
 LOOK_MILLISECONDS = 500.0
 """A wait looks this often whether the program still runs: a process that it started may hold its pipes open."""
+QUICK_MILLISECONDS = 20
 LAST_SECONDS = 1.0
 """How long the last words of a program that closed its output are waited for."""
 
@@ -43,9 +44,10 @@ class Child:
         for file in self._files:
             os.set_blocking(file.fileno(), False)
         self._input, self._output, self._errors = (file.fileno() for file in self._files)
-        self._reading, self._writing = select.poll(), select.poll()
-        for poller in (self._reading, self._writing):
+        self._replies, self._reading, self._writing = select.poll(), select.poll(), select.poll()
+        for poller in (self._replies, self._reading, self._writing):
             poller.register(self._output, select.POLLIN)
+        for poller in (self._reading, self._writing):
             poller.register(self._errors, select.POLLIN)
         self._writing.register(self._input, select.POLLOUT)
         self._is_ours, self._is_mute = True, False
@@ -83,11 +85,14 @@ class Child:
 
     def _wait(self, deadline: float | None) -> None:
         """Waits until a pipe is ready, and reads or writes there."""
+        # Most replies come at once. To wait for one pipe takes less time than for two.
+        if not self._unwritten and deadline is None and self._replies.poll(QUICK_MILLISECONDS):
+            self._pull()
+            return
         limit = LOOK_MILLISECONDS
         if deadline is not None:
             limit = min(limit, max(0.0, deadline - time.monotonic()) * 1000)
-        ready = (self._writing if self._unwritten else self._reading).poll(limit)
-        for file, _ in ready:
+        for file, _ in (self._writing if self._unwritten else self._reading).poll(limit):
             if file == self._output:
                 self._pull()
             elif file == self._errors:
@@ -122,8 +127,11 @@ class Child:
         if len(self._rest) > LONGEST:
             raise Gone(f"the program answers with a line of more than {LONGEST} bytes")
         # Replies are ASCII. This decoding has a character for every other byte too.
-        lines = (self._rest + chunk.decode("latin-1")).split("\n")
-        self._rest = lines.pop()
+        text = chunk.decode("latin-1")
+        if not self._rest and text.find("\n") == len(text) - 1:
+            self._lines.append(text[:-1])
+            return True
+        *lines, self._rest = (self._rest + text).split("\n")
         self._lines.extend(lines)
         return True
 
@@ -190,15 +198,17 @@ class Child:
     def end(self, seconds: float = 1.0) -> None:
         """Closes the pipes and ends the program.
 
-        It has this many seconds to end by itself, then as many to end by SIGTERM, and is killed after that.
+        It has this many seconds to end by itself, unless its pipes were closed before, then as many to end by SIGTERM,
+        and is killed after that.
         """
+        has_had_time = self._output < 0
         self.hang_up()
-        for step in (None, self._process.terminate, self._process.kill):
-            if not self._is_ours or self._process.returncode is not None:
+        if not self._is_ours or not has_had_time and self._ends_within(seconds):
+            return
+        for step in (self._process.terminate, self._process.kill):
+            step()
+            if self._ends_within(seconds):
                 break
-            if step:
-                step()
-            self._ends_within(seconds)
 
     def _ends_within(self, seconds: float) -> bool:
         """Waits for the end of the program, and not for that of other processes. Tells whether it came."""

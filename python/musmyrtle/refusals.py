@@ -156,11 +156,11 @@ _GROUPS: dict[str, tuple[type[Refused], ...]] = {
     "": (BadLine, BadFault, NoWindow, Memory, UnknownNode, WrongTurn),
     "Host": (UnknownTask, UnknownBuffer, NotTransmit, NotReceive, WrongLength, HostFull, NoQueue),
     "Slot": (NotObserved, BadWindow, WindowOrder, SlotFull, NotFetched, WrongWindow),
-    "Bus": (BusUnknownNode, NotCollecting, TooManyFaults, NotAllPut, NotSealed, NotAllTaken, AlreadyPut, AlreadyTaken,
-            BusMemory),
+    "Bus": (NotCollecting, TooManyFaults, NotAllPut, NotSealed, NotAllTaken, AlreadyPut, AlreadyTaken),
 }
 _KINDS: dict[str, type[Refused]] = {"Host": HostRefused, "Slot": SlotRefused, "Bus": BusRefused}
-_BY_NAME = {(group, kind.__name__.removeprefix(group)): kind for group, kinds in _GROUPS.items() for kind in kinds}
+_BY_NAME = {(group, kind.__name__): kind for group, kinds in _GROUPS.items() for kind in kinds}
+_BY_NAME |= {("Bus", "UnknownNode"): BusUnknownNode, ("Bus", "Memory"): BusMemory}
 
 
 def refusal(reply: str, line: str) -> Refused:

@@ -95,10 +95,9 @@ class Session:
 
         Raises the exception of a refusal, and what `send` raises.
         """
-        asked = [line]
-        data = encoded(asked)
+        data = encoded(line, 1)
         with self.lock:
-            reply = self._talk(asked, 1, data, self._timeout if timeout is None else timeout)[0]
+            reply = self._talk([line], 1, data, self._timeout if timeout is None else timeout)[0]
         if reply.startswith("refused "):
             raise refusal(reply, line)
         return reply
@@ -121,7 +120,9 @@ class Session:
         `TimedOut` where replies are missing when the time is over, and `SessionOver` where the session is over.
         """
         asked = list(lines)
-        data = encoded(asked)
+        if not asked:
+            return []
+        data = encoded("\n".join(asked), len(asked))
         with self.lock:
             return self._talk(asked, len(asked), data, self._timeout if timeout is None else timeout)
 
@@ -140,17 +141,20 @@ class Session:
         self._is_waiting = True
         try:
             self.asked += asked
-            if data:
-                self._child.write(data)
+            child = self._child
+            child.write(data)
             for _ in range(count):
-                reply = self._child.line(deadline)
+                reply = child.line(deadline)
                 replies.append(self._whole(reply, deadline) if reply.startswith("lines ") else reply)
         except Gone as error:
-            raise SessionOver(self._broken(str(error) or self._child.last_words())) from None
+            raise SessionOver(self._broken(self._over or str(error) or self._child.last_words())) from None
         except Late:
             raise TimedOut(self._broken(f"{missing(asked, replies)} within {timeout:g} s")) from None
         except BaseException as error:
-            self._broken(f"{missing(asked, replies)}: {type(error).__name__} came before it")
+            if len(replies) < count:
+                self._broken(f"{missing(asked, replies)}: {type(error).__name__} came before it")
+            else:
+                self._is_waiting = False
             raise
         self._is_waiting = False
         return replies
@@ -190,20 +194,22 @@ def _leave_all() -> None:
 os.register_at_fork(after_in_child=_leave_all)
 
 
-def encoded(lines: list[str]) -> bytes:
-    """Returns the bytes of requests. Raises `ValueError` for one that isn't a line of UTF-8."""
-    for line in lines:
-        if "\n" in line:
-            raise ValueError(f"a request is one line: {shown(line)!r}")
+def encoded(text: str, count: int) -> bytes:
+    """Returns the bytes of requests, which have line feeds between them.
+
+    Raises `ValueError` where these aren't so many lines, or UTF-8 can't encode them.
+    """
+    if text.count("\n") != count - 1:
+        raise ValueError("a request is one line, without a line feed")
     try:
-        return "\n".join([*lines, ""]).encode()
+        return f"{text}\n".encode()
     except UnicodeEncodeError as error:
         raise ValueError(f"a request has a character that UTF-8 can't encode: {error.object[error.start]!r}") from None
 
 
 def missing(asked: list[str], replies: list[str]) -> str:
     """Returns a clause that says which reply is missing."""
-    return f"no reply to `{shown(asked[len(replies)])}`" if len(replies) < len(asked) else "no first line"
+    return f"no reply to `{shown(asked[len(replies)])}`" if asked else "no first line"
 
 
 def shown(text: str) -> str:

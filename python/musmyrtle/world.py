@@ -13,7 +13,7 @@ from musmyrtle.bounds import run_cycles, some_cycles, window_number
 from musmyrtle.faults import Fault, fault_line, is_fault_line
 from musmyrtle.names import Names, UnknownName
 from musmyrtle.node import Buffer, Node
-from musmyrtle.refusals import TooManyFaults
+from musmyrtle.refusals import TooManyFaults, refusal
 from musmyrtle.replies import Record, Window, record_of, window_of
 from musmyrtle.session import CLOSE_SECONDS, FileName, Session, usual_world
 from musmyrtle.stepping import requests_of
@@ -245,9 +245,9 @@ class World:
         At the start of each cycle each goes on to its next `yield`. Other threads can come in between. Returns and
         raises what `cycle` does, `ValueError` for other numbers, and what a host program raises.
         """
-        running = list(hosts)
+        cycles, running = some_cycles(cycles), list(hosts)
         window = self.now()
-        for _ in range(some_cycles(cycles)):
+        for _ in range(cycles):
             running = [host for host in running if next(host, self) is not self]
             window = self.cycle()
         return window
@@ -312,13 +312,14 @@ class World:
                 ending()
 
     def _drop(self, line: str) -> None:
-        """Ends one fault line: the others are kept again."""
+        """Ends one fault line. The others are kept again in the same exchange, so that none is lost between."""
         others = list(self._lines)
         if line in others:
             others.remove(line)
-            self.forget()
-            for other in others:
-                self.keep(other)
+            requests = ["forget", *others]
+            for request, reply in zip(requests, self.send(requests)):
+                if reply != "done":
+                    raise refusal(reply, request)
 
     def _inject_due(self) -> None:
         """Brings the faults of the blocks into the open window.
