@@ -259,7 +259,8 @@ class TestWrongPrograms(Sessions):
             self.fake("print('frworld 2', flush=True)\n")
 
     def test_one_that_ends(self):
-        for text, said in ((fakes.DIES_MIDWAY, "^refused Read$"), (fakes.IS_KILLED, "^the program was ended by SIGKILL"),
+        for text, said in ((fakes.DIES_MIDWAY, "^refused Read$"),
+                           (fakes.IS_KILLED, "^the program was ended by SIGKILL$"),
                            (fakes.ANSWERS_HALF_A_LINE, "^the program has ended$")):
             world = self.fake(text)
             for _ in range(2):
