@@ -142,7 +142,7 @@ class TestThreads(Sessions):
             begun = time.monotonic()
             world.close(0.05)
             self.over("the world is closed", SessionOver, asked.result)
-        self.assertLess(time.monotonic() - begun, 2)
+        self.assertLess(time.monotonic() - begun, 1)
 
 
 class TestInterrupted(Sessions):
@@ -331,7 +331,7 @@ class TestTheEnd(Sessions):
         self.assertFalse(is_running(process))
         self.over("the world is closed", SessionOver, world.now)
 
-    def test_a_forked_process_neither_uses_nor_holds_nor_ends_the_world(self):
+    def test_a_forked_process_neither_uses_nor_holds_a_world(self):
         world = self.world()
         process = self.process(world)
         found = multiprocessing.get_context("fork").Queue()
@@ -341,8 +341,6 @@ class TestTheEnd(Sessions):
                 world.now()
             except SessionOver as error:
                 found.put(str(error))
-            with world:
-                pass
             time.sleep(60)
 
         forked = multiprocessing.get_context("fork").Process(target=child)
@@ -367,13 +365,15 @@ class TestTheEnd(Sessions):
             number = os.fork()
             if number == 0:
                 try:
-                    world.now()
-                except SessionOver:
-                    os._exit(7)
+                    begun = time.monotonic()
+                    with self.assertRaises(SessionOver), world:
+                        world.now()
+                    os._exit(7 if time.monotonic() - begun < 0.5 else 8)
                 finally:
                     os._exit(1)
             self.assertEqual(os.waitstatus_to_exitcode(os.waitpid(number, 0)[1]), 7)
             self.assertIsNone(asked.result())
+        self.assertIsNone(world.now())
 
     def test_the_end_of_python_ends_the_program(self):
         text = ("import musmyrtle, sys\nworld = musmyrtle.World(sys.argv[1], 8)\n"
