@@ -41,8 +41,8 @@ class Session:
     def __init__(self, program: FileName, cluster: FileName, cycles: int, timeout: float | None = None) -> None:
         """Starts the program and reads its first line.
 
-        TIMEOUT is the time limit of each request in seconds, or None for no limit. Raises `SessionOver` where the
-        program can't be started, refuses the cluster or speaks another version, and `TimedOut`.
+        TIMEOUT is the time limit of each request in seconds, or None for no limit. Raises `OSError` where the program
+        can't be started, `SessionOver` where it refuses the cluster or speaks another version, and `TimedOut`.
         """
         command = [os.fspath(program), os.fspath(cluster), "--cycles", str(cycles)]
         self.lock = threading.RLock()
@@ -50,10 +50,7 @@ class Session:
         self._timeout = timeout
         self._over: str | None = None
         self._is_waiting = self._is_closed = False
-        try:
-            self._child = Child(command)
-        except OSError as error:
-            raise SessionOver(f"{command[0]} can't be started: {error.strerror}") from None
+        self._child = Child(command)
         # A session that is dropped ends its program, and so does the end of this one.
         self._ender = weakref.finalize(self, self._child.end)
         _SESSIONS.add(self)

@@ -45,7 +45,8 @@ class World:
 
         PROGRAM is the `fr_world` to run, which `usual_world` finds otherwise. TIMEOUT is the time limit in seconds of
         each request and of the opening, or None. Raises `ValueError` for another number of cycles and for a key `name`
-        of the file that isn't a string, `SessionOver` with the refusal of a cluster file, and `TimedOut`.
+        of the file that isn't a string, `OSError` where the program can't be started, `SessionOver` with the refusal of
+        a cluster file, and `TimedOut`.
         """
         cycles = run_cycles(cycles)
         data = regular_file(cluster)

@@ -250,8 +250,8 @@ class TestReplies(Sessions):
 
 class TestWrongPrograms(Sessions):
     def test_one_that_cannot_be_started(self):
-        for program, said in ((self.folder / "none", "No such file"), (self.folder, "Permission denied")):
-            with self.assertRaisesRegex(SessionOver, f"{program} can't be started: {said}"):
+        for program, kind in ((self.folder / "none", FileNotFoundError), (self.folder, PermissionError)):
+            with self.assertRaisesRegex(kind, str(program)):
                 World(THREE_NODES, 8, program=program)
 
     def test_one_that_speaks_another_version(self):
