@@ -7,6 +7,7 @@ import weakref
 from collections.abc import Iterable
 
 from musmyrtle.child import Child, Gone, Late
+from musmyrtle.faults import is_fault_line
 from musmyrtle.program import CHECKOUT
 from musmyrtle.refusals import SessionOver, TimedOut, refusal
 
@@ -35,7 +36,7 @@ class Session:
 
     Threads can share a session: each waits until the reply to the request before is read. `lock` keeps several
     requests together. A session whose reply wasn't read to its end is broken: every later request raises `SessionOver`.
-    `asked` has all requests so far, to be asked again without Python.
+    `asked` has all requests so far, to be asked again without Python, and `kept` the fault lines that the program keeps.
     """
 
     def __init__(self, program: FileName, cluster: FileName, cycles: int, timeout: float | None = None) -> None:
@@ -47,6 +48,7 @@ class Session:
         command = [os.fspath(program), os.fspath(cluster), "--cycles", str(cycles)]
         self.lock = threading.RLock()
         self.asked: list[str] = []
+        self.kept: list[str] = []
         self._timeout = timeout
         self._over: str | None = None
         self._is_waiting = self._is_closed = False
@@ -95,6 +97,8 @@ class Session:
         data = encoded(line, 1)
         with self.lock:
             reply = self._talk([line], 1, data, self._timeout if timeout is None else timeout)[0]
+            if reply == "done":
+                self._keep(line)
         if reply.startswith("refused "):
             raise refusal(reply, line)
         return reply
@@ -121,7 +125,18 @@ class Session:
             return []
         data = encoded("\n".join(asked), len(asked))
         with self.lock:
-            return self._talk(asked, len(asked), data, self._timeout if timeout is None else timeout)
+            replies = self._talk(asked, len(asked), data, self._timeout if timeout is None else timeout)
+            for line, reply in zip(asked, replies):
+                if reply == "done":
+                    self._keep(line)
+        return replies
+
+    def _keep(self, line: str) -> None:
+        """Notes what a request that was done changes in the fault lines."""
+        if line == "forget":
+            self.kept.clear()
+        elif is_fault_line(line):
+            self.kept.append(line)
 
     # ---- one exchange
 

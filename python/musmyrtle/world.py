@@ -10,7 +10,7 @@ from contextlib import AbstractContextManager, contextmanager, suppress
 from functools import partial
 
 from musmyrtle.bounds import run_cycles, some_cycles, window_number
-from musmyrtle.faults import Fault, fault_line, is_fault_line
+from musmyrtle.faults import Fault, fault_line
 from musmyrtle.names import Names, UnknownName
 from musmyrtle.node import Buffer, Node
 from musmyrtle.refusals import TooManyFaults, refusal
@@ -51,7 +51,6 @@ class World:
         cycles = run_cycles(cycles)
         data = regular_file(cluster)
         self._faults: list[tuple[Fault, Callable[[Window], bool]]] = []
-        self._lines: list[str] = []
         self._unread = ""
         self._session = Session(program or usual_world(), cluster, cycles, timeout)
         try:
@@ -83,10 +82,7 @@ class World:
         `ValueError` with nothing sent for more than one line and for characters that UTF-8 can't encode, `TimedOut`
         and `SessionOver`.
         """
-        reply = self._session.ask(line, timeout)
-        if reply == "done":
-            self._note(line)
-        return reply
+        return self._session.ask(line, timeout)
 
     def block(self, line: str, timeout: float | None = None) -> list[str]:
         """Returns the lines that a query is answered with, without the one that counts them.
@@ -101,13 +97,7 @@ class World:
         All are written without waiting for replies, and no request of another thread comes between. TIMEOUT is the
         time limit in seconds of all together. Raises `ValueError`, `TimedOut` and `SessionOver` as `ask` does.
         """
-        asked = list(lines)
-        with self._session.lock:
-            replies = self._session.send(asked, timeout)
-            for line, reply in zip(asked, replies):
-                if reply == "done":
-                    self._note(line)
-        return replies
+        return self._session.send(lines, timeout)
 
     def transcript(self) -> str:
         """Returns all requests so far, a line each.
@@ -115,13 +105,6 @@ class World:
         On the standard input of `fr_world` they give the same replies again. A request that was broken off is there.
         """
         return "".join(f"{line}\n" for line in self._session.asked)
-
-    def _note(self, line: str) -> None:
-        """Notes which fault lines the program keeps."""
-        if line == "forget":
-            self._lines.clear()
-        elif is_fault_line(line):
-            self._lines.append(line)
 
     # ---- nodes
 
@@ -314,7 +297,7 @@ class World:
 
     def _drop(self, line: str) -> None:
         """Ends one fault line. The others are kept again in the same exchange, so that none is lost between."""
-        others = list(self._lines)
+        others = list(self._session.kept)
         if line in others:
             others.remove(line)
             requests = ["forget", *others]
