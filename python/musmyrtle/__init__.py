@@ -17,15 +17,17 @@ from musmyrtle.refusals import (
     NotTransmit, NoWindow, Refused, SessionOver, SlotFull, SlotRefused, TimedOut, TooManyFaults, UnknownBuffer,
     UnknownNode, UnknownTask, WindowOrder, WrongLength, WrongTurn, WrongWindow,
 )
-from musmyrtle.replies import Counters, Frame, Queue, ReceiveBuffer, Record, Report, Sent, TransmitBuffer, Window
+from musmyrtle.replies import (
+    Channel, Counters, Frame, Queue, ReceiveBuffer, Record, Report, Sent, TransmitBuffer, Window,
+)
 from musmyrtle.world import World
 
 __all__ = [
     "AlreadyPut", "AlreadyTaken", "Babble", "BadFault", "BadLine", "BadWindow", "Buffer", "BusMemory", "BusRefused",
-    "BusUnknownNode", "Corrupt", "Counters", "Fault", "Frame", "HostFull", "HostRefused", "Memory", "Mute", "Names",
-    "Node", "NoQueue", "NotAllPut", "NotAllTaken", "NotCollecting", "NotFetched", "NotInAScenario", "NotObserved",
-    "NotReceive", "NotSealed", "NotTransmit", "NoWindow", "Queue", "ReceiveBuffer", "Record", "Refused", "Report",
-    "Scenario", "Sent", "SessionOver", "SlotFull", "SlotRefused", "TimedOut", "TooManyFaults", "TransmitBuffer",
-    "UnknownBuffer", "UnknownName", "UnknownNode", "UnknownTask", "Window", "WindowOrder", "World", "WrongLength",
-    "WrongTurn", "WrongWindow",
+    "BusUnknownNode", "Channel", "Corrupt", "Counters", "Fault", "Frame", "HostFull", "HostRefused", "Memory", "Mute",
+    "Names", "Node", "NoQueue", "NotAllPut", "NotAllTaken", "NotCollecting", "NotFetched", "NotInAScenario",
+    "NotObserved", "NotReceive", "NotSealed", "NotTransmit", "NoWindow", "Queue", "ReceiveBuffer", "Record", "Refused",
+    "Report", "Scenario", "Sent", "SessionOver", "SlotFull", "SlotRefused", "TimedOut", "TooManyFaults",
+    "TransmitBuffer", "UnknownBuffer", "UnknownName", "UnknownNode", "UnknownTask", "Window", "WindowOrder", "World",
+    "WrongLength", "WrongTurn", "WrongWindow",
 ]

@@ -19,6 +19,7 @@ LONGEST = 65536
 LOOK_MILLISECONDS = 500.0
 """A wait looks this often whether the program still runs: a process that it started may hold its pipes open."""
 QUICK_MILLISECONDS = 20
+"""How long a reply is waited for without a look at standard error."""
 LAST_SECONDS = 1.0
 """How long the last words of a program that closed its output are waited for."""
 
@@ -79,16 +80,15 @@ class Child:
 
         DEADLINE is a time of `time.monotonic`. Raises `Gone` and `Late`.
         """
+        # Most replies come at once. To wait for one pipe takes less time than for two.
+        if not self._lines and not self._unwritten and deadline is None and self._replies.poll(QUICK_MILLISECONDS):
+            self._pull()
         while not self._lines:
             self._wait(deadline)
         return self._lines.popleft()
 
     def _wait(self, deadline: float | None) -> None:
         """Waits until a pipe is ready, and reads or writes there."""
-        # Most replies come at once. To wait for one pipe takes less time than for two.
-        if not self._unwritten and deadline is None and self._replies.poll(QUICK_MILLISECONDS):
-            self._pull()
-            return
         limit = LOOK_MILLISECONDS
         if deadline is not None:
             limit = min(limit, max(0.0, deadline - time.monotonic()) * 1000)
