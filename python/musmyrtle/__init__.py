@@ -12,7 +12,7 @@ from musmyrtle.faults import Babble, Corrupt, Fault, Mute
 from musmyrtle.names import Names, UnknownName
 from musmyrtle.node import Buffer, Node
 from musmyrtle.refusals import (
-    AlreadyPut, AlreadyTaken, BadFault, BadLine, BadWindow, BusMemory, BusRefused, BusUnknownNode, HostFull,
+    AlreadyPut, AlreadyTaken, BadFault, BadLine, BadName, BadWindow, BusMemory, BusRefused, BusUnknownNode, HostFull,
     HostRefused, Memory, NoQueue, NotAllPut, NotAllTaken, NotCollecting, NotFetched, NotObserved, NotReceive, NotSealed,
     NotTransmit, NoWindow, Refused, SessionOver, SlotFull, SlotRefused, TimedOut, TooManyFaults, UnknownBuffer,
     UnknownNode, UnknownTask, WindowOrder, WrongLength, WrongTurn, WrongWindow,
@@ -23,11 +23,11 @@ from musmyrtle.replies import (
 from musmyrtle.world import World
 
 __all__ = [
-    "AlreadyPut", "AlreadyTaken", "Babble", "BadFault", "BadLine", "BadWindow", "Buffer", "BusMemory", "BusRefused",
-    "BusUnknownNode", "Channel", "Corrupt", "Counters", "Fault", "Frame", "HostFull", "HostRefused", "Memory", "Mute",
-    "Names", "Node", "NoQueue", "NotAllPut", "NotAllTaken", "NotCollecting", "NotFetched", "NotInAScenario",
-    "NotObserved", "NotReceive", "NotSealed", "NotTransmit", "NoWindow", "Queue", "ReceiveBuffer", "Record", "Refused",
-    "Report", "Scenario", "Sent", "SessionOver", "SlotFull", "SlotRefused", "TimedOut", "TooManyFaults",
-    "TransmitBuffer", "UnknownBuffer", "UnknownName", "UnknownNode", "UnknownTask", "Window", "WindowOrder", "World",
-    "WrongLength", "WrongTurn", "WrongWindow",
+    "AlreadyPut", "AlreadyTaken", "Babble", "BadFault", "BadLine", "BadName", "BadWindow", "Buffer", "BusMemory",
+    "BusRefused", "BusUnknownNode", "Channel", "Corrupt", "Counters", "Fault", "Frame", "HostFull", "HostRefused",
+    "Memory", "Mute", "Names", "Node", "NoQueue", "NotAllPut", "NotAllTaken", "NotCollecting", "NotFetched",
+    "NotInAScenario", "NotObserved", "NotReceive", "NotSealed", "NotTransmit", "NoWindow", "Queue", "ReceiveBuffer",
+    "Record", "Refused", "Report", "Scenario", "Sent", "SessionOver", "SlotFull", "SlotRefused", "TimedOut",
+    "TooManyFaults", "TransmitBuffer", "UnknownBuffer", "UnknownName", "UnknownNode", "UnknownTask", "Window",
+    "WindowOrder", "World", "WrongLength", "WrongTurn", "WrongWindow",
 ]

@@ -17,6 +17,7 @@ from typing import Any
 
 from musmyrtle.bounds import babble_hex, bit_number, buffer_number, node_number, payload_hex, run_cycles, task_number
 from musmyrtle.names import Names
+from musmyrtle.refusals import BadName
 from musmyrtle.session import FileName
 
 Cycles = Iterable[int] | int | None
@@ -93,13 +94,13 @@ class Scenario:
     def __init__(self, cluster: FileName, cycles: int) -> None:
         """Reads a cluster file, for a run of 1 to 1024 cycles.
 
-        Raises `OSError`, and `ValueError` for other numbers, for what is no TOML and for a `name` that is no string.
+        Raises `OSError`, `ValueError` for other numbers and for what is no TOML, and `BadName`.
         """
         self.cycle_count = run_cycles(cycles)
         data = Path(cluster).read_bytes()
         self.names = Names.of(data)
         if self.names.wrong:
-            raise ValueError(self.names.wrong)
+            raise BadName(self.names.wrong)
         self.cluster: dict[str, Any] = tomllib.loads(data.decode("utf-8-sig"))
         self.scripts: dict[tuple[int, int], list[tuple[int, tuple[object, ...]]]] = {}
         self.faults: list[tuple[object, ...]] = []

@@ -13,6 +13,10 @@ class TimedOut(SessionOver, TimeoutError):
     """A request had no reply within its time limit. The session is over."""
 
 
+class BadName(SessionOver, ValueError):
+    """A key `name` of the cluster file isn't a string, so the world isn't opened."""
+
+
 class Refused(Exception):
     """A request was refused and has changed nothing, except that `window`, `cycle` and `run` may have done a part.
 

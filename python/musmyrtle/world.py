@@ -13,7 +13,7 @@ from musmyrtle.bounds import run_cycles, some_cycles, window_number
 from musmyrtle.faults import Fault, fault_line
 from musmyrtle.names import Names, UnknownName
 from musmyrtle.node import Buffer, Node
-from musmyrtle.refusals import TooManyFaults, refusal
+from musmyrtle.refusals import BadName, TooManyFaults, refusal
 from musmyrtle.replies import Record, Window, record_of, window_of
 from musmyrtle.session import CLOSE_SECONDS, FileName, Session, usual_world
 from musmyrtle.stepping import requests_of
@@ -44,9 +44,9 @@ class World:
         """Opens the world of a cluster file for a run of so many cycles, 1 to 1024.
 
         PROGRAM is the `fr_world` to run, which `usual_world` finds otherwise. TIMEOUT is the time limit in seconds of
-        each request and of the opening, or None. Raises `ValueError` for another number of cycles and for a key `name`
-        of the file that isn't a string, `OSError` where the program can't be started, `SessionOver` with the refusal of
-        a cluster file, and `TimedOut`.
+        each request and of the opening, or None. Raises `ValueError` for another number of cycles, `OSError` where the
+        program can't be started, `SessionOver` with the refusal of a cluster file, `BadName` where a key `name` of it
+        isn't a string, and `TimedOut`.
         """
         cycles = run_cycles(cycles)
         data = regular_file(cluster)
@@ -130,7 +130,7 @@ class World:
         return self._names
 
     def _read_names(self, data: bytes | None) -> Names | None:
-        """Reads the names of a file that the program has accepted. Raises `ValueError` for one that isn't a string."""
+        """Reads the names of a file that the program has accepted. Raises `BadName` for one that isn't a string."""
         if data is None:
             self._unread = "the cluster file is no regular file"
             return None
@@ -140,7 +140,7 @@ class World:
             self._unread = f"the cluster file can't be read: {error}"
             return None
         if names.wrong:
-            raise ValueError(names.wrong)
+            raise BadName(names.wrong)
         return names
 
     # ---- the bus

@@ -8,9 +8,9 @@ from tempfile import TemporaryDirectory
 
 import musmyrtle
 from musmyrtle import (
-    Babble, BadFault, BadLine, BusRefused, Corrupt, HostRefused, Mute, Names, NotAllPut, NotCollecting, NotInAScenario,
-    NotReceive, NotSealed, NoWindow, Refused, Scenario, SessionOver, TooManyFaults, UnknownBuffer, UnknownName,
-    UnknownNode, UnknownTask, Window, World, WrongLength, WrongTurn,
+    Babble, BadFault, BadLine, BadName, BusRefused, Corrupt, HostRefused, Mute, Names, NotAllPut, NotCollecting,
+    NotInAScenario, NotReceive, NotSealed, NoWindow, Refused, Scenario, SessionOver, TooManyFaults, UnknownBuffer,
+    UnknownName, UnknownNode, UnknownTask, Window, World, WrongLength, WrongTurn,
 )
 from musmyrtle.node import Buffer, Node
 from musmyrtle.session import usual_world
@@ -298,7 +298,7 @@ class TestWorld(unittest.TestCase):
                                    ('name = "speed"', "name = []", r"`name` of buffer 1 of node 0 is \[\]")):
                 cluster.write_text(text.replace(old, new, 1))
                 for opened in (World, Scenario):
-                    with self.assertRaisesRegex(ValueError, said):
+                    with self.assertRaisesRegex(BadName, said):
                         opened(cluster, cycles=1)
 
     def test_a_name_of_several_is_of_none(self):
