@@ -7,6 +7,8 @@ from musmyrtle.scenario import GREATEST, MOST_BYTES
 
 MOST_CYCLES = 1024
 MOST_WINDOW = 2**32 - 1
+MOST_NODE, MOST_TASK, MOST_BUFFER, MOST_BIT = (GREATEST[name] for name in ("NODE", "TASK", "BUFFER", "BIT"))
+MOST_PAYLOAD, MOST_BABBLE = MOST_BYTES["commit"], MOST_BYTES["babble"]
 
 
 def within(name: str, value: SupportsIndex, least: int, most: int) -> int:
@@ -24,22 +26,22 @@ def within(name: str, value: SupportsIndex, least: int, most: int) -> int:
 
 def node_number(value: SupportsIndex) -> int:
     """Returns a node number, 0 to 15. Raises `ValueError` and `TypeError`."""
-    return within("the node", value, 0, GREATEST["NODE"])
+    return within("the node", value, 0, MOST_NODE)
 
 
 def task_number(value: SupportsIndex) -> int:
     """Returns a task number, 0 to 7. Raises `ValueError` and `TypeError`."""
-    return within("the task", value, 0, GREATEST["TASK"])
+    return within("the task", value, 0, MOST_TASK)
 
 
 def buffer_number(value: SupportsIndex) -> int:
     """Returns a buffer number, 0 to 63. Raises `ValueError` and `TypeError`."""
-    return within("the buffer", value, 0, GREATEST["BUFFER"])
+    return within("the buffer", value, 0, MOST_BUFFER)
 
 
 def bit_number(value: SupportsIndex) -> int:
     """Returns the number of a bit of a transmission, 0 to 65535. Raises `ValueError` and `TypeError`."""
-    return within("the bit", value, 0, GREATEST["BIT"])
+    return within("the bit", value, 0, MOST_BIT)
 
 
 def window_number(value: SupportsIndex) -> int:
@@ -59,17 +61,16 @@ def some_cycles(value: SupportsIndex) -> int:
 
 def payload_hex(payload: bytes) -> str:
     """Returns a payload as a request spells it. Raises `ValueError` unless it is 0 to 127 two-byte words."""
-    most = MOST_BYTES["commit"]
-    if len(payload) % 2 or len(payload) > most:
-        raise ValueError(f"the payload has {len(payload)} bytes, and has to be two-byte words, {most} bytes at most")
+    if len(payload) % 2 or len(payload) > MOST_PAYLOAD:
+        raise ValueError(f"the payload has {len(payload)} bytes, and has to be two-byte words, {MOST_PAYLOAD} bytes at "
+                         "most")
     return f"x{payload.hex()}"
 
 
 def babble_hex(data: bytes) -> str:
     """Returns the bytes of a babble as a request spells them. Raises `ValueError` for more than 262 bytes."""
-    most = MOST_BYTES["babble"]
-    if len(data) > most:
-        raise ValueError(f"the babble has {len(data)} bytes, and has to have {most} at most")
+    if len(data) > MOST_BABBLE:
+        raise ValueError(f"the babble has {len(data)} bytes, and has to have {MOST_BABBLE} at most")
     return f"x{data.hex()}"
 
 
