@@ -9,19 +9,21 @@
 import argparse
 import sys
 import tempfile
+from collections.abc import Iterator
 from dataclasses import dataclass
 from pathlib import Path
 
 HERE = Path(__file__).resolve().parent
 sys.path.insert(0, str(HERE.parents[1] / "python"))
 
-from musmyrtle import Babble, Node, Window, World  # noqa: E402
+from musmyrtle import Babble, Channel, Node, Window, World  # noqa: E402
 
 CYCLE_SECONDS = 0.005
 FULL_DECELERATION = 8.0
 """In metres per second squared, with the pedal down."""
 CYCLES = 600
 PEDAL_SLOT = 1
+CHANNELS: tuple[Channel, Channel] = ("A", "B")
 
 
 def word_of(value: float, step: float) -> bytes:
@@ -45,15 +47,15 @@ class Car:
         self.speed = max(0.0, self.speed - force * FULL_DECELERATION * CYCLE_SECONDS)
 
 
-def pedal(node: Node, position: float):
-    """The pedal's host program: it tells its position in each cycle."""
+def pedal(node: Node, position: float) -> Iterator[None]:
+    """Runs the pedal's host program, which sends its position in each cycle."""
     while True:
         node["position"].commit(word_of(position, 0.001))
         yield
 
 
-def brake(node: Node, car: Car):
-    """The brake's host program: it brakes as the pedal last said, and tells the speed."""
+def brake(node: Node, car: Car) -> Iterator[None]:
+    """Runs the brake's host program, which brakes by the pedal's last position and sends the speed."""
     while True:
         frame = node["position"].read()
         car.brake(value_of(frame.payload, 0.001) if frame else 0.0)
@@ -66,12 +68,12 @@ def is_the_pedals(window: Window) -> bool:
 
 
 def stopped(cluster: Path, babble: bool, cycles: int = CYCLES) -> Car:
-    """The car after so many cycles with the pedal down."""
+    """Returns the car after so many cycles with the pedal down."""
     car = Car()
     with World(cluster, cycles) as world:
         hosts = pedal(world["pedal"], 1.0), brake(world["brake"], car)
         radio = world["radio"].number
-        noise = [Babble(radio, channel, b"\xff") for channel in "AB"] if babble else []
+        noise = [Babble(radio, channel, b"\xff") for channel in CHANNELS] if babble else []
         if noise:
             with world.fault(noise[0], is_the_pedals), world.fault(noise[1], is_the_pedals):
                 world.play(*hosts, cycles=cycles)

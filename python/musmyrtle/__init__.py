@@ -1,4 +1,4 @@
-"""What is round the bench: host programs in a proved world, scenarios made by a program, `fr_lint` and `fr_faults`.
+"""Host programs in a proved world, scenarios made by a program, and the programs `fr_lint` and `fr_faults`.
 
     from musmyrtle import World
 
@@ -10,19 +10,24 @@
 from musmyrtle.builder import NotInAScenario, Scenario
 from musmyrtle.faults import Babble, Corrupt, Fault, Mute
 from musmyrtle.names import Names, UnknownName
+from musmyrtle.node import Buffer, Node
 from musmyrtle.refusals import (
-    AlreadyPut, AlreadyTaken, BadFault, BadLine, BusRefused, HostFull, HostRefused, Memory, NoQueue, NotAllPut,
-    NotAllTaken, NotCollecting, NotReceive, NotSealed, NotTransmit, NoWindow, Refused, SessionOver, SlotFull,
-    SlotRefused, TooManyFaults, UnknownBuffer, UnknownNode, UnknownTask, WrongLength, WrongTurn,
+    AlreadyPut, AlreadyTaken, BadFault, BadLine, BadName, BadWindow, BusMemory, BusRefused, BusUnknownNode, HostFull,
+    HostRefused, Memory, NoQueue, NotAllPut, NotAllTaken, NotCollecting, NotFetched, NotObserved, NotReceive, NotSealed,
+    NotTransmit, NoWindow, Refused, SessionOver, SlotFull, SlotRefused, TimedOut, TooManyFaults, UnknownBuffer,
+    UnknownNode, UnknownTask, WindowOrder, WrongLength, WrongTurn, WrongWindow,
 )
-from musmyrtle.replies import Counters, Frame, Queue, ReceiveBuffer, Record, Report, Sent, TransmitBuffer, Window
-from musmyrtle.world import Buffer, Node, World
+from musmyrtle.replies import (
+    Channel, Counters, Frame, Queue, ReceiveBuffer, Record, Report, Sent, TransmitBuffer, Window,
+)
+from musmyrtle.world import World
 
 __all__ = [
-    "AlreadyPut", "AlreadyTaken", "Babble", "BadFault", "BadLine", "Buffer", "BusRefused", "Corrupt", "Counters",
-    "Fault", "Frame", "HostFull", "HostRefused", "Memory", "Mute", "Names", "Node", "NoQueue", "NotAllPut",
-    "NotAllTaken", "NotCollecting", "NotInAScenario", "NotReceive", "NotSealed", "NotTransmit", "NoWindow", "Queue",
-    "ReceiveBuffer", "Record", "Refused", "Report", "Scenario", "Sent", "SessionOver", "SlotFull", "SlotRefused",
+    "AlreadyPut", "AlreadyTaken", "Babble", "BadFault", "BadLine", "BadName", "BadWindow", "Buffer", "BusMemory",
+    "BusRefused", "BusUnknownNode", "Channel", "Corrupt", "Counters", "Fault", "Frame", "HostFull", "HostRefused",
+    "Memory", "Mute", "Names", "Node", "NoQueue", "NotAllPut", "NotAllTaken", "NotCollecting", "NotFetched",
+    "NotInAScenario", "NotObserved", "NotReceive", "NotSealed", "NotTransmit", "NoWindow", "Queue", "ReceiveBuffer",
+    "Record", "Refused", "Report", "Scenario", "Sent", "SessionOver", "SlotFull", "SlotRefused", "TimedOut",
     "TooManyFaults", "TransmitBuffer", "UnknownBuffer", "UnknownName", "UnknownNode", "UnknownTask", "Window",
-    "World", "WrongLength", "WrongTurn",
+    "WindowOrder", "World", "WrongLength", "WrongTurn", "WrongWindow",
 ]

@@ -1,4 +1,4 @@
-"""Scenarios made by a program: what the text of a scenario can't say in a line, made into its lines.
+"""Scenarios made by a program: names, several cycles and lost nodes, written as lines of a scenario.
 
     from musmyrtle import Scenario
 
@@ -13,21 +13,27 @@ import tomllib
 from collections.abc import Iterable
 from dataclasses import dataclass
 from pathlib import Path
+from typing import Any
 
+from musmyrtle.bounds import babble_hex, bit_number, buffer_number, node_number, payload_hex, run_cycles, task_number
 from musmyrtle.names import Names
+from musmyrtle.refusals import BadName
 from musmyrtle.session import FileName
 
 Cycles = Iterable[int] | int | None
-CYCLE_COUNT = 64
+MOST_PLACE = 8000
 
 
 class NotInAScenario(ValueError):
-    """What was asked for has no lines in a scenario. The message says why."""
+    """A scenario has no lines for this. The message says why."""
 
 
 @dataclass(frozen=True)
 class Task:
-    """A task of a node, whose calls become lines, in these cycles of the run."""
+    """A task of a node, whose calls become lines in these cycles of the run.
+
+    Buffers are given by number, 0 to 63, or by name. Raises `ValueError` for others, and `UnknownName`.
+    """
 
     scenario: "Scenario"
     node: int
@@ -35,30 +41,42 @@ class Task:
     cycles: tuple[int, ...]
 
     def every(self, step: int, first: int = 0) -> "Task":
-        """The same task, in the first of its cycles and each further one after so many."""
+        """Returns the same task, in the cycle FIRST of its cycles and in each one STEP cycles after that.
+
+        Raises `NotInAScenario` for a step below 1 or a first cycle below 0.
+        """
+        if step < 1 or first < 0:
+            raise NotInAScenario(f"every {step} cycles from cycle {first}: 1 cycle is the least, and cycle 0 the first")
         return Task(self.scenario, self.node, self.number, self.cycles[first::step])
 
     def at(self, cycles: Cycles) -> "Task":
-        """The same task, in these cycles."""
+        """Returns the same task, in these cycles of the run, or in all for None. Raises as `Scenario.cycles_of`."""
         return Task(self.scenario, self.node, self.number, self.scenario.cycles_of(cycles))
 
     def commit(self, buffer: str | int, payload: bytes | Iterable[bytes]) -> None:
-        """Commits a payload in each of the cycles: this one, or one after another of these."""
+        """Commits a payload in each of the cycles: this one, or one after another of these.
+
+        Raises `ValueError` for a payload that isn't 0 to 127 two-byte words, and `NotInAScenario` where there are fewer
+        payloads than cycles.
+        """
         payloads = [payload] * len(self.cycles) if isinstance(payload, bytes) else list(payload)
         if len(payloads) < len(self.cycles):
             raise NotInAScenario(f"{len(payloads)} payloads for {len(self.cycles)} cycles")
         for cycle, data in zip(self.cycles, payloads):
-            self._line("commit", cycle, self.scenario.buffer(self.node, buffer), f"x{data.hex()}")
+            self._line("commit", cycle, self.scenario.buffer(self.node, buffer), payload_hex(data))
 
     def withdraw(self, buffer: str | int) -> None:
+        """Takes the last commit of the buffer back in each of the cycles."""
         for cycle in self.cycles:
             self._line("withdraw", cycle, self.scenario.buffer(self.node, buffer))
 
     def read(self, buffer: str | int) -> None:
+        """Reads the receive buffer in each of the cycles."""
         for cycle in self.cycles:
             self._line("read", cycle, self.scenario.buffer(self.node, buffer))
 
     def pop(self) -> None:
+        """Takes a frame out of the receive FIFO in each of the cycles."""
         for cycle in self.cycles:
             self._line("pop", cycle)
 
@@ -67,93 +85,113 @@ class Task:
 
 
 class Scenario:
-    """The lines of a scenario for a cluster and a run of so many cycles, 1 to 1024.
+    """The lines of a scenario for a cluster and a run of some cycles.
 
-    Nodes and buffers are given by number, or by the key `name` of their tables in the cluster file.
+    Nodes and buffers are given by number, 0 to 15 and 0 to 63, or by the key `name` of their tables in the cluster
+    file. Raises `ValueError` for numbers out of range, and `UnknownName`.
     """
 
     def __init__(self, cluster: FileName, cycles: int) -> None:
-        self.names = Names.read(cluster)
-        self.cluster = tomllib.loads(Path(cluster).read_text(encoding="utf-8"))
-        self.cycle_count = cycles
-        self.scripts: dict[tuple[int, int], list[tuple[int, tuple]]] = {}
-        self.faults: list[tuple] = []
+        """Reads a cluster file, for a run of 1 to 1024 cycles.
+
+        Raises `OSError`, `ValueError` for other numbers and for what is no TOML, and `BadName`.
+        """
+        self.cycle_count = run_cycles(cycles)
+        data = Path(cluster).read_bytes()
+        self.names = Names.of(data)
+        if self.names.wrong:
+            raise BadName(self.names.wrong)
+        self.cluster: dict[str, Any] = tomllib.loads(data.decode("utf-8-sig"))
+        self.scripts: dict[tuple[int, int], list[tuple[int, tuple[object, ...]]]] = {}
+        self.faults: list[tuple[object, ...]] = []
 
     def node(self, node: str | int) -> int:
-        return self.names.node(node) if isinstance(node, str) else node
+        """Returns the number of a node. Raises `ValueError` out of 0 to 15, and `UnknownName`."""
+        return self.names.node(node) if isinstance(node, str) else node_number(node)
 
     def buffer(self, node: int, buffer: str | int) -> int:
-        return self.names.buffer(node, buffer) if isinstance(buffer, str) else buffer
+        """Returns the number of a buffer of the node. Raises `ValueError` out of 0 to 63, and `UnknownName`."""
+        return self.names.buffer(node, buffer) if isinstance(buffer, str) else buffer_number(buffer)
 
     def task(self, node: str | int, number: int = 0) -> Task:
-        """A task of the node, in every cycle of the run."""
-        return Task(self, self.node(node), number, tuple(range(self.cycle_count)))
+        """Returns a task of the node, 0 to 7, in every cycle of the run."""
+        return Task(self, self.node(node), task_number(number), tuple(range(self.cycle_count)))
 
     def cycles_of(self, cycles: Cycles) -> tuple[int, ...]:
-        """These cycles of the run, in order."""
+        """Returns these cycles of the run in order, or all for None. Those after its last one are left out.
+
+        Raises `NotInAScenario` for a cycle below 0.
+        """
         if cycles is None:
             return tuple(range(self.cycle_count))
         named = sorted({cycles} if isinstance(cycles, int) else set(cycles))
+        if named and named[0] < 0:
+            raise NotInAScenario(f"there is no cycle {named[0]}: the first one is cycle 0")
         return tuple(cycle for cycle in named if cycle < self.cycle_count)
 
     # ---- faults
 
     def babble(self, node: str | int, data: bytes, *, slot: int | None = None, minislot: int | None = None,
                channels: str = "AB", cycles: Cycles = None) -> None:
-        """The node sends these bytes too: in a static slot, in every static slot, or at a minislot."""
-        self._fault("babble", channels, cycles, place_of(slot, minislot), self.node(node), f"x{data.hex()}")
+        """Has the node send these bytes too, 262 at most: in a static slot, in every static slot, or at a minislot.
+
+        Raises `NotInAScenario` for a slot and a minislot, and for other channels than `A`, `B` and `AB`.
+        """
+        self._fault("babble", channels, cycles, place_of(slot, minislot), self.node(node), babble_hex(data))
 
     def mute(self, node: str | int, *, slot: int | None = None, minislot: int | None = None, channels: str = "AB",
              cycles: Cycles = None) -> None:
-        """What the node offers there is lost."""
+        """Has the node's offers lost in a static slot, in every static slot, or at a minislot. Raises as `babble`."""
         self._fault("mute", channels, cycles, place_of(slot, minislot), self.node(node))
 
     def corrupt(self, bit: int, *, slot: int | None = None, minislot: int | None = None, channels: str = "AB",
                 cycles: Cycles = None) -> None:
-        """This bit of the only transmission there is turned, counted from 0."""
-        self._fault("corrupt", channels, cycles, place_of(slot, minislot), None, bit)
+        """Has a bit of the only transmission there flipped, 0 to 65535. Raises as `babble`."""
+        self._fault("corrupt", channels, cycles, place_of(slot, minislot), None, bit_number(bit))
 
     def lose(self, node: str | int, *, cycles: Cycles = None) -> None:
-        """All that the node sends in these cycles is lost, as if it had gone.
+        """Has everything lost that the node sends in these cycles, as if it were silent.
 
-        In static slots that is a line for each channel. In the dynamic segment a line names a minislot, and at which
-        one the node sends can be told beforehand only where no other node sends there before it.
+        In static slots that is a line for each channel. In the dynamic segment a line names a minislot, and the
+        minislot at which the node sends is known beforehand only where no other node sends before it. Raises
+        `NotInAScenario` otherwise, with nothing added.
         """
-        self.mute(node, cycles=cycles)
         number = self.node(node)
-        for channel, minislot in self._dynamic(number):
+        dynamic = self._dynamic(number)
+        self.mute(number, cycles=cycles)
+        for channel, minislot in dynamic:
             self.mute(number, minislot=minislot, channels=channel, cycles=cycles)
 
     def _dynamic(self, node: int) -> list[tuple[str, int]]:
-        """The channel and the minislot of each dynamic slot of the node, where these can be told."""
+        """Returns the channel and the minislot of each dynamic slot of the node."""
         static_slots = self.cluster["params"]["static_slots"]
         slots = [(channel, buffer["slot"], number) for number, table in enumerate(self.cluster["node"])
                  for buffer in table.get("buffer", [])
                  if buffer.get("kind") != "receive" and buffer["slot"] > static_slots
                  for channel in buffer.get("channels", "AB")]
-        found = []
+        found: list[tuple[str, int]] = []
         for channel, slot, number in slots:
             if number != node:
                 continue
             before = sorted({other for name, other, _ in slots if name == channel and other < slot})
             if before:
-                raise NotInAScenario(f"node {node} sends in slot {slot} on {channel}, and at which minislot depends on "
+                raise NotInAScenario(f"node {node} sends in slot {slot} on {channel}, and the minislot depends on "
                                      f"whether anything is sent in slot {before[0]} before it")
             found.append((channel, slot - static_slots))
         return found
 
     def _fault(self, kind: str, channels: str, cycles: Cycles, place: str, node: int | None, *words: object) -> None:
+        if channels not in ("A", "B", "AB"):
+            raise NotInAScenario(f"the channels are {channels!r}, and have to be 'A', 'B' or 'AB'")
         named = self.cycles_of(cycles)
-        is_every = len(named) == self.cycle_count
-        for channel in channels:
-            for cycle in ["*"] if is_every else named:
-                who = () if node is None else (node,)
-                self.faults.append((kind, *who, channel, cycle, place, *words))
+        lines: Iterable[object] = ["*"] if len(named) == self.cycle_count else named
+        who = () if node is None else (node,)
+        self.faults += [(kind, *who, channel, cycle, place, *words) for channel in channels for cycle in lines]
 
     # ---- the text
 
     def text(self) -> str:
-        """The scenario, as `fr_bench run` takes it: lines of each task in the order of their cycles, then faults."""
+        """Returns the text, as `fr_bench run` reads it: the lines of each task by cycle, then the fault lines."""
         lines = ["frscenario 2"]
         for (node, task), calls in sorted(self.scripts.items()):
             for cycle, (kind, *words) in sorted(calls, key=lambda call: call[0]):
@@ -163,8 +201,15 @@ class Scenario:
 
 
 def place_of(slot: int | None, minislot: int | None) -> str:
+    """Returns the place of a fault line: a static slot, a minislot, or every static slot where both are None.
+
+    Raises `NotInAScenario` for both, and for a number out of 1 to 8000.
+    """
     if slot is not None and minislot is not None:
         raise NotInAScenario("a fault is in a static slot or at a minislot, and not both")
+    number = slot if minislot is None else minislot
+    if number is not None and not 1 <= number <= MOST_PLACE:
+        raise NotInAScenario(f"the slot or minislot is {number}, and has to be 1 to {MOST_PLACE}")
     if minislot is not None:
         return f"m{minislot}"
     return "s*" if slot is None else f"s{slot}"

@@ -1,49 +1,96 @@
 """The names that a cluster file has for its nodes and buffers.
 
-The bench reads no key `name`, so that `name = "pedal"` may stand in the table of each node and of each buffer.
+The bench reads no key `name`, so `name = "pedal"` may stand in the table of each node and of each buffer.
 """
 import os
 import tomllib
+from collections.abc import Iterable, Mapping
+from functools import lru_cache
 from pathlib import Path
 
 
 class UnknownName(KeyError):
-    """The cluster file has no node, or the node no buffer, of this name."""
+    """The cluster file has no node, or the node no buffer, of this name, or more than one."""
 
     def __str__(self) -> str:
-        return self.args[0]
+        return str(self.args[0])
 
 
 class Names:
-    """Numbers of nodes and of their buffers, by name."""
+    """The numbers of nodes and of their buffers, by name. Of two things of one name the first one's.
 
-    def __init__(self, nodes: dict[str, int], buffers: list[dict[str, int]]) -> None:
-        self.nodes, self.buffers = nodes, buffers
+    `wrong` says what is wrong with the first key `name` that isn't a string, or is None.
+    """
+
+    def __init__(self, nodes: Mapping[str, int], buffers: list[dict[str, int]], wrong: str | None = None,
+                 repeated: Iterable[tuple[int | None, str]] = ()) -> None:
+        """Keeps the names of nodes and, by node, of buffers.
+
+        REPEATED has each name that stands more than once, with the node of a buffer's name or None of a node's.
+        """
+        self.nodes, self.buffers, self.wrong = dict(nodes), buffers, wrong
+        self._repeated = frozenset(repeated)
 
     @classmethod
     def read(cls, file: str | os.PathLike[str]) -> "Names":
-        """The names of a cluster file. Of two things of one name the first has it."""
-        tables = tomllib.loads(Path(file).read_text(encoding="utf-8")).get("node", [])
-        return cls(named(tables), [named(table.get("buffer", [])) for table in tables])
+        """Returns the names of a cluster file. Raises `OSError`, and `ValueError` where it is no TOML."""
+        return cls.of(Path(file).read_bytes())
+
+    @classmethod
+    def of(cls, data: bytes) -> "Names":
+        """Returns the names of a cluster file's bytes. Raises `ValueError` where they are no TOML."""
+        return names_in(data)
 
     def node(self, name: str) -> int:
-        return found(self.nodes, name, "no node of the cluster file")
+        """Returns the number of the node of this name. Raises `UnknownName`."""
+        return self._found(self.nodes, None, name, "no node of the cluster file")
 
     def buffer(self, node: int, name: str) -> int:
-        return found(self.buffers[node], name, f"no buffer of node {node}")
+        """Returns the number of the buffer of this name. Raises `UnknownName`, also where there is no such node."""
+        if not 0 <= node < len(self.buffers):
+            raise UnknownName(f"the cluster file has {len(self.buffers)} nodes, and no node {node}")
+        return self._found(self.buffers[node], node, name, f"no buffer of node {node}")
+
+    def _found(self, places: dict[str, int], node: int | None, name: str, what: str) -> int:
+        if name not in places:
+            raise UnknownName(f"{what} has the name {name!r}; it knows: {', '.join(places) or 'none'}")
+        if (node, name) in self._repeated:
+            several = "several nodes" if node is None else f"several buffers of node {node}"
+            raise UnknownName(f"{several} have the name {name!r}; give the number")
+        return places[name]
 
 
-def named(tables: list[dict]) -> dict[str, int]:
-    """The places of tables, by name."""
-    places = {}
+@lru_cache(maxsize=8)
+def names_in(data: bytes) -> Names:
+    """Returns the names of a cluster file's bytes. Raises `ValueError` where they are no TOML."""
+    try:
+        document = tomllib.loads(data.decode("utf-8-sig"))
+    except RecursionError:
+        raise ValueError("its arrays or tables are nested too deep") from None
+    tables = tables_of(document.get("node"))
+    wrong: list[str] = []
+    repeated: list[tuple[int | None, str]] = []
+    nodes = named(tables, None, wrong, repeated)
+    buffers = [named(tables_of(table.get("buffer")), number, wrong, repeated) for number, table in enumerate(tables)]
+    return Names(nodes, buffers, wrong[0] if wrong else None, repeated)
+
+
+def tables_of(value: object) -> list[dict[str, object]]:
+    """Returns the tables of an array, with an empty one in the place of anything else."""
+    return [item if isinstance(item, dict) else {} for item in value] if isinstance(value, list) else []
+
+
+def named(tables: list[dict[str, object]], node: int | None, wrong: list[str],
+          repeated: list[tuple[int | None, str]]) -> dict[str, int]:
+    """Returns the places of tables, by name, and adds to WRONG and REPEATED what isn't right in them."""
+    places: dict[str, int] = {}
     for place, table in enumerate(tables):
-        if "name" in table:
-            places.setdefault(str(table["name"]), place)
+        name = table.get("name")
+        if isinstance(name, str):
+            if name in places:
+                repeated.append((node, name))
+            places.setdefault(name, place)
+        elif name is not None:
+            whose = f"node {place}" if node is None else f"buffer {place} of node {node}"
+            wrong.append(f"the key `name` of {whose} is {name!r}, and has to be a string")
     return places
-
-
-def found(places: dict[str, int], name: str, what: str) -> int:
-    if name not in places:
-        known = ", ".join(places) or "none"
-        raise UnknownName(f"{what} has the name {name!r}; it knows: {known}")
-    return places[name]

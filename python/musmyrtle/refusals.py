@@ -2,18 +2,34 @@
 
 
 class SessionOver(RuntimeError):
-    """The program has ended. The message is what it said on standard error, as `refused Overlap 2 A 0`."""
+    """The session is over, and no further request can be asked. The message says why.
+
+    That is what the program said on standard error, as `refused Overlap 2 A 0`, or how it ended, or why a reply
+    couldn't be read to its end.
+    """
+
+
+class TimedOut(SessionOver, TimeoutError):
+    """A request had no reply within its time limit. The session is over."""
+
+
+class BadName(SessionOver, ValueError):
+    """A key `name` of the cluster file isn't a string, so the world isn't opened."""
 
 
 class Refused(Exception):
-    """A request is refused and has changed nothing, but that `window`, `cycle` and `run` may have done a part.
+    """A request was refused and has changed nothing, except that `window`, `cycle` and `run` may have done a part.
 
     `names` are the words after `refused`, and `line` is the request.
     """
 
     def __init__(self, names: tuple[str, ...], line: str) -> None:
-        super().__init__(f"{' '.join(names)}: {line}")
+        # Both are arguments of the exception, so that it can be copied and pickled.
+        super().__init__(names, line)
         self.names, self.line = names, line
+
+    def __str__(self) -> str:
+        return f"{' '.join(self.names)}: {self.line}"
 
 
 class BadLine(Refused):
@@ -21,19 +37,19 @@ class BadLine(Refused):
 
 
 class BadFault(Refused):
-    """No run of the cluster could have the fault line beside those that the world keeps."""
+    """No run of the cluster can have the fault line beside those that the world keeps."""
 
 
 class NoWindow(Refused):
-    """The record hasn't the window."""
+    """No window of this number is sealed."""
 
 
 class Memory(Refused):
-    """Memory was refused."""
+    """The program is out of memory for the reply, or for a fault line. Of a seal it is a `BusMemory`."""
 
 
 class UnknownNode(Refused):
-    """The cluster hasn't the node."""
+    """The cluster doesn't have the node. Of a fault of the open window it is a `BusUnknownNode`."""
 
 
 class WrongTurn(Refused):
@@ -41,27 +57,27 @@ class WrongTurn(Refused):
 
 
 class HostRefused(Refused):
-    """The interface refuses the call of a task."""
+    """The node's controller host interface refused the call of a task."""
 
 
 class UnknownTask(HostRefused):
-    """The node hasn't the task."""
+    """The node doesn't have the task."""
 
 
 class UnknownBuffer(HostRefused):
-    """The node hasn't the buffer."""
+    """The node doesn't have the buffer."""
 
 
 class NotTransmit(HostRefused):
-    """The buffer receives."""
+    """The buffer is a receive buffer."""
 
 
 class NotReceive(HostRefused):
-    """The buffer transmits."""
+    """The buffer is a transmit buffer."""
 
 
 class WrongLength(HostRefused):
-    """The payload hasn't the buffer's length: two bytes for each of its words."""
+    """The payload doesn't have the buffer's length, two bytes for each of its words."""
 
 
 class HostFull(HostRefused):
@@ -69,27 +85,63 @@ class HostFull(HostRefused):
 
 
 class NoQueue(HostRefused):
-    """The node has no receive queue."""
+    """The node has no receive FIFO."""
 
 
 class SlotRefused(Refused):
-    """The interface refuses the call of its controller."""
+    """The node's controller host interface refused the call of its controller."""
+
+
+class NotObserved(SlotRefused):
+    """The window that was fetched last isn't observed yet."""
+
+
+class BadWindow(SlotRefused):
+    """The parameters have no such window."""
+
+
+class WindowOrder(SlotRefused):
+    """The window's number isn't above that of the window before."""
 
 
 class SlotFull(SlotRefused):
     """The node's journal has room for fewer than two further slot entries."""
 
 
+class NotFetched(SlotRefused):
+    """No window is open at the controller."""
+
+
+class WrongWindow(SlotRefused):
+    """Another window is open at the controller."""
+
+
 class BusRefused(Refused):
-    """The bus refuses the call."""
+    """The bus refused the call."""
+
+
+class BusUnknownNode(BusRefused, UnknownNode):
+    """The cluster doesn't have the node of the fault."""
 
 
 class NotCollecting(BusRefused):
     """The open window is sealed, or the run is over."""
 
 
+class TooManyFaults(BusRefused):
+    """The open window has a fault of this kind, node and channel."""
+
+
+class NotAllPut(BusRefused):
+    """A node hasn't put what it offers."""
+
+
 class NotSealed(BusRefused):
     """The open window isn't sealed, or the run is over."""
+
+
+class NotAllTaken(BusRefused):
+    """A node hasn't taken what it receives in the sealed window."""
 
 
 class AlreadyPut(BusRefused):
@@ -97,28 +149,31 @@ class AlreadyPut(BusRefused):
 
 
 class AlreadyTaken(BusRefused):
-    """The node has taken what it sees."""
+    """The node has taken what it receives in the sealed window."""
 
 
-class NotAllPut(BusRefused):
-    """A node hasn't put what it offers."""
+class BusMemory(BusRefused, Memory):
+    """The program is out of memory for the window's record. The world is as it was before the seal."""
 
 
-class NotAllTaken(BusRefused):
-    """A node hasn't taken what it sees."""
-
-
-class TooManyFaults(BusRefused):
-    """The open window has a fault of this kind, node and channel."""
-
-
-_KINDS = {"Host": HostRefused, "Slot": SlotRefused, "Bus": BusRefused}
+_GROUPS: dict[str, tuple[type[Refused], ...]] = {
+    "": (BadLine, BadFault, NoWindow, Memory, UnknownNode, WrongTurn),
+    "Host": (UnknownTask, UnknownBuffer, NotTransmit, NotReceive, WrongLength, HostFull, NoQueue),
+    "Slot": (NotObserved, BadWindow, WindowOrder, SlotFull, NotFetched, WrongWindow),
+    "Bus": (NotCollecting, TooManyFaults, NotAllPut, NotSealed, NotAllTaken, AlreadyPut, AlreadyTaken),
+}
+_KINDS: dict[str, type[Refused]] = {"Host": HostRefused, "Slot": SlotRefused, "Bus": BusRefused}
+_BY_NAME = {(group, kind.__name__): kind for group, kinds in _GROUPS.items() for kind in kinds}
+_BY_NAME |= {("Bus", "UnknownNode"): BusUnknownNode, ("Bus", "Memory"): BusMemory}
 
 
 def refusal(reply: str, line: str) -> Refused:
-    """The exception of the reply `refused ..` to the line. A name that this package doesn't know gives its kind's."""
+    """Returns the exception of the reply `refused ..` to the line.
+
+    For a name that this package doesn't know, of a later version of the program, it is `HostRefused`, `SlotRefused`,
+    `BusRefused` or `Refused`.
+    """
     names = tuple(reply.split(" ")[1:])
-    kind = _KINDS.get(names[0], Refused)
-    name = names[0] if kind is Refused else names[-1]
-    found = [it for it in kind.__subclasses__() if it.__name__ == name]
-    return (found[0] if found else kind)(names, line)
+    group = names[0] if names[0] in _KINDS and len(names) > 1 else ""
+    name = names[1] if group else names[0]
+    return _BY_NAME.get((group, name), _KINDS.get(group, Refused))(names, line)

@@ -1,6 +1,6 @@
-"""What a world answers, as values."""
+"""The replies of a world, as values."""
 from dataclasses import dataclass
-from typing import Literal
+from typing import Literal, cast
 
 Channel = Literal["A", "B"]
 
@@ -20,7 +20,7 @@ class Frame:
 
 @dataclass(frozen=True, slots=True)
 class Window:
-    """An opportunity to send, the same for all nodes: a static slot, or a minislot at which a channel opens a slot.
+    """A transmission opportunity, the same for all nodes: a static slot, or a minislot at which a channel opens a slot.
 
     `number` counts the windows of the run from 0, `cycle` is 0 to 63, `minislot` is 0 in the static segment and counts
     from 1 in the dynamic one, and `a` and `b` are the slots that the channels open, if any.
@@ -34,6 +34,7 @@ class Window:
 
     @property
     def is_static(self) -> bool:
+        """Whether it is a static slot."""
         return self.minislot == 0
 
     @property
@@ -42,13 +43,13 @@ class Window:
         return self.is_static and self.a == 1
 
     def slot(self, channel: Channel) -> int | None:
-        """The slot that the channel opens in it."""
+        """Returns the slot, 1 to 2047, that the channel opens in it, or None."""
         return self.a if channel == "A" else self.b
 
 
 @dataclass(frozen=True, slots=True)
 class Sent:
-    """A transmission of the record, and what became of it."""
+    """A transmission of the record: its node, channel and bytes, whether it is a babble, and its fate."""
 
     node: int
     channel: Channel
@@ -59,7 +60,7 @@ class Sent:
 
 @dataclass(frozen=True, slots=True)
 class Record:
-    """A sealed window: who sent what in it, and for each channel the bit that was turned, counted from 0."""
+    """A sealed window: its transmissions, and for each channel the bit that a fault flips, counted from 0."""
 
     window: Window
     sent: tuple[Sent, ...]
@@ -68,7 +69,7 @@ class Record:
 
 @dataclass(frozen=True, slots=True)
 class TransmitBuffer:
-    """How many commits a transmit buffer got, and what became of them: `committed` is the sum of the others."""
+    """The number of commits of a transmit buffer, and their fates: `committed` is the sum of the others."""
 
     committed: int
     sent: int
@@ -79,7 +80,8 @@ class TransmitBuffer:
 
 @dataclass(frozen=True, slots=True)
 class ReceiveBuffer:
-    """What a receive buffer holds: the journal's entry that brought it, its channel and its payload, or nothing."""
+    """The content of a receive buffer: the entry of the journal that stored it, its channel and its payload, or None.
+    """
 
     entry: int | None
     channel: Channel | None
@@ -88,7 +90,7 @@ class ReceiveBuffer:
 
 @dataclass(frozen=True, slots=True)
 class Queue:
-    """A receive queue: how many frames wait in it, and how many it lost."""
+    """A receive FIFO: how many frames wait in it, and how many it lost."""
 
     waiting: int
     lost: int
@@ -96,7 +98,7 @@ class Queue:
 
 @dataclass(frozen=True, slots=True)
 class Counters:
-    """How often a node saw on a channel a valid frame, and each kind of error."""
+    """The number of valid frames that a node received on a channel, and of each kind of error."""
 
     valid: int
     syntax: int
@@ -107,7 +109,10 @@ class Counters:
 
 @dataclass(frozen=True, slots=True)
 class Report:
-    """What became of a node's commits, what it holds, and what it saw. `text` is the report as `fr_bench` has it."""
+    """The buffers of a node by number, its receive FIFO if it has one, and its counters on A and B.
+
+    `text` is the report as `fr_bench audit` prints it.
+    """
 
     buffers: tuple[TransmitBuffer | ReceiveBuffer, ...]
     queue: Queue | None
@@ -117,48 +122,64 @@ class Report:
 
 
 def number_or_none(word: str) -> int | None:
+    """Returns the number that a word spells, or None for `-`."""
     return None if word == "-" else int(word)
 
 
+def channel_of(word: str) -> Channel:
+    """Returns the channel of a word that is `A` or `B`."""
+    return cast(Channel, word)
+
+
 def window_of(words: list[str]) -> Window:
+    """Returns the window of the words after `open`, `sealed` or `window`."""
     number, cycle, minislot, slot_a, slot_b = words
     return Window(int(number), int(cycle), int(minislot), number_or_none(slot_a), number_or_none(slot_b))
 
 
 def bytes_of(word: str) -> bytes:
+    """Returns the bytes of a word `x..`."""
     return bytes.fromhex(word[1:])
 
 
 def frame_of(words: list[str]) -> Frame | None:
+    """Returns the frame of the words after `frame`, or None for `-`."""
     if words == ["-"]:
         return None
     cycle, slot, flags, payload = words
-    return Frame(bytes_of(payload), int(slot), int(cycle), *(mark != "-" for mark in flags))
+    preamble, null, sync, startup = (mark != "-" for mark in flags)
+    return Frame(bytes_of(payload), int(slot), int(cycle), preamble, null, sync, startup)
 
 
 def record_of(lines: list[str]) -> Record:
-    sent, corrupt, window = [], {}, None
-    for line in lines:
+    """Returns the record of the lines of `record W`, the first of which is its window."""
+    sent: list[Sent] = []
+    corrupt: dict[Channel, int] = {}
+    window = window_of(lines[0].split(" ")[1:])
+    for line in lines[1:]:
         kind, *words = line.split(" ")
-        if kind == "window":
-            window = window_of(words)
-        elif kind == "sent":
+        if kind == "sent":
             node, channel, what, fate, data = words
-            sent.append(Sent(int(node), channel, what == "babble", fate, bytes_of(data)))
+            known_fate = cast(Literal["passed", "blocked", "muted"], fate)
+            sent.append(Sent(int(node), channel_of(channel), what == "babble", known_fate, bytes_of(data)))
         else:
-            corrupt[words[0]] = int(words[1])
+            corrupt[channel_of(words[0])] = int(words[1])
     return Record(window, tuple(sent), corrupt)
 
 
 def receive_buffer_of(words: list[str]) -> ReceiveBuffer:
+    """Returns the content of a receive buffer from the words after its number."""
     if words[0] == "-":
         return ReceiveBuffer(None, None, None)
     entry, channel = words[0].split(":")
-    return ReceiveBuffer(int(entry), channel, bytes_of(words[1]))
+    return ReceiveBuffer(int(entry), channel_of(channel), bytes_of(words[1]))
 
 
 def report_of(text: str) -> Report:
-    buffers, queue, channels = [], None, []
+    """Returns the report of a text as `fr_bench audit` prints it."""
+    buffers: list[TransmitBuffer | ReceiveBuffer] = []
+    queue: Queue | None = None
+    channels: list[Counters] = []
     for line in text.splitlines():
         kind, *words = line.split(" ")
         if kind == "tx":
@@ -169,4 +190,5 @@ def report_of(text: str) -> Report:
             queue = Queue(*map(int, words))
         else:
             channels.append(Counters(*map(int, words)))
-    return Report(tuple(buffers), queue, *channels, text)
+    a, b = channels
+    return Report(tuple(buffers), queue, a, b, text)

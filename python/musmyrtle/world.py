@@ -1,100 +1,31 @@
 """A proved FlexRay cluster in which host programs take part, before there is hardware.
 
-Each call is one line to the program `fr_world` and one reply, and does exactly what it names. What is refused is raised
-as the exception of that name, and has changed nothing.
+Each call is one line to the program `fr_world` and one reply, and does exactly what it names. A refusal is raised as
+the exception of its name, and has changed nothing.
 """
+import os
+import stat
 from collections.abc import Callable, Iterable, Iterator
-from contextlib import contextmanager, suppress
+from contextlib import AbstractContextManager, contextmanager, suppress
+from functools import partial
 
-from musmyrtle.faults import Fault, is_fault_line
-from musmyrtle.names import Names
-from musmyrtle.refusals import TooManyFaults
-from musmyrtle.replies import Frame, Record, Report, Window, frame_of, number_or_none, record_of, report_of, window_of
-from musmyrtle.session import FileName, Session, usual_world
+from musmyrtle.bounds import run_cycles, some_cycles, window_number
+from musmyrtle.faults import Fault, fault_line
+from musmyrtle.names import Names, UnknownName
+from musmyrtle.node import Buffer, Node
+from musmyrtle.refusals import BadName, TooManyFaults, refusal
+from musmyrtle.replies import Record, Window, record_of, window_of
+from musmyrtle.session import CLOSE_SECONDS, FileName, Session, usual_world
+from musmyrtle.stepping import requests_of
+from musmyrtle.texts import FILE_LIMIT
+
+__all__ = ["Buffer", "Host", "Node", "World"]
 
 Host = Iterator[object]
 
 
-class Node:
-    """A node of a world, as one of its tasks calls it: task 0 unless another is chosen."""
-
-    def __init__(self, world: "World", number: int, task: int = 0) -> None:
-        self.world, self.number, self._task = world, number, task
-
-    def task(self, number: int) -> "Node":
-        """The same node, called by this task."""
-        return Node(self.world, self.number, number)
-
-    def __getitem__(self, name: str) -> "Buffer":
-        """The buffer of this name in the cluster file."""
-        return Buffer(self, self.world.names.buffer(self.number, name))
-
-    def commit(self, buffer: int, payload: bytes) -> int:
-        """Gives a transmit buffer its next payload, two bytes for each of its words. Answers which entry it is."""
-        return int(self._ask(f"commit {self.number} {self._task} {buffer} x{payload.hex()}"))
-
-    def withdraw(self, buffer: int) -> int | None:
-        """Takes the last commit back, if it is pending. Answers its entry, or None."""
-        return number_or_none(self._ask(f"withdraw {self.number} {self._task} {buffer}"))
-
-    def read(self, buffer: int) -> Frame | None:
-        """The frame that a receive buffer holds, if it holds one."""
-        return frame_of(self._ask(f"read {self.number} {self._task} {buffer}").split(" "))
-
-    def pop(self) -> Frame | None:
-        """The oldest frame of the receive queue, which is taken out, if there is one."""
-        return frame_of(self._ask(f"pop {self.number} {self._task}").split(" "))
-
-    def look(self) -> Window:
-        """The controller looks at the open window."""
-        return window_of(self._ask(f"look {self.number}").split(" "))
-
-    def fetch(self) -> None:
-        """The controller fetches what its interface offers in the window that it looked at."""
-        self.world.ask(f"fetch {self.number}")
-
-    def put(self) -> None:
-        """The controller puts what it fetched on the bus."""
-        self.world.ask(f"put {self.number}")
-
-    def take(self) -> None:
-        """The controller takes what it sees of the sealed window."""
-        self.world.ask(f"take {self.number}")
-
-    def observe(self) -> None:
-        """The controller gives its interface what it saw."""
-        self.world.ask(f"observe {self.number}")
-
-    def report(self) -> Report:
-        """The node's report. It leaves no entry in the journal."""
-        return report_of("".join(f"{line}\n" for line in self.world.block(f"report {self.number}")))
-
-    def trace(self) -> str:
-        """The node's trace, which `fr_bench audit` reads."""
-        return "".join(f"{line}\n" for line in self.world.block(f"trace {self.number}"))
-
-    def _ask(self, line: str) -> str:
-        return self.world.ask(line).split(" ", 1)[1]
-
-
-class Buffer:
-    """A buffer of a node, found by its name."""
-
-    def __init__(self, node: Node, number: int) -> None:
-        self.node, self.number = node, number
-
-    def commit(self, payload: bytes) -> int:
-        return self.node.commit(self.number, payload)
-
-    def withdraw(self) -> int | None:
-        return self.node.withdraw(self.number)
-
-    def read(self) -> Frame | None:
-        return self.node.read(self.number)
-
-
 class World:
-    """The world of a cluster: an interface for each node, and the bus, for a run of so many cycles, 1 to 1024.
+    """The world of a cluster: a controller host interface for each node, and the bus.
 
         with World("cluster.toml", cycles=8) as world:
             sender, receiver = world.node(0), world.node(1)
@@ -103,15 +34,30 @@ class World:
                 world.cycle()
                 frame = receiver.read(1)
 
-    A cluster file that is refused raises `SessionOver` with the refusal.
+    Threads can share a world: each call is done whole before that of another thread. Every call raises `SessionOver`
+    once the world is closed, its program has ended, or a request was broken off before its reply was read, as by an
+    exception of a signal handler. A process that is forked can't use the worlds of its parent.
     """
 
-    def __init__(self, cluster: FileName, cycles: int, *, program: FileName | None = None) -> None:
-        self._session = Session(program or usual_world(), cluster, cycles)
-        self._cluster = cluster
-        self._names: Names | None = None
+    def __init__(self, cluster: FileName, cycles: int, *, program: FileName | None = None,
+                 timeout: float | None = None) -> None:
+        """Opens the world of a cluster file for a run of so many cycles, 1 to 1024.
+
+        PROGRAM is the `fr_world` to run, which `usual_world` finds otherwise. TIMEOUT is the time limit in seconds of
+        each request and of the opening, or None. Raises `ValueError` for another number of cycles, `OSError` where the
+        program can't be started, `SessionOver` with the refusal of a cluster file, `BadName` where a key `name` of it
+        isn't a string, and `TimedOut`.
+        """
+        cycles = run_cycles(cycles)
+        data = regular_file(cluster)
         self._faults: list[tuple[Fault, Callable[[Window], bool]]] = []
-        self._lines: list[str] = []
+        self._unread = ""
+        self._session = Session(program or usual_world(), cluster, cycles, timeout)
+        try:
+            self._names = self._read_names(data)
+        except BaseException:
+            self._session.close()
+            raise
 
     def __enter__(self) -> "World":
         return self
@@ -119,108 +65,171 @@ class World:
     def __exit__(self, *_: object) -> None:
         self.close()
 
-    def close(self) -> None:
-        """Ends the program."""
-        self._session.close()
+    def close(self, timeout: float = CLOSE_SECONDS) -> None:
+        """Ends the program. A second time does nothing.
 
-    def ask(self, line: str) -> str:
-        """The reply to a request. Raises the exception of a refusal."""
-        return self._session.ask(line)
+        The program has TIMEOUT seconds to end by itself, and is killed at the latest after three times as many. A
+        request of another thread that has no reply by then raises `SessionOver` there.
+        """
+        self._session.close(timeout)
 
-    def block(self, line: str) -> list[str]:
-        """The lines that a query is answered with."""
-        return self._session.block(line)
+    # ---- requests
 
-    def send(self, lines: Iterable[str]) -> list[str]:
-        """The replies to many requests in one write. Each has to have one line of reply; a refusal isn't raised."""
-        return self._session.send(lines)
+    def ask(self, line: str, timeout: float | None = None) -> str:
+        """Returns the reply to a request. One of several lines, as to `report 0`, has line feeds between them.
+
+        TIMEOUT is the time limit in seconds, or None for that of the world. Raises the exception of a refusal,
+        `ValueError` with nothing sent for more than one line and for characters that UTF-8 can't encode, `TimedOut`
+        and `SessionOver`.
+        """
+        return self._session.ask(line, timeout)
+
+    def block(self, line: str, timeout: float | None = None) -> list[str]:
+        """Returns the lines that a query is answered with, without the one that counts them.
+
+        Raises what `ask` raises, and `ValueError` for a request that is answered with one line.
+        """
+        return self._session.block(line, timeout)
+
+    def send(self, lines: Iterable[str], timeout: float | None = None) -> list[str]:
+        """Returns the replies to many requests, each as `ask` returns it. A refusal isn't raised.
+
+        All are written without waiting for replies, and no request of another thread comes between. TIMEOUT is the
+        time limit in seconds of all together. Raises `ValueError`, `TimedOut` and `SessionOver` as `ask` does.
+        """
+        return self._session.send(lines, timeout)
 
     def transcript(self) -> str:
-        """All requests so far, a line each: on the standard input of `fr_world` they give the same replies again."""
+        """Returns all requests so far, a line each.
+
+        On the standard input of `fr_world` they give the same replies again. A request that was broken off is there.
+        """
         return "".join(f"{line}\n" for line in self._session.asked)
 
     # ---- nodes
 
     def node(self, number: int) -> Node:
-        """The node of this number, from 0 in the order of the cluster file."""
+        """Returns the node of this number, 0 to 15, in the order of the cluster file. Raises `ValueError` for others.
+
+        Where the cluster doesn't have it, the calls of the node raise `UnknownNode`.
+        """
         return Node(self, number)
 
     def __getitem__(self, name: str) -> Node:
-        """The node of this name in the cluster file."""
+        """Returns the node of this name in the cluster file. Raises `UnknownName`."""
         return self.node(self.names.node(name))
 
     @property
     def names(self) -> Names:
+        """The names of nodes and buffers, as the cluster file had them when the world was opened.
+
+        Raises `UnknownName` where they couldn't be read: Python reads TOML 1.0 alone.
+        """
         if self._names is None:
-            self._names = Names.read(self._cluster)
+            raise UnknownName(f"no names are known: {self._unread}")
         return self._names
+
+    def _read_names(self, data: bytes | None) -> Names | None:
+        """Reads the names of a file that the program has accepted. Raises `BadName` for one that isn't a string."""
+        if data is None:
+            self._unread = "the cluster file is no regular file"
+            return None
+        try:
+            names = Names.of(data)
+        except ValueError as error:
+            self._unread = f"the cluster file can't be read: {error}"
+            return None
+        if names.wrong:
+            raise BadName(names.wrong)
+        return names
 
     # ---- the bus
 
     def now(self) -> Window | None:
-        """The window that is open or sealed, or None once the run is over."""
-        return self._moved(self.ask("now"))
+        """Returns the window that is open or sealed, or None once the run is over."""
+        return moved(self.ask("now"))
 
     def inject(self, fault: Fault) -> None:
-        """Brings the fault into the open window."""
+        """Brings the fault into the open window.
+
+        Raises `NotCollecting` where that is sealed, `TooManyFaults` where it has one of this kind, node and channel,
+        and `UnknownNode`.
+        """
         self.ask(str(fault))
 
     def seal(self) -> None:
+        """Seals the open window. Raises `NotCollecting`, `NotAllPut` and `Memory`."""
         self.ask("seal")
 
     def advance(self) -> None:
+        """Opens the window after the sealed one. Raises `NotSealed` and `NotAllTaken`."""
         self.ask("advance")
 
     def record(self, number: int) -> Record:
-        """The sealed window of this number: who sent what in it, and what became of it."""
-        return record_of(self.block(f"record {number}"))
+        """Returns the sealed window of this number, counted from 0: its transmissions and what became of each.
+
+        Raises `NoWindow` where no such window is sealed, `Memory`, and `ValueError` out of 0 to 4294967295.
+        """
+        return record_of(self.block(f"record {window_number(number)}"))
 
     # ---- windows and cycles
 
     def window(self) -> Window | None:
-        """Does all that is still due in the open window. Answers the next one, or None once the run is over."""
-        if self._faults:
+        """Does all that is still due in the open window. Returns the next one, or None once the run is over.
+
+        Raises the first refusal that isn't `WrongTurn`. What was done before it stays done.
+        """
+        if not self._faults:
+            return moved(self.ask("window"))
+        with self._session.lock:
             self._inject_due()
-        return self._moved(self.ask("window"))
+            return moved(self.ask("window"))
 
     def cycle(self) -> Window | None:
-        """Does windows up to the first one of the next cycle."""
+        """Does windows up to the first one of the next cycle. Returns and raises what `window` does."""
         if not self._faults:
-            return self._moved(self.ask("cycle"))
-        window = self.window()
-        while window and not window.opens_cycle:
+            return moved(self.ask("cycle"))
+        with self._session.lock:
             window = self.window()
-        return window
+            while window and not window.opens_cycle:
+                window = self.window()
+            return window
 
     def run(self, cycles: int) -> Window | None:
-        """Does so many cycles."""
+        """Does so many cycles, 0 to 1024. Returns and raises what `window` does, and `ValueError` for other numbers."""
+        cycles = some_cycles(cycles)
         if not self._faults:
-            return self._moved(self.ask(f"run {cycles}"))
-        window = self.now()
-        for _ in range(cycles):
-            window = self.cycle()
-        return window
+            return moved(self.ask(f"run {cycles}"))
+        with self._session.lock:
+            window = self.now()
+            for _ in range(cycles):
+                window = self.cycle()
+            return window
 
     def play_scenario(self, text: str, cycles: int) -> list[tuple[str, str]]:
-        """Does so many cycles of a world that has just been opened with the lines of a scenario, as a stepped run does
-        them: its fault lines are kept, and in each cycle first come the lines of the tasks, by node and then task.
-        Answers each of these and its reply."""
-        lines = text.splitlines()[1:-1]
-        for line in filter(is_fault_line, lines):
-            self.keep(line)
-        calls = [line.split(" ") for line in lines if not is_fault_line(line)]
-        calls.sort(key=lambda words: (int(words[3]), int(words[1]), int(words[2])))
-        answers = []
-        for cycle in range(cycles):
-            for kind, node, task, _, *rest in (words for words in calls if words[3] == str(cycle)):
-                line = " ".join((kind, node, task, *rest))
-                answers.append((line, self.ask(line)))
-            self.cycle()
+        """Does a scenario in a world that has just been opened, for so many cycles, as a lockstep run does it.
+
+        Its fault lines are kept. In each cycle the lines of the tasks come first, by node and then task. Returns each
+        request of a task with its reply. Raises `ValueError`, with the line number and nothing sent, for a text that
+        is no scenario of so many cycles; a refusal by its name; and what `cycle` raises.
+        """
+        faults, requests = requests_of(text, some_cycles(cycles))
+        answers: list[tuple[str, str]] = []
+        with self._session.lock:
+            for line in faults:
+                self.keep(line)
+            for lines in requests:
+                answers += [(line, self.ask(line)) for line in lines]
+                self.cycle()
         return answers
 
     def play(self, *hosts: Host, cycles: int) -> Window | None:
-        """Runs host programs as generators: at the start of each cycle each goes on to its next `yield`."""
-        running = list(hosts)
+        """Runs host programs as generators for so many cycles, 0 to 1024.
+
+        At the start of each cycle each goes on to its next `yield`. Other threads can come in between. Returns and
+        raises what `cycle` does, `ValueError` for other numbers, and what a host program raises.
+        """
+        cycles, running = some_cycles(cycles), list(hosts)
         window = self.now()
         for _ in range(cycles):
             running = [host for host in running if next(host, self) is not self]
@@ -229,64 +238,106 @@ class World:
 
     # ---- faults
 
-    @contextmanager
-    def fault(self, fault: Fault | str, when: Callable[[Window], bool] = lambda window: True) -> Iterator[None]:
-        """Brings the fault into each window for which `when` is true, while the block runs. A window that has one of
-        this kind, node and channel keeps that one.
+    def fault(self, fault: Fault | str, when: Callable[[Window], bool] | None = None) -> AbstractContextManager[None]:
+        """Returns a context manager that brings the fault into windows while its block runs.
 
-        A fault line, as a scenario has it, says itself where it comes: `world.fault("mute 2 A * s*")`.
+        A `Babble`, `Mute` or `Corrupt` comes into each window for which WHEN is true, or into each one without WHEN,
+        by a request for each window. A window that has one of this kind, node and channel keeps that one. WHEN is
+        called while the world is locked: it must not wait for a thread that uses the world.
+
+        A fault line of a scenario, as `"mute 2 A * s*"`, says itself where it comes. Raises `ValueError` for a line
+        beside WHEN and for a text that is no fault line; the block raises `BadFault` as `keep` does. An exception of
+        the block is never replaced.
         """
         if isinstance(fault, str):
-            with self._fault_line(fault):
-                yield
-            return
-        entry = (fault, when)
-        self._faults.append(entry)
-        try:
-            yield
-        finally:
-            self._faults.remove(entry)
+            if when is not None:
+                raise ValueError("a fault line says itself where it comes: give it no `when`, or give a Babble, Mute "
+                                 "or Corrupt")
+            return self._kept_in_block(fault_line(fault))
+        return self._injected_in_block(fault, when or every_window)
 
     def keep(self, line: str) -> None:
-        """Has the world bring the fault of a scenario's fault line into each window that the line names from now on.
-        The line may end as it does in a file."""
-        line = line.removesuffix("\n")
-        if not is_fault_line(line):
-            raise ValueError(f"no fault line: {line}")
-        self.ask(line)
-        self._lines.append(line)
+        """Has the world bring the fault of a scenario's fault line into each window that it names from now on.
+
+        The line may end with a line feed. Raises `ValueError` for a text that is no fault line, with nothing sent, and
+        `BadFault` where no run of the cluster can have it beside those that are kept.
+        """
+        self.ask(fault_line(line))
 
     def forget(self) -> None:
-        """Ends all fault lines. What they have brought into the open window stays there."""
+        """Ends all fault lines. The faults that they brought into the open window stay there."""
         self.ask("forget")
-        self._lines.clear()
 
     @contextmanager
-    def _fault_line(self, line: str) -> Iterator[None]:
+    def _kept_in_block(self, line: str) -> Iterator[None]:
         self.keep(line)
+        yield from self._block(partial(self._drop, line))
+
+    @contextmanager
+    def _injected_in_block(self, fault: Fault, when: Callable[[Window], bool]) -> Iterator[None]:
+        entry = (fault, when)
+        with self._session.lock:
+            self._faults.append(entry)
+        yield from self._block(partial(self._faults.remove, entry))
+
+    def _block(self, ending: Callable[[], None]) -> Iterator[None]:
+        """Runs a block and then its ending, which raises nothing where the block does or where the world is closed."""
         try:
             yield
-        finally:
-            others = list(self._lines)
-            if line in others:
-                others.remove(line)
-                self.forget()
-                for other in others:
-                    self.keep(other)
+        except BaseException:
+            with suppress(Exception):
+                self._end_block(ending)
+            raise
+        self._end_block(ending)
+
+    def _end_block(self, ending: Callable[[], None]) -> None:
+        with self._session.lock:
+            if not self._session.is_closed:
+                ending()
+
+    def _drop(self, line: str) -> None:
+        """Ends one fault line. The others are kept again in the same exchange, so that none is lost between."""
+        others = list(self._session.kept)
+        if line in others:
+            others.remove(line)
+            requests = ["forget", *others]
+            for request, reply in zip(requests, self.send(requests)):
+                if reply != "done":
+                    raise refusal(reply, request)
 
     def _inject_due(self) -> None:
-        """Brings the faults of the blocks into the open window, as the world brings those of fault lines: none where it
-        is sealed, and where it has one of this kind, node and channel already that one stays."""
+        """Brings the faults of the blocks into the open window.
+
+        It does so as the world does with those of fault lines: none where the window is sealed, and where it has one of
+        this kind, node and channel already, that one stays.
+        """
         kind, *words = self.ask("now").split(" ")
         if kind != "open":
             return
         window = window_of(words)
-        for fault, when in self._faults:
+        for fault, when in list(self._faults):
             if when(window):
                 with suppress(TooManyFaults):
                     self.inject(fault)
 
-    @staticmethod
-    def _moved(reply: str) -> Window | None:
-        kind, *words = reply.split(" ")
-        return None if kind == "over" else window_of(words)
+
+def every_window(_: Window) -> bool:
+    """Tells that a fault comes into the window."""
+    return True
+
+
+def moved(reply: str) -> Window | None:
+    """Returns the window of a reply `open ..` or `sealed ..`, or None once the run is over."""
+    kind, *words = reply.split(" ")
+    return None if kind == "over" else window_of(words)
+
+
+def regular_file(file: FileName) -> bytes | None:
+    """Returns the bytes of a regular file, or None. Reading a pipe would take them from the program."""
+    try:
+        if stat.S_ISREG(os.stat(file).st_mode):
+            with open(file, "rb") as opened:
+                return opened.read(FILE_LIMIT + 1)
+    except OSError:
+        pass
+    return None

@@ -1,14 +1,18 @@
 """Worlds, and scenarios that a program makes."""
+import inspect
 import subprocess
 import sys
 import unittest
 from pathlib import Path
 from tempfile import TemporaryDirectory
 
+import musmyrtle
 from musmyrtle import (
-    Babble, BadFault, BadLine, Corrupt, HostRefused, Mute, NotInAScenario, NotReceive, NoWindow, Refused, Scenario,
-    SessionOver, UnknownBuffer, UnknownName, UnknownNode, Window, World, WrongLength, WrongTurn,
+    Babble, BadFault, BadLine, BadName, BusRefused, Corrupt, HostRefused, Mute, Names, NotAllPut, NotCollecting,
+    NotInAScenario, NotReceive, NotSealed, NoWindow, Refused, Scenario, SessionOver, TooManyFaults, UnknownBuffer,
+    UnknownName, UnknownNode, UnknownTask, Window, World, WrongLength, WrongTurn,
 )
+from musmyrtle.node import Buffer, Node
 from musmyrtle.session import usual_world
 
 TOP = Path(__file__).resolve().parents[2]
@@ -54,6 +58,49 @@ class TestWorld(unittest.TestCase):
                 call()
         self.assertTrue(issubclass(WrongLength, HostRefused) and issubclass(HostRefused, Refused))
         self.assertEqual(self.sender.report(), before)
+
+    def test_refusals_of_the_bus_have_names(self):
+        self.world.inject(Mute(0, "A"))
+        for kind, call in ((UnknownNode, lambda: self.world.inject(Mute(3, "A"))),
+                           (UnknownNode, lambda: self.world.inject(Babble(15, "A", b""))),
+                           (TooManyFaults, lambda: self.world.inject(Mute(0, "A"))),
+                           (NotAllPut, self.world.seal), (NotSealed, self.world.advance)):
+            with self.assertRaises(kind) as raised:
+                call()
+            self.assertIsInstance(raised.exception, BusRefused)
+        self.world.run(8)
+        with self.assertRaises(NotCollecting):
+            self.world.window()
+
+    def test_numbers_out_of_range_are_not_sent(self):
+        node, world = self.sender, self.world
+        for call in (lambda: world.node(-1), lambda: world.node(16), lambda: node.task(8), lambda: node.task(-1),
+                     lambda: Buffer(node, 64), lambda: node.commit(64, b""), lambda: node.withdraw(-1),
+                     lambda: node.read(64), lambda: node.commit(0, b"1"), lambda: node.commit(0, bytes(256)),
+                     lambda: world.run(-1), lambda: world.run(1025), lambda: world.play(cycles=1025),
+                     lambda: world.play_scenario("frscenario 2\nend\n", 1025), lambda: world.record(-1),
+                     lambda: world.record(2**32), lambda: Mute(16, "A"), lambda: Mute(0, "AB"),
+                     lambda: Babble(-1, "A", b""), lambda: Babble(0, "C", b""), lambda: Babble(0, "A", bytes(263)),
+                     lambda: Corrupt("A", 65536), lambda: Corrupt("a", 0), lambda: World(THREE_NODES, 0),
+                     lambda: World(THREE_NODES, 1025), lambda: world.keep("mute 16 A * s*"),
+                     lambda: world.keep("corrupt A * s0 1"), lambda: world.fault("mute 0 A 1024 s*")):
+            with self.assertRaises(ValueError):
+                call()
+        with self.assertRaises(TypeError):
+            node.read(0.5)
+        self.assertEqual(world.transcript(), "")
+
+    def test_the_greatest_numbers_are_sent(self):
+        world = self.world
+        for kind, call in ((UnknownNode, lambda: world.node(15).read(63)), (UnknownTask, self.sender.task(7).pop),
+                           (UnknownBuffer, lambda: self.sender.commit(63, bytes(254))),
+                           (NoWindow, lambda: world.record(2**32 - 1)), (UnknownNode, lambda: world.node(3)["speed"])):
+            with self.assertRaises(kind):
+                call()
+        world.inject(Babble(2, "B", bytes(262)))
+        world.inject(Corrupt("B", 65535))
+        self.assertIsNone(world.run(8))
+        self.assertEqual(world.node(True).number, 1)
 
     def test_a_guardian_stops_a_babble(self):
         self.sender.commit(0, words(7))
@@ -106,6 +153,47 @@ class TestWorld(unittest.TestCase):
         self.world.run(1)
         self.assertEqual([it.fate for it in self.world.record(0).sent], ["muted", "passed"])
 
+    def test_a_fault_line_says_itself_where_it_comes(self):
+        with self.assertRaisesRegex(ValueError, "give it no `when`"):
+            self.world.fault("mute 0 A * s*", when=lambda window: window.is_static)
+        for line, right in (("mute 0 A", "`mute` has 5"), ("mute 0 A s* *", "CYCLES is `s\\*`"),
+                            ("read 0 0 0 1", "begins with `babble`"), ("mute 0 A * s*\nnow", "PLACE"),
+                            ("", "empty")):
+            with self.assertRaisesRegex(ValueError, right):
+                self.world.fault(line)
+        self.assertEqual(self.world.transcript(), "")
+
+    def test_fault_lines_that_are_asked_are_kept_after_a_block(self):
+        self.world.ask("mute 0 A * s1")
+        self.world.send(["corrupt B * s1 3", "now"])
+        with self.world.fault("mute 1 A * s2"):
+            pass
+        self.world.run(1)
+        record = self.world.record(0)
+        self.assertEqual(([it.fate for it in record.sent], record.corrupt), (["muted", "passed"], {"B": 3}))
+        self.world.ask("forget")
+        with self.world.fault("mute 0 B * s1"):
+            self.world.run(1)
+        self.assertEqual([it.fate for it in self.world.record(7).sent], ["passed", "muted"])
+        self.assertEqual(self.world.transcript().splitlines()[-3:], ["run 1", "forget", "record 7"])
+
+    def test_an_exception_of_a_block_is_not_replaced(self):
+        for fault in ("mute 0 A * s1", Mute(0, "A")):
+            for end in (lambda world: world.close(), lambda world: world._session._child.kill()):
+                with World(THREE_NODES, cycles=8) as world:
+                    with self.assertRaisesRegex(AssertionError, "^no frame$"), world.fault(fault):
+                        end(world)
+                        raise AssertionError("no frame")
+        with World(THREE_NODES, cycles=8) as world:
+            with self.assertRaises(SessionOver), world.fault("mute 0 A * s1"):
+                world._session._child.kill()
+            with self.assertRaises(SessionOver):
+                world.now()
+
+    def test_a_world_can_be_closed_in_a_block(self):
+        with self.world.fault("mute 0 A * s1"), self.world.fault(Mute(0, "B")):
+            self.world.close()
+
     def test_a_block_brings_nothing_that_is_there_already_and_nothing_after_the_seal(self):
         with self.world.fault(Mute(0, "A")):
             self.world.inject(Mute(0, "A"))
@@ -136,6 +224,20 @@ class TestWorld(unittest.TestCase):
             self.assertIsNone(world.now())
         wanted = THREE_NODES.with_name("outcome-of-4-cycles").read_text()
         self.assertTrue(wanted.startswith("".join(f"node {node}\n{it}" for node, it in enumerate(reports))))
+
+    def test_what_is_no_scenario_is_not_played(self):
+        begin, end = "frscenario 2\n", "end\n"
+        for text, said in (("nonsense", "line 1: the first line doesn't name the format"), ("", "line 1: .*empty"),
+                           (begin, "line 1: the file ends without the line `end`"),
+                           (f"{begin}comit 0 0 0 0 x0a0b\n{end}", "line 2: .* Is `commit` meant"),
+                           (f"{begin}read 1 0 0 1\nread 1 0 4 1\n{end}", "line 3: there is no cycle 4 in 4 cycles"),
+                           (f"{begin}mute 0 A 4 s*\n{end}", "line 2: there is no cycle 4 in 4 cycles"),
+                           (f"{begin}pop 0 0 2\npop 0 0 1\n{end}", "line 3: cycle 1 comes after cycle 2"),
+                           (f"{begin}pop 0 0 x\n{end}", "line 2: CYCLE is `x`. Right would be a number"),
+                           (f"{begin}pop 0 0 0\n{end}now\n", "line 4: after `end`")):
+            with self.assertRaisesRegex(ValueError, f"^scenario {said}"):
+                self.world.play_scenario(text, 4)
+        self.assertEqual(self.world.transcript(), "")
 
     def test_a_report_is_told_in_parts(self):
         self.sender.commit(0, words(1))
@@ -177,12 +279,53 @@ class TestWorld(unittest.TestCase):
                 with self.assertRaises(UnknownName):
                     name()
 
+    def test_names_are_those_of_the_opening(self):
+        with TemporaryDirectory() as folder:
+            cluster = Path(folder) / "cluster.toml"
+            text = (HOSTS / "brakes.toml").read_text()
+            cluster.write_bytes(b"\xef\xbb\xbf" + text.encode())
+            with World(cluster, cycles=1) as world, World(cluster, cycles=1) as other:
+                cluster.write_text(text.replace('name = "brake"', 'name = "clutch"'))
+                self.assertEqual(world["brake"]["position"].number, 1)
+                cluster.unlink()
+                self.assertEqual(other["brake"].number, 1)
+
+    def test_a_wrong_name_is_told_at_the_opening(self):
+        with TemporaryDirectory() as folder:
+            cluster = Path(folder) / "cluster.toml"
+            text = (HOSTS / "brakes.toml").read_text()
+            for old, new, said in (('name = "brake"', "name = 5", "`name` of node 1 is 5, and has to be a string"),
+                                   ('name = "speed"', "name = []", r"`name` of buffer 1 of node 0 is \[\]")):
+                cluster.write_text(text.replace(old, new, 1))
+                for opened in (World, Scenario):
+                    with self.assertRaisesRegex(BadName, said):
+                        opened(cluster, cycles=1)
+
+    def test_a_name_of_several_is_of_none(self):
+        text = (HOSTS / "brakes.toml").read_text()
+        names = Names.of(text.replace('"radio"', '"brake"').replace('name = "speed"', 'name = "position"', 1).encode())
+        self.assertEqual((names.node("pedal"), names.buffer(1, "speed")), (0, 0))
+        for call, said in ((lambda: names.node("brake"), "several nodes"),
+                           (lambda: names.buffer(0, "position"), "several buffers of node 0")):
+            with self.assertRaisesRegex(UnknownName, said):
+                call()
+
+    def test_a_cluster_that_python_cannot_read_has_no_names(self):
+        with TemporaryDirectory() as folder:
+            cluster = Path(folder) / "cluster.toml"
+            text = (HOSTS / "brakes.toml").read_text()
+            cluster.write_text(text.replace('channels = "AB", sync = true, startup = true}]',
+                                            'channels = "AB",\n  sync = true, startup = true}]', 1))
+            with World(cluster, cycles=1) as world:
+                self.assertEqual(world.node(1).number, 1)
+                with self.assertRaisesRegex(UnknownName, "no names are known: the cluster file can't be read: "):
+                    world["brake"]
+
     def test_a_world_that_is_not_opened_says_why(self):
-        for cluster, cycles, said in ((THREE_NODES, 0, "usage"),
-                                      ("/dev/null", 1, "refused Params Missing static_slots"),
-                                      (TOP / "no such file", 1, "refused Read")):
+        for cluster, said in (("/dev/null", "refused Params Missing static_slots"),
+                              (TOP / "no such file", "refused Read")):
             with self.assertRaises(SessionOver) as raised:
-                World(cluster, cycles)
+                World(cluster, 1)
             self.assertEqual(str(raised.exception), said)
 
     def test_a_closed_world_is_over(self):
@@ -222,6 +365,30 @@ class TestScenario(unittest.TestCase):
                                .replace('{kind = "receive", slot = 2, channels = "A"},', buffer))
             with self.assertRaises(NotInAScenario):
                 Scenario(cluster, cycles=4).lose(2)
+
+
+    def test_numbers_out_of_range(self):
+        scenario = Scenario(THREE_NODES, cycles=4)
+        task = scenario.task(0)
+        for call in (lambda: Scenario(THREE_NODES, 0), lambda: scenario.task(16), lambda: scenario.task(0, 8),
+                     lambda: task.read(64), lambda: task.commit(0, b"1"), lambda: task.at(-1), lambda: task.every(0),
+                     lambda: scenario.mute(0, slot=0), lambda: scenario.mute(0, minislot=8001),
+                     lambda: scenario.corrupt(65536), lambda: scenario.babble(0, bytes(263)),
+                     lambda: scenario.mute(0, channels="C")):
+            with self.assertRaises(ValueError):
+                call()
+        self.assertEqual(self.lines(scenario), [])
+
+
+class TestDocstrings(unittest.TestCase):
+    def test_all_that_is_public_has_one(self):
+        named = [getattr(musmyrtle, name) for name in musmyrtle.__all__]
+        kinds = [it for it in named if inspect.isclass(it)] + [musmyrtle.session.Session, musmyrtle.builder.Task]
+        self.assertIn(Node, kinds)
+        without = [f"{kind.__name__}.{name}" for kind in kinds for name, value in vars(kind).items()
+                   if not name.startswith("_") and (inspect.isfunction(value) or isinstance(value, property))
+                   and not inspect.getdoc(value)]
+        self.assertEqual(without + [kind.__name__ for kind in kinds if not kind.__doc__], [])
 
 
 class TestBrakes(unittest.TestCase):
