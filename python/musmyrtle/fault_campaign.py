@@ -1,5 +1,5 @@
 """All faults of a list, each in a run of its own, compared with the run without it."""
-from collections.abc import Callable, Collection, Iterator
+from collections.abc import Callable, Collection, Generator, Iterator
 from contextlib import closing, contextmanager
 from dataclasses import dataclass
 
@@ -16,6 +16,8 @@ from musmyrtle.played import Begun, Occasion, Played, Player
 from musmyrtle.refusals import Refused, SessionOver
 from musmyrtle.scenario import Scenario
 from musmyrtle.visible import visible
+
+Measured = Generator[tuple[SingleFault, list[Difference]], None, None]
 
 
 @dataclass(frozen=True)
@@ -130,7 +132,7 @@ class Campaign:
         idle = [Difference(None, "-", IDLE, 0, "-", "-")]
         return [(it, idle if it.is_idle else log.done[str(it)]) for it in faults]
 
-    def measured(self, faults: list[SingleFault]) -> Iterator[tuple[SingleFault, list[Difference]]]:
+    def measured(self, faults: list[SingleFault]) -> Measured:
         """Yields each fault with its differences, as they come."""
         rest = faults
         if self.means.hosts is not None:
@@ -144,8 +146,8 @@ class Campaign:
         with closing(pooled(self.here, rest, self.means.cores, self.folder.children)) as done:
             yield from done
 
-    def by_hosts(self, faults: list[SingleFault], hosts: Hosts) -> Iterator[tuple[SingleFault, list[Difference]]]:
-        """The same of the faults whose runs a machine has answered."""
+    def by_hosts(self, faults: list[SingleFault], hosts: Hosts) -> Measured:
+        """Yields the same of the faults whose runs a machine has answered."""
         with closing(answers(self.folder, self.means.program, faults, hosts)) as told, closing(
                 pooled(lambda it: self.measure(*it), told, self.means.cores, self.folder.children)) as done:
             for (fault, _), found in done:

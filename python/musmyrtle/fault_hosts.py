@@ -9,7 +9,7 @@ import re
 import shlex
 import shutil
 import subprocess
-from collections.abc import Iterator
+from collections.abc import Generator
 from contextlib import suppress
 from dataclasses import dataclass
 from pathlib import Path
@@ -56,7 +56,7 @@ def command(sent: Sent, hosts: Hosts) -> list[str]:
 
 
 def answers(folder: Folder, program: str, faults: list[SingleFault],
-            hosts: Hosts) -> Iterator[tuple[SingleFault, Answer]]:
+            hosts: Hosts) -> Generator[tuple[SingleFault, Answer], None, None]:
     """Yields each fault with the answer of its run, as they come. A fault whose run has no answer isn't among them."""
     sent = prepare(folder, program, faults)
     arguments = folder.path / "arguments"

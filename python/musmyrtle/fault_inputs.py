@@ -45,10 +45,11 @@ def accepted(given: argparse.Namespace, folder: Path, children: Children) -> Inp
     if answer.status:
         said = f"refused {answer.refusal}" if answer.is_named else str(answer.refusal)
         raise NoReference(no_outcome(Answer(answer.status, "", said.removeprefix(f"status {answer.status}"))))
-    cluster, scenario = data[given.cluster], data[given.scenario]
-    document = read_text(given.cluster, cluster).document or {}
-    reading = ScenarioReading(given.scenario, scenario)
-    return Inputs(ClusterReading(document).cluster, reading.scenario, (cluster, scenario))
+    files_read = data[given.cluster], data[given.scenario]
+    cluster = ClusterReading(read_text(given.cluster, files_read[0]).document or {}).cluster
+    # Otherwise `found` has a refusal.
+    assert cluster is not None
+    return Inputs(cluster, ScenarioReading(given.scenario, files_read[1]).scenario, files_read)
 
 
 def copied(given: argparse.Namespace, folder: Path) -> tuple[Task, dict[str, bytes]]:

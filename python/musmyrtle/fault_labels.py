@@ -4,6 +4,7 @@ from collections.abc import Iterable
 from dataclasses import dataclass, field
 
 from musmyrtle.fault_list import ALL_STATIC, SingleFault
+from musmyrtle.names import tables_of
 from musmyrtle.visible import visible
 
 ONE_CHANNEL = "one channel"
@@ -12,25 +13,26 @@ ONE_CHANNEL = "one channel"
 
 @dataclass(frozen=True)
 class Labels:
-    """The names of nodes and buffers by their keys `name`, made safe to show. They may be wanting."""
+    """The names of nodes and buffers by their keys `name`, made safe to show. What has none is shown by its number."""
 
     nodes: dict[int, str] = field(default_factory=dict)
     buffers: dict[tuple[int, int], str] = field(default_factory=dict)
 
     @classmethod
     def read(cls, cluster: bytes) -> "Labels":
-        """Returns the names that a cluster file has, none where it isn't TOML that Python reads."""
+        """Returns the names that a cluster file has. A key `name` that isn't a string is none, and neither has a file
+        that isn't TOML 1.0 any, which is all that Python reads."""
         try:
             document = tomllib.loads(cluster.decode().removeprefix("\ufeff"))
         except (ValueError, RecursionError):
             return cls()
         found = cls()
-        for number, node in enumerate(tables(document.get("node"))):
-            if "name" in node:
-                found.nodes[number] = visible(str(node["name"]))
-            for place, buffer in enumerate(tables(node.get("buffer"))):
-                if "name" in buffer:
-                    found.buffers[number, place] = visible(str(buffer["name"]))
+        for number, node in enumerate(tables_of(document.get("node"))):
+            if isinstance(name := node.get("name"), str):
+                found.nodes[number] = visible(name)
+            for place, buffer in enumerate(tables_of(node.get("buffer"))):
+                if isinstance(name := buffer.get("name"), str):
+                    found.buffers[number, place] = visible(name)
         return found
 
     def node(self, number: int) -> str:
@@ -42,10 +44,6 @@ class Labels:
         kind, _, number = thing.partition(" ")
         name = self.buffers.get((node, int(number))) if number else None
         return f"{thing} ({name})" if name else "FIFO" if kind == "queue" else thing
-
-
-def tables(value: object) -> list[dict[str, object]]:
-    return [it if isinstance(it, dict) else {} for it in value] if isinstance(value, list) else []
 
 
 def fault_label(fault: SingleFault) -> str:

@@ -1,7 +1,7 @@
 """The runs of a list of faults on this machine: the command of one run, and a pool of them."""
 import os
 import tempfile
-from collections.abc import Callable, Iterable, Iterator
+from collections.abc import Callable, Generator, Iterable, Iterator
 from concurrent.futures import FIRST_COMPLETED, Future, ThreadPoolExecutor, wait
 from pathlib import Path
 from typing import TypeVar
@@ -14,7 +14,8 @@ OUTCOME = ("fr_view", "outcome")
 """The program and its command that print the outcome of a run."""
 CLUSTER_FILE, SCENARIO_FILE = "cluster.toml", "scenario"
 NOT_STARTED = 126
-Item, Result = TypeVar("Item"), TypeVar("Result")
+Item = TypeVar("Item")
+Result = TypeVar("Result")
 
 
 def outcome_words(cluster: str, scenario: str, cycles: int) -> list[str]:
@@ -64,7 +65,7 @@ class Folder:
 
 
 def pooled(work: Callable[[Item], Result], items: Iterable[Item], cores: int,
-           children: Children) -> Iterator[tuple[Item, Result]]:
+           children: Children) -> Generator[tuple[Item, Result], None, None]:
     """Yields each item with the result of its work, as they come, with so many of them at once. Where this ends early,
     the programs of the work end as well."""
     todo = iter(items)

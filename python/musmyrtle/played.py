@@ -4,6 +4,7 @@ An outcome names the journal entry that brought a frame, and not its cycle. It c
 doesn't say which they are. The minislots at which nodes send follow only from what is sent before them.
 """
 from collections.abc import Callable, Collection, Iterable
+from contextlib import closing
 from dataclasses import dataclass, field
 
 from musmyrtle.cluster import CYCLES, Cluster
@@ -13,11 +14,13 @@ from musmyrtle.frames import data_frame
 from musmyrtle.refusals import Refused, SessionOver, refusal
 from musmyrtle.replies import Window, record_of, window_of
 from musmyrtle.scenario import FaultLine, Line, Scenario
+from musmyrtle.session import Session
 from musmyrtle.traces import fetched
-from musmyrtle.world import World
 
 AT_ONCE = 50
-"""Requests that are written before their replies are read: both have to fit a pipe."""
+"""Requests that are sent together."""
+REQUEST_SECONDS = 120.0
+"""The time limit of a request. A session whose program hangs is over then."""
 FORGED_WORD = b"\xa5\x5a"
 """The payload of a forged frame in the dynamic segment, and each word of one in a static slot."""
 
@@ -67,8 +70,8 @@ class Player:
 
     def play(self, lines: Iterable[str] = (), watched: int | None = None) -> Played:
         """Returns what the run with these fault lines showed, with the slots that were open at the minislot WATCHED."""
-        with self.opened(lines) as world:
-            play = Play(self, world)
+        with closing(self.opened(lines)) as session:
+            play = Play(self, session)
             play.run()
             if watched is not None:
                 play.watch(watched)
@@ -77,8 +80,8 @@ class Player:
 
     def record(self) -> Played:
         """Returns what the run of the scenario showed, with what was begun in the dynamic segment."""
-        with self.opened() as world:
-            play = Play(self, world)
+        with closing(self.opened()) as session:
+            play = Play(self, session)
             is_stepped = self.cluster.parameters.minislots > 0
             play.run(range(self.cycles) if is_stepped else (), lambda cycle, window: [], play.record)
             play.read_fifos()
@@ -90,9 +93,9 @@ class Player:
         def due(cycle: int, window: Window) -> list[str]:
             return [f"mute {node} {channel}" for channel in channels]
 
-        with self.opened() as world:
-            Play(self, world).run(cycles, due)
-            return [Begun(it.cycle, it.minislot, channel, "muted") for it in fetched(world.block(f"trace {node}"))
+        with closing(self.opened()) as session:
+            Play(self, session).run(cycles, due)
+            return [Begun(it.cycle, it.minislot, channel, "muted") for it in fetched(session.block(f"trace {node}"))
                     for channel in channels if it.cycle in cycles and it.offers[channel] != "-"]
 
     def forge(self, node: int, minislot: int, occasions: Collection[Occasion]) -> dict[Occasion, int]:
@@ -109,19 +112,20 @@ class Player:
             found.update({(cycle, channel): slot for channel, slot in here.items()})
             return [forged_babble(node, channel, slot, cycle) for channel, slot in here.items()] or None
 
-        with self.opened() as world:
-            Play(self, world).run({cycle for cycle, _ in occasions}, due)
+        with closing(self.opened()) as session:
+            Play(self, session).run({cycle for cycle, _ in occasions}, due)
         return found
 
-    def opened(self, lines: Iterable[str] = ()) -> World:
-        world = World(self.folder.cluster, self.cycles, program=self.program)
+    def opened(self, lines: Iterable[str] = ()) -> Session:
+        """Returns a session that keeps the fault lines. It asks by numbers alone, so no key `name` is read."""
+        session = Session(self.program, self.folder.cluster, self.cycles, REQUEST_SECONDS)
         try:
-            for line in (*self.scenario.faults, *(FaultLine(0, tuple(it.split(" "))) for it in lines)):
-                world.keep(" ".join(line.words))
+            for line in (*(" ".join(it.words) for it in self.scenario.faults), *lines):
+                session.ask(line)
         except BaseException:
-            world.close()
+            session.close()
             raise
-        return world
+        return session
 
 
 def slot_of(window: Window, channel: str) -> int | None:
@@ -141,23 +145,23 @@ Seen = Callable[[int, Window], None]
 class Play:
     """One run that is played."""
 
-    def __init__(self, player: Player, world: World) -> None:
-        self.player, self.world, self.played = player, world, Played()
+    def __init__(self, player: Player, session: Session) -> None:
+        self.player, self.session, self.played = player, session, Played()
 
     def run(self, stepped: Collection[int] = (), due: Due | None = None, seen: Seen | None = None) -> None:
         """Does all cycles, those STEPPED with DUE and SEEN for each dynamic window."""
-        window = self.world.now()
+        window = self.moved(["now"])
         for cycle in range(self.player.cycles):
             if window is None:
                 raise SessionOver(f"the run is over before cycle {cycle}")
             self.played.starts.append(window.number)
             self.call(cycle)
-            window = self.step(cycle, due, seen) if due and cycle in stepped else self.world.cycle()
+            window = self.step(cycle, due, seen) if due and cycle in stepped else self.moved(["cycle"])
 
     def call(self, cycle: int) -> None:
         """Does the lines of the tasks, as a scenario orders them."""
         for line in self.player.calls.get(cycle, ()):
-            self.world.ask(" ".join([line.kind, *line.words[1:3], *line.words[4:]]))
+            self.session.ask(" ".join([line.kind, *line.words[1:3], *line.words[4:]]))
 
     def step(self, cycle: int, due: Due, seen: Seen | None) -> Window | None:
         """Does the windows of the cycle, the dynamic ones one by one. Returns the first window of the next."""
@@ -167,7 +171,7 @@ class Play:
         while window and not window.opens_cycle:
             requests = due(cycle, window)
             if requests is None:
-                return self.world.cycle()
+                return self.moved(["cycle"])
             after = self.moved([*requests, "window"])
             if seen:
                 seen(cycle, window)
@@ -176,7 +180,7 @@ class Play:
 
     def moved(self, requests: list[str]) -> Window | None:
         """Makes the requests. Returns the window that is open then, or nothing once the run is over."""
-        replies = self.world.send(requests)
+        replies = self.session.send(requests)
         for request, reply in zip(requests, replies):
             if reply.startswith("refused "):
                 raise refusal(reply, request)
@@ -184,13 +188,13 @@ class Play:
         return None if kind == "over" else window_of(words)
 
     def record(self, cycle: int, window: Window) -> None:
-        for it in record_of(self.world.block(f"record {window.number}")).sent:
+        for it in record_of(self.session.block(f"record {window.number}")).sent:
             if window.slot(it.channel) is not None:
                 self.played.begun.append(Begun(cycle, window.minislot, it.channel, it.fate))
 
     def watch(self, minislot: int) -> None:
         """Reads which slots were open at the minislot. All nodes fetch the same windows."""
-        for it in fetched(self.world.block("trace 0")):
+        for it in fetched(self.session.block("trace 0")):
             if it.minislot == minislot:
                 open_slots = {channel: slot for channel, slot in it.slots.items() if slot != "-"}
                 self.played.slots |= {(it.cycle, channel): int(slot) for channel, slot in open_slots.items()}
@@ -202,7 +206,7 @@ class Play:
 
     def read_fifo(self, node: int, capacity: int) -> Fifo | str:
         try:
-            trace = self.world.block(f"trace {node}")
+            trace = self.session.block(f"trace {node}")
             table = table_of(self.player.viewer, trace, self.player.folder.children)
             return read_fifo(table, trace, self.played.starts, capacity, self.player.cluster.parameters)
         except (Unread, Refused) as error:

@@ -34,17 +34,23 @@ def usual_program(name: str = "fr_bench") -> str | None:
 
 
 def itself(program: str) -> str:
-    """The program that a launcher of the checkout has just run, or else the one that is named.
+    """Returns the program that a launcher of the checkout has just run, or otherwise the one that is named.
 
-    A launcher looks first whether the program is still that of the sources, which is to be done once and not for each
-    of many runs.
+    A launcher first checks whether the program is still that of the sources. That is needed once, and not for each of
+    many runs. The first line of its note in `out` is the folder of the program.
     """
     launcher = Path(program).resolve()
-    noted = CHECKOUT / "out" / f"{launcher.name}.found"
-    if launcher.parent != CHECKOUT or not noted.is_file():
+    if launcher.parent != CHECKOUT:
         return program
-    found = CHECKOUT / noted.read_text().split("\n", 1)[0]
-    return str(found) if found.name == launcher.name and os.access(found, os.X_OK) else program
+    name = launcher.name
+    try:
+        folder = (CHECKOUT / "out" / f"{name}.found").read_bytes().split(b"\n", 1)[0].decode()
+    except (OSError, ValueError):
+        return program
+    if folder not in ("dist", f"crates/{name}/out"):
+        return program
+    found = CHECKOUT / folder / name
+    return str(found) if found.is_file() and os.access(found, os.X_OK) else program
 
 
 Started = Callable[..., AbstractContextManager[subprocess.Popen[Any]]]
@@ -57,7 +63,7 @@ def ask(program: str, words: list[str], started: Started = subprocess.Popen) -> 
     told = []
     streams = {"stdin": subprocess.DEVNULL, "stdout": subprocess.DEVNULL, "stderr": subprocess.PIPE}
     with started([program, *words], text=True, errors="replace", **streams) as running:
-        for line in running.stderr:
+        for line in running.stderr or ():
             if line.startswith("refused "):
                 refusal = line.removeprefix("refused ").strip()
             else:

@@ -36,7 +36,7 @@ class Session:
 
     Threads can share a session: each waits until the reply to the request before is read. `lock` keeps several
     requests together. A session whose reply wasn't read to its end is broken: every later request raises `SessionOver`.
-    `asked` has all requests so far, to be asked again without Python, and `kept` the fault lines that the program keeps.
+    `asked` has all requests so far, to be asked again without Python, and `kept` the fault lines that the program has.
     """
 
     def __init__(self, program: FileName, cluster: FileName, cycles: int, timeout: float | None = None) -> None:

@@ -12,6 +12,7 @@ import unittest
 from pathlib import Path
 from unittest.mock import patch
 
+from musmyrtle import played
 from musmyrtle.fault_command import main
 from musmyrtle.session import usual_world
 from tests.test_fault_costs import PROGRAM
@@ -99,6 +100,20 @@ class TestRuns(Command):
 
 
 class TestFiles(Command):
+    def test_names_that_are_no_strings(self):
+        """The bench reads no key `name`. The table is that of the cluster without such keys."""
+        right = self.asked()
+        (self.folder / "cluster").write_text(TWO_NODES.replace("[[node]]\n", "[[node]]\nname = 7\n"))
+        self.assertEqual(self.asked(), right)
+        self.assertEqual((right[0].count("\n") > 1, right[2]), (True, 0))
+
+    def test_a_session_that_hangs(self):
+        world = self.folder / "world"
+        world.write_text(f"#!/bin/sh\necho 'frworld 1'\nexec sleep {SECONDS}\n")
+        world.chmod(0o755)
+        with patch.object(played, "REQUEST_SECONDS", 0.1):
+            self.stopped(f"{world}: no reply to `now` within 0.1 s", 4, "--world", str(world))
+
     def test_forms_of_a_cluster_file(self):
         """A byte order mark is no fault, and TOML 1.1 is refused as `fr_lint` does, before the runs."""
         right = self.asked()
@@ -258,6 +273,11 @@ class TestSignals(Command):
 
     def test_a_program_that_ignores_it(self):
         self.broken_off(signal.SIGTERM, f"trap '' TERM; {FAULTY} {{ WAIT; }}")
+
+    def test_in_the_reading_of_a_receive_fifo(self):
+        queue = '[[node]]\nqueue = {capacity = 2, first = 1, last = 2, channels = "AB"}\n'
+        (self.folder / "cluster").write_text(queue.join(TWO_NODES.rsplit("[[node]]\n", 1)))
+        self.broken_off(signal.SIGTERM, '[ "$1" != frames ] || { WAIT; }')
 
     def test_in_a_job_of_parallel(self):
         file = self.folder / "parallel"

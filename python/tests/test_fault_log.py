@@ -47,6 +47,14 @@ class TestLog(unittest.TestCase):
         self.assertEqual(self.opened(True).done, {str(fault(0)): [LOST], str(fault(1)): []})
         self.assertEqual(self.file.read_bytes(), data)
 
+    def test_what_is_done_again_is_not_noted(self):
+        """A run that has no answer, or that isn't comparable, is neither harmless nor harmful for good."""
+        log = self.opened()
+        for number, effect in enumerate(("killed", "unreadable", "not comparable", "refused")):
+            log.add(fault(number), [LOST, Difference(1, "queue", effect, 1, "-", "-")])
+        self.assertEqual(len(log.done), 4)
+        self.assertEqual(list(self.opened(True).done), [str(fault(3))])
+
     def test_one_that_is_there_is_refused(self):
         self.noted()
         self.refused("the log is there already: go on from it by --resume, or name another file", False)

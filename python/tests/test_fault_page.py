@@ -188,6 +188,13 @@ class TestPage(unittest.TestCase):
             self.assertEqual(Labels.read(data), Labels())
         self.assertEqual(Labels.read(b'\xef\xbb\xbfnode = [{name = "a"}]').node(0), "node 0 a")
 
+    def test_a_name_that_is_no_string(self):
+        """The bench reads no key `name`, so a cluster file may have any value there. The number stands by itself."""
+        text = 'node = [{name = 7}, {name = "b", buffer = [{name = ["c"]}, {name = "d"}]}]'
+        labels = Labels.read(text.encode())
+        self.assertEqual((labels.nodes, labels.buffers), ({1: "b"}, {(1, 1): "d"}))
+        self.assertEqual((labels.node(0), labels.thing(1, "rx 0")), ("node 0", "rx 0"))
+
     def test_ranges(self):
         found = ranges(["s1", "s2", "s3", "s5", "s*", "m7", "m8", "all"])
         self.assertEqual(found, ["s1-s3", "s5", "s*", "m7-m8", "all"])

@@ -114,19 +114,14 @@ class TestThreads(Sessions):
             self.assertEqual(list(pool.map(send, range(NODES))), [set()] * NODES)
 
     def test_no_request_comes_between_a_fault_and_its_window(self):
-        is_done = threading.Event()
-
         def others() -> None:
-            while not is_done.is_set():
-                self.shared.window()
+            while (window := self.shared.window()) and window.number < 200:
+                pass
 
         with ThreadPoolExecutor(2) as pool, self.shared.fault(Mute(0, "A"), when=lambda window: window.a == 1):
             found = [pool.submit(others) for _ in range(2)]
-            try:
-                while (window := self.shared.now()) and window.number < 200:
-                    self.shared.cycle()
-            finally:
-                is_done.set()
+            while (window := self.shared.now()) and window.number < 200:
+                self.shared.cycle()
             for it in found:
                 it.result()
         record = [self.shared.record(number) for number in range(NODES, 200)]

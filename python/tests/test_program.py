@@ -1,0 +1,69 @@
+"""Which program is run: the one that a launcher has noted, or otherwise the launcher itself."""
+import unittest
+from pathlib import Path
+from tempfile import TemporaryDirectory
+from unittest.mock import patch
+
+from musmyrtle import program
+from musmyrtle.program import itself
+
+NAME = "fr_view"
+BUILT = f"crates/{NAME}/out"
+
+
+class Noted(unittest.TestCase):
+    def setUp(self) -> None:
+        folder = TemporaryDirectory()
+        self.addCleanup(folder.cleanup)
+        self.checkout = Path(folder.name).resolve()
+        for place in (".", "dist", BUILT, "elsewhere"):
+            (self.checkout / place).mkdir(parents=True, exist_ok=True)
+            self.runnable(self.checkout / place / NAME)
+        patched = patch.object(program, "CHECKOUT", self.checkout)
+        patched.start()
+        self.addCleanup(patched.stop)
+        self.launcher = str(self.checkout / NAME)
+
+    def runnable(self, file: Path) -> None:
+        file.write_text("#!/bin/sh\n")
+        file.chmod(0o755)
+
+    def note(self, data: bytes) -> None:
+        (self.checkout / "out").mkdir(exist_ok=True)
+        (self.checkout / f"out/{NAME}.found").write_bytes(data)
+
+    def test_the_folder_that_is_noted(self) -> None:
+        for folder in ("dist", BUILT):
+            self.note(f"{folder}\n{folder}/digests\nelsewhere\n".encode())
+            self.assertEqual(itself(self.launcher), str(self.checkout / folder / NAME))
+
+    def test_no_such_note(self) -> None:
+        self.assertEqual(itself(self.launcher), self.launcher)
+        for data in (b"", b"\n", f"dist/{NAME}\n".encode(), b"elsewhere\n", b"dist/\n", b" dist\n", b"dist\r\n",
+                     b"crates/fr_world/out\n", str(self.checkout / "dist").encode(), b"\xff\ndist\n", b"d\0\n",
+                     b"..\n"):
+            self.note(data)
+            self.assertEqual(itself(self.launcher), self.launcher, data)
+
+    def test_a_note_that_cannot_be_read(self) -> None:
+        (self.checkout / f"out/{NAME}.found").mkdir(parents=True)
+        self.assertEqual(itself(self.launcher), self.launcher)
+
+    def test_a_program_that_cannot_be_run(self) -> None:
+        self.note(b"dist\n")
+        built = self.checkout / "dist" / NAME
+        built.chmod(0o644)
+        self.assertEqual(itself(self.launcher), self.launcher)
+        built.unlink()
+        self.assertEqual(itself(self.launcher), self.launcher)
+        built.mkdir()
+        self.assertEqual(itself(self.launcher), self.launcher)
+
+    def test_another_program_than_a_launcher(self) -> None:
+        self.note(b"dist\n")
+        other = str(self.checkout / "elsewhere" / NAME)
+        self.assertEqual(itself(other), other)
+
+
+if __name__ == "__main__":
+    unittest.main()
