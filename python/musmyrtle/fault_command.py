@@ -23,7 +23,7 @@ from musmyrtle.fault_table import BadTable, Ranks, Results, has_effect, listed, 
 from musmyrtle.fault_table import told as told_difference
 from musmyrtle.fault_table import worse
 from musmyrtle.findings import counted
-from musmyrtle.program import itself
+from musmyrtle.program import is_launcher, itself
 from musmyrtle.refusals import SessionOver
 from musmyrtle.session import usual_world
 from musmyrtle.visible import visible
@@ -101,8 +101,11 @@ def means_of(given: argparse.Namespace) -> Means:
     words = [word for it in given.sshlogin for word in ("--sshlogin", it)]
     words += [word for it in given.sshloginfile for word in ("--sshloginfile", os.path.abspath(it))]
     hosts = Hosts(tuple(words)) if given.parallel else None
-    world = given.world or itself(usual_world())
-    return Means(str(Path(itself(given.program)).resolve()), world, given.cores, hosts)
+    world, program = given.world or itself(usual_world()), itself(given.program)
+    if given.parallel and is_launcher(program):
+        raise Stop(USAGE, f"--parallel can't send {program}, which runs only in its checkout: name the program that it "
+                          "runs, in dist, by --program FILE")
+    return Means(str(Path(program).resolve()), world, given.cores, hosts)
 
 
 def measured(given: argparse.Namespace, folder: Path) -> Results | None:

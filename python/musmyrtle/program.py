@@ -39,10 +39,9 @@ def itself(program: str) -> str:
     A launcher first checks whether the program is still that of the sources. That is needed once, and not for each of
     many runs. The first line of its note in `out` is the folder of the program.
     """
-    launcher = Path(program).resolve()
-    if launcher.parent != CHECKOUT:
+    if not is_launcher(program):
         return program
-    name = launcher.name
+    name = Path(program).resolve().name
     try:
         folder = (CHECKOUT / "out" / f"{name}.found").read_bytes().split(b"\n", 1)[0].decode()
     except (OSError, ValueError):
@@ -51,6 +50,11 @@ def itself(program: str) -> str:
         return program
     found = CHECKOUT / folder / name
     return str(found) if found.is_file() and os.access(found, os.X_OK) else program
+
+
+def is_launcher(program: str) -> bool:
+    """Returns whether a program is a launcher of the checkout, which runs nowhere else."""
+    return Path(program).resolve().parent == CHECKOUT
 
 
 Started = Callable[..., AbstractContextManager[subprocess.Popen[Any]]]

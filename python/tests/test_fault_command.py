@@ -12,7 +12,7 @@ import unittest
 from pathlib import Path
 from unittest.mock import patch
 
-from musmyrtle import played
+from musmyrtle import played, program
 from musmyrtle.fault_command import main
 from musmyrtle.session import usual_world
 from tests.test_fault_costs import PROGRAM
@@ -113,6 +113,14 @@ class TestFiles(Command):
         world.chmod(0o755)
         with patch.object(played, "REQUEST_SECONDS", 0.1):
             self.stopped(f"{world}: no reply to `now` within 0.1 s", 4, "--world", str(world))
+
+    def test_a_launcher_is_not_sent(self):
+        """A launcher with no note of its program runs on this machine alone."""
+        launcher = self.program("")
+        with patch.object(program, "CHECKOUT", self.folder.resolve()):
+            self.assertEqual(self.asked("--program", launcher)[2], 0)
+            self.stopped(f"--parallel can't send {launcher}, which runs only in its checkout: name the program that it "
+                         "runs, in dist, by --program FILE", 2, "--program", launcher, "--parallel")
 
     def test_forms_of_a_cluster_file(self):
         """A byte order mark is no fault, and TOML 1.1 is refused as `fr_lint` does, before the runs."""
