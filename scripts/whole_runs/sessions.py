@@ -1,5 +1,7 @@
 """Runs of the third program: sessions with the world of a cluster, request by request, and its words."""
+import itertools
 import os
+import resource
 import select
 import socket
 import subprocess
@@ -172,6 +174,14 @@ class Talk:
         return self.held + output, errors, self.ran.returncode
 
 
+def some_fault_lines(count):
+    """Fault lines of the three nodes that may stand beside one another."""
+    places = ("s1", "s2", "s3", "m1", "m2", "m3", "m4")
+    lines = itertools.product(("mute", "babble"), range(3), "AB", range(1024), places)
+    for kind, node, channel, cycle, place in itertools.islice(lines, count):
+        yield f"{kind} {node} {channel} {cycle} {place}" + (" x00" if kind == "babble" else "")
+
+
 class Sessions:
     """Runs of the third program."""
 
@@ -211,6 +221,24 @@ class Sessions:
                 ("cycle", late), ("run 1", late), ("run 0", "over"), ("advance", "refused Bus NotSealed"),
                 ("mute 0 A", late), ("read 1 0 1", "frame -"), ("record 13", "lines 1\nwindow 13 1 4 7 7")]
         self.check("a run that is over", THREE_NODES, 2, over)
+
+    def many_fault_lines(self):
+        """Each fault line costs the same, however many are kept, and is still compared with all of them."""
+        seconds = {}
+        for count in (4_000, 64_000):
+            lines = list(some_fault_lines(count))
+            asked = [*lines, lines[0], "mute 0 A * s1", "mute 0 A 7 s*", "corrupt A 7 s* 3", "corrupt A * s2 3"]
+            replies = ["done"] * count + [f"refused BadFault {count}"] * 3 + ["done", f"refused BadFault {count + 1}"]
+            words = [self.runs.program, THREE_NODES, "--cycles", "1024"]
+            before = resource.getrusage(resource.RUSAGE_CHILDREN)
+            output, errors, status = run(words, text_of(asked).encode())
+            after = resource.getrusage(resource.RUSAGE_CHILDREN)
+            seconds[count] = after.ru_utime + after.ru_stime - before.ru_utime - before.ru_stime
+            is_answered = output == (GREETING + text_of(replies)).encode()
+            self.runs.compare(f"{count} fault lines", (is_answered, errors, status), (True, b"", 0))
+        # Sixteen times the lines. With each line compared with all others one by one it is 250 times the time.
+        times = seconds[64_000] / max(seconds[4_000], 0.005)
+        self.runs.compare(f"64,000 fault lines in {times:.0f} times the time of 4,000", times < 60, True)
 
     def recorded(self):
         """A window of the record has each transmission with what became of it."""

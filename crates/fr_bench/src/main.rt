@@ -33,6 +33,7 @@ use fr_orders::order::order;
 use fr_threads::outcome::run_cluster;
 use fr_threads::outcome_error::OutcomeError;
 use fr_words::given::{texts_of, words_given};
+use fr_words::waiting::{WaitingReader, WaitingWriter};
 use std::io;
 use std::process::ExitCode;
 use std::rt::{Env, Files};
@@ -58,7 +59,7 @@ fn run_files<R: Files + Print + AllocGlobal + Threads + Wait + Clock + Sync>(
         &mut file,
         cycles,
         free,
-        &mut io::writer(rt),
+        &mut WaitingWriter::new(rt, io::writer(rt)),
     )
 }
 
@@ -68,9 +69,13 @@ fn carry_out<R: Files + Input + Print + AllocGlobal + Threads + Wait + Clock + S
     order: Order<'_>,
 ) -> Result<(), Failure> {
     let alloc = rt.alloc();
-    let mut output = io::writer(rt);
+    let mut output = WaitingWriter::new(rt, io::writer(rt));
     match order {
-        Order::Audit => Ok(audit::audit(alloc, &mut rt.reader(), &mut output)?),
+        Order::Audit => Ok(audit::audit(
+            alloc,
+            &mut WaitingReader::new(rt, rt.reader()),
+            &mut output,
+        )?),
         Order::Check(path) => {
             let mut file = file_named(rt, path)?;
             Ok(check_text(alloc, &mut file, &mut output)?)
@@ -79,7 +84,11 @@ fn carry_out<R: Files + Input + Print + AllocGlobal + Threads + Wait + Clock + S
             let mut file = file_named(rt, path)?;
             Ok(plan_text(alloc, &mut file, &mut output)?)
         }
-        Order::Midpoint => Ok(midpoint_text(alloc, &mut rt.reader(), &mut output)?),
+        Order::Midpoint => Ok(midpoint_text(
+            alloc,
+            &mut WaitingReader::new(rt, rt.reader()),
+            &mut output,
+        )?),
         Order::Run {
             cluster,
             scenario,

@@ -29,15 +29,19 @@ const LOOKS: u32 = 400;
 /// or two: all nodes wait for them.
 const LOOKS_IN_A_ROW: u32 = 2_000;
 
-/// After how many looks the clock is asked how long they took.
-const LOOKS_A_TURN: u32 = 8;
+/// The most time, in microseconds, that other threads of the run take before a call looks again. Another process that is
+/// let run keeps the core for a slice of some milliseconds, so a longer pause shows that the cores are shared.
+const LONG_PAUSE: u128 = 500;
 
-/// How long so many looks may take, in microseconds, until the cores count as busy. The threads of a run itself need
-/// less; another process that is let run may keep the core for milliseconds.
-const LONG_TURN: u128 = 2_400;
+/// How many calls that aren't due sleep at once after the first long pause. To be woken costs a call less than a slice
+/// of another process.
+const SLEEPS: u32 = 64;
 
-/// How many calls that aren't due sleep at once after the cores were found busy.
-const SLEEPS: u32 = 256;
+/// The most calls that sleep at once after a long pause, however many there were.
+const MOST_SLEEPS: u32 = 65_536;
+
+/// A pause that isn't long takes off one part in so many of the calls that sleep at once after the next long one.
+const RELIEF: u32 = 8;
 
 /// Why a call of a wire is refused (own profile).
 #[derive(Clone, Copy, Debug, PartialEq, Eq, Error)]
@@ -79,7 +83,9 @@ struct Signal {
     /// How often these calls look in a row.
     looks: u32,
     /// How many more calls sleep at once.
-    hurried: AtomicU32,
+    sleeps: AtomicU32,
+    /// How many calls sleep at once after the next long pause.
+    next_sleeps: AtomicU32,
     sleepers: Condvar,
 }
 
@@ -88,7 +94,8 @@ impl Signal {
     fn new(looks: u32) -> Signal {
         Signal {
             looks,
-            hurried: AtomicU32::new(0),
+            sleeps: AtomicU32::new(0),
+            next_sleeps: AtomicU32::new(SLEEPS),
             sleepers: Condvar::new(),
         }
     }
@@ -98,11 +105,11 @@ impl Signal {
         self.sleepers.notify_all();
     }
 
-    /// Whether a call that isn't due sleeps at once.
-    fn is_hurried(&self) -> bool {
-        let left = self.hurried.load(Ordering::Relaxed);
+    /// Returns whether a call that isn't due sleeps at once, and counts it.
+    fn sleeps_at_once(&self) -> bool {
+        let left = self.sleeps.load(Ordering::Relaxed);
         if left > 0 {
-            self.hurried.store(left - 1, Ordering::Relaxed);
+            self.sleeps.store(left - 1, Ordering::Relaxed);
         }
         left > 0
     }
@@ -119,27 +126,44 @@ impl Signal {
         false
     }
 
-    /// Lets other threads run until the call is due by the hint, for a while, and not on busy cores.
+    /// Lets other threads run until the call is due by the hint, for a while, and not where other processes take the
+    /// cores.
     fn look_out<R: Clock, F: Fn(Stage) -> bool>(&self, rt: &R, hint: &Hint, is_due: &F)
         requires { F.IsAlwaysCallable is_due.now }
     {
-        if self.looks_due(hint, is_due) || self.is_hurried() {
+        if is_due(hint.stage()) || self.sleeps_at_once() || self.looks_due(hint, is_due) {
             return;
         }
         let mut then = microseconds(rt);
-        for look in 1..=LOOKS {
+        for _ in 0..LOOKS {
             thread::yield_now();
-            if self.looks_due(hint, is_due) {
+            let now = microseconds(rt);
+            if now.saturating_sub(then) > LONG_PAUSE {
+                self.sleep_more();
                 return;
             }
-            if look % LOOKS_A_TURN == 0 {
-                let now = microseconds(rt);
-                if now.saturating_sub(then) > LONG_TURN {
-                    self.hurried.store(SLEEPS, Ordering::Relaxed);
-                    return;
-                }
-                then = now;
+            if self.looks_due(hint, is_due) {
+                self.sleep_less();
+                return;
             }
+            then = now;
+        }
+    }
+
+    /// Has the next calls sleep at once, and twice as many after the next long pause.
+    fn sleep_more(&self) {
+        let sleeps = self.next_sleeps.load(Ordering::Relaxed);
+        self.sleeps.store(sleeps, Ordering::Relaxed);
+        let more = sleeps.saturating_mul(2).min(MOST_SLEEPS);
+        self.next_sleeps.store(more, Ordering::Relaxed);
+    }
+
+    /// Has fewer calls sleep at once after the next long pause.
+    fn sleep_less(&self) {
+        let sleeps = self.next_sleeps.load(Ordering::Relaxed);
+        if sleeps > SLEEPS {
+            let fewer = sleeps - sleeps / RELIEF;
+            self.next_sleeps.store(fewer, Ordering::Relaxed);
         }
     }
 }

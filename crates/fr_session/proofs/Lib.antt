@@ -5,3 +5,5 @@ pub mod MovingLemmas
 pub mod QueryLemmas
 pub mod KeepingLemmas
 pub mod LawLemmas
+pub mod MarkLemmas
+pub mod MeetLemmas

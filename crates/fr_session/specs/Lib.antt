@@ -9,3 +9,4 @@ pub mod Keeping
 pub mod Sessions
 pub mod TermsFields
 pub mod Laws
+pub mod Marks

@@ -2,10 +2,10 @@
 ghost use Rattle.fr_session.specs.Keeping.{KeepsLine};
 ghost use Rattle.fr_session.specs.Queries.{Replies};
 
+use crate::kept::KeptLines;
 use crate::queries::write_memory;
 use crate::replies::{write_bad_fault, write_done};
 use fr_runs::fault_line::FaultLine;
-use fr_runs::faults::suits_after;
 use fr_schedule::cluster::Cluster;
 use std::io;
 use std::io::Write;
@@ -14,17 +14,17 @@ use std::io::Write;
 pub(crate) fn keep_line<W: Write>(
     cluster: &Cluster,
     cycles: u16,
-    faults: &mut Vec<FaultLine>,
+    kept: &mut KeptLines,
     line: FaultLine,
     writer: &mut W,
 ) -> io::Result<()>
     ensures { Replies W.contents writer.old writer.new result
-        (λ reply. KeepsLine cluster.now cycles faults.old.items line reply faults.new.items) }
+        (λ reply. KeepsLine cluster.now cycles kept.old line reply kept.new) }
 {
-    if !suits_after(cluster, cycles, faults.as_slice(), &line) {
-        return write_bad_fault(writer, faults.len());
+    if !kept.suit(cluster, cycles, &line) {
+        return write_bad_fault(writer, kept.len());
     }
-    match faults.push(line) {
+    match kept.push(line) {
         Ok(()) => write_done(writer),
         Err(_) => write_memory(writer),
     }

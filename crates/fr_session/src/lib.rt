@@ -16,8 +16,10 @@
 
 pub mod error;
 mod keeping;
+mod kept;
 pub mod laws;
 mod lines;
+mod marks;
 pub mod moving;
 mod queries;
 mod reading;

@@ -10,6 +10,7 @@ ghost use Rattle.fr_text.specs.Writing.{Writes};
 
 use crate::error::SessionError;
 use crate::keeping::keep_line;
+use crate::kept::KeptLines;
 use crate::lines::{Line, next_line};
 use crate::moving::{finish_cycles, finish_window, window_events};
 use crate::queries::{write_moved, write_node_report, write_node_trace, write_now, write_recorded};
@@ -18,7 +19,6 @@ use crate::replies::{write_answer, write_bad_line, write_done, write_greeting};
 use crate::request::Request;
 use fr_core::event::Event;
 use fr_core::world::World;
-use fr_runs::fault_line::FaultLine;
 use fr_schedule::cluster::Cluster;
 use std::alloc::Global;
 use std::io;
@@ -39,7 +39,7 @@ struct Terms<'a> {
 #[derive(Drop)]
 struct Session {
     alloc: Global,
-    faults: Vec<FaultLine>,
+    faults: KeptLines,
     line: Line,
 }
 
@@ -47,13 +47,13 @@ struct Session {
 fn do_request<W: Write>(
     alloc: Global,
     terms: &Terms<'_>,
-    faults: &mut Vec<FaultLine>,
+    faults: &mut KeptLines,
     world: &mut World,
     request: Request,
     writer: &mut W,
 ) -> io::Result<()>
     ensures { Replies W.contents writer.old writer.new result (λ reply. DoesRequest (terms_in terms.now)
-        (state_of world.old faults.old.items) request reply (state_of world.new faults.new.items)) }
+        (state_of world.old faults.old) request reply (state_of world.new faults.new)) }
 {
     match request {
         Request::Event(event) => {
@@ -84,15 +84,15 @@ fn do_request<W: Write>(
 fn answer_line<W: Write>(
     alloc: Global,
     terms: &Terms<'_>,
-    faults: &mut Vec<FaultLine>,
+    faults: &mut KeptLines,
     world: &mut World,
     line: &[u8],
     number: u64,
     writer: &mut W,
 ) -> io::Result<()>
     ensures { Replies W.contents writer.old writer.new result (λ reply. DoesIf (terms_in terms.now)
-        (state_of world.old faults.old.items) number (asked_in line.now) reply
-        (state_of world.new faults.new.items)) }
+        (state_of world.old faults.old) number (asked_in line.now) reply
+        (state_of world.new faults.new)) }
 {
     match request_of(line) {
         Some(request) => do_request(alloc, terms, faults, world, request, writer),
@@ -125,8 +125,8 @@ impl Session {
         writer: &mut W,
     ) -> io::Result<()>
         ensures { Replies W.contents writer.old writer.new result (λ reply. DoesIf (terms_in terms.now)
-            (state_of world.old self.old.faults.items) number (asked_in self.old.line.items) reply
-            (state_of world.new self.new.faults.items)) }
+            (state_of world.old self.old.faults) number (asked_in self.old.line.items) reply
+            (state_of world.new self.new.faults)) }
     {
         let line = self.line.as_slice();
         answer_line(
@@ -152,7 +152,7 @@ impl Session {
     ) -> Result<bool, SessionError>
         ensures answers { IfOk result (λ more. AnswersNext (terms_in terms.now) more (R.remaining reader.old)
             (R.remaining reader.new) (W.contents writer.old) (W.contents writer.new) number
-            (state_of world.old self.old.faults.items) (state_of world.new self.new.faults.items)) }
+            (state_of world.old self.old.faults) (state_of world.new self.new.faults)) }
         ensures early { IfErr result IsOfStream }
     {
         match next_line(reader, &mut self.line) {
@@ -175,8 +175,8 @@ impl Session {
         writer: &mut W,
     ) -> Result<(), SessionError>
         ensures served { OnOk result (Served (terms_in terms.now) (R.remaining reader.old) (W.contents writer.old)
-            (W.contents writer.new) (state_of world.old self.old.faults.items)
-            (state_of world.new self.new.faults.items)) }
+            (W.contents writer.new) (state_of world.old self.old.faults)
+            (state_of world.new self.new.faults)) }
         ensures headline { Headline world.new }
         ensures early { IfErr result IsOfStream }
     {
@@ -240,7 +240,7 @@ pub fn serve<R: BufRead, W: Write>(
     };
     let mut session = Session {
         alloc,
-        faults: Vec::new(alloc),
+        faults: KeptLines::new(alloc),
         line: Line::new(),
     };
     session.answer_all(&terms, world, reader, writer)

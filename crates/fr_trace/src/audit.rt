@@ -12,12 +12,12 @@ use crate::pieces::lawful;
 use crate::report::write_report;
 use fr_interface::interface::Interface;
 use std::alloc::Global;
-use std::io::{Read, Write};
+use std::io::{ErrorKind, Read, Write};
 
 /// How many bytes are asked for at a time.
 const ROOM: usize = 4096;
 
-/// What the reader's bytes leave. It reads no further once an error stands.
+/// What the reader's bytes leave. It reads no further once an error stands. An interrupted read is made again.
 fn read_through<R: Read>(alloc: Global, reader: &mut R) -> Result<Interface, TraceError>
     ensures through { ReadsThrough (R.remaining reader.old) (R.remaining reader.new) result }
     ensures legal { IfOk result IsLegalInterface }
@@ -26,8 +26,10 @@ fn read_through<R: Read>(alloc: Global, reader: &mut R) -> Result<Interface, Tra
     let mut auditor = Auditor::new(alloc);
     let mut room = [0u8; ROOM];
     'pieces: for _ in 0..u64::MAX {
-        let Ok(count) = reader.read(&mut room) else {
-            return Err(TraceError::Read);
+        let count = match reader.read(&mut room) {
+            Ok(count) => count,
+            Err(error) if error.kind() == ErrorKind::Interrupted => continue,
+            Err(_) => return Err(TraceError::Read),
         };
         if count == 0 {
             return lawful(auditor.finish());

@@ -483,13 +483,19 @@ fn a_reader_that_fails_is_read_at_once(rt: HostRuntime) -> Result<(), Fail> {
     let rows = [
         (0, io::ErrorKind::Other),
         (1, io::ErrorKind::Other),
-        (1, io::ErrorKind::Interrupted),
         (2, io::ErrorKind::Other),
     ];
     for (fails_at, kind) in rows {
         let answer = audit_failing(rt.alloc(), &LINES, fails_at, kind)?;
         assert_eq!(rt; answer, (Some(TraceError::Read), fails_at + 1, 0));
     }
+    // An interrupted read is made again: 13 lines, the interrupted read in place of a piece, and the end.
+    let mut pieces = [LINES[0]; 14];
+    for (piece, line) in pieces[2..].iter_mut().zip(LINES[1..].iter()) {
+        *piece = *line;
+    }
+    let answer = audit_failing(rt.alloc(), &pieces, 1, io::ErrorKind::Interrupted)?;
+    assert_eq!(rt; answer, (None, 15, 39));
     // After a fault nothing is read, so no read fails.
     let answer = audit_failing(rt.alloc(), &[b"frtrace 4\n"], 1, io::ErrorKind::Other)?;
     assert_eq!(rt; answer, (Some(TraceError::BadMagic), 1, 0));

@@ -43,9 +43,11 @@ use fr_why::until_fault::show_until_fault;
 use fr_why::verdict::Verdict;
 use fr_words::error::OrderError;
 use fr_words::given::{texts_of, words_given};
+use fr_words::waiting::{WaitingReader, WaitingWriter};
 use std::io;
 use std::process::ExitCode;
 use std::rt::{Env, Files};
+use std::time::Clock;
 
 /// What the program prints where it is asked for help.
 const HELP: &str = "fr_view schedule FILE [--cycle N] > SVG
@@ -114,7 +116,7 @@ fn tell_idle<R: Eprint>(rt: &R, idle: &[u32]) {
 
 /// Plays a run of the cluster of the one file with the scenario of the other, which is opened once the cluster is
 /// accepted, and writes what is to be shown of it.
-fn show_files<R: Files + Print + Eprint + AllocGlobal>(
+fn show_files<R: Files + Print + Eprint + AllocGlobal + Clock>(
     rt: &R,
     asked: Asked,
     cluster: &str,
@@ -127,37 +129,51 @@ fn show_files<R: Files + Print + Eprint + AllocGlobal>(
     let alloc = rt.alloc();
     let cluster = cluster_of(alloc, &mut file_named(rt, cluster)?)?;
     let mut file = file_named(rt, scenario)?;
-    let mut output = io::writer(rt);
+    let mut output = WaitingWriter::new(rt, io::writer(rt));
     let idle = show_run(alloc, &cluster, &mut file, cycles, shown, &mut output)?;
     tell_idle(rt, idle.as_slice());
     Ok(())
 }
 
 /// Writes what a controller saw, by its trace on standard input.
-fn show_seen<R: Input + Print + AllocGlobal>(
+fn show_seen<R: Input + Print + AllocGlobal + Clock>(
     rt: &R,
     form: Form,
     until_fault: bool,
 ) -> Result<(), Failure> {
-    let (alloc, mut output) = (rt.alloc(), io::writer(rt));
+    let (alloc, mut output) = (rt.alloc(), WaitingWriter::new(rt, io::writer(rt)));
     if until_fault {
-        Ok(show_until_fault(alloc, form, &mut rt.reader(), &mut output)?)
+        Ok(show_until_fault(
+            alloc,
+            form,
+            &mut WaitingReader::new(rt, rt.reader()),
+            &mut output,
+        )?)
     } else {
-        Ok(show_trace(alloc, form, &mut rt.reader(), &mut output)?)
+        Ok(show_trace(
+            alloc,
+            form,
+            &mut WaitingReader::new(rt, rt.reader()),
+            &mut output,
+        )?)
     }
 }
 
 /// Writes why an audit refuses the trace on standard input, and says by the status whether it does.
-fn explain<R: Input + Print + AllocGlobal>(rt: &R) -> Result<ExitCode, Failure> {
-    let mut output = io::writer(rt);
-    match explain_trace(rt.alloc(), &mut rt.reader(), &mut output)? {
+fn explain<R: Input + Print + AllocGlobal + Clock>(rt: &R) -> Result<ExitCode, Failure> {
+    let mut output = WaitingWriter::new(rt, io::writer(rt));
+    match explain_trace(
+        rt.alloc(),
+        &mut WaitingReader::new(rt, rt.reader()),
+        &mut output,
+    )? {
         Verdict::Accepted => Ok(ExitCode::SUCCESS),
         Verdict::Refused => Ok(ExitCode::from(1)),
     }
 }
 
 /// Writes the picture of a cycle of the cluster in the file.
-fn show_cycle<R: Files + Print + AllocGlobal>(
+fn show_cycle<R: Files + Print + AllocGlobal + Clock>(
     rt: &R,
     file: &str,
     cycle: u8,
@@ -165,20 +181,23 @@ fn show_cycle<R: Files + Print + AllocGlobal>(
     let Some(cycle) = Cycle::new(cycle) else {
         return Err(Failure::Words(OrderError::Usage));
     };
-    let (mut file, mut output) = (file_named(rt, file)?, io::writer(rt));
+    let (mut file, mut output) = (
+        file_named(rt, file)?,
+        WaitingWriter::new(rt, io::writer(rt)),
+    );
     Ok(show_schedule(rt.alloc(), &mut file, cycle, &mut output)?)
 }
 
 /// Writes what there is to be asked for.
-fn show_help<R: Print>(rt: &R) -> Result<(), Failure> {
-    match io::Write::write_all(&mut io::writer(rt), HELP.as_bytes()) {
+fn show_help<R: Print + Clock>(rt: &R) -> Result<(), Failure> {
+    match io::Write::write_all(&mut WaitingWriter::new(rt, io::writer(rt)), HELP.as_bytes()) {
         Ok(()) => Ok(()),
         Err(_) => Err(Failure::Write),
     }
 }
 
 /// Does the order.
-fn carry_out<R: Files + Input + Print + Eprint + AllocGlobal>(
+fn carry_out<R: Files + Input + Print + Eprint + AllocGlobal + Clock>(
     rt: &R,
     order: Order<'_>,
 ) -> Result<ExitCode, Failure> {
@@ -199,7 +218,9 @@ fn carry_out<R: Files + Input + Print + Eprint + AllocGlobal>(
 }
 
 /// Does what the words ask for.
-fn run<R: Env + Files + Input + Print + Eprint + AllocGlobal>(rt: &R) -> Result<ExitCode, Failure> {
+fn run<R: Env + Files + Input + Print + Eprint + AllocGlobal + Clock>(
+    rt: &R,
+) -> Result<ExitCode, Failure> {
     let words = words_given(rt)?;
     let texts: Vec<&str> = texts_of(rt.alloc(), &words)?;
     carry_out(rt, order(rt.alloc(), texts.as_slice())?)

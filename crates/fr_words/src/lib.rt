@@ -1,15 +1,17 @@
-//! What the programs have in common: the words after a program's name, the rules by which `clap` reads them, and why
-//! words ask for nothing (own profile).
+//! What the programs share: the words after a program's name, the rules by which `clap` reads them, the refusal of
+//! words, and streams that wait where they would block (project-defined).
 //!
 //! ```text
 //! let words = words_given(&rt)?;
 //! let texts = texts_of(rt.alloc(), &words)?;
 //! let matches = program(alloc, "fr_bench").subcommand(of_file(alloc, "check")?)?.try_get_matches_from(texts)?;
+//! let mut output = WaitingWriter::new(&rt, io::writer(&rt));
 //! ```
 //!
-//! *(own profile)* marks a rule of this project's own, which says nothing of the standard.
+//! *(own profile)* marks a project-defined rule, which the standard doesn't have.
 #![tactic(auto)]
 
 pub mod commands;
 pub mod error;
 pub mod given;
+pub mod waiting;

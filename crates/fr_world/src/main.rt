@@ -25,10 +25,12 @@ use fr_schedule::cluster::Cluster;
 use fr_session::session::serve;
 use fr_words::error::OrderError;
 use fr_words::given::{texts_of, words_given};
+use fr_words::waiting::{WaitingReader, WaitingWriter};
 use std::io;
 use std::io::{BufReader, BufWriter};
 use std::process::ExitCode;
 use std::rt::{Env, Files};
+use std::time::Clock;
 
 /// The command's cluster.
 fn cluster_in<R: Files + AllocGlobal>(rt: &R, command: Command<'_>) -> Result<Cluster, Failure> {
@@ -39,17 +41,17 @@ fn cluster_in<R: Files + AllocGlobal>(rt: &R, command: Command<'_>) -> Result<Cl
 /// Serves the world of the command's cluster on standard input and output.
 ///
 /// The room for reading and writing is taken first, so that no reply needs memory of its own.
-fn serve_world<R: Files + Input + Print + AllocGlobal>(
+fn serve_world<R: Files + Input + Print + AllocGlobal + Clock>(
     rt: &R,
     command: Command<'_>,
 ) -> Result<(), Failure> {
     let cluster = cluster_in(rt, command)?;
     let cycles = command.cycles;
     let mut world = World::new(rt.alloc(), &cluster, cycles)?;
-    let Ok(mut reader) = BufReader::new(rt.alloc(), rt.reader()) else {
+    let Ok(mut reader) = BufReader::new(rt.alloc(), WaitingReader::new(rt, rt.reader())) else {
         return Err(Failure::Memory);
     };
-    let Ok(mut writer) = BufWriter::new(rt.alloc(), io::writer(rt)) else {
+    let Ok(mut writer) = BufWriter::new(rt.alloc(), WaitingWriter::new(rt, io::writer(rt))) else {
         return Err(Failure::Memory);
     };
     let served = serve(
@@ -66,7 +68,7 @@ fn serve_world<R: Files + Input + Print + AllocGlobal>(
 }
 
 /// Does what the words ask for.
-fn run<R: Env + Files + Input + Print + AllocGlobal>(rt: &R) -> Result<(), Failure> {
+fn run<R: Env + Files + Input + Print + AllocGlobal + Clock>(rt: &R) -> Result<(), Failure> {
     let words = words_given(rt)?;
     let texts: Vec<&str> = texts_of(rt.alloc(), &words)?;
     match command_of(texts.as_slice()) {

@@ -1,0 +1,108 @@
+//! Fault lines that are kept one after another.
+
+ghost use Rattle.std.specs.Prelude.{◌≡◌, ◌++◌, ◌∷◌, [], List};
+ghost use Rattle.std.specs.Option.{ForSome};
+ghost use Rattle.fr_runs.specs.declared.fault_line.FaultLine.{FaultLine as Line};
+ghost use Rattle.fr_session.specs.Marks.{mark_of, AreMarksOf};
+
+use crate::marks::{Mark, Marks, add_all, is_met, mark_of};
+use fr_runs::fault_line::FaultLine;
+use fr_runs::faults::suits_after;
+use fr_schedule::cluster::Cluster;
+use std::alloc::{AllocError, Global};
+use std::collections::HashSet;
+use std::marker::Model;
+
+/// Fault lines in their order, and marks of the windows that they name, so that each further line is checked in the same
+/// time. Contracts see them as the list of lines.
+#[derive(Drop)]
+pub(crate) struct KeptLines {
+    lines: Vec<FaultLine>,
+    /// None once an allocation for the marks has failed. Each line is then compared with all others.
+    marks: Option<Marks>,
+    ghost marked: { ForSome marks (AreMarksOf lines.items) },
+}
+
+impl Model for KeptLines {
+    ghost use Rattle.std.specs.Prelude.{List};
+    ghost use Rattle.fr_runs.specs.declared.fault_line.FaultLine.{FaultLine};
+
+    ghost Value = { List FaultLine };
+
+    ghost view = { λ k. k.lines.items };
+}
+
+/// Returns the marks with those of one line more, whose own one this is, or none where an allocation fails.
+fn marks_with(marks: Option<Marks>, own: Mark) -> Option<Marks>
+    ensures { (lines : List Line) (line : Line) → own ≡ mark_of line → ForSome marks (AreMarksOf lines)
+        → ForSome result (AreMarksOf (lines ++ line ∷ [])) }
+{
+    let mut marks = marks?;
+    match add_all(&mut marks, own) {
+        Ok(()) => Some(marks),
+        Err(_) => None,
+    }
+}
+
+impl KeptLines {
+    ghost use Rattle.std.specs.Prelude.{◌≡◌, ◌↔◌, ◌++◌, ◌∷◌, [], length, IsTrue, OnErr, OnOk};
+    ghost use Rattle.fr_runs.specs.Suiting.{IsFaultAfter};
+
+    /// Returns no lines.
+    pub(crate) fn new(alloc: Global) -> KeptLines
+        ensures { result ≡ [] }
+    {
+        KeptLines {
+            lines: Vec::new(alloc),
+            marks: Some(HashSet::new(alloc)),
+        }
+    }
+
+    /// Returns the lines in their order.
+    pub(crate) fn as_slice(&self) -> &[FaultLine]
+        ensures { result.now ≡ self.now }
+    {
+        self.lines.as_slice()
+    }
+
+    /// Returns the number of lines.
+    pub(crate) fn len(&self) -> usize
+        ensures { result ≡ length self.now }
+    {
+        self.lines.len()
+    }
+
+    /// Forgets all lines.
+    pub(crate) fn clear(&mut self)
+        ensures { self.new ≡ [] }
+    {
+        let KeptLines { lines, marks, .. } = self;
+        lines.clear();
+        match marks {
+            Some(marks) => marks.clear(),
+            None => {}
+        }
+    }
+
+    /// Returns whether a run of the cluster for so many cycles that has these lines can have this one too.
+    pub(crate) fn suit(&self, cluster: &Cluster, cycles: u16, line: &FaultLine) -> bool
+        ensures { IsTrue result ↔ IsFaultAfter cluster.now cycles self.now line.now }
+    {
+        match &self.marks {
+            Some(marks) => suits_after(cluster, cycles, &[], line) && !is_met(marks, mark_of(line)),
+            None => suits_after(cluster, cycles, self.lines.as_slice(), line),
+        }
+    }
+
+    /// Appends a line. Where the allocation for it fails, the lines stay as they are.
+    pub(crate) fn push(&mut self, line: FaultLine) -> Result<(), AllocError>
+        ensures kept { OnOk result (self.new ≡ self.old ++ line ∷ []) }
+        ensures same { OnErr result (self.new ≡ self.old) }
+    {
+        let own = mark_of(&line);
+        let KeptLines { lines, marks, .. } = self;
+        lines.push(line)?;
+        *marks = marks_with(marks.take(), own);
+        Ok(())
+    }
+}

@@ -1,0 +1,180 @@
+"""The launchers at the top, over small repositories whose programs are shell scripts."""
+import hashlib
+import os
+import pty
+import signal
+import subprocess
+import time
+from pathlib import Path
+
+from .runner import SECONDS, Runs
+
+TOP = Path(__file__).resolve().parent.parent.parent
+RIGHT = "#!/bin/sh\necho right\n"
+WRONG = "#!/bin/sh\necho wrong\n"
+LATER = 4_000_000_000
+"""A time in the future, in seconds since 1970."""
+CAUGHT = "#!/bin/sh\ntrap 'echo caught; exit 5' TERM\necho ready\nwhile :; do sleep 0.02; done\n"
+KILLED = "#!/bin/sh\necho ready\nwhile :; do sleep 0.02; done\n"
+NO_KIT = "/usr/bin:/bin"
+"""A search path without a kit, so that nothing is built."""
+
+
+def digest(data: bytes) -> str:
+    return hashlib.sha256(data).hexdigest()
+
+
+class Checkout:
+    """A repository with one source file and one program, and the real launchers."""
+
+    def __init__(self, path: Path, program: str = RIGHT) -> None:
+        self.path = path
+        for folder in ("src", "specs", "proofs"):
+            (path / "crates/fr_bench" / folder).mkdir(parents=True)
+        (path / "crates/fr_bench/src/main.rt").write_text("source\n")
+        (path / "crates.txt").write_text("fr_bench:\n")
+        (path / "HANDLES").write_text("none\n")
+        (path / "scripts").mkdir()
+        for name in ("launch", "launch_anew", "identities.sh", "digests.bash", "told"):
+            self.copy(f"scripts/{name}")
+        self.copy("fr_bench")
+        self.ship(path / "dist", program)
+
+    def copy(self, name: str) -> None:
+        (self.path / name).write_bytes((TOP / name).read_bytes())
+        (self.path / name).chmod(0o755)
+
+    def sources(self) -> str:
+        """The digest of all sources, as dist/README.md computes it."""
+        command = ("find crates.txt HANDLES crates/*/{src,specs,proofs} -type f -print0 | LC_ALL=C sort -z |"
+                   " xargs -0 sha256sum | sha256sum")
+        told = subprocess.run(["bash", "-c", command], cwd=self.path, capture_output=True, check=True, text=True).stdout
+        return told.split()[0]
+
+    def ship(self, folder: Path, program: str) -> None:
+        """Puts a program into a folder, with digests that name it."""
+        folder.mkdir(exist_ok=True)
+        (folder / "fr_bench").write_text(program)
+        (folder / "fr_bench").chmod(0o755)
+        (folder / "digests").write_text(f"kit none\nsources {self.sources()}\nfr_bench {digest(program.encode())}\n")
+
+    def call(self, **environment: str) -> tuple[str, str, int]:
+        """What the launcher prints of a call, and its status."""
+        words = [self.path / "fr_bench", "check"]
+        ran = subprocess.run(words, capture_output=True, text=True, timeout=SECONDS, stdin=subprocess.DEVNULL,
+                             env=os.environ | {"PATH": NO_KIT} | environment)
+        return ran.stdout, ran.stderr, ran.returncode
+
+    @property
+    def note(self) -> Path:
+        return self.path / "out/fr_bench.found"
+
+
+RAN = "right\n", "", 0
+
+
+def not_run(reason: str) -> tuple[str, str, int]:
+    return "", (f"fr_bench: {reason}\n"
+                "fr_bench: not built: there is no rt; put the bin folder of the Rattle kit on PATH\n"), 1
+
+
+class Launchers:
+    """Each case in a repository of its own."""
+
+    def __init__(self, runs: Runs, folder: Path) -> None:
+        self.runs, self.folder, self.count = runs, folder, 0
+
+    def checkout(self, name: str = "", program: str = RIGHT) -> Checkout:
+        self.count += 1
+        return Checkout(self.folder / f"{self.count}{name}", program)
+
+    def noted(self) -> Checkout:
+        """A repository whose program has been run, so that the next call goes by the note."""
+        made = self.checkout()
+        self.runs.compare("a first call", (made.call(), made.note.exists()), (RAN, True))
+        return made
+
+    def all(self) -> None:
+        self.plain()
+        self.replaced()
+        self.forged()
+        self.paths()
+        for is_terminal in (False, True):
+            self.signals(is_terminal)
+
+    def plain(self) -> None:
+        made = self.noted()
+        self.runs.compare("a second call", made.call(), RAN)
+        for name in ("lock", "noted", "folder", "found", "why", "sources"):
+            made.note.unlink()
+            self.runs.compare(f"a call with {name} in the environment", made.call(**{name: "7"}), RAN)
+        (made.path / "crates/fr_bench/src/more.rt").write_text("more\n")
+        self.runs.compare("a call after a change of the sources", made.call(),
+                          not_run("the sources aren't those that dist/fr_bench was made from"))
+
+    def replaced(self) -> None:
+        """Another program in place of the one that is named."""
+        wrong = not_run("dist/fr_bench isn't the program that dist/digests names")
+        made = self.noted()
+        other = made.path / "other"
+        made.ship(other, RIGHT)
+        (other / "fr_bench").write_text(WRONG)
+        for file in (other, *other.iterdir()):
+            os.utime(file, (1, 1))
+        time.sleep(0.05)
+        made.note.touch()
+        (made.path / "dist").rename(made.path / "old")
+        other.rename(made.path / "dist")
+        self.runs.compare("a call after another folder was moved to dist", made.call(), wrong)
+        made = self.noted()
+        program = made.path / "dist/fr_bench"
+        before = program.stat()
+        program.write_text(WRONG)
+        os.utime(program, ns=(before.st_atime_ns, before.st_mtime_ns))
+        os.utime(made.note, (LATER, LATER))
+        self.runs.compare("a call with a note from the future", made.call(), wrong)
+
+    def forged(self) -> None:
+        """Notes that name another program."""
+        made = self.noted()
+        made.ship(made.path / "elsewhere", WRONG)
+        text = made.note.read_text()
+        for line in ("elsewhere", "dist/../elsewhere", "/", "", str(made.path / "elsewhere")):
+            made.note.write_text(text.replace("dist\n", f"{line}\n", 1).replace(" dist/", f" {line}/"))
+            self.runs.compare(f"a call whose note begins with {line!r}", made.call(), RAN)
+
+    def paths(self) -> None:
+        for name in (" with spaces", " back\\slash", "\nline feed", " at the end\n", " $(echo) `*`"):
+            made = self.checkout(name)
+            self.runs.compare(f"a call below {name!r}", (made.call(), made.call()), (RAN, RAN))
+            link = made.path / "dist" / "link"
+            link.symlink_to(made.path / "fr_bench")
+            ran = subprocess.run([link, "check"], capture_output=True, text=True, timeout=SECONDS)
+            self.runs.compare(f"a call by a link below {name!r}", (ran.stdout, ran.returncode), ("right\n", 0))
+
+    def signals(self, is_terminal: bool) -> None:
+        """A signal to the launcher ends the program, which may catch it."""
+        place = "at a terminal" if is_terminal else "without a terminal"
+        for program, number, wanted in ((CAUGHT, signal.SIGTERM, ("caught\n", 5)),
+                                        (KILLED, signal.SIGTERM, ("", -signal.SIGTERM)),
+                                        (KILLED, signal.SIGINT, ("", -signal.SIGINT)),
+                                        (KILLED, signal.SIGHUP, ("", -signal.SIGHUP))):
+            made = self.checkout(program=program)
+            self.runs.compare(f"{number.name} to the launcher {place}", ended_by(made, number, is_terminal), wanted)
+
+
+def ended_by(made: Checkout, number: signal.Signals, is_terminal: bool) -> tuple[str, int]:
+    """What a program still prints after the launcher got a signal, and how the launcher ended."""
+    ours, theirs = pty.openpty() if is_terminal else os.pipe()
+    running = subprocess.Popen([made.path / "fr_bench", "check"], stdin=subprocess.DEVNULL, stdout=subprocess.PIPE,
+                               stderr=theirs, text=True, start_new_session=True)
+    os.close(theirs)
+    try:
+        assert running.stdout is not None
+        running.stdout.readline()
+        os.kill(running.pid, number)
+        # Standard output ends only once the program has ended.
+        return running.communicate(timeout=SECONDS)[0], running.returncode
+    finally:
+        running.kill()
+        os.close(ours)
