@@ -1,6 +1,6 @@
-# For scripts/launch and scripts/explained.sh, in a plain shell: the help of the program $name. The texts stand in
-# scripts/help/NAME: for each command a line `== COMMAND`, its usage, a sentence, its arguments and an example; and after
-# `== after` what ends the overview.
+# For scripts/launch and scripts/explained.sh, in a plain shell: the help of the program $name. Its texts stand in
+# scripts/help/NAME. Below a line `== COMMAND` stand the usage of the command, a sentence, its arguments and an example;
+# below `== after` stands the end of the overview.
 
 # Answers a call for help or for the version and ends the script. Other words are left to the program.
 answer() {
@@ -53,10 +53,9 @@ read_block() {
 print_overview() {
     if [ "$name" = fr_world ]; then
         read_block fr_world
-        overview=$block
-    else
-        read_commands
+        print "$block"
     fi
+    read_commands
     read_block after
     print "$overview
 $block"

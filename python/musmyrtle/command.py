@@ -8,12 +8,13 @@ from collections.abc import Iterable, Iterator
 from contextlib import ExitStack, contextmanager, suppress
 from dataclasses import replace
 from tempfile import NamedTemporaryFile
-from typing import TextIO
+from typing import Any, TextIO
 
 from musmyrtle.findings import block, counted
 from musmyrtle.lint import Lint, Task, lint, read_bytes
 from musmyrtle.program import Answer, ask, usual_program
 from musmyrtle.runs import MOST_CYCLES
+from musmyrtle.version import version
 
 FINE, REFUSED, USAGE, WARNED = 0, 1, 2, 4
 MOST_REASONS = 20
@@ -55,8 +56,20 @@ def write(stream: TextIO | None, texts: Iterable[str]) -> None:
         raise Stop(USAGE, f"the output can't be written: {error.strerror}") from None
 
 
+class PrintVersion(argparse.Action):
+    """Prints the command's name and version, and ends."""
+
+    def __call__(self, parser: argparse.ArgumentParser, *_: object) -> None:
+        write(sys.stdout, [f"{parser.prog} {version()}\n"])
+        parser.exit()
+
+
 class Parser(argparse.ArgumentParser):
-    """The words of a command. Its help is written as all other output is."""
+    """Reads the words of a command. Its help and its version are written as all other output is."""
+
+    def __init__(self, **options: Any) -> None:
+        super().__init__(**options)
+        self.add_argument("--version", action=PrintVersion, nargs=0, help="show the version and exit")
 
     def print_help(self, file: TextIO | None = None) -> None:
         write(file or sys.stdout, [self.format_help()])

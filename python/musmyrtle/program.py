@@ -62,15 +62,16 @@ Started = Callable[..., AbstractContextManager[subprocess.Popen[Any]]]
 
 
 def ask(program: str, words: list[str], started: Started = subprocess.Popen) -> Answer:
-    """Returns the program's answer. What its launcher says meanwhile goes to standard error."""
+    """Returns the program's answer. Its launcher's lines go to standard error, but for those that explain a refusal."""
     refusal = None
-    told = []
+    told: list[str] = []
     streams = {"stdin": subprocess.DEVNULL, "stdout": subprocess.DEVNULL, "stderr": subprocess.PIPE}
     with started([program, *words], text=True, errors="replace", **streams) as running:
         for line in running.stderr or ():
             if line.startswith("refused "):
                 refusal = line.removeprefix("refused ").strip()
-            else:
+            elif refusal is None:
+                # After a refusal the launcher explains it. This package has longer reasons of its own.
                 told.append(line)
                 print(line, end="", file=sys.stderr, flush=True)
     is_named = refusal is not None

@@ -1,11 +1,15 @@
 """Which program is run: the one that a launcher has noted, or otherwise the launcher itself."""
+import contextlib
+import io
+import tomllib
 import unittest
 from pathlib import Path
 from tempfile import TemporaryDirectory
 from unittest.mock import patch
 
 from musmyrtle import program
-from musmyrtle.program import itself
+from musmyrtle.program import Answer, ask, itself
+from musmyrtle.version import version
 
 NAME = "fr_view"
 BUILT = f"crates/{NAME}/out"
@@ -63,6 +67,32 @@ class Noted(unittest.TestCase):
         self.note(b"dist\n")
         other = str(self.checkout / "elsewhere" / NAME)
         self.assertEqual(itself(other), other)
+
+
+class Asked(unittest.TestCase):
+    def answer(self, lines: str) -> tuple[Answer, str]:
+        """Returns the answer of a program that refuses with these lines, and what is shown meanwhile."""
+        with TemporaryDirectory() as folder:
+            program = Path(folder) / NAME
+            program.write_text(f"#!/bin/sh\nprintf '{lines}' >&2\nexit 1\n")
+            program.chmod(0o755)
+            shown = io.StringIO()
+            with contextlib.redirect_stderr(shown):
+                return ask(str(program), ["check"]), shown.getvalue()
+
+    def test_lines_of_a_launcher(self) -> None:
+        answer, shown = self.answer("fr_bench: building\\nrefused Read\\nfr_bench: no such file: x\\n")
+        self.assertEqual((answer, shown), (Answer(1, "Read"), "fr_bench: building\n"))
+
+
+class Version(unittest.TestCase):
+    def test_the_one_file(self) -> None:
+        file = Path(program.__file__).with_name("VERSION")
+        settings = tomllib.loads((program.CHECKOUT / "python/pyproject.toml").read_text())
+        self.assertEqual(settings["project"]["dynamic"], ["version"])
+        named = program.CHECKOUT / "python" / settings["tool"]["setuptools"]["dynamic"]["version"]["file"]
+        self.assertEqual((named, version()), (file, file.read_text().strip()))
+        self.assertIn(file.name, settings["tool"]["setuptools"]["package-data"]["musmyrtle"])
 
 
 if __name__ == "__main__":

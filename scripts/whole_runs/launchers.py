@@ -24,23 +24,39 @@ def digest(data: bytes) -> str:
     return hashlib.sha256(data).hexdigest()
 
 
+LAUNCHER_FILES = ("fr_bench", "fr_view", "fr_world", "python/musmyrtle/VERSION", "scripts/launch",
+                  "scripts/launch_anew", "scripts/identities.sh", "scripts/digests.bash", "scripts/told",
+                  "scripts/words.sh", "scripts/help.sh", "scripts/explained.sh", "scripts/help/fr_bench",
+                  "scripts/help/fr_view", "scripts/help/fr_world")
+
+
 class Checkout:
-    """A repository with one source file and one program, and the real launchers."""
+    """A repository with one source file and some programs, and the real launchers."""
 
     def __init__(self, path: Path, program: str = RIGHT) -> None:
+        self.prepare(path)
+        self.ship(path / "dist", program)
+
+    @classmethod
+    def of(cls, path: Path, programs: dict[str, bytes]) -> "Checkout":
+        """Returns a repository with these programs."""
+        made = object.__new__(cls)
+        made.prepare(path)
+        made.ship_all(path / "dist", programs)
+        return made
+
+    def prepare(self, path: Path) -> None:
         self.path = path
         for folder in ("src", "specs", "proofs"):
             (path / "crates/fr_bench" / folder).mkdir(parents=True)
         (path / "crates/fr_bench/src/main.rt").write_text("source\n")
         (path / "crates.txt").write_text("fr_bench:\n")
         (path / "HANDLES").write_text("none\n")
-        (path / "scripts").mkdir()
-        for name in ("launch", "launch_anew", "identities.sh", "digests.bash", "told"):
-            self.copy(f"scripts/{name}")
-        self.copy("fr_bench")
-        self.ship(path / "dist", program)
+        for name in LAUNCHER_FILES:
+            self.copy(name)
 
     def copy(self, name: str) -> None:
+        (self.path / name).parent.mkdir(parents=True, exist_ok=True)
         (self.path / name).write_bytes((TOP / name).read_bytes())
         (self.path / name).chmod(0o755)
 
@@ -53,14 +69,20 @@ class Checkout:
 
     def ship(self, folder: Path, program: str) -> None:
         """Puts a program into a folder, with digests that name it."""
+        self.ship_all(folder, {"fr_bench": program.encode()})
+
+    def ship_all(self, folder: Path, programs: dict[str, bytes]) -> None:
         folder.mkdir(exist_ok=True)
-        (folder / "fr_bench").write_text(program)
-        (folder / "fr_bench").chmod(0o755)
-        (folder / "digests").write_text(f"kit none\nsources {self.sources()}\nfr_bench {digest(program.encode())}\n")
+        lines = ["kit none", f"sources {self.sources()}"]
+        for name, data in programs.items():
+            (folder / name).write_bytes(data)
+            (folder / name).chmod(0o755)
+            lines.append(f"{name} {digest(data)}")
+        (folder / "digests").write_text("".join(f"{line}\n" for line in lines))
 
     def call(self, **environment: str) -> tuple[str, str, int]:
         """What the launcher prints of a call, and its status."""
-        words = [self.path / "fr_bench", "check"]
+        words = [self.path / "fr_bench", "midpoint"]
         ran = subprocess.run(words, capture_output=True, text=True, timeout=SECONDS, stdin=subprocess.DEVNULL,
                              env=os.environ | {"PATH": NO_KIT} | environment)
         return ran.stdout, ran.stderr, ran.returncode
@@ -96,11 +118,12 @@ class Launchers:
 
     def all(self) -> None:
         self.plain()
+        self.replacing()
         self.replaced()
         self.forged()
         self.paths()
-        for is_terminal in (False, True):
-            self.signals(is_terminal)
+        for words, is_terminal in ((["midpoint"], False), (["midpoint"], True), (["no", "command"], False)):
+            self.signals(words, is_terminal)
 
     def plain(self) -> None:
         made = self.noted()
@@ -111,6 +134,15 @@ class Launchers:
         (made.path / "crates/fr_bench/src/more.rt").write_text("more\n")
         self.runs.compare("a call after a change of the sources", made.call(),
                           not_run("the sources aren't those that dist/fr_bench was made from"))
+
+    def replacing(self) -> None:
+        """With right words the program takes the place of the launcher, at the first call and later."""
+        made = self.checkout(program="#!/bin/sh\necho $$\n")
+        for when in ("first", "second"):
+            running = subprocess.Popen([made.path / "fr_bench", "midpoint"], stdin=subprocess.DEVNULL,
+                                       stdout=subprocess.PIPE, stderr=subprocess.PIPE, text=True)
+            output = running.communicate(timeout=SECONDS)[0]
+            self.runs.compare(f"the process of a {when} call", output, f"{running.pid}\n")
 
     def replaced(self) -> None:
         """Another program in place of the one that is named."""
@@ -149,24 +181,25 @@ class Launchers:
             self.runs.compare(f"a call below {name!r}", (made.call(), made.call()), (RAN, RAN))
             link = made.path / "dist" / "link"
             link.symlink_to(made.path / "fr_bench")
-            ran = subprocess.run([link, "check"], capture_output=True, text=True, timeout=SECONDS)
+            ran = subprocess.run([link, "midpoint"], capture_output=True, text=True, timeout=SECONDS)
             self.runs.compare(f"a call by a link below {name!r}", (ran.stdout, ran.returncode), ("right\n", 0))
 
-    def signals(self, is_terminal: bool) -> None:
+    def signals(self, words: list[str], is_terminal: bool) -> None:
         """A signal to the launcher ends the program, which may catch it."""
-        place = "at a terminal" if is_terminal else "without a terminal"
+        place = f"with {words} {'at a terminal' if is_terminal else 'without a terminal'}"
         for program, number, wanted in ((CAUGHT, signal.SIGTERM, ("caught\n", 5)),
                                         (KILLED, signal.SIGTERM, ("", -signal.SIGTERM)),
                                         (KILLED, signal.SIGINT, ("", -signal.SIGINT)),
                                         (KILLED, signal.SIGHUP, ("", -signal.SIGHUP))):
             made = self.checkout(program=program)
-            self.runs.compare(f"{number.name} to the launcher {place}", ended_by(made, number, is_terminal), wanted)
+            self.runs.compare(f"{number.name} to the launcher {place}", ended_by(made, words, number, is_terminal),
+                              wanted)
 
 
-def ended_by(made: Checkout, number: signal.Signals, is_terminal: bool) -> tuple[str, int]:
+def ended_by(made: Checkout, words: list[str], number: signal.Signals, is_terminal: bool) -> tuple[str, int]:
     """What a program still prints after the launcher got a signal, and how the launcher ended."""
     ours, theirs = pty.openpty() if is_terminal else os.pipe()
-    running = subprocess.Popen([made.path / "fr_bench", "check"], stdin=subprocess.DEVNULL, stdout=subprocess.PIPE,
+    running = subprocess.Popen([made.path / "fr_bench", *words], stdin=subprocess.DEVNULL, stdout=subprocess.PIPE,
                                stderr=theirs, text=True, start_new_session=True)
     os.close(theirs)
     try:
