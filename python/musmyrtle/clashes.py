@@ -2,8 +2,7 @@
 from collections import defaultdict
 
 from musmyrtle.cluster import CYCLES, Buffer, Cluster, Fault, Ownership
-
-MOST_NOTES = 4
+from musmyrtle.findings import MOST_NOTES
 
 
 def clashes(cluster: Cluster) -> list[Fault]:
@@ -85,7 +84,7 @@ def fault_of_overlap(slot: int, channel: str, cycle: int, claims: list) -> Fault
     reason = ("In each cycle a slot is one's on a channel. Right would be another slot or channel for one of them, or "
               "cycles that part them: a `repetition` for both and a `base` of its own for each.")
     others = [it for it in claims if it is not second]
-    notes = tuple((f"{it} has slot {slot} on {it.channels} in {it.cycles}", it.path) for it in others)
+    notes = tuple((f"{it} has slot {slot} on {it.channels} in {it.cycles}", it.path) for it in others[:MOST_NOTES])
     return Fault(f"Overlap {slot} {channel} {cycle}", headline, reason, second.path, notes)
 
 

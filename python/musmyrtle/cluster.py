@@ -4,7 +4,7 @@ The faults are looked for in the order in which `fr_bench` looks for them, so th
 """
 from dataclasses import dataclass, field
 
-from musmyrtle.findings import joined, nearest, shown
+from musmyrtle.findings import MOST_REASONS, alike, joined, shown
 from musmyrtle.places import Path
 
 PARAMETERS = {
@@ -169,7 +169,8 @@ class Reader:
         self.faults.append(Fault(self.refusal, headline, reason, self.path if path is None else path, tuple(notes)))
 
     def missing(self, key: str, right: str) -> None:
-        meant = [it for it in self.table if it not in self.known and nearest(it, self.known) == key]
+        # What is meant is looked for only where it is told.
+        meant = alike(self.table, self.known, key) if len(self.faults) < MOST_REASONS else []
         notes = [(f"`{it}` is read by nothing: is `{key}` meant?", (*self.path, it)) for it in meant]
         self.note(f"{self.who} has no `{key}`", f"Right would be `{key}` with {right}.", notes=notes)
 
@@ -302,7 +303,7 @@ class Reading:
             return [self.read_node(number, table) for number, table in enumerate(nodes)]
         right = f"Right would be 1 to {MOST_NODES} tables `[[node]]`."
         if "node" not in self.document:
-            meant = [it for it in self.document if nearest(it, ["node"])]
+            meant = alike(self.document, ("node",), "node")
             notes = tuple((f"`{it}` is read by nothing: is `node` meant?", (it,)) for it in meant)
             self.faults.append(Fault("TooManyNodes", "the file has no node", right, notes=notes))
             return []

@@ -10,13 +10,13 @@ from dataclasses import replace
 from tempfile import NamedTemporaryFile
 from typing import TextIO
 
-from musmyrtle.findings import block, counted
+from musmyrtle.findings import MOST_REASONS, block, counted
 from musmyrtle.lint import Lint, Task, lint, read_bytes
 from musmyrtle.program import Answer, ask, usual_program
 from musmyrtle.runs import MOST_CYCLES
 
 FINE, REFUSED, USAGE, WARNED = 0, 1, 2, 4
-MOST_REASONS = 20
+MOST_WARNINGS = 40
 ABOUT = """Says what is wrong with a cluster file, and with a scenario for it: where, why, and what would be right.
 
 What is refused is refused by fr_bench, which is run first: `check CLUSTER`, or `run CLUSTER SCENARIO --cycles N`. What
@@ -123,17 +123,16 @@ def told(answer: Answer, found: Lint, is_bold: bool = False) -> Iterator[str]:
         yield "fr_bench: accepted\n"
     else:
         yield f"fr_bench: refused {answer.refusal}\n"
-    if found.is_doubtful and answer.refusal != "Toml":
-        yield ("No more can be said: the file is TOML 1.1, which fr_bench reads, and fr_lint reads TOML 1.0. "
-               f"{found.refusals[0][1].headline}.\n")
-        return
     if answer.refusal is None and found.refusals:
         yield f"No more can be said: fr_lint takes the input for {found.refusals[0][0]}, and fr_bench decides.\n"
         return
     if answer.refusal is not None:
         yield from told_reasons(answer, found, is_bold)
-    for finding in found.warnings:
+    for finding in found.warnings[:MOST_WARNINGS]:
         yield block("warning", finding, is_bold)
+    more = len(found.warnings[MOST_WARNINGS:]) + found.further_warnings
+    if more:
+        yield f"and {counted(more, 'more warning')}\n"
 
 
 def told_reasons(answer: Answer, found: Lint, is_bold: bool) -> Iterator[str]:
@@ -143,7 +142,7 @@ def told_reasons(answer: Answer, found: Lint, is_bold: bool) -> Iterator[str]:
     for refusal, finding in found.refusals[:MOST_REASONS]:
         yield block(f"refused {refusal}", finding, is_bold)
     if len(found.refusals) > MOST_REASONS:
-        yield f"and {counted(len(found.refusals) - MOST_REASONS, 'mistake')} more\n"
+        yield f"and {counted(len(found.refusals) - MOST_REASONS, 'more mistake')}\n"
 
 
 def is_explained(answer: Answer, found: Lint) -> bool:

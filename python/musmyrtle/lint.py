@@ -25,8 +25,8 @@ class Lint:
 
     refusals: list[tuple[str, Finding]] = field(default_factory=list)
     warnings: list[Finding] = field(default_factory=list)
-    is_doubtful: bool = False
-    """Whether nothing can be said, since the file may be TOML 1.1."""
+    further_warnings: int = 0
+    """How many unread keys there are beside those in `warnings`."""
 
     def refuse(self, refusal: str, finding: Finding) -> None:
         self.refusals.append((refusal, finding))
@@ -70,7 +70,6 @@ def lint(task: Task) -> Lint:
     text = read_text(task.cluster, data)
     if text.refusal:
         found.refuse(text.refusal, text.why)
-        found.is_doubtful = text.is_doubtful
         return found
     cluster = lint_cluster(text, found)
     if cluster and task.scenario is not None:
@@ -83,7 +82,7 @@ def lint(task: Task) -> Lint:
 
 def lint_cluster(text: Text, found: Lint) -> Cluster | None:
     """The cluster, if it is to be taken. What nothing reads is told in any case."""
-    found.warnings += unread.unread_keys(text)
+    found.warnings, found.further_warnings = unread.unread_keys(text)
     reading = ClusterReading(text.document)
     faults = reading.faults or clashes(reading.cluster)
     for fault in faults:

@@ -8,13 +8,12 @@ again (chapters 3 and 5). Action points, delays and the clocks' deviations come 
 from collections.abc import Iterator
 
 from musmyrtle.cluster import Cluster
-from musmyrtle.findings import Finding, counted, shown
+from musmyrtle.findings import MOST_NOTES, Finding, counted, shown
 from musmyrtle.texts import Text
 
 BITS_OF_BYTE = 10
 BYTES_BESIDE_PAYLOAD = 8
 START, END, TRAILING, IDLE = 3 + 1, 2, 2, 11
-MOST_NOTES = 4
 
 
 def bits_of_frame(words: int, is_dynamic: bool) -> int:

@@ -2,11 +2,9 @@
 from collections.abc import Iterator
 
 from musmyrtle.cluster import CYCLES, Buffer, Cluster, Node, Queue
-from musmyrtle.findings import Finding, counted, joined
+from musmyrtle.findings import MOST_NOTES, Finding, counted, joined
 from musmyrtle.sending import can_send
 from musmyrtle.texts import Text
-
-MOST_NOTES = 4
 
 
 def is_common(one: Buffer | Queue, other: Buffer) -> bool:

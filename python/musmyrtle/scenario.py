@@ -6,6 +6,7 @@ from itertools import product
 from musmyrtle.findings import Finding, nearest
 from musmyrtle.places import Place
 from musmyrtle.texts import FILE_LIMIT
+from musmyrtle.visible import cut
 
 MOST_LINES = 4096
 LONGEST_LINE = 1200
@@ -215,7 +216,7 @@ def bad_words(words: tuple[str, ...], text: str, version: int) -> tuple[str, str
     if kind not in FORMS:
         meant = nearest(kind, tuple(FORMS))
         hint = f"Is `{meant}` meant? " if meant else ""
-        return f"no line begins with `{kind[:40]}`", f"{hint}Right would be one of {', '.join(FORMS)}.", 1
+        return f"no line begins with `{cut(kind)}`", f"{hint}Right would be one of {', '.join(FORMS)}.", 1
     if kind == "withdraw" and version == 1:
         return "version 1 has no line `withdraw`", "Right would be `frscenario 2` as the first line.", 1
     form = " ".join([kind, *FORMS[kind]])
@@ -225,7 +226,7 @@ def bad_words(words: tuple[str, ...], text: str, version: int) -> tuple[str, str
     for name, word, column in zip(FORMS[kind], words[1:], columns(words)):
         right = wrong_word(kind, name, word)
         if right:
-            return f"{name} is `{word[:40]}`", f"Right would be {right}, in `{form}`.", column
+            return f"{name} is `{cut(word)}`", f"Right would be {right}, in `{form}`.", column
     return None
 
 
