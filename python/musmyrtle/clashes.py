@@ -3,6 +3,7 @@ from collections import defaultdict
 
 from musmyrtle.cluster import CYCLES, Buffer, Cluster, Fault, Ownership
 from musmyrtle.findings import MOST_NOTES
+from musmyrtle.offers import Offers
 
 
 def clashes(cluster: Cluster) -> list[Fault]:
@@ -14,13 +15,14 @@ def senders(cluster: Cluster, is_static: bool) -> list[Buffer]:
 
 
 def not_owned(cluster: Cluster) -> list[Fault]:
-    found = []
+    found, offers = [], Offers(cluster)
     for buffer in senders(cluster, True):
-        node = cluster.nodes[buffer.node]
-        missing = next(((channel, cycle) for channel in buffer.channels for cycle in CYCLES
-                        if buffer.cycles.admit(cycle) and not node.owns(buffer.slot, channel, cycle)), None)
-        if missing:
-            found.append(fault_of_unowned(cluster, buffer, *missing))
+        for channel in buffer.channels:
+            missing = buffer.cycles.bits & ~offers.static.get((buffer.node, channel, buffer.slot), 0)
+            if missing:
+                first = next(cycle for cycle in CYCLES if missing >> cycle & 1)
+                found.append(fault_of_unowned(cluster, buffer, channel, first))
+                break
     return found
 
 

@@ -3,6 +3,7 @@
 The faults are looked for in the order in which `fr_bench` looks for them, so that the first one is the program's.
 """
 from dataclasses import dataclass, field
+from functools import cached_property
 
 from musmyrtle.findings import MOST_REASONS, alike, joined, shown
 from musmyrtle.places import Path
@@ -35,6 +36,11 @@ class Cycles:
 
     def admit(self, cycle: int) -> bool:
         return cycle % self.repetition == self.base
+
+    @cached_property
+    def bits(self) -> int:
+        """The cycles of `CYCLES` as bits of a number."""
+        return sum(1 << cycle for cycle in CYCLES if self.admit(cycle))
 
     def meet(self, other: "Cycles") -> bool:
         """Whether both admit some cycle."""
