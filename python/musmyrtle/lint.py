@@ -10,7 +10,7 @@ from musmyrtle.findings import Finding
 from musmyrtle.runs import Run
 from musmyrtle.scenario import Reading as ScenarioReading
 from musmyrtle.strikes import Strikes, small_journals
-from musmyrtle.texts import FILE_LIMIT, Text, read_text
+from musmyrtle.texts import FILE_LIMIT, NoText, Text, read_text
 
 OF_CLUSTER = (
     sending.silent_buffers, sending.unfilled_slots, sending.sync_slots, receiving.idle_receivers,
@@ -67,9 +67,10 @@ def lint(task: Task) -> Lint:
     if data is None:
         found.refuse("Read", unreadable(task.cluster, "the cluster file"))
         return found
-    text = read_text(task.cluster, data)
-    if text.refusal:
-        found.refuse(text.refusal, text.why)
+    try:
+        text = read_text(task.cluster, data)
+    except NoText as error:
+        found.refuse(error.refusal, error.why)
         return found
     cluster = lint_cluster(text, found)
     if cluster and task.scenario is not None:

@@ -11,18 +11,24 @@ from musmyrtle.toml_values import NoToml
 FILE_LIMIT = 1_048_576
 
 
-@dataclass
+class NoText(Exception):
+    """The file is refused as a text: the words of the refusal, and why."""
+
+    def __init__(self, refusal: str, why: Finding):
+        super().__init__(refusal)
+        self.refusal, self.why = refusal, why
+
+
+@dataclass(frozen=True)
 class Text:
-    """What could be read of a file: the document and its places, or why not."""
+    """What was read of a file: the document and its places."""
 
     file: str
-    document: Table | None = None
-    places: Places | None = None
-    refusal: str | None = None
-    why: Finding | None = None
+    document: Table
+    places: Places
 
     def place_of(self, path: Path) -> Place | None:
-        """The place of a path, or otherwise of the table that holds it."""
+        """Returns the place of a path, or otherwise of the table that holds it."""
         while path:
             place = self.places.of(path)
             if place:
@@ -31,25 +37,25 @@ class Text:
         return None
 
     def finding(self, headline: str, reason: str, path: Path = (), notes: Iterable[tuple[str, Path]] = ()) -> Finding:
-        """A finding at a path, with what stands at the paths of its notes."""
+        """Returns a finding at a path, with what stands at the paths of its notes."""
         others = tuple(Note(text, self.place_of(other)) for text, other in notes)
         return Finding(headline, reason, self.place_of(path), others)
 
 
 def read_text(file: str, data: bytes) -> Text:
-    """Reads the bytes of a cluster file."""
+    """Reads the bytes of a cluster file. Raises `NoText` for a file that is too long or no TOML."""
     if len(data) > FILE_LIMIT:
         headline = f"the file has {len(data)} bytes"
-        return Text(file, refusal="TooLong", why=Finding(headline, f"A cluster file has at most {FILE_LIMIT} bytes."))
+        raise NoText("TooLong", Finding(headline, f"A cluster file has at most {FILE_LIMIT} bytes."))
     try:
         text = data.decode()
     except UnicodeDecodeError as error:
-        return Text(file, refusal="Toml", why=not_utf8(file, data, error.start))
+        raise NoText("Toml", not_utf8(file, data, error.start)) from None
     text = text.removeprefix("\ufeff")
     try:
         document = Reader(text).document()
     except NoToml as error:
-        return Text(file, refusal="Toml", why=no_toml(Places(file, text, Table(BY_HEADER)), error))
+        raise NoText("Toml", no_toml(Places(file, text, Table(BY_HEADER)), error)) from None
     return Text(file, document, Places(file, text, document))
 
 
