@@ -17,7 +17,8 @@ COMMENT = r"#[^\x00-\x08\x0a-\x1f\x7f]*+"
 GAPS = rf"(?:[ \t\n]++|\r\n|{COMMENT})*+"
 GAP = re.compile(GAPS)
 BLANK = re.compile(r"[ \t]*+")
-LINE_END = re.compile(rf"[ \t]*+(?:{COMMENT})?+(?:\r?\n|\Z)")
+REST = re.compile(rf"[ \t]*+(?:{COMMENT})?+")
+LINE_END = re.compile(rf"{REST.pattern}(?:\r?\n|\Z)")
 BARE = re.compile(r"([-_0-9A-Za-z]++)[ \t]*+(\.)?+[ \t]*+")
 """A part of a key without quotes, and the point after it."""
 SIMPLE = re.compile(r"([-_0-9A-Za-z]++)[ \t]*+=[ \t]*+")
@@ -43,6 +44,7 @@ class Reader:
                 self.pair(table, 0)
             end = LINE_END.match(self.text, self.at)
             if end is None:
+                self.skip(REST)
                 raise self.odd("more stands in the line", "Right would be a line for each key and each header.")
             self.at = end.end()
             self.skip(GAP)

@@ -86,9 +86,10 @@ class Texts(Cases):
 
     def test_texts_that_are_none(self):
         for text, place in NONE.items():
-            with self.subTest(text=text[:40]), self.assertRaises(NoToml) as caught:
-                self.read(text)
-            self.assertEqual(str(Places("f", text, Table(BY_HEADER)).at(caught.exception.at)), f"f:{place}", text[:40])
+            with self.subTest(text=text[:40]):
+                with self.assertRaises(NoToml) as caught:
+                    self.read(text)
+                self.assertEqual(str(Places("f", text, Table(BY_HEADER)).at(caught.exception.at)), f"f:{place}")
 
     def test_the_deepest(self):
         for text in DEEPEST:
