@@ -5,6 +5,8 @@ from musmyrtle.cluster import CYCLES, Buffer, Cluster, Fault, Ownership
 from musmyrtle.findings import MOST_NOTES
 from musmyrtle.offers import Offers
 
+Claim = Ownership | Buffer
+
 
 def clashes(cluster: Cluster) -> list[Fault]:
     return [*not_owned(cluster), *dynamic_both(cluster), *overlaps(cluster), *too_long(cluster)]
@@ -49,7 +51,7 @@ def dynamic_both(cluster: Cluster) -> list[Fault]:
 
 
 def overlaps(cluster: Cluster) -> list[Fault]:
-    claims: dict[tuple[int, str], tuple[list, list]] = defaultdict(lambda: ([], []))
+    claims: dict[tuple[int, str], tuple[list[Claim], list[Claim]]] = defaultdict(lambda: ([], []))
     for line in cluster.owned():
         for channel in line.channels:
             claims[line.slot, channel][0].append(line)
@@ -68,7 +70,7 @@ def overlaps(cluster: Cluster) -> list[Fault]:
     return found
 
 
-def first_clash(claims: list[Ownership] | list[Buffer]) -> tuple[int, list] | None:
+def first_clash(claims: list[Claim]) -> tuple[int, list[Claim]] | None:
     """The least cycle that two of them admit, and those that do."""
     if len(claims) < 2:
         return None
@@ -79,7 +81,7 @@ def first_clash(claims: list[Ownership] | list[Buffer]) -> tuple[int, list] | No
     return None
 
 
-def fault_of_overlap(slot: int, channel: str, cycle: int, claims: list) -> Fault:
+def fault_of_overlap(slot: int, channel: str, cycle: int, claims: list[Claim]) -> Fault:
     first, second = claims[:2]
     verb = "own" if isinstance(first, Ownership) else "send in"
     headline = f"{second} and {first} both {verb} slot {slot} on {channel} in cycle {cycle}"

@@ -8,7 +8,7 @@ from collections.abc import Iterator
 from contextlib import ExitStack, contextmanager, suppress
 from dataclasses import replace
 from tempfile import NamedTemporaryFile
-from typing import NoReturn, TextIO
+from typing import Any, NoReturn, TextIO
 
 from musmyrtle.findings import MOST_REASONS, block, counted
 from musmyrtle.lint import Lint, Task, lint, read_bytes
@@ -31,7 +31,7 @@ given, 130 where SIGINT broke it off"""
 class Parser(argparse.ArgumentParser):
     """The words of a command. Its help is written as all other output is."""
 
-    def print_help(self, file: TextIO | None = None) -> None:
+    def print_help(self, file: Any = None) -> None:
         write(file or sys.stdout, [self.format_help()])
 
     def error(self, message: str) -> NoReturn:

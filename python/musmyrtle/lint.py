@@ -74,7 +74,7 @@ def lint(task: Task) -> Lint:
         return found
     cluster = lint_cluster(text, found)
     if cluster and task.scenario is not None:
-        lint_scenario(task, cluster, text, found)
+        lint_scenario(task, task.scenario, cluster, text, found)
     elif cluster:
         # One cycle is the shortest run: a cluster with less room has none.
         found.warnings += small_journals(cluster, text, task.cycles or 1)
@@ -85,23 +85,24 @@ def lint_cluster(text: Text, found: Lint) -> Cluster | None:
     """The cluster, if it is to be taken. What nothing reads is told in any case."""
     found.warnings, found.further_warnings = unread.unread_keys(text)
     reading = ClusterReading(text.document)
-    faults = reading.faults or clashes(reading.cluster)
+    cluster = reading.cluster
+    faults = reading.faults if cluster is None else clashes(cluster)
     for fault in faults:
         found.refuse(fault.refusal, text.finding(fault.headline, fault.reason, fault.path, fault.notes))
-    if faults:
+    if cluster is None or faults:
         return None
-    found.warnings += unread.idle_keys(text, reading.parameters.static_slots)
+    found.warnings += unread.idle_keys(text, cluster.parameters.static_slots)
     for warnings in OF_CLUSTER:
-        found.warnings += warnings(reading.cluster, text)
-    return reading.cluster
+        found.warnings += warnings(cluster, text)
+    return cluster
 
 
-def lint_scenario(task: Task, cluster: Cluster, text: Text, found: Lint) -> None:
-    data = read_bytes(task.file(task.scenario))
+def lint_scenario(task: Task, name: str, cluster: Cluster, text: Text, found: Lint) -> None:
+    data, cycles = read_bytes(task.file(name)), task.cycles or 1
     if data is None:
-        found.refuse("Read", unreadable(task.scenario, "the scenario"))
+        found.refuse("Read", unreadable(name, "the scenario"))
         return
-    scenario = ScenarioReading(task.scenario, data).scenario
-    found.refusals += scenario.refusals or Run(cluster, text, scenario, task.cycles).refusals()
+    scenario = ScenarioReading(name, data).scenario
+    found.refusals += scenario.refusals or Run(cluster, text, scenario, cycles).refusals()
     if not found.refusals:
-        found.warnings += Strikes(cluster, scenario, task.cycles).findings()
+        found.warnings += Strikes(cluster, scenario, cycles).findings()

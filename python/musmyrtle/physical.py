@@ -32,7 +32,7 @@ def short_slots(cluster: Cluster, text: Text) -> Iterator[Finding]:
     bits = []
     for key, unit in (("bit_rate", "bits a second"), ("macrotick_us", "microseconds")):
         value = table.get(key)
-        if type(value) not in (int, float) or not 1e-6 <= value < 1e12:
+        if isinstance(value, bool) or not isinstance(value, int | float) or not 1e-6 <= value < 1e12:
             found = f"is {shown(value)}" if key in table else "is missing"
             reason = f"Slots aren't held to their times without. Right would be a number from 1e-6 to 1e12, of {unit}."
             yield text.finding(f"`{key}` of `[physical]` {found}", reason, ("physical", key))

@@ -7,6 +7,7 @@ import subprocess
 from collections import deque
 from dataclasses import dataclass
 from pathlib import Path
+from typing import Any
 
 from musmyrtle.output import pass_on
 
@@ -61,9 +62,10 @@ def ask(program: str, words: list[str]) -> Answer:
     """Returns the program's answer. What its launcher says meanwhile, as that it builds first, is passed on."""
     refusal = None
     told: deque[str] = deque(maxlen=MOST_TOLD)
-    streams = {"stdin": subprocess.DEVNULL, "stdout": subprocess.DEVNULL, "stderr": subprocess.PIPE}
+    streams: dict[str, Any] = {"stdin": subprocess.DEVNULL, "stdout": subprocess.DEVNULL, "stderr": subprocess.PIPE}
     with subprocess.Popen([program, *words], text=True, errors="replace", **streams) as running:
-        for line in iter(lambda: running.stderr.readline(LONGEST_TOLD), ""):
+        # A line without an end comes in parts, so that a program can't fill the memory.
+        while running.stderr and (line := running.stderr.readline(LONGEST_TOLD)):
             line = line.rstrip("\n")
             if REFUSED_LINE.fullmatch(line):
                 refusal = line.removeprefix("refused ")

@@ -45,7 +45,7 @@ class Strikes:
     def may_open(self, line: FaultLine) -> bool:
         """Whether a slot may open at the line's minislot on one of the channels in one of its cycles."""
         last_without_traffic = LAST_SLOT - self.cluster.parameters.static_slots
-        return line.place <= last_without_traffic or self.is_anything_dynamic
+        return (line.place or 0) <= last_without_traffic or self.is_anything_dynamic
 
     @cached_property
     def is_anything_dynamic(self) -> bool:
@@ -63,7 +63,7 @@ class Strikes:
         channel, cycles = line.word("CHANNEL"), self.cycles_of(line)
         if line.is_static:
             return self.offered.is_in_slot(number, channel, line.place, cycles)
-        return self.offered.is_at_minislot(number, channel, line.place, cycles)
+        return self.offered.is_at_minislot(number, channel, line.place or 0, cycles)
 
     def unoffered(self, line: FaultLine) -> str:
         who, channel = f"Node {line.word('NODE')}", line.word("CHANNEL")

@@ -32,6 +32,8 @@ class Reader:
 
     def __init__(self, text: str):
         self.text, self.at = text, 0
+        self.known: dict[str, object] = {}
+        """The values of words without quotes. Where a text has room for very many words, most of them are the same."""
 
     def document(self) -> Table:
         """Returns the table of the whole text. Raises `NoToml` at the first place where it isn't TOML."""
@@ -126,7 +128,10 @@ class Reader:
         word = WORD.match(self.text, begin)
         if word:
             self.at = word.end()
-            return bare_value(word[0], begin)
+            value = self.known.get(word[0])
+            if value is None:
+                value = self.known[word[0]] = bare_value(word[0], begin)
+            return value
         first = self.text[begin : begin + 1]
         if first and first in "\"'":
             found, self.at = string(self.text, begin)

@@ -48,7 +48,6 @@ TEXTS = {
     "a header of many parts": ("Toml", "[" + "a." * 32_000 + "a]\n"),
     "arrays in arrays": ("Toml", "a = " + "[" * 300_000),
     "numbers in an array": (None, "a = [" + "1," * 500_000 + "]\n" + CLUSTER),
-    "strings in an array": (None, "a = [" + '"",' * 340_000 + "]\n" + CLUSTER),
     "inline tables in an array": (None, "a = [" + "{a=1}," * 170_000 + "]\n" + CLUSTER),
     "deep keys below deep headers": (None, CLUSTER + numbered(f"[{LEVELS}h#]\n{LEVELS}k = 1\n", 3_000)),
     "headers": (None, CLUSTER + numbered("[t#]\n", 90_000)),
