@@ -7,7 +7,6 @@ import sys
 from collections.abc import Iterator
 from contextlib import ExitStack, contextmanager, suppress
 from dataclasses import replace
-from tempfile import NamedTemporaryFile
 from typing import Any, NoReturn, TextIO
 
 from musmyrtle.findings import MOST_REASONS, block, counted
@@ -85,6 +84,8 @@ def lasting_file(name: str, copies: ExitStack) -> str:
     data = read_bytes(name)
     if data is None:
         return name
+    # Most files can be read again, and each call would wait for the import.
+    from tempfile import NamedTemporaryFile
     try:
         copy = copies.enter_context(NamedTemporaryFile(prefix="musmyrtle-"))
         copy.write(data)

@@ -1,7 +1,6 @@
 """What is found in a file: a headline, where, the reason, and what else has to do with it."""
 from collections.abc import Iterable
 from dataclasses import dataclass
-from difflib import get_close_matches
 from itertools import islice
 from textwrap import wrap
 
@@ -69,6 +68,8 @@ def nearest(word: str, known: tuple[str, ...] | list[str]) -> str | None:
     """The known word that this one is most like, if one is near enough to be meant."""
     if len(word) > LONGEST_MEANT:
         return None
+    # Few files have such words, and each call of a command would wait for the import.
+    from difflib import get_close_matches
     plain_words = {plain(it): it for it in known}
     found = get_close_matches(plain(word), plain_words, n=1, cutoff=0.6)
     return plain_words[found[0]] if found else None

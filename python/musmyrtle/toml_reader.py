@@ -17,8 +17,8 @@ COMMENT = r"#[^\x00-\x08\x0a-\x1f\x7f]*+"
 GAPS = rf"(?:[ \t\n]++|\r\n|{COMMENT})*+"
 GAP = re.compile(GAPS)
 BLANK = re.compile(r"[ \t]*+")
-REST = re.compile(rf"[ \t]*+(?:{COMMENT})?+")
-LINE_END = re.compile(rf"{REST.pattern}(?:\r?\n|\Z)")
+REST = rf"[ \t]*+(?:{COMMENT})?+"
+LINE_END = re.compile(rf"{REST}(?:\r?\n|\Z)")
 BARE = re.compile(r"([-_0-9A-Za-z]++)[ \t]*+(\.)?+[ \t]*+")
 """A part of a key without quotes, and the point after it."""
 SIMPLE = re.compile(r"([-_0-9A-Za-z]++)[ \t]*+=[ \t]*+")
@@ -46,7 +46,7 @@ class Reader:
                 self.pair(table, 0)
             end = LINE_END.match(self.text, self.at)
             if end is None:
-                self.skip(REST)
+                self.skip(re.compile(REST))
                 raise self.odd("more stands in the line", "Right would be a line for each key and each header.")
             self.at = end.end()
             self.skip(GAP)
@@ -63,7 +63,7 @@ class Reader:
 
     def odd(self, why: str, right: str, note: Noted | None = None) -> NoToml:
         """Returns what is wrong with the next character."""
-        found = CONTROL.match(self.text, self.at)
+        found = re.compile(CONTROL).match(self.text, self.at)
         return no_control(found) if found else NoToml(self.at, why, right, note)
 
     def key(self, note: Noted | None = None) -> list[tuple[str, int]]:

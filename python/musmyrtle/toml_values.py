@@ -1,7 +1,6 @@
 """The values of a TOML text that are neither tables nor arrays: strings, numbers, booleans, dates and times."""
 import math
 import re
-from dataclasses import dataclass
 
 from musmyrtle.visible import cut
 
@@ -12,27 +11,28 @@ VALUES = "a string in quotes, a number, true, false, a date, a time, an array or
 WORD = re.compile(r"[-+.:_0-9A-Za-z]++(?:(?<=[0-9]{4}-[0-9]{2}-[0-9]{2}) (?=[0-9])[-+.:0-9A-Za-z]++)?+")
 """The longest text that may be a value without quotes. A date and its time may have a space between them."""
 INTEGER = re.compile(r"[+-]?(?:0|[1-9](?:_?[0-9])*+)")
-OTHER_INTEGER = re.compile(r"0(?:x[0-9A-Fa-f](?:_?[0-9A-Fa-f])*+|o[0-7](?:_?[0-7])*+|b[01](?:_?[01])*+)")
-FLOAT = re.compile(r"[+-]?(?:0|[1-9](?:_?[0-9])*+)(?:\.[0-9](?:_?[0-9])*+)?(?:[eE][+-]?[0-9](?:_?[0-9])*+)?")
+# What few files have is compiled where it is first met, since each call of a command would wait for it.
+OTHER_INTEGER = r"0(?:x[0-9A-Fa-f](?:_?[0-9A-Fa-f])*+|o[0-7](?:_?[0-7])*+|b[01](?:_?[01])*+)"
+FLOAT = r"[+-]?(?:0|[1-9](?:_?[0-9])*+)(?:\.[0-9](?:_?[0-9])*+)?(?:[eE][+-]?[0-9](?:_?[0-9])*+)?"
 CONSTANTS: dict[str, bool | float] = {"true": True, "false": False} | {
     sign + it: float(sign + it) for sign in ("", "+", "-") for it in ("inf", "nan")}
 TIME = r"(?:[01][0-9]|2[0-3]):[0-5][0-9](?::(?:[0-5][0-9]|60)(?:\.[0-9]++)?)?"
 OFFSET = r"(?:[Zz]|[+-](?:[01][0-9]|2[0-3]):[0-5][0-9])"
-MOMENT = re.compile(rf"([0-9]{{4}})-([0-9]{{2}})-([0-9]{{2}})(?:[Tt ]{TIME}{OFFSET}?)?|{TIME}")
+MOMENT = rf"([0-9]{{4}})-([0-9]{{2}})-([0-9]{{2}})(?:[Tt ]{TIME}{OFFSET}?)?|{TIME}"
 DAYS = (31, 28, 31, 30, 31, 30, 31, 31, 30, 31, 30, 31)
 
-BODIES = {
+BODIES: dict[str, str | re.Pattern[str]] = {
     '"': re.compile(r'((?:[^"\\\x00-\x08\x0a-\x1f\x7f]++|\\[^\x00-\x1f\x7f])*+)'),
     "'": re.compile(r"([^'\x00-\x08\x0a-\x1f\x7f]*+)"),
-    '"""': re.compile(
-        r'(?:\r?\n)?+((?:[^"\\\x00-\x08\x0b-\x1f\x7f]++|\r\n|\\(?:\r\n|[^\x00-\x08\x0b-\x1f\x7f])|"{1,2}+(?!"))*+)'),
-    "'''": re.compile(r"(?:\r?\n)?+((?:[^'\x00-\x08\x0b-\x1f\x7f]++|\r\n|'{1,2}+(?!'))*+)"),
+    '"""':
+        r'(?:\r?\n)?+((?:[^"\\\x00-\x08\x0b-\x1f\x7f]++|\r\n|\\(?:\r\n|[^\x00-\x08\x0b-\x1f\x7f])|"{1,2}+(?!"))*+)',
+    "'''": r"(?:\r?\n)?+((?:[^'\x00-\x08\x0b-\x1f\x7f]++|\r\n|'{1,2}+(?!'))*+)",
 }
 """What may stand in a string, by its quotes."""
-LAST_QUOTES = re.compile(r"""'{3,5}+|"{3,5}+""")
+LAST_QUOTES = r"""'{3,5}+|"{3,5}+"""
 """The end of a string of several lines, which may have two quotes before it."""
-CONTROL = re.compile(r"[\x00-\x08\x0b\x0c\x0e-\x1f\x7f]|\r(?!\n)")
-ESCAPE = re.compile(r"\\(?:([btnfre\"\\])|x([0-9A-Fa-f]{2})|u([0-9A-Fa-f]{4})|U([0-9A-Fa-f]{8})"
+CONTROL = r"[\x00-\x08\x0b\x0c\x0e-\x1f\x7f]|\r(?!\n)"
+ESCAPE = (r"\\(?:([btnfre\"\\])|x([0-9A-Fa-f]{2})|u([0-9A-Fa-f]{4})|U([0-9A-Fa-f]{8})"
                     r"|[ \t]*\r?\n[ \t\r\n]*|)")
 ESCAPED = {"b": "\b", "t": "\t", "n": "\n", "f": "\f", "r": "\r", "e": "\x1b", '"': '"', "\\": "\\"}
 
@@ -49,11 +49,13 @@ class NoToml(ValueError):
         self.at, self.why, self.right, self.note = at, why, right, note
 
 
-@dataclass(frozen=True, slots=True)
 class Moment:
     """A date, a time or both, as the text spells it."""
 
-    text: str
+    __slots__ = ("text",)
+
+    def __init__(self, text: str):
+        self.text = text
 
     def __str__(self) -> str:
         return self.text
@@ -66,14 +68,14 @@ def bare_value(word: str, at: int) -> bool | int | float | Moment:
         return in_64_bits(int(word) if len(digits) <= MOST_DIGITS else GREATEST + 1, at)
     if word in CONSTANTS:
         return CONSTANTS[word]
-    if FLOAT.fullmatch(word):
+    if re.fullmatch(FLOAT, word):
         number = float(word)
         if math.isinf(number):
             raise NoToml(at, "a number is too great", "At most 308 digits may stand before its point.")
         return number
-    if OTHER_INTEGER.fullmatch(word):
+    if re.fullmatch(OTHER_INTEGER, word):
         return in_64_bits(int(word, 0), at)
-    found = MOMENT.fullmatch(word)
+    found = re.fullmatch(MOMENT, word)
     if found and (found[1] is None or is_date(*map(int, found.groups()))):
         return Moment(word)
     raise NoToml(at, f"`{cut(word)}` is no value", f"Right would be {VALUES}.")
@@ -94,22 +96,22 @@ def string(text: str, at: int, has_lines: bool = True) -> tuple[str, int]:
     """Returns the string that begins with a quote at an offset, and its end. A key has no string of several lines."""
     quote = text[at]
     quotes = quote * 3 if has_lines and text.startswith(quote * 3, at) else quote
-    body = BODIES[quotes].match(text, at + len(quotes))
+    body = re.compile(BODIES[quotes]).match(text, at + len(quotes))
     end = body.end() if body else at
     if body is None or not text.startswith(quotes, end):
         raise unfinished(text, at, end, quotes)
     content = body[1]
-    last = LAST_QUOTES.match(text, end) if len(quotes) == 3 else None
+    last = re.compile(LAST_QUOTES).match(text, end) if len(quotes) == 3 else None
     if last:
         content = (content + last[0][3:]).replace("\r\n", "\n")
     if quote == '"' and "\\" in content:
-        content = ESCAPE.sub(lambda escape: character(escape, at), content)
+        content = re.sub(ESCAPE, lambda escape: character(escape, at), content)
     return content, last.end() if last else end + 1
 
 
 def unfinished(text: str, at: int, end: int, quotes: str) -> NoToml:
     """Returns what is wrong with a string that nothing ends: a control character stands in it, or it goes on."""
-    control = CONTROL.match(text, end)
+    control = re.compile(CONTROL).match(text, end)
     if control:
         return no_control(control)
     where = "" if len(quotes) == 3 else " in its line"

@@ -6,6 +6,7 @@ import signal
 import stat
 import subprocess
 import sys
+import tempfile
 from pathlib import Path
 from unittest import mock
 
@@ -249,7 +250,7 @@ class Command(Cases):
 
     def test_no_room_for_a_copy(self):
         name = self.pipe(CLUSTER)
-        with mock.patch.object(command, "NamedTemporaryFile", side_effect=OSError(28, "No space left on device")):
+        with mock.patch.object(tempfile, "NamedTemporaryFile", side_effect=OSError(28, "No space left on device")):
             status, output, error = self.run_with(name, "--program", self.stub())
         self.assertEqual((status, output), (2, ""))
         self.assertEqual(error, f"fr_lint: {name} can't be copied: No space left on device\n")

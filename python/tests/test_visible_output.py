@@ -1,4 +1,4 @@
-"""That nothing that a terminal obeys comes out of `fr_lint` and `fr_faults` raw: from files, names, words and programs."""
+"""What a terminal obeys comes out of `fr_lint` and `fr_faults` as escapes: from files, names, words and programs."""
 import os
 import stat
 import subprocess
