@@ -96,16 +96,18 @@ read_words() {
         ;;
     esac
     if [ "$name" = fr_world ]; then
-        read_world "$@"
-        return
-    fi
-    if ! find_command "${1-}"; then
+        places=FILE
+        options=--cycles
+        flags=
+        input=requests
+    elif find_command "${1-}"; then
+        command=$1
+        shift
+    else
         slip='no command'
         misspelt=${1-}
         return
     fi
-    command=$1
-    shift
     is_open=1
     while [ $# -gt 0 ] && [ -z "$slip" ]; do
         case $is_open$1 in
@@ -163,7 +165,7 @@ read_option() {
 }
 
 unknown_option() {
-    slip="$command has no option $1"
+    slip="${command:-$name} has no option $1"
     misspelt=$1
     known="$options $flags"
 }
@@ -222,65 +224,7 @@ find_surplus() {
         *" $option "*) ! is_in_range "$option" "$surplus" || slip="$option is missing in front of $surplus" ;;
         esac
     done
-    [ -z "$input" ] || slip="$slip; $command reads $input on standard input: < $surplus"
-}
-
-# Reads the words of fr_world, which are three in this order alone.
-read_world() {
-    input=requests
-    if [ $# -eq 3 ] && [ "$2" = --cycles ]; then
-        file=$1
-        has_file=1
-        is_in_range --cycles "$3" || slip="--cycles must be $range, not ${3:-an empty word}"
-        return
-    fi
-    for word; do
-        case $word in
-        --cycles) given="$given--cycles " ;;
-        --cycles=*)
-            slip="write --cycles ${word#*=} as two words, after FILE"
-            return
-            ;;
-        -*)
-            slip="fr_world has no option $word"
-            misspelt=$word
-            known=--cycles
-            return
-            ;;
-        esac
-    done
-    read_few "$@"
-}
-
-# The same of words among which --cycles is the only option.
-read_few() {
-    case $#$given in
-    0*) slip='missing: FILE, --cycles N' ;;
-    *--cycles\ --cycles*) slip='--cycles stands twice' ;;
-    1*--cycles*) slip='missing: FILE, and the value of --cycles' ;;
-    2*--cycles*)
-        if [ "$2" = --cycles ]; then
-            slip='--cycles has no value'
-        else
-            slip='the words must be in this order: FILE --cycles N'
-            ! is_in_range --cycles "$2" || slip='missing: FILE, in front of --cycles N'
-        fi
-        ;;
-    3*--cycles*) slip='the words must be in this order: FILE --cycles N' ;;
-    4*--cycles*)
-        case $3 in
-        --cycles) slip="one word too many: $2" ;;
-        *) slip="one word too many: $4" ;;
-        esac
-        ;;
-    *--cycles*) slip="too many words: $#, not 3" ;;
-    *)
-        slip='missing: --cycles N'
-        if [ $# -eq 2 ] && is_in_range --cycles "$2"; then
-            slip="--cycles is missing in front of $2"
-        fi
-        ;;
-    esac
+    [ -n "$places" ] || slip="$slip; $command reads $input on standard input: < $surplus"
 }
 
 # Sets `unread` to the file of the words that can't be read, and why, or to nothing; and `unread_as` to its argument.

@@ -81,8 +81,8 @@ class Asked(unittest.TestCase):
                 return ask(str(program), ["check"]), shown.getvalue()
 
     def test_lines_of_a_launcher(self) -> None:
-        answer, shown = self.answer("fr_bench: building\\nrefused Read\\nfr_bench: no such file: x\\n")
-        self.assertEqual((answer, shown), (Answer(1, "Read"), "fr_bench: building\n"))
+        answer, shown = self.answer(f"{NAME}: building\\nrefused Read\\n{NAME}: no such file: x\\n")
+        self.assertEqual((answer, shown), (Answer(1, "Read"), f"{NAME}: building\n"))
 
 
 class Version(unittest.TestCase):
