@@ -69,9 +69,30 @@ is_in_range() {
     [ "$2" -ge "$least" ] && [ "$2" -le "$most" ]
 }
 
-# Sets `slip` to the first thing that is wrong with the words, or to nothing; for a misspelt word `misspelt`, and `known`
-# words in its place; and `file` and `scenario` to the files that are named, where the words are right.
+# Sets `slip` to the first thing that is wrong with the words, or to nothing. Of a misspelt word it sets `misspelt` too,
+# and `known` to the words that there are. Of right words it sets `file` and `scenario` to the files that they name.
 read_words() {
+    forget_words
+    if ! is_ascii "$*" && ! is_utf8 "$*"; then
+        slip="a word isn't UTF-8"
+        ! find_command "${1-}" || command=$1
+    elif [ "$name" = fr_world ]; then
+        places=FILE
+        options=--cycles
+        flags=
+        input=requests
+        read_arguments "$@"
+    elif find_command "${1-}"; then
+        command=$1
+        shift
+        read_arguments "$@"
+    else
+        slip='no command'
+        misspelt=${1-}
+    fi
+}
+
+forget_words() {
     slip=
     misspelt=
     known=
@@ -86,28 +107,10 @@ read_words() {
     surplus=
     command=
     input=
-    case $* in
-    *[!\ -~]*)
-        if ! is_utf8 "$*"; then
-            slip="a word isn't UTF-8"
-            ! find_command "${1-}" || command=$1
-            return
-        fi
-        ;;
-    esac
-    if [ "$name" = fr_world ]; then
-        places=FILE
-        options=--cycles
-        flags=
-        input=requests
-    elif find_command "${1-}"; then
-        command=$1
-        shift
-    else
-        slip='no command'
-        misspelt=${1-}
-        return
-    fi
+}
+
+# Reads the words after the command.
+read_arguments() {
     is_open=1
     while [ $# -gt 0 ] && [ -z "$slip" ]; do
         case $is_open$1 in
@@ -275,6 +278,12 @@ find_gap() {
     elif [ ! -x "$above" ]; then
         unread="permission denied: $1 (in the folder $above)"
     fi
+}
+
+is_ascii() {
+    case $1 in
+    *[!\ -~]*) return 1 ;;
+    esac
 }
 
 is_utf8() {

@@ -5,6 +5,7 @@ import random
 import re
 import subprocess
 from pathlib import Path
+from typing import Any
 
 from .launchers import Checkout
 from .runner import EXAMPLES, SECONDS, Runs
@@ -96,9 +97,9 @@ ALONE: list[tuple[str, Words, str]] = [
 ]
 """Refusals that the words don't explain: the program's line stands alone."""
 
-POOL = ["a", "4", "0", "1024", "1025", "04", "--cycles", "--cycles=4", "--cycles=", "--free", "--free=1", "--channel", "A",
-        "--channel=B", "C", "--node=3", "--node", "16", "--from", "--cycle=5", "--cycle", "--own", "--all", "--until-fault",
-        "--", "-", "-x", "--x", "", " ", "\u00e9", "--=", "*", "--cycles --channel", "-4"]
+POOL = ["a", "4", "0", "1024", "1025", "04", "--cycles", "--cycles=4", "--cycles=", "--free", "--free=1", "--channel",
+        "A", "--channel=B", "C", "--node=3", "--node", "16", "--from", "--cycle=5", "--cycle", "--own", "--all",
+        "--until-fault", "--", "-", "-x", "--x", "", " ", "\u00e9", "--=", "*", "--cycles --channel", "-4"]
 SHAPES = {
     "fr_bench": [["audit"], ["check", "a"], ["midpoint"], ["run", "a", "b", "--cycles", "4"]],
     "fr_view": [["schedule", "a"], ["frames"], ["matrix", "a", "b", "--cycles", "4"],
@@ -131,12 +132,13 @@ class Slips:
         self.versions()
         self.agreement()
 
-    def call(self, program: str, words: Words, **how: object) -> tuple[str, str, int]:
+    def call(self, program: str, words: Words, **how: Any) -> tuple[str, str, int]:
         # The superuser may read everything.
         if os.geteuid() == 0 and b"closed" in map(os.fsencode, words):
             how["user"] = NOBODY
-        ran = subprocess.run([self.top / program, *words], cwd=self.top, capture_output=True, timeout=SECONDS,
-                             stdin=subprocess.DEVNULL, text=True, errors="replace", **how)  # type: ignore[call-overload]
+        streams: dict[str, Any] = {"stdin": subprocess.DEVNULL, "stdout": subprocess.PIPE, "stderr": subprocess.PIPE}
+        ran = subprocess.run([self.top / program, *words], cwd=self.top, timeout=SECONDS, text=True, errors="replace",
+                             **streams, **how)
         return ran.stdout, ran.stderr, ran.returncode
 
     def words(self) -> None:
@@ -192,8 +194,8 @@ class Slips:
                 self.runs.compare(f"the arguments of {program} {command}: {given}", all(described), True)
                 ran = subprocess.run(["bash", "-c", f"cd '{self.top}' && {example.partition(' > ')[0]}"],
                                      capture_output=True, timeout=SECONDS)
-                self.runs.compare(f"the example of {program} {command}", (ran.stdout != b"", ran.stderr, ran.returncode),
-                                  (True, b"", 0))
+                self.runs.compare(f"the example of {program} {command}",
+                                  (ran.stdout != b"", ran.stderr, ran.returncode), (True, b"", 0))
                 others = ((*words, "-h"), (*words, CLUSTER, "--help")) + ((("help", *words),) if words else ())
                 for other in others:
                     self.runs.compare(f"help by {program} {other}", self.call(program, other), (text, "", 0))
