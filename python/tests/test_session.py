@@ -253,6 +253,10 @@ class TestWrongPrograms(Sessions):
         with self.assertRaisesRegex(SessionOver, "speaks 'frworld 2', not 'frworld 1'"):
             self.fake("print('frworld 2', flush=True)\n")
 
+    def test_one_that_a_launcher_explains(self):
+        with self.assertRaisesRegex(SessionOver, "^refused Read; fr_world: no such file: x$"):
+            self.fake(fakes.IS_EXPLAINED)
+
     def test_one_that_ends(self):
         for text, said in ((fakes.DIES_MIDWAY, "^refused Read$"),
                            (fakes.IS_KILLED, "^the program was ended by SIGKILL$"),
