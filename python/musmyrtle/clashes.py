@@ -2,8 +2,10 @@
 from collections import defaultdict
 
 from musmyrtle.cluster import CYCLES, Buffer, Cluster, Fault, Ownership
+from musmyrtle.findings import MOST_NOTES
+from musmyrtle.offers import Offers
 
-MOST_NOTES = 4
+Claim = Ownership | Buffer
 
 
 def clashes(cluster: Cluster) -> list[Fault]:
@@ -15,13 +17,14 @@ def senders(cluster: Cluster, is_static: bool) -> list[Buffer]:
 
 
 def not_owned(cluster: Cluster) -> list[Fault]:
-    found = []
+    found, offers = [], Offers(cluster)
     for buffer in senders(cluster, True):
-        node = cluster.nodes[buffer.node]
-        missing = next(((channel, cycle) for channel in buffer.channels for cycle in CYCLES
-                        if buffer.cycles.admit(cycle) and not node.owns(buffer.slot, channel, cycle)), None)
-        if missing:
-            found.append(fault_of_unowned(cluster, buffer, *missing))
+        for channel in buffer.channels:
+            missing = buffer.cycles.bits & ~offers.static.get((buffer.node, channel, buffer.slot), 0)
+            if missing:
+                first = next(cycle for cycle in CYCLES if missing >> cycle & 1)
+                found.append(fault_of_unowned(cluster, buffer, channel, first))
+                break
     return found
 
 
@@ -48,7 +51,7 @@ def dynamic_both(cluster: Cluster) -> list[Fault]:
 
 
 def overlaps(cluster: Cluster) -> list[Fault]:
-    claims: dict[tuple[int, str], tuple[list, list]] = defaultdict(lambda: ([], []))
+    claims: dict[tuple[int, str], tuple[list[Claim], list[Claim]]] = defaultdict(lambda: ([], []))
     for line in cluster.owned():
         for channel in line.channels:
             claims[line.slot, channel][0].append(line)
@@ -67,7 +70,7 @@ def overlaps(cluster: Cluster) -> list[Fault]:
     return found
 
 
-def first_clash(claims: list[Ownership] | list[Buffer]) -> tuple[int, list] | None:
+def first_clash(claims: list[Claim]) -> tuple[int, list[Claim]] | None:
     """The least cycle that two of them admit, and those that do."""
     if len(claims) < 2:
         return None
@@ -78,14 +81,14 @@ def first_clash(claims: list[Ownership] | list[Buffer]) -> tuple[int, list] | No
     return None
 
 
-def fault_of_overlap(slot: int, channel: str, cycle: int, claims: list) -> Fault:
+def fault_of_overlap(slot: int, channel: str, cycle: int, claims: list[Claim]) -> Fault:
     first, second = claims[:2]
     verb = "own" if isinstance(first, Ownership) else "send in"
     headline = f"{second} and {first} both {verb} slot {slot} on {channel} in cycle {cycle}"
     reason = ("In each cycle a slot is one's on a channel. Right would be another slot or channel for one of them, or "
               "cycles that part them: a `repetition` for both and a `base` of its own for each.")
     others = [it for it in claims if it is not second]
-    notes = tuple((f"{it} has slot {slot} on {it.channels} in {it.cycles}", it.path) for it in others)
+    notes = tuple((f"{it} has slot {slot} on {it.channels} in {it.cycles}", it.path) for it in others[:MOST_NOTES])
     return Fault(f"Overlap {slot} {channel} {cycle}", headline, reason, second.path, notes)
 
 

@@ -2,9 +2,12 @@
 
 The faults are looked for in the order in which `fr_bench` looks for them, so that the first one is the program's.
 """
+from collections.abc import Iterable
 from dataclasses import dataclass, field
+from functools import cached_property
+from typing import Any
 
-from musmyrtle.findings import joined, nearest, shown
+from musmyrtle.findings import MOST_REASONS, alike, joined, shown
 from musmyrtle.places import Path
 
 PARAMETERS = {
@@ -35,6 +38,11 @@ class Cycles:
 
     def admit(self, cycle: int) -> bool:
         return cycle % self.repetition == self.base
+
+    @cached_property
+    def bits(self) -> int:
+        """The cycles of `CYCLES` as bits of a number."""
+        return sum(1 << cycle for cycle in CYCLES if self.admit(cycle))
 
     def meet(self, other: "Cycles") -> bool:
         """Whether both admit some cycle."""
@@ -161,15 +169,18 @@ class Fault:
 class Reader:
     """Reads the keys of one table, and notes what is wrong with them."""
 
-    def __init__(self, table: dict, path: Path, who: str, refusal: str, known: tuple[str, ...], faults: list[Fault]):
+    def __init__(self, table: dict[str, Any], path: Path, who: str, refusal: str, known: tuple[str, ...],
+                 faults: list[Fault]):
         self.table, self.path, self.who, self.refusal = table, path, who, refusal
         self.known, self.faults = known, faults
 
-    def note(self, headline: str, reason: str, path: Path | None = None, notes=()) -> None:
+    def note(self, headline: str, reason: str, path: Path | None = None,
+             notes: Iterable[tuple[str, Path]] = ()) -> None:
         self.faults.append(Fault(self.refusal, headline, reason, self.path if path is None else path, tuple(notes)))
 
     def missing(self, key: str, right: str) -> None:
-        meant = [it for it in self.table if it not in self.known and nearest(it, self.known) == key]
+        # What is meant is looked for only where it is told.
+        meant = alike(self.table, self.known, key) if len(self.faults) < MOST_REASONS else []
         notes = [(f"`{it}` is read by nothing: is `{key}` meant?", (*self.path, it)) for it in meant]
         self.note(f"{self.who} has no `{key}`", f"Right would be `{key}` with {right}.", notes=notes)
 
@@ -201,10 +212,11 @@ class Reader:
         if key not in self.table:
             self.missing(key, right)
             return words[0]
-        if type(self.table[key]) is not str or self.table[key] not in words:
-            self.wrong(key, right)
-            return words[0]
-        return self.table[key]
+        value = self.table[key]
+        if isinstance(value, str) and value in words:
+            return value
+        self.wrong(key, right)
+        return words[0]
 
     def cycles(self) -> Cycles:
         before = len(self.faults)
@@ -220,7 +232,7 @@ class Reader:
             return Cycles(base, repetition)
         return Cycles()
 
-    def tables(self, key: str) -> list | None:
+    def tables(self, key: str) -> list[dict[str, Any]] | None:
         """The tables of an array, or nothing where that is none of at most 64 tables."""
         value = self.table.get(key, [])
         if not isinstance(value, list):
@@ -240,27 +252,31 @@ class Reader:
 class Reading:
     """The reading of a document: the cluster, as far as there is one, and what is wrong, in the program's order."""
 
-    def __init__(self, document: dict):
-        self.document, self.faults = document, []
+    def __init__(self, document: dict[str, Any]):
+        self.document = document
+        self.faults: list[Fault] = []
         self.parameters = self.read_parameters()
         self.guard = self.read_guard()
-        self.nodes = [] if self.parameters is None else self.read_nodes()
+        self.nodes = [] if self.parameters is None else self.read_nodes(self.parameters)
 
     @property
     def cluster(self) -> Cluster | None:
-        return None if self.faults else Cluster(self.parameters, self.guard, self.nodes)
+        if self.faults or self.parameters is None:
+            return None
+        return Cluster(self.parameters, self.guard, self.nodes)
 
     def read_parameters(self) -> Parameters | None:
-        table = self.document.get("params")
-        path, is_there = ("params",) if "params" in self.document else (), isinstance(table, dict)
+        held = self.document.get("params")
+        table: dict[str, Any] = held if isinstance(held, dict) else {}
+        path: Path = ("params",) if "params" in self.document else ()
         values = []
         for key, (least, greatest) in PARAMETERS.items():
-            reader = Reader(table if is_there else {}, path, "`[params]`", "", tuple(PARAMETERS), self.faults)
+            reader = Reader(table, path, "`[params]`", "", tuple(PARAMETERS), self.faults)
             value = reader.table.get(key)
             kind = "Missing" if key not in reader.table else "NotANumber" if type(value) is not int else "OutOfRange"
             reader.refusal = f"Params {kind} {key}"
             values.append(reader.number(key, least, greatest))
-            if not is_there:
+            if not isinstance(held, dict):
                 self.faults[-1] = self.without_parameters(self.faults[-1])
                 return None
         parameters = None if self.faults else Parameters(*values)
@@ -296,47 +312,48 @@ class Reading:
             return "AB"
         return "" if guard == "none" else guard
 
-    def read_nodes(self) -> list[Node]:
+    def read_nodes(self, parameters: Parameters) -> list[Node]:
         nodes = self.document.get("node")
         if isinstance(nodes, list) and 1 <= len(nodes) <= MOST_NODES:
-            return [self.read_node(number, table) for number, table in enumerate(nodes)]
+            return [self.read_node(number, table, parameters) for number, table in enumerate(nodes)]
         right = f"Right would be 1 to {MOST_NODES} tables `[[node]]`."
         if "node" not in self.document:
-            meant = [it for it in self.document if nearest(it, ["node"])]
+            meant = alike(self.document, ("node",), "node")
             notes = tuple((f"`{it}` is read by nothing: is `node` meant?", (it,)) for it in meant)
             self.faults.append(Fault("TooManyNodes", "the file has no node", right, notes=notes))
             return []
-        place = ("node", MOST_NODES) if isinstance(nodes, list) and len(nodes) > MOST_NODES else ("node",)
+        is_long = isinstance(nodes, list) and len(nodes) > MOST_NODES
+        place: Path = ("node", *([MOST_NODES] if is_long else []))
         found = f"the file has {len(nodes)} nodes" if isinstance(nodes, list) else f"`node` is {shown(nodes)}"
         self.faults.append(Fault("TooManyNodes", found, right, place))
         return []
 
-    def read_node(self, number: int, table: object) -> Node:
+    def read_node(self, number: int, table: object, parameters: Parameters) -> Node:
         path: Path = ("node", number)
         node, refusal = Node(number, path), f"BadNode {number}"
         if not isinstance(table, dict):
             self.faults.append(Fault(refusal, f"node {number} is {shown(table)}", "Right would be a table.", path))
             return node
         reader = Reader(table, path, f"node {number}", refusal, NODE_KEYS, self.faults)
-        minislots = self.parameters.minislots
         node.tasks = reader.number("tasks", 0, 8, 1)
         for channel in "AB":
-            node.latest[channel] = reader.number(f"latest_{channel.lower()}", 0, minislots, 0, ", which is `minislots`")
+            key = f"latest_{channel.lower()}"
+            node.latest[channel] = reader.number(key, 0, parameters.minislots, 0, ", which is `minislots`")
         node.host_entries = reader.number("host_entries", 1, 16384, 256)
         node.slot_entries = reader.number("slot_entries", 2, 65536, 4096)
         for place, line in enumerate(reader.tables("own") or []):
-            node.owned.append(self.read_own(number, place, line))
+            node.owned.append(self.read_own(number, place, line, parameters))
         if "queue" in table:
             node.queue = self.read_queue(reader, number)
         for place, line in enumerate(reader.tables("buffer") or []):
-            node.buffers.append(self.read_buffer(number, place, line))
+            node.buffers.append(self.read_buffer(number, place, line, parameters))
         return node
 
-    def read_own(self, node: int, number: int, table: dict) -> Ownership:
+    def read_own(self, node: int, number: int, table: dict[str, Any], parameters: Parameters) -> Ownership:
         path: Path = ("node", node, "own", number)
         who = f"ownership line {number} of node {node}"
         reader = Reader(table, path, who, f"BadNode {node}", OWN_KEYS, self.faults)
-        slot = reader.number("slot", 1, self.parameters.static_slots, None, ", which is `static_slots`")
+        slot = reader.number("slot", 1, parameters.static_slots, None, ", which is `static_slots`")
         channels = reader.word("channels", CHANNELS)
         cycles = reader.cycles()
         is_sync, is_startup = reader.flag("sync"), reader.flag("startup")
@@ -345,7 +362,8 @@ class Reading:
         return Ownership(node, number, path, slot, channels, cycles, is_sync)
 
     def read_queue(self, node: Reader, number: int) -> Queue | None:
-        table, path = node.table["queue"], ("node", number, "queue")
+        table = node.table["queue"]
+        path: Path = ("node", number, "queue")
         if not isinstance(table, dict):
             node.wrong("queue", "a table with " + joined([f"`{it}`" for it in QUEUE_KEYS[:4]]))
             return None
@@ -360,7 +378,7 @@ class Reading:
             reader.wrong("first", f"a slot not above `last`, which is {last}")
         return Queue(number, path, capacity, first, last, channels, cycles)
 
-    def read_buffer(self, node: int, number: int, table: dict) -> Buffer:
+    def read_buffer(self, node: int, number: int, table: dict[str, Any], parameters: Parameters) -> Buffer:
         path: Path = ("node", node, "buffer", number)
         who = f"buffer {number} of node {node}"
         reader = Reader(table, path, who, f"BadBuffer {node} {number}", BUFFER_KEYS, self.faults)
@@ -372,7 +390,7 @@ class Reading:
         words = 0
         if len(self.faults) == before and kind != "receive":
             reader.flag("preamble")
-            words = self.parameters.static_words
-            if slot > self.parameters.static_slots:
+            words = parameters.static_words
+            if slot > parameters.static_slots:
                 words = reader.number("words", 0, 127, None, f", since slot {slot} is dynamic")
         return Buffer(node, number, path, kind, slot, channels, cycles, words)

@@ -4,62 +4,38 @@ import io
 import os
 import re
 import sys
-from collections.abc import Iterable, Iterator
+from collections.abc import Iterator
 from contextlib import ExitStack, contextmanager, suppress
 from dataclasses import replace
-from tempfile import NamedTemporaryFile
-from typing import TextIO
+from typing import Any, NoReturn, TextIO
 
-from musmyrtle.findings import block, counted
+from musmyrtle.findings import MOST_REASONS, block, counted
 from musmyrtle.lint import Lint, Task, lint, read_bytes
-from musmyrtle.program import Answer, ask, usual_program
+from musmyrtle.output import Stop, write
+from musmyrtle.program import Answer, ask, no_answer, usual_program
 from musmyrtle.runs import MOST_CYCLES
+from musmyrtle.visible import cut, visible
 
-FINE, REFUSED, USAGE, WARNED = 0, 1, 2, 4
-MOST_REASONS = 20
+FINE, REFUSED, USAGE, WARNED, BROKEN_OFF = 0, 1, 2, 4, 130
+MOST_WARNINGS, MOST_REPEATED = 40, 200
 ABOUT = """Says what is wrong with a cluster file, and with a scenario for it: where, why, and what would be right.
 
 What is refused is refused by fr_bench, which is run first: `check CLUSTER`, or `run CLUSTER SCENARIO --cycles N`. What
 is taken and still can't work, or breaks a rule of the standard that the bench doesn't ask for, is a warning."""
 STATUSES = """status: 0 where there is nothing to say but warnings, 1 where something is refused, 2 where the words are
-no command, there is no fr_bench or the output can't be written, 4 where there are warnings and --strict is given"""
-
-
-class Stop(Exception):
-    """Nothing more is done: the status, and what is said."""
-
-    def __init__(self, status: int, message: str = ""):
-        super().__init__(message)
-        self.status = status
-
-    def tell(self, command: str) -> int:
-        """Says it, where standard error can be written, and answers the status."""
-        if str(self):
-            with suppress(Stop, BrokenPipeError):
-                write(sys.stderr, [f"{command}: {self}\n"])
-        return self.status
-
-
-def write(stream: TextIO | None, texts: Iterable[str]) -> None:
-    """Writes all of it. Whoever reads it may go away before its end, as `head` does: that is a `BrokenPipeError`."""
-    if stream is None:
-        raise Stop(USAGE, "the output can't be written: it is closed")
-    try:
-        stream.writelines(texts)
-        stream.flush()
-    except OSError as error:
-        # Python writes what is left at its own end, and says in its own words that it can't.
-        os.dup2(os.open(os.devnull, os.O_WRONLY), stream.fileno())
-        if isinstance(error, BrokenPipeError):
-            raise
-        raise Stop(USAGE, f"the output can't be written: {error.strerror}") from None
+no command, fr_bench can't be run or fails, or the output can't be written, 4 where there are warnings and --strict is
+given, 130 where SIGINT broke it off"""
 
 
 class Parser(argparse.ArgumentParser):
     """The words of a command. Its help is written as all other output is."""
 
-    def print_help(self, file: TextIO | None = None) -> None:
+    def print_help(self, file: Any = None) -> None:
         write(file or sys.stdout, [self.format_help()])
+
+    def error(self, message: str) -> NoReturn:
+        """Repeats words of the command, which may be anything."""
+        super().error(visible(message))
 
 
 def cycles_of(word: str) -> int:
@@ -108,6 +84,8 @@ def lasting_file(name: str, copies: ExitStack) -> str:
     data = read_bytes(name)
     if data is None:
         return name
+    # Most files can be read again, and each call would wait for the import.
+    from tempfile import NamedTemporaryFile
     try:
         copy = copies.enter_context(NamedTemporaryFile(prefix="musmyrtle-"))
         copy.write(data)
@@ -119,31 +97,32 @@ def lasting_file(name: str, copies: ExitStack) -> str:
 
 def told(answer: Answer, found: Lint, is_bold: bool = False) -> Iterator[str]:
     """What is printed: the answer, the reasons and the warnings."""
-    if answer.status == 0:
-        yield "fr_bench: accepted\n"
-    else:
-        yield f"fr_bench: refused {answer.refusal}\n"
-    if found.is_doubtful and answer.refusal != "Toml":
-        yield ("No more can be said: the file is TOML 1.1, which fr_bench reads, and fr_lint reads TOML 1.0. "
-               f"{found.refusals[0][1].headline}.\n")
+    refusal = visible(cut(answer.refusal or "", MOST_REPEATED))
+    if answer.status == USAGE:
+        yield f"fr_bench: {refusal}\n"
+        yield "The words are no command for it: is the program another one than fr_bench?\n"
         return
+    yield f"fr_bench: refused {refusal}\n" if answer.status else "fr_bench: accepted\n"
     if answer.refusal is None and found.refusals:
         yield f"No more can be said: fr_lint takes the input for {found.refusals[0][0]}, and fr_bench decides.\n"
         return
     if answer.refusal is not None:
         yield from told_reasons(answer, found, is_bold)
-    for finding in found.warnings:
+    for finding in found.warnings[:MOST_WARNINGS]:
         yield block("warning", finding, is_bold)
+    more = len(found.warnings[MOST_WARNINGS:]) + found.further_warnings
+    if more:
+        yield f"and {counted(more, 'more warning')}\n"
 
 
 def told_reasons(answer: Answer, found: Lint, is_bold: bool) -> Iterator[str]:
     if not is_explained(answer, found):
-        yield f"No reason is known for `{answer.refusal}`.\n"
+        yield f"No reason is known for `{visible(cut(answer.refusal or '', MOST_REPEATED))}`.\n"
         return
     for refusal, finding in found.refusals[:MOST_REASONS]:
         yield block(f"refused {refusal}", finding, is_bold)
     if len(found.refusals) > MOST_REASONS:
-        yield f"and {counted(len(found.refusals) - MOST_REASONS, 'mistake')} more\n"
+        yield f"and {counted(len(found.refusals) - MOST_REASONS, 'more mistake')}\n"
 
 
 def is_explained(answer: Answer, found: Lint) -> bool:
@@ -162,6 +141,8 @@ def linted(given: argparse.Namespace) -> int:
             answer = ask(given.program, words_for(task))
         except OSError as error:
             raise Stop(USAGE, f"{given.program} can't be run: {error.strerror}") from None
+        if not answer.is_one:
+            raise Stop(USAGE, no_answer(given.program, words_for(task), answer))
         found = lint(task)
     if isinstance(sys.stdout, io.TextIOWrapper):
         # A file may have a name, or a line, that the terminal can't spell.
@@ -180,6 +161,8 @@ def main(words: list[str] | None = None) -> int:
         return stop.tell("fr_lint")
     except BrokenPipeError:
         return FINE
+    except KeyboardInterrupt:
+        return BROKEN_OFF
 
 
 if __name__ == "__main__":

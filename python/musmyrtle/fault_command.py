@@ -8,7 +8,7 @@ from pathlib import Path
 
 from musmyrtle.breaking import BrokenOff, breaking_off, temporary_folder
 from musmyrtle.children import Children
-from musmyrtle.command import FINE, USAGE, Stop, write
+from musmyrtle.command import FINE, USAGE
 from musmyrtle.fault_campaign import Campaign, Means, NoReference
 from musmyrtle.fault_costs import FAILED, Difference
 from musmyrtle.fault_hosts import Hosts, NoParallel
@@ -23,6 +23,7 @@ from musmyrtle.fault_table import BadTable, Ranks, Results, has_effect, listed, 
 from musmyrtle.fault_table import told as told_difference
 from musmyrtle.fault_table import worse
 from musmyrtle.findings import counted
+from musmyrtle.output import Stop, write
 from musmyrtle.program import is_launcher, itself
 from musmyrtle.refusals import SessionOver
 from musmyrtle.session import usual_world

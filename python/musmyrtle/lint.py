@@ -10,7 +10,7 @@ from musmyrtle.findings import Finding
 from musmyrtle.runs import Run
 from musmyrtle.scenario import Reading as ScenarioReading
 from musmyrtle.strikes import Strikes, small_journals
-from musmyrtle.texts import FILE_LIMIT, Text, read_text
+from musmyrtle.texts import FILE_LIMIT, NoText, Text, read_text
 
 OF_CLUSTER = (
     sending.silent_buffers, sending.unfilled_slots, sending.sync_slots, receiving.idle_receivers,
@@ -25,8 +25,8 @@ class Lint:
 
     refusals: list[tuple[str, Finding]] = field(default_factory=list)
     warnings: list[Finding] = field(default_factory=list)
-    is_doubtful: bool = False
-    """Whether nothing can be said, since the file may be TOML 1.1."""
+    further_warnings: int = 0
+    """How many unread keys there are beside those in `warnings`."""
 
     def refuse(self, refusal: str, finding: Finding) -> None:
         self.refusals.append((refusal, finding))
@@ -67,14 +67,14 @@ def lint(task: Task) -> Lint:
     if data is None:
         found.refuse("Read", unreadable(task.cluster, "the cluster file"))
         return found
-    text = read_text(task.cluster, data)
-    if text.refusal:
-        found.refuse(text.refusal, text.why)
-        found.is_doubtful = text.is_doubtful
+    try:
+        text = read_text(task.cluster, data)
+    except NoText as error:
+        found.refuse(error.refusal, error.why)
         return found
     cluster = lint_cluster(text, found)
     if cluster and task.scenario is not None:
-        lint_scenario(task, cluster, text, found)
+        lint_scenario(task, task.scenario, cluster, text, found)
     elif cluster:
         # One cycle is the shortest run: a cluster with less room has none.
         found.warnings += small_journals(cluster, text, task.cycles or 1)
@@ -83,25 +83,26 @@ def lint(task: Task) -> Lint:
 
 def lint_cluster(text: Text, found: Lint) -> Cluster | None:
     """The cluster, if it is to be taken. What nothing reads is told in any case."""
-    found.warnings += unread.unread_keys(text)
+    found.warnings, found.further_warnings = unread.unread_keys(text)
     reading = ClusterReading(text.document)
-    faults = reading.faults or clashes(reading.cluster)
+    cluster = reading.cluster
+    faults = reading.faults if cluster is None else clashes(cluster)
     for fault in faults:
         found.refuse(fault.refusal, text.finding(fault.headline, fault.reason, fault.path, fault.notes))
-    if faults:
+    if cluster is None or faults:
         return None
-    found.warnings += unread.idle_keys(text, reading.parameters.static_slots)
+    found.warnings += unread.idle_keys(text, cluster.parameters.static_slots)
     for warnings in OF_CLUSTER:
-        found.warnings += warnings(reading.cluster, text)
-    return reading.cluster
+        found.warnings += warnings(cluster, text)
+    return cluster
 
 
-def lint_scenario(task: Task, cluster: Cluster, text: Text, found: Lint) -> None:
-    data = read_bytes(task.file(task.scenario))
+def lint_scenario(task: Task, name: str, cluster: Cluster, text: Text, found: Lint) -> None:
+    data, cycles = read_bytes(task.file(name)), task.cycles or 1
     if data is None:
-        found.refuse("Read", unreadable(task.scenario, "the scenario"))
+        found.refuse("Read", unreadable(name, "the scenario"))
         return
-    scenario = ScenarioReading(task.scenario, data).scenario
-    found.refusals += scenario.refusals or Run(cluster, text, scenario, task.cycles).refusals()
+    scenario = ScenarioReading(name, data).scenario
+    found.refusals += scenario.refusals or Run(cluster, text, scenario, cycles).refusals()
     if not found.refusals:
-        found.warnings += Strikes(cluster, scenario, task.cycles).findings()
+        found.warnings += Strikes(cluster, scenario, cycles).findings()

@@ -8,13 +8,12 @@ again (chapters 3 and 5). Action points, delays and the clocks' deviations come 
 from collections.abc import Iterator
 
 from musmyrtle.cluster import Cluster
-from musmyrtle.findings import Finding, counted, shown
+from musmyrtle.findings import MOST_NOTES, Finding, counted, shown
 from musmyrtle.texts import Text
 
 BITS_OF_BYTE = 10
 BYTES_BESIDE_PAYLOAD = 8
 START, END, TRAILING, IDLE = 3 + 1, 2, 2, 11
-MOST_NOTES = 4
 
 
 def bits_of_frame(words: int, is_dynamic: bool) -> int:
@@ -33,7 +32,7 @@ def short_slots(cluster: Cluster, text: Text) -> Iterator[Finding]:
     bits = []
     for key, unit in (("bit_rate", "bits a second"), ("macrotick_us", "microseconds")):
         value = table.get(key)
-        if type(value) not in (int, float) or not 1e-6 <= value < 1e12:
+        if isinstance(value, bool) or not isinstance(value, int | float) or not 1e-6 <= value < 1e12:
             found = f"is {shown(value)}" if key in table else "is missing"
             reason = f"Slots aren't held to their times without. Right would be a number from 1e-6 to 1e12, of {unit}."
             yield text.finding(f"`{key}` of `[physical]` {found}", reason, ("physical", key))

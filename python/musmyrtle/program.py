@@ -1,15 +1,22 @@
 """The program `fr_bench`, which decides, and those beside it: which one it is, and what it answers."""
 import os
+import re
 import shutil
+import signal
 import subprocess
-import sys
+from collections import deque
 from collections.abc import Callable
 from contextlib import AbstractContextManager
 from dataclasses import dataclass
 from pathlib import Path
 from typing import Any
 
+from musmyrtle.output import pass_on
+
 CHECKOUT = Path(__file__).resolve().parents[2]
+REFUSED_LINE = re.compile(r"refused [A-Z][A-Za-z]*( .*)?")
+MOST_TOLD, LONGEST_TOLD, MOST_SAID = 20, 4096, 300
+"""The lines and the characters of a line that are kept of what a program says, and the characters that are repeated."""
 
 
 @dataclass(frozen=True)
@@ -22,6 +29,12 @@ class Answer:
     is_named: bool = True
     """Whether a refusal is the program's, by a line `refused NAME`. Otherwise the program failed, and the refusal is
     all that it said."""
+
+    @property
+    def is_one(self) -> bool:
+        """Whether the program answered: a program that was killed, or ends otherwise than FORMATS says, didn't."""
+        is_usage = self.status == 2 and self.refusal == "usage"
+        return self.status == 0 or self.status == 1 and self.is_named or is_usage
 
 
 def usual_program(name: str = "fr_bench") -> str | None:
@@ -62,18 +75,36 @@ Started = Callable[..., AbstractContextManager[subprocess.Popen[Any]]]
 
 
 def ask(program: str, words: list[str], started: Started = subprocess.Popen) -> Answer:
-    """Returns the program's answer. What its launcher says meanwhile goes to standard error."""
+    """Returns the program's answer. What its launcher says meanwhile, as that it builds first, is passed on."""
     refusal = None
-    told = []
-    streams = {"stdin": subprocess.DEVNULL, "stdout": subprocess.DEVNULL, "stderr": subprocess.PIPE}
+    told: deque[str] = deque(maxlen=MOST_TOLD)
+    streams: dict[str, Any] = {"stdin": subprocess.DEVNULL, "stdout": subprocess.DEVNULL, "stderr": subprocess.PIPE}
     with started([program, *words], text=True, errors="replace", **streams) as running:
-        for line in running.stderr or ():
-            if line.startswith("refused "):
-                refusal = line.removeprefix("refused ").strip()
+        # A line without an end comes in parts, so that a program can't fill the memory.
+        while running.stderr and (line := running.stderr.readline(LONGEST_TOLD)):
+            line = line.rstrip("\n")
+            if REFUSED_LINE.fullmatch(line):
+                refusal = line.removeprefix("refused ")
             else:
                 told.append(line)
-                print(line, end="", file=sys.stderr, flush=True)
+                pass_on(line)
+    if running.returncode == 0:
+        return Answer(0, None)
     is_named = refusal is not None
-    if running.returncode != 0 and refusal is None:
-        refusal = " ".join(told).strip() or f"status {running.returncode}"
-    return Answer(running.returncode, refusal, is_named)
+    return Answer(running.returncode, refusal or " ".join(told).strip() or f"status {running.returncode}", is_named)
+
+
+def no_answer(program: str, words: list[str], answer: Answer) -> str:
+    """Says what was run, how it ended and what it said, of a program that gave no answer."""
+    said = f"refused {answer.refusal}" if answer.is_named else answer.refusal or ""
+    said = "" if said == f"status {answer.status}" else f": {said[-MOST_SAID:]}"
+    return f"{' '.join([program, *words])} {how_it_ended(answer.status)}{said}"
+
+
+def how_it_ended(status: int) -> str:
+    """Returns `was killed by signal 9 (SIGKILL)` or `ended with status 3`. A shell tells a signal by 128 and more."""
+    number = -status if status < 0 else status - 128
+    if 0 < number < signal.NSIG:
+        named = {it.value: f" ({it.name})" for it in signal.Signals}
+        return f"was killed by signal {number}{named.get(number, '')}"
+    return f"ended with status {status}"

@@ -2,11 +2,9 @@
 from collections.abc import Iterator
 
 from musmyrtle.cluster import CYCLES, Buffer, Cluster, Node, Queue
-from musmyrtle.findings import Finding, counted, joined
+from musmyrtle.findings import MOST_NOTES, Finding, counted, joined
 from musmyrtle.sending import can_send
 from musmyrtle.texts import Text
-
-MOST_NOTES = 4
 
 
 def is_common(one: Buffer | Queue, other: Buffer) -> bool:
@@ -98,7 +96,7 @@ def queues_behind_buffers(cluster: Cluster, text: Text) -> Iterator[Finding]:
         queue = node.queue
         taking = [it for it in node.buffers if queue and not it.transmits and queue.first <= it.slot <= queue.last
                   and is_common(queue, it)]
-        if taking:
+        if queue and taking:
             slots = sorted({it.slot for it in taking})
             named = f"slot{'s' if slots[1:] else ''} {joined([str(it) for it in slots])}"
             headline = f"{queue} stands behind {counted(len(taking), 'receive buffer')}"

@@ -3,7 +3,7 @@ from collections.abc import Iterator
 
 from musmyrtle.cluster import Buffer, Cluster, Node
 from musmyrtle.findings import Finding, Note, counted
-from musmyrtle.places import Place
+from musmyrtle.places import Path, Place
 from musmyrtle.scenario import FaultLine, FaultLines, Line, Scenario
 from musmyrtle.texts import Text
 
@@ -145,7 +145,7 @@ class Run:
     def place_of(self, node: Node, key: str) -> Place | None:
         return self.text.place_of((*node.path, key))
 
-    def note(self, path: tuple, text: str) -> Note:
+    def note(self, path: Path, text: str) -> Note:
         return Note(text, self.text.place_of(path))
 
 

@@ -6,6 +6,7 @@ from itertools import product
 from musmyrtle.findings import Finding, nearest
 from musmyrtle.places import Place
 from musmyrtle.texts import FILE_LIMIT
+from musmyrtle.visible import cut
 
 MOST_LINES = 4096
 LONGEST_LINE = 1200
@@ -84,7 +85,7 @@ class FaultLines:
     ANY = -1
 
     def __init__(self) -> None:
-        self.lines: dict[tuple, FaultLine] = {}
+        self.lines: dict[tuple[object, ...], FaultLine] = {}
 
     def add(self, line: FaultLine) -> None:
         for key in product((line.sort,), (line.cycle, self.ANY), (line.place, self.ANY)):
@@ -95,7 +96,7 @@ class FaultLines:
         cycles = (self.ANY,) if line.cycle is None else (line.cycle, None)
         places = (self.ANY,) if line.place is None else (line.place, None)
         found = [self.lines[key] for key in product((line.sort,), cycles, places) if key in self.lines]
-        return min(found, key=lambda it: it.number, default=None)
+        return min(found, key=lambda it: it.number) if found else None
 
 
 @dataclass
@@ -124,24 +125,28 @@ class Reading:
         self.scenario, self.version = Scenario(file), 1
         self.read(data)
 
-    def refuse(self, refusal: str, headline: str, reason: str, number: int | None = None, column: int | None = None):
+    def refuse(self, refusal: str, headline: str, reason: str, number: int | None = None,
+               column: int | None = None) -> None:
         place = None if number is None else self.scenario.place(number, column)
         self.scenario.refusals.append((refusal, Finding(headline, reason, place)))
 
     def read(self, data: bytes) -> None:
         if len(data) > FILE_LIMIT:
-            return self.refuse("TooLong", f"the scenario has {len(data)} bytes", f"It has at most {FILE_LIMIT}.")
+            self.refuse("TooLong", f"the scenario has {len(data)} bytes", f"It has at most {FILE_LIMIT}.")
+            return
         try:
             text = data.decode()
         except UnicodeDecodeError as error:
             headline = f"the byte 0x{data[error.start]:02x} is no UTF-8"
             number = data.count(b"\n", 0, error.start) + 1
             self.scenario.text = data.decode(errors="replace").split("\n")
-            return self.refuse("BadMagic", headline, "A scenario is UTF-8, and but for that ASCII.", number)
+            self.refuse("BadMagic", headline, "A scenario is UTF-8, and but for that ASCII.", number)
+            return
         lines = text.split("\n")
         self.scenario.text = lines
         if len(lines) < 2 or lines[0] not in ("frscenario 1", "frscenario 2"):
-            return self.refuse("BadMagic", *bad_magic(lines), 1)
+            self.refuse("BadMagic", *bad_magic(lines), 1)
+            return
         self.version = int(lines[0][-1])
         self.read_lines(lines)
 
@@ -154,14 +159,16 @@ class Reading:
             if number > MOST_LINES:
                 headline = f"the scenario has more than {MOST_LINES} lines, and no `end` before"
                 reason = f"Right would be `end` in line {MOST_LINES} at the latest."
-                return self.refuse("TooManyLines", headline, reason, number)
+                self.refuse("TooManyLines", headline, reason, number)
+                return
             if len(line.encode()) > LONGEST_LINE:
                 headline = f"line {number} has {len(line.encode())} bytes"
                 self.refuse(f"BadLine {number}", headline, f"A line has at most {LONGEST_LINE}.", number)
             elif is_last:
                 break
             elif self.read_line(number, line):
-                return self.read_end(number, lines)
+                self.read_end(number, lines)
+                return
         self.refuse("Truncated", *truncated(lines), len(lines) if lines[-1] else len(lines) - 1)
 
     def read_end(self, number: int, lines: list[str]) -> None:
@@ -215,7 +222,7 @@ def bad_words(words: tuple[str, ...], text: str, version: int) -> tuple[str, str
     if kind not in FORMS:
         meant = nearest(kind, tuple(FORMS))
         hint = f"Is `{meant}` meant? " if meant else ""
-        return f"no line begins with `{kind[:40]}`", f"{hint}Right would be one of {', '.join(FORMS)}.", 1
+        return f"no line begins with `{cut(kind)}`", f"{hint}Right would be one of {', '.join(FORMS)}.", 1
     if kind == "withdraw" and version == 1:
         return "version 1 has no line `withdraw`", "Right would be `frscenario 2` as the first line.", 1
     form = " ".join([kind, *FORMS[kind]])
@@ -225,7 +232,7 @@ def bad_words(words: tuple[str, ...], text: str, version: int) -> tuple[str, str
     for name, word, column in zip(FORMS[kind], words[1:], columns(words)):
         right = wrong_word(kind, name, word)
         if right:
-            return f"{name} is `{word[:40]}`", f"Right would be {right}, in `{form}`.", column
+            return f"{name} is `{cut(word)}`", f"Right would be {right}, in `{form}`.", column
     return None
 
 

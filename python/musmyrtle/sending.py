@@ -39,7 +39,7 @@ def silent_buffer(cluster: Cluster, text: Text, buffer: Buffer) -> Finding:
         return text.finding(f"{headline}slot {buffer.slot} can't be reached", reason, (*buffer.path, "slot"), notes)
     key = f"latest_{buffer.channels.lower()}"
     latest, is_there = cluster.nodes[buffer.node].latest[buffer.channels], key in text.document["node"][buffer.node]
-    notes = [(f"`{key}` of node {buffer.node}", ("node", buffer.node, key))] if is_there else []
+    own = [(f"`{key}` of node {buffer.node}", ("node", buffer.node, key))] if is_there else []
     if latest == 0:
         headline += f"`{key}` of node {buffer.node} is 0" if is_there else f"node {buffer.node} has no `{key}`"
         reason = "A node begins no dynamic transmission after its latest minislot. "
@@ -47,7 +47,7 @@ def silent_buffer(cluster: Cluster, text: Text, buffer: Buffer) -> Finding:
         headline += f"`{key}` of node {buffer.node} is {latest}, too early for slot {buffer.slot}"
         reason = f"S{opens[1:]}. "
     reason += f"Right would be `{key} = {first}` or more."
-    return text.finding(headline, reason, (*buffer.path, "slot"), notes)
+    return text.finding(headline, reason, (*buffer.path, "slot"), own)
 
 
 def unfilled_slots(cluster: Cluster, text: Text) -> Iterator[Finding]:

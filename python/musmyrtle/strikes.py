@@ -1,11 +1,12 @@
 """Warnings of lines of a scenario whose faults strike nothing, and of journals that are too small for a run."""
 from collections.abc import Iterator
+from functools import cached_property
 
 from musmyrtle.cluster import CYCLES, LAST_SLOT, Cluster
 from musmyrtle.findings import Finding
+from musmyrtle.offers import Offers
 from musmyrtle.runs import slot_room
 from musmyrtle.scenario import FaultLine, Scenario
-from musmyrtle.sending import first_minislot
 from musmyrtle.texts import Text
 
 BYTES_BESIDE_PAYLOAD = 8
@@ -18,6 +19,7 @@ class Strikes:
 
     def __init__(self, cluster: Cluster, scenario: Scenario, cycles: int):
         self.cluster, self.scenario, self.cycles = cluster, scenario, cycles
+        self.offered = Offers(cluster)
         self.babbles = {(it.word("CHANNEL"), it.is_static) for it in scenario.faults if it.kind == "babble" and it.size}
 
     def findings(self) -> Iterator[Finding]:
@@ -36,15 +38,16 @@ class Strikes:
             return self.unoffered(line)
         return self.why_not_turned(line) if line.kind == "corrupt" else None
 
-    def cycles_of(self, line: FaultLine) -> set[int]:
-        """The cycle counts, 0 to 63, that the line is for."""
-        return set(CYCLES[: self.cycles]) if line.cycle is None else {line.cycle % len(CYCLES)}
+    def cycles_of(self, line: FaultLine) -> int:
+        """The cycle counts, 0 to 63, that the line is for, as bits of a number."""
+        return (1 << len(CYCLES[: self.cycles])) - 1 if line.cycle is None else 1 << line.cycle % len(CYCLES)
 
     def may_open(self, line: FaultLine) -> bool:
         """Whether a slot may open at the line's minislot on one of the channels in one of its cycles."""
         last_without_traffic = LAST_SLOT - self.cluster.parameters.static_slots
-        return line.place <= last_without_traffic or self.is_anything_dynamic()
+        return (line.place or 0) <= last_without_traffic or self.is_anything_dynamic
 
+    @cached_property
     def is_anything_dynamic(self) -> bool:
         if any(not is_static for _, is_static in self.babbles):
             return True
@@ -57,14 +60,10 @@ class Strikes:
 
     def offers(self, line: FaultLine, number: int) -> bool:
         """Whether the node may offer something in one of the windows that the line is for."""
-        node, channel, cycles = self.cluster.nodes[number], line.word("CHANNEL"), self.cycles_of(line)
+        channel, cycles = line.word("CHANNEL"), self.cycles_of(line)
         if line.is_static:
-            return any(channel in it.channels and line.place in (None, it.slot) and any(map(it.cycles.admit, cycles))
-                       for it in node.owned)
-        return line.place <= node.latest[channel] and any(
-            it.transmits and not self.cluster.is_static(it.slot) and it.channels == channel
-            and first_minislot(self.cluster, it.slot) <= line.place and any(map(it.cycles.admit, cycles))
-            for it in node.buffers)
+            return self.offered.is_in_slot(number, channel, line.place, cycles)
+        return self.offered.is_at_minislot(number, channel, line.place or 0, cycles)
 
     def unoffered(self, line: FaultLine) -> str:
         who, channel = f"Node {line.word('NODE')}", line.word("CHANNEL")

@@ -1,18 +1,23 @@
 """Warnings of keys that nothing reads."""
 from collections.abc import Iterator
+from itertools import islice
+from typing import Any
 
 from musmyrtle.cluster import BUFFER_KEYS, NODE_KEYS, OWN_KEYS, PARAMETERS, QUEUE_KEYS
 from musmyrtle.findings import Finding, joined, nearest
 from musmyrtle.places import Path
 from musmyrtle.texts import Text
+from musmyrtle.visible import cut
 
 TOP_KEYS = ("guard", "params", "node", "physical")
 NAMED = ("name",)
 """The program doesn't read it, and host programs find nodes and buffers by it."""
 PHYSICAL_KEYS = ("bit_rate", "macrotick_us")
+MOST_UNREAD = 20
+"""Of so many unread keys a warning is made; the others are counted. A file has room for 200,000 of them."""
 
 
-def tables_of(document: dict) -> Iterator[tuple[str, dict, Path, tuple[str, ...]]]:
+def tables_of(document: dict[str, Any]) -> Iterator[tuple[str, dict[str, Any], Path, tuple[str, ...]]]:
     """Each table that is read: what it is, its keys, its path, and the keys that are read of it."""
     yield "the top of the file", document, (), TOP_KEYS
     for name, keys in (("params", tuple(PARAMETERS)), ("physical", PHYSICAL_KEYS)):
@@ -29,19 +34,23 @@ def tables_of(document: dict) -> Iterator[tuple[str, dict, Path, tuple[str, ...]
             yield f"buffer {place} of node {number}", buffer, (*path, "buffer", place), BUFFER_KEYS + NAMED
 
 
-def numbered_tables(value: object) -> Iterator[tuple[int, dict]]:
+def numbered_tables(value: object) -> Iterator[tuple[int, dict[str, Any]]]:
     items = enumerate(value) if isinstance(value, list) else ()
     return ((number, item) for number, item in items if isinstance(item, dict))
 
 
-def unread_keys(text: Text) -> Iterator[Finding]:
-    for who, table, path, keys in tables_of(text.document):
-        for key in table:
-            if key not in keys:
-                meant = nearest(key, [it for it in keys if it not in table])
-                hint = f"Is `{meant}` meant? " if meant else ""
-                reason = f"{hint}Keys of {who} are {joined([f'`{it}`' for it in keys])}."
-                yield text.finding(f"`{key}` of {who} is read by nothing", reason, (*path, key))
+def unread_keys(text: Text) -> tuple[list[Finding], int]:
+    """Returns warnings of the first unread keys, and how many more there are."""
+    unread = ((key, table) for table in tables_of(text.document) for key in table[1] if key not in table[3])
+    found = [unread_key(text, key, *table) for key, table in islice(unread, MOST_UNREAD)]
+    return found, sum(1 for _ in unread)
+
+
+def unread_key(text: Text, key: str, who: str, table: dict[str, Any], path: Path, keys: tuple[str, ...]) -> Finding:
+    meant = nearest(key, [it for it in keys if it not in table])
+    hint = f"Is `{meant}` meant? " if meant else ""
+    reason = f"{hint}Keys of {who} are {joined([f'`{it}`' for it in keys])}."
+    return text.finding(f"`{cut(key)}` of {who} is read by nothing", reason, (*path, key))
 
 
 def idle_keys(text: Text, static_slots: int) -> Iterator[Finding]:
@@ -53,7 +62,7 @@ def idle_keys(text: Text, static_slots: int) -> Iterator[Finding]:
                 yield text.finding(f"`{key}` of buffer {place} of node {number} isn't read", why, (*path, key))
 
 
-def idle_of(buffer: dict, static_slots: int) -> Iterator[tuple[str, str]]:
+def idle_of(buffer: dict[str, Any], static_slots: int) -> Iterator[tuple[str, str]]:
     is_receive = buffer.get("kind") == "receive"
     if is_receive and "preamble" in buffer:
         yield "preamble", "A receive buffer takes frames with any preamble indicator."

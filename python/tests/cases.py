@@ -37,8 +37,7 @@ class Cases(unittest.TestCase):
         if PROGRAM is None:
             return found, Answer(1 if expected else 0, expected)
         answer = ask(PROGRAM, words_for(task))
-        if not found.is_doubtful:
-            self.assertEqual(answer.refusal, expected)
+        self.assertEqual(answer.refusal, expected)
         return found, answer
 
     def written(self, name: str, text: str | bytes | None) -> str:

@@ -2,9 +2,11 @@
 import contextlib
 import io
 import os
+import signal
 import stat
 import subprocess
 import sys
+import tempfile
 from pathlib import Path
 from unittest import mock
 
@@ -78,6 +80,121 @@ class Command(Cases):
         status, output, _ = self.run_with(cluster, "--program", self.stub("Memory"))
         self.assertEqual((status, output.splitlines()[2]), (1, "No reason is known for `Memory`."))
 
+    def failing(self, *lines: str) -> str:
+        """A program that does this."""
+        path = self.written("failing", "\n".join(["#!/bin/sh", *lines]) + "\n")
+        os.chmod(path, stat.S_IRWXU)
+        return path
+
+    def test_a_program_without_an_answer(self):
+        """It is told what was run, how it ended and what it said. Of the file, which is refused, nothing is said."""
+        cluster = self.written("cluster.toml", CLUSTER.replace("idle = 0", "idle = 3"))
+        for lines, ended in (
+            (["kill -9 $$"], "was killed by signal 9 (SIGKILL)"),
+            (["kill -11 $$"], "was killed by signal 11 (SIGSEGV)"),
+            (["exit 137"], "was killed by signal 9 (SIGKILL)"),
+            (["exit 1"], "ended with status 1"),
+            (["echo not built >&2; exit 1"], "ended with status 1: not built"),
+            (["echo refusedToml >&2; exit 1"], "ended with status 1: refusedToml"),
+            (["echo 'Params OutOfRange idle' >&2; exit 3"], "ended with status 3: Params OutOfRange idle"),
+            (["echo 'refused Params OutOfRange idle' >&2; exit 3"],
+             "ended with status 3: refused Params OutOfRange idle"),
+            (["echo panicked >&2; echo why >&2; exit 101"], "ended with status 101: panicked why"),
+            (["exit 126"], "ended with status 126"), (["exit 127"], "ended with status 127"),
+            (["echo other >&2; exit 2"], "ended with status 2: other"), (["exit 4"], "ended with status 4"),
+        ):
+            program = self.failing(*lines)
+            with self.subTest(lines=lines):
+                status, output, error = self.run_with(cluster, "--program", program)
+                self.assertEqual((status, output), (2, ""))
+                self.assertEqual(error.splitlines()[-1], f"fr_lint: {program} check -- {cluster} {ended}")
+
+    def test_a_program_that_cannot_be_started(self):
+        cluster = self.written("cluster.toml", CLUSTER)
+        for program, why in ((self.written("none", ""), "Permission denied"), (str(self.folder), "Permission denied"),
+                             (str(self.folder / "missing"), "No such file or directory")):
+            status, output, error = self.run_with(cluster, "--program", program)
+            self.assertEqual((status, output, error), (2, "", f"fr_lint: {program} can't be run: {why}\n"))
+
+    def test_a_program_that_says_much(self):
+        """Its words are passed on, and the end of them is repeated."""
+        cluster = self.written("cluster.toml", CLUSTER)
+        program = self.failing("head -c 300000 /dev/zero | tr '\\0' y >&2; echo end >&2; exit 3")
+        status, _, error = self.run_with(cluster, "--program", program)
+        self.assertEqual((status, error.count("y") > 300_000, len(error.splitlines()[-1]) < 1000), (2, True, True))
+        self.assertTrue(error.endswith("end\n"), error[-20:])
+
+    def test_a_program_that_knows_no_such_words(self):
+        status, output, error = self.run_with(self.written("cluster.toml", CLUSTER.replace("idle = 0", "idle = 3")),
+                                              "--program", self.failing("echo usage >&2; exit 2"))
+        self.assertEqual((status, output.splitlines()[0], error), (2, "fr_bench: usage", "usage\n"))
+        self.assertNotIn("idle", output)
+
+    def test_a_program_that_accepts_and_says_something(self):
+        program = self.failing("echo refused Toml >&2; echo building >&2")
+        status, output, error = self.run_with(self.written("cluster.toml", CLUSTER), "--program", program)
+        self.assertEqual((status, output.splitlines()[0], error), (0, "fr_bench: accepted", "building\n"))
+
+    def test_words_of_a_program_that_cannot_be_passed_on(self):
+        """That standard error is full, closed or gone changes nothing else."""
+        taken = [self.written("cluster.toml", CLUSTER), "--program", self.failing("echo building >&2")]
+        source, end = os.pipe()
+        os.close(source)
+        with open("/dev/full", "wb") as full:
+            for how in ({"stderr": full}, {"stderr": end}, {"stderr": None, "preexec_fn": lambda: os.close(2)}):
+                ran = subprocess.run([sys.executable, "-B", FR_LINT, *taken, "--strict"], stdout=subprocess.PIPE, **how)
+                self.assertEqual((ran.returncode, ran.stdout[:19]), (4, b"fr_bench: accepted\n"))
+        os.close(end)
+
+    def test_a_signal(self):
+        """An interrupt ends the command without a traceback."""
+        words = [sys.executable, "-B", FR_LINT, self.written("cluster.toml", CLUSTER), "--program",
+                 self.failing("echo begun >&2; exec sleep 3")]
+        with subprocess.Popen(words, stdout=subprocess.PIPE, stderr=subprocess.PIPE, process_group=0) as running:
+            self.assertEqual(running.stderr.readline(), b"begun\n")
+            os.killpg(running.pid, signal.SIGINT)
+            output, error = running.communicate()
+        self.assertEqual((running.returncode, output, error), (130, b"", b""))
+
+    def test_many_warnings_and_mistakes(self):
+        """20 unread keys are told, 40 warnings with these and 20 mistakes, and how many more there are."""
+        keys = "".join(f"other{number} = 1\n" for number in range(60))
+        slots = ", ".join(f'{{slot = {slot}, channels = "B"}}' for slot in range(4, 54))
+        many = CLUSTER.replace("static_slots = 3", "static_slots = 103").replace("cycle_mt = 90", "cycle_mt = 2090")
+        many = many.replace("slot = 4, ", "slot = 104, ").replace("latest_a = 4", f"latest_a = 4\nown = [{slots}]")
+        status, output, _ = self.run_with(self.written("cluster.toml", f"{keys}{many}"), "--program", self.stub())
+        self.assertEqual((status, output.count("is read by nothing"), output.count(": warning: ")), (0, 20, 40))
+        # 60 keys and 50 slots that are never filled, a queue to which nothing comes, and one sync node alone.
+        self.assertEqual(output.splitlines()[-1], "and 72 more warnings")
+        wrong = self.written("cluster.toml", many.replace(slots, slots.replace("B", "C")))
+        status, output, _ = self.run_with(wrong, "--program", self.stub("BadNode 2"))
+        self.assertEqual((status, output.count(": refused BadNode 2: "), output.splitlines()[-1]),
+                         (1, 20, "and 30 more mistakes"))
+
+    def test_one_more(self):
+        text = "".join(f"other{number} = 1\n" for number in range(41)) + CLUSTER.replace("sync = true", "sync = false")
+        status, output, _ = self.run_with(self.written("cluster.toml", text), "--program", self.stub())
+        self.assertEqual(output.splitlines()[-1], "and 21 more warnings")
+
+    def test_long_keys_and_values(self):
+        """Each is cut, and so is each line that is shown."""
+        long = "k" * 5000
+        for old, new, refusal in (
+            ("idle = 0", f"idle = 0\n{long} = 1", ""), ("idle = 0", f"{long} = 1\n{long} = 2", "Toml"),
+            ("idle = 0", f'idle = "{long}"', "Params NotANumber idle"), ("idle = 0", f"idle = {long}", "Toml"),
+            ('"A"', f'"{long}"', "BadGuard"), ("idle = 0", f"idle = {long}.{long} = 3", "Toml"),
+        ):
+            cluster = self.written("cluster.toml", CLUSTER.replace(old, new, 1))
+            _, output, _ = self.run_with(cluster, "--program", self.stub(refusal))
+            with self.subTest(new=new[:20]):
+                self.assertIn("k..", output)
+                self.assertLess(max(map(len, output.splitlines())), 200)
+                self.assertNotIn("No reason is known", output)
+        scenario = self.written("scenario", SCENARIO.replace("commit", long[:1000], 1))
+        _, output, _ = self.run_with(self.written("cluster.toml", CLUSTER), scenario, "--cycles", "4", "--program",
+                                     self.stub("BadLine 2"))
+        self.assertIn(f"`{'k' * 40}..`", output)
+
     def test_words_that_are_no_command(self):
         cluster = self.written("cluster.toml", CLUSTER)
         for words in ([], [cluster, "scenario"], [cluster, "scenario", "--cycles", "0"], [cluster, "--cycles", "1025"],
@@ -133,7 +250,7 @@ class Command(Cases):
 
     def test_no_room_for_a_copy(self):
         name = self.pipe(CLUSTER)
-        with mock.patch.object(command, "NamedTemporaryFile", side_effect=OSError(28, "No space left on device")):
+        with mock.patch.object(tempfile, "NamedTemporaryFile", side_effect=OSError(28, "No space left on device")):
             status, output, error = self.run_with(name, "--program", self.stub())
         self.assertEqual((status, output), (2, ""))
         self.assertEqual(error, f"fr_lint: {name} can't be copied: No space left on device\n")

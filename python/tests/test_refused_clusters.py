@@ -113,8 +113,8 @@ CLASHES = (
      "at most 3 under `latest_a`, or at most 1 words"), DYNAMIC, DYNAMIC.replace("words = 1", "words = 2")),
 )
 TEXTS = (
-    ("Toml", "cluster.toml:16:9", ("the line is no TOML: Invalid value",), "tasks = 2", "tasks = two"),
-    ("Toml", "cluster.toml:17:10", ("Cannot overwrite a value",), OWN, "tasks = 3"),
+    ("Toml", "cluster.toml:16:9", ("`two` is no value", "a string in quotes"), "tasks = 2", "tasks = two"),
+    ("Toml", "cluster.toml:17:1", ("`tasks` stands twice", "cluster.toml:16:1: the first one"), OWN, "tasks = 3"),
     ("Toml", "cluster.toml:12:8", ("an integer is too great",), "idle = 0", f"idle = {2**63}"),
     ("Toml", "cluster.toml:12:10", ("an integer is too great",), "idle = 0", f"spare = [{'9' * 5000}]"),
     ("Toml", "cluster.toml:1:1", ("nested too deep",), 'guard = "A"', f"{'a.' * 80}a = 1"),
@@ -166,9 +166,9 @@ class RefusedClusters(Cases):
         found, _ = self.look(self.changed(CLUSTER, ('own = [{slot = 2, channels = "AB"}]', f"{OWN} # again")))
         self.assertEqual([refusal for refusal, _ in found.refusals], ["NotOwned 1 0", "Overlap 1 A 0"])
 
-    def test_a_file_of_the_newer_toml_is_left_to_the_program(self):
-        found, answer = self.look(self.changed(CLUSTER, (EVENT, EVENT.replace("}", ",}"))))
-        self.assertTrue(found.is_doubtful)
-        if answer.status == 0:
-            self.assertIn("TOML 1.1", self.text(found, answer))
-            self.assertNotIn("refused", self.text(found, answer))
+    def test_a_file_of_the_newer_toml(self):
+        """A last comma and a line break in an inline table, an escape of TOML 1.1, and a byte order mark."""
+        newer = "\ufeff" + self.changed(CLUSTER, (EVENT, EVENT.replace("}", ',\n  name = "\\e",}')))
+        self.quiet("", newer.replace(", sync = true", ", sync = true, startup = true,").replace(
+            'slot = 2, channels = "AB"}]\nbuf', 'slot = 2, channels = "AB", sync = true}]\nbuf'))
+        self.refused("BadNode 0", "cluster.toml:16:1", ("is 9",), newer.replace("tasks = 2", "tasks = 9", 1))

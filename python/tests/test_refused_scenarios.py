@@ -80,7 +80,7 @@ class RefusedScenarios(Cases):
 
     def test_what_a_terminal_might_obey_is_not_printed(self):
         found, answer = self.look(CLUSTER, "frscenario 1\n\x1b[2J 0\nend\n", 4)
-        self.assertIn("no line begins with `?[2J`", self.text(found, answer))
+        self.assertIn(r"no line begins with `\x1b[2J`", self.text(found, answer))
         self.assertNotIn("\x1b", self.text(found, answer))
 
     def test_too_many_lines(self):

@@ -1,0 +1,109 @@
+"""The files of up to 1 MiB that cost most: each is looked at in two seconds of the processor, and little is printed."""
+import time
+
+from musmyrtle.command import told
+from musmyrtle.lint import Task, lint
+from musmyrtle.program import Answer
+from musmyrtle.texts import FILE_LIMIT
+from tests.cases import CLUSTER, Cases
+
+MOST_SECONDS = 2.0
+MOST_BYTES = 100_000
+LEVELS = "a." * 79
+PARAMETERS = """[params]
+static_slots = 1023
+minislots = 900
+static_words = 127
+static_mt = 1
+minislot_mt = 1
+symbol_mt = 0
+nit_mt = 1
+cycle_mt = 1924
+idle = 0
+words_per_minislot = 127
+"""
+
+
+def own(slot: int, base: int = 0, repetition: int = 1) -> str:
+    return f'{{slot = {slot}, channels = "AB", base = {base}, repetition = {repetition}}}'
+
+
+def buffer(kind: str, slot: int, channels: str, base: int = 0, repetition: int = 1) -> str:
+    cycles = f"base = {base}, repetition = {repetition}"
+    return f'{{kind = "{kind}", slot = {slot}, channels = "{channels}", {cycles}, words = 0}}'
+
+
+def node(lines: list[str], buffers: list[str]) -> str:
+    return (f"[[node]]\nlatest_a = 900\nlatest_b = 900\nslot_entries = 65536\nown = [{', '.join(lines)}]\n"
+            f"buffer = [{', '.join(buffers)}]\n")
+
+
+def numbered(part: str, count: int, between: str = "") -> str:
+    return between.join(part.replace("#", f"{number}") for number in range(count))
+
+
+TEXTS = {
+    "a key of many parts": ("Toml", "a." * 32_000 + "a = 1\n" + CLUSTER),
+    "a key of many parts in quotes": ("Toml", '"a".' * 32_000 + "a = 1\n" + CLUSTER),
+    "a header of many parts": ("Toml", "[" + "a." * 32_000 + "a]\n"),
+    "arrays in arrays": ("Toml", "a = " + "[" * 300_000),
+    "numbers in an array": (None, "a = [" + "1," * 500_000 + "]\n" + CLUSTER),
+    "inline tables in an array": (None, "a = [" + "{a=1}," * 170_000 + "]\n" + CLUSTER),
+    "deep keys below deep headers": (None, CLUSTER + numbered(f"[{LEVELS}h#]\n{LEVELS}k = 1\n", 3_000)),
+    "headers": (None, CLUSTER + numbered("[t#]\n", 90_000)),
+    "dotted keys": (None, numbered("a.b#.c = 1\n", 65_000) + CLUSTER),
+    "unread keys": (None, numbered("k# = 1\n", 90_000) + CLUSTER),
+    "unread keys of one line": (None, "physical = {" + numbered("k# = 1", 80_000, ", ") + "}\n" + CLUSTER),
+    "unread keys of many tables": ("TooManyNodes", CLUSTER + "[[node]]\na = 1\n" * 69_000),
+    "keys like one that is missing": ("Params Missing static_slots",
+                                      "[params]\n" + numbered("static_slot# = 1\n", 45_000)),
+    "keys like `node`": ("TooManyNodes", numbered("nodx# = 1\n", 70_000) + PARAMETERS),
+    "tables without what they need": (
+        "BadNode 0", PARAMETERS + node(["{" + numbered("slat#=1", 40, ",") + "}"] * 64,
+                                       ["{" + numbered("kint#=1", 40, ",") + "}"] * 64) * 16),
+    "a long line with many mistakes": (
+        "BadNode 0", PARAMETERS.replace("[params]\n", "params = {").replace("\n", ",") + "}\nnode = [" + ", ".join(
+            [f"{{x = '{'y' * 50_000}', own = [{', '.join([own(9999, 99)] * 64)}]}}"] * 16) + "]\n"),
+    "ownership lines for one cycle each": ("Overlap 1 A 0", PARAMETERS + "".join(
+        node([own(it + 1, base, 64) for base in range(64)], [buffer("event", it + 1, "AB")] * 64) for it in range(16))),
+}
+"""Cluster files, with the first refusal that has to be found."""
+
+FAULTS = {
+    "bits turned at minislots": (None, [f"corrupt {channel} {cycle} m{place} 0" for cycle in range(16)
+                                        for place in range(1, 900) for channel in "AB"]),
+    "bits turned in static slots": (None, [f"corrupt {channel} {cycle} s{place} 0" for cycle in range(16)
+                                           for place in range(1, 1024) for channel in "AB"]),
+    "words like those of scenarios": ("BadLine 2", [f"committ{number} 0 0 0 0 x" for number in range(4094)]),
+}
+"""Lines of scenarios, with the first refusal that has to be found."""
+
+
+class Times(Cases):
+    def held(self, wanted: str | None, *given) -> None:
+        """That a file is looked at in time, and that what is said of it is short."""
+        task = Task(*given)
+        begun = time.process_time()
+        found = lint(task)
+        refusal = found.refusals[0][0] if found.refusals else None
+        text = "\n".join(told(Answer(1 if refusal else 0, refusal), found))
+        self.assertLess(time.process_time() - begun, MOST_SECONDS)
+        self.assertLess(len(text.encode()), MOST_BYTES)
+        self.assertEqual(refusal, wanted)
+
+    def test_cluster_files(self):
+        for name, (refusal, text) in TEXTS.items():
+            with self.subTest(name=name):
+                self.assertLessEqual(len(text), FILE_LIMIT)
+                self.held(refusal, self.written("cluster.toml", text))
+
+    def test_scenarios(self):
+        """Of a cluster that is accepted, with 1,024 ownership lines and buffers that are for no cycle of the run."""
+        cluster = self.written("cluster.toml", PARAMETERS + "".join(
+            node([own(64 * it + line + 1, 32, 64) for line in range(64) if 64 * it + line < 1023],
+                 [buffer("event", 1024 + 32 * it + line // 2, "AB"[line % 2], 32, 64) for line in range(64)])
+            for it in range(16)))
+        for name, (refusal, lines) in FAULTS.items():
+            with self.subTest(name=name):
+                text = "".join(f"{line}\n" for line in ("frscenario 2", *lines[:4094], "end"))
+                self.held(refusal, cluster, self.written("scenario", text), 16)
