@@ -14,7 +14,7 @@ from unittest.mock import patch
 
 from musmyrtle import played, program
 from musmyrtle.fault_command import main
-from musmyrtle.session import usual_world
+from musmyrtle.world_program import usual_world
 from tests.test_fault_costs import PROGRAM
 from tests.two_nodes import SCENE, TWO_NODES
 

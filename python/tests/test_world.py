@@ -13,7 +13,7 @@ from musmyrtle import (
     UnknownName, UnknownNode, UnknownTask, Window, World, WrongLength, WrongTurn,
 )
 from musmyrtle.node import Buffer, Node
-from musmyrtle.session import usual_world
+from musmyrtle.world_program import usual_world
 
 TOP = Path(__file__).resolve().parents[2]
 THREE_NODES = TOP / "examples/three-nodes/cluster.toml"
