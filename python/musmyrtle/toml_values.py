@@ -21,21 +21,23 @@ OFFSET = r"(?:[Zz]|[+-](?:[01][0-9]|2[0-3]):[0-5][0-9])"
 MOMENT = rf"([0-9]{{4}})-([0-9]{{2}})-([0-9]{{2}})(?:[Tt ]{TIME}{OFFSET}?)?|{TIME}"
 DAYS = (31, 28, 31, 30, 31, 30, 31, 31, 30, 31, 30, 31)
 
-BODIES: dict[str, str | re.Pattern[str]] = {
+BODIES = {
     '"': re.compile(r'((?:[^"\\\x00-\x08\x0a-\x1f\x7f]++|\\[^\x00-\x1f\x7f])*+)'),
     "'": re.compile(r"([^'\x00-\x08\x0a-\x1f\x7f]*+)"),
+}
+"""What may stand in a string of one line, by its quotes."""
+LONG_BODIES = {
     '"""':
         r'(?:\r?\n)?+((?:[^"\\\x00-\x08\x0b-\x1f\x7f]++|\r\n|\\(?:\r\n|[^\x00-\x08\x0b-\x1f\x7f])|"{1,2}+(?!"))*+)',
     "'''": r"(?:\r?\n)?+((?:[^'\x00-\x08\x0b-\x1f\x7f]++|\r\n|'{1,2}+(?!'))*+)",
 }
-"""What may stand in a string, by its quotes."""
+"""The same of strings of several lines."""
 LAST_QUOTES = r"""'{3,5}+|"{3,5}+"""
 """The end of a string of several lines, which may have two quotes before it."""
 CONTROL = r"[\x00-\x08\x0b\x0c\x0e-\x1f\x7f]|\r(?!\n)"
 ESCAPE = (r"\\(?:([btnfre\"\\])|x([0-9A-Fa-f]{2})|u([0-9A-Fa-f]{4})|U([0-9A-Fa-f]{8})"
-                    r"|[ \t]*\r?\n[ \t\r\n]*|)")
+          r"|[ \t]*\r?\n[ \t\r\n]*|)")
 ESCAPED = {"b": "\b", "t": "\t", "n": "\n", "f": "\f", "r": "\r", "e": "\x1b", '"': '"', "\\": "\\"}
-
 
 Noted = tuple[str, int]
 """What else has to do with a mistake, and the offset of it."""
@@ -96,7 +98,8 @@ def string(text: str, at: int, has_lines: bool = True) -> tuple[str, int]:
     """Returns the string that begins with a quote at an offset, and its end. A key has no string of several lines."""
     quote = text[at]
     quotes = quote * 3 if has_lines and text.startswith(quote * 3, at) else quote
-    body = re.compile(BODIES[quotes]).match(text, at + len(quotes))
+    form = BODIES.get(quotes) or re.compile(LONG_BODIES[quotes])
+    body = form.match(text, at + len(quotes))
     end = body.end() if body else at
     if body is None or not text.startswith(quotes, end):
         raise unfinished(text, at, end, quotes)
