@@ -8,7 +8,6 @@ import pickle
 import random
 import signal
 import subprocess
-import threading
 import time
 import unittest
 from concurrent.futures import ProcessPoolExecutor, ThreadPoolExecutor

@@ -366,7 +366,6 @@ class TestScenario(unittest.TestCase):
             with self.assertRaises(NotInAScenario):
                 Scenario(cluster, cycles=4).lose(2)
 
-
     def test_numbers_out_of_range(self):
         scenario = Scenario(THREE_NODES, cycles=4)
         task = scenario.task(0)
