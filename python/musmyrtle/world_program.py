@@ -38,16 +38,14 @@ def not_started(program: str, error: OSError) -> NotStarted:
     """Returns the exception for a program that can't be started."""
     number, reason = error.errno or 0, error.strerror or str(error)
     if number in MISSING:
-        reason = f"{reason}. {NAME} is looked for in this order: {', '.join(places())}"
+        reason = f"{reason}. {NAME} is looked for in this order: {'; '.join(places())}"
     return NotStarted(number, reason, program)
 
 
 def places() -> Iterator[str]:
     """Yields the places where the program is looked for, in their order, with what is found there."""
     yield "the argument `program`"
-    named = os.environ.get(VARIABLE)
-    yield f"the variable {VARIABLE}, which " + (f"names {named}" if named else "isn't set")
+    yield f"the variable {VARIABLE} ({os.environ.get(VARIABLE) or 'not set'})"
     for file in in_checkout():
-        yield f"{file}, which " + ("is there" if file.is_file() else "isn't there")
-    found = shutil.which(NAME)
-    yield "the path of commands, which " + (f"has {found}" if found else "doesn't have it")
+        yield f"{file} ({'there' if file.is_file() else 'not there'})"
+    yield f"{NAME} on PATH ({shutil.which(NAME) or 'not there'})"

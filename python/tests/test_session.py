@@ -243,11 +243,6 @@ class TestReplies(Sessions):
 
 
 class TestWrongPrograms(Sessions):
-    def test_one_that_cannot_be_started(self):
-        for program, kind in ((self.folder / "none", FileNotFoundError), (self.folder, PermissionError)):
-            with self.assertRaisesRegex(kind, str(program)):
-                World(THREE_NODES, 8, program=program)
-
     def test_one_that_speaks_another_version(self):
         with self.assertRaisesRegex(SessionOver, "speaks 'frworld 2', not 'frworld 1'"):
             self.fake("print('frworld 2', flush=True)\n")
@@ -394,7 +389,7 @@ class TestRefusals(unittest.TestCase):
 
     def test_a_process_pool_hands_a_refusal_on(self):
         with ProcessPoolExecutor(1, multiprocessing.get_context("fork")) as pool:
-            with self.assertRaisesRegex(WrongLength, "^Host WrongLength: commit 0 0 0 x00000000$"):
+            with self.assertRaisesRegex(WrongLength, "^Host WrongLength: .*has to have 2: commit 0 0 0 x00000000$"):
                 pool.submit(commit_too_much, bytes(4)).result()
             self.assertEqual(pool.submit(commit_too_much, bytes(2)).result(), 0)
 
