@@ -15,7 +15,7 @@ from unittest.mock import patch
 from musmyrtle import played, program
 from musmyrtle.fault_command import main
 from musmyrtle.world_program import usual_world
-from tests.test_fault_costs import PROGRAM
+from tests.campaigns import PROGRAM
 from tests.two_nodes import SCENE, TWO_NODES
 
 TOP = Path(__file__).resolve().parents[2]
@@ -123,7 +123,7 @@ class TestFiles(Command):
                          "runs, in dist, by --program FILE", 2, "--program", launcher, "--parallel")
 
     def test_forms_of_a_cluster_file(self):
-        """A byte order mark and a form of TOML 1.1 change nothing."""
+        """A byte order mark is no fault, and neither is TOML 1.1, which the engines read."""
         right = self.asked()
         self.assertEqual(right[2], 0)
         (self.folder / "cluster").write_bytes(b"\xef\xbb\xbf" + TWO_NODES.encode())
