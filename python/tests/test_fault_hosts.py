@@ -17,7 +17,8 @@ from musmyrtle.fault_list import Selection
 from musmyrtle.fault_log import Log
 from musmyrtle.fault_runs import Folder
 from musmyrtle.world_program import usual_world
-from tests.test_fault_costs import BY_HAND, PROGRAM, cluster_of, scenario_of
+from tests.campaigns import PROGRAM, cluster_of, scenario_of
+from tests.test_fault_costs import BY_HAND
 from tests.two_nodes import SCENE, TWO_NODES
 
 SOME = Selection(frozenset(["mute"]), frozenset([1]))

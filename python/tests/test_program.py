@@ -1,5 +1,6 @@
 """Which program is run: the one that a launcher has noted, or otherwise the launcher itself."""
 import unittest
+from contextlib import chdir
 from pathlib import Path
 from tempfile import TemporaryDirectory
 from unittest.mock import patch
@@ -63,6 +64,12 @@ class Noted(unittest.TestCase):
         self.note(b"dist\n")
         other = str(self.checkout / "elsewhere" / NAME)
         self.assertEqual(itself(other), other)
+
+    def test_a_name_that_is_looked_for_on_the_path(self) -> None:
+        self.note(b"dist\n")
+        with chdir(self.checkout):
+            self.assertEqual(itself(NAME), NAME)
+            self.assertEqual(itself(f"./{NAME}"), str(self.checkout / "dist" / NAME))
 
 
 if __name__ == "__main__":
