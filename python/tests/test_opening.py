@@ -7,7 +7,7 @@ import pickle
 import subprocess
 import sys
 import unittest
-from contextlib import redirect_stdout
+from contextlib import redirect_stderr, redirect_stdout
 from pathlib import Path
 from tempfile import TemporaryDirectory
 from unittest.mock import patch
@@ -17,12 +17,12 @@ from musmyrtle import (
 )
 from tests import fakes
 from tests.campaigns import PROGRAM
-from tests.cases import CLUSTER
+from tests.cases import CLUSTER, SCENARIO
 from tests.two_nodes import SCENE, TWO_NODES
 
 TOP = Path(__file__).resolve().parents[2]
 THREE_NODES = TOP / "examples/three-nodes/cluster.toml"
-BRAKES = TOP / "examples/host-programs/brakes.toml"
+WORLD = world_program.usual_world()
 SECOND_OWNER = CLUSTER.replace('own = [{slot = 2, channels = "AB"}]',
                                'own = [{slot = 1, channels = "A"}, {slot = 2, channels = "AB"}]')
 
@@ -94,15 +94,27 @@ class TestNoProgram(Folders):
 
     def test_fr_faults_ends_as_where_a_file_cannot_be_used(self) -> None:
         words = [str(self.written(TWO_NODES)), str(self.written(SCENE, "scenario")), "--cycles", "2", "--program",
-                 str(PROGRAM)]
+                 PROGRAM]
         none = self.folder / "none"
         told = f"fr_faults: {none} can't be run: No such file or directory\n"
         other = "fr_faults: fr_world can't be run: No such file or directory; name another fr_world by --world FILE\n"
         cases: tuple[tuple[list[str], str], ...] = (["--world", str(none)], told), ([], other)
         for more, line in cases:
-            with patch.object(sys, "stderr", io.StringIO()) as error, redirect_stdout(io.StringIO()) as output:
+            with redirect_stderr(io.StringIO()) as error, redirect_stdout(io.StringIO()) as output:
                 self.assertEqual(fault_command.main(words + more), 2)
             self.assertEqual((error.getvalue(), output.getvalue()), (line, ""))
+
+    def test_fr_faults_has_no_answer_of_a_session_that_cannot_be_started(self) -> None:
+        """The program is there for the run without a fault, and gone for those with one."""
+        gone = self.written(f"#!/bin/sh\n/bin/rm -- \"$0\"\nexec '{WORLD}' \"$@\"\n", "gone")
+        gone.chmod(0o755)
+        words = [str(self.written(CLUSTER)), str(self.written(SCENARIO, "scenario")), "--cycles", "4", "--program",
+                 PROGRAM, "--world", str(gone), "--kinds", "noise", "--nodes", "0"]
+        with redirect_stderr(io.StringIO()), redirect_stdout(io.StringIO()) as output:
+            self.assertEqual(fault_command.main(words), 4)
+        told = f"killed\t1\t-\tfr_world: {gone} can't be started: No such file or directory"
+        rows = [row for row in output.getvalue().splitlines() if "\tm1\t" in row]
+        self.assertEqual([told in row for row in rows], [True] * 3)
 
 
 class TestRefusedCluster(Folders):
