@@ -1,6 +1,4 @@
 """What host programs and scenarios need of a cluster file, which the program has read before."""
-from musmyrtle.cluster import Buffer
-from musmyrtle.cluster import Reading as ClusterReading
 from musmyrtle.texts import NoText, read_text
 from musmyrtle.toml_tables import Table
 
@@ -17,9 +15,11 @@ def document_of(data: bytes) -> Table:
 
 def payload_length(data: bytes, node: int, buffer: int) -> int | None:
     """Returns the bytes of a transmit buffer's payload, or None where the file has no such buffer or is refused."""
+    # It is needed only where a length is wrong, and each program that opens a world would wait for the import.
+    from musmyrtle.cluster import Reading
     try:
-        cluster = ClusterReading(document_of(data)).cluster
+        cluster = Reading(document_of(data)).cluster
     except ValueError:
         return None
-    buffers: list[Buffer] = cluster.nodes[node].buffers if cluster and node < len(cluster.nodes) else []
+    buffers = cluster.nodes[node].buffers if cluster and node < len(cluster.nodes) else []
     return 2 * buffers[buffer].words if buffer < len(buffers) and buffers[buffer].transmits else None
