@@ -342,12 +342,14 @@ class Sessions:
     def words(self):
         lists = [[], ["help"], ["--help"], ["-h"], [""], [b"\xff"], ["a"], ["a", "--cycles"], ["--cycles", "1"],
                  ["a", "--cycles", "1", "b"], ["a", "--cycle", "1"], ["a", "-cycles", "1"], ["a", "1", "--cycles"],
-                 ["a", "--cycles", b"\xff"], ["a", "b", "--cycles", "1"],
+                 ["a", "--cycles", b"\xff"], ["a", "b", "--cycles", "1"], ["a", "--cycles", "1", "--cycles", "1"],
+                 ["a", "--cycles="], ["a", "--", "--cycles", "1"],
                  *(["a", "--cycles", number] for number in ("0", "1025", "04", "+4", "-1", "x", "", "4 ", "1" * 40))]
         for given in lists:
             self.runs.check(f"the words {given}", given, USAGE)
-        for number in ("1", "1024"):
-            self.runs.check(f"{number} cycles", ["a", "--cycles", number], refused("Read"))
+        for given in (["a", "--cycles", "1"], ["a", "--cycles", "1024"], ["a", "--cycles=4"], ["--cycles", "4", "a"],
+                      ["--cycles=4", "--", "a"]):
+            self.runs.check(f"the words {given}", given, refused("Read"))
 
     def outputs(self):
         words = [THREE_NODES, "--cycles", "1"]

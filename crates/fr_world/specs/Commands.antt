@@ -1,14 +1,43 @@
--- Which words are a command (own profile).
-use Rattle.std.specs.Prelude.{ℕ, List, [], ◌∷◌, codes, Option, Some, None, if◌then◌else◌}
-use Rattle.std.specs.Str.{bytes_eq}
-use Rattle.fr_words.specs.Commands.{cycles_in}
+-- Which words are a command, by the rules of `clap` (project-defined).
+use Rattle.std.specs.Prelude.{◌≡◌, ◌⊎◌, ◌<◌, ℕ, List, [], length, codes, true, Option, Some, None, Result, Ok, Err}
+use Rattle.std.specs.Prelude.{option_and_then}
+use Rattle.clap.specs.Words.{App, Text, fault_of, first_of, matches_of, with_rule}
+use Rattle.fr_words.specs.Commands.{cycles_in, named, the_cycles, the_file}
+use Rattle.fr_words.specs.declared.error.OrderError.{OrderError}
+use Rattle.fr_words.specs.declared.error.OrderError.TheVariants as refusal
+use Rattle.fr_world.specs.declared.command.Command.{Command}
 
-abbrev pub with_file : List ℕ → Option ℕ → Option (List ℕ × ℕ)
-with_file file None = None
-with_file file (Some cycles) = Some (file, cycles)
+-- the words begin with the file or the option, and of help `clap` knows nothing
+abbrev pub bare_command : App
+bare_command = record {
+  top = record (named (codes "fr_world")) { no_binary_name = true; disable_help_flag = true };
+  subs = [];
+}
 
--- the name of a cluster file, and the number of cycles
-unfoldable pub command_in : List (List ℕ) → Option (List ℕ × ℕ)
-command_in (file ∷ option ∷ number ∷ []) =
-    if bytes_eq option (codes "--cycles") then with_file file (cycles_in number) else None
-command_in words = None
+-- the program with a file and a number of cycles, which both have to be there
+abbrev pub the_command : App
+the_command = with_rule (with_rule bare_command the_file) the_cycles
+
+-- the file, and the number of cycles, if the words of these arguments are one
+abbrev pub with_cycles : Text → Option ℕ → Option (Text × ℕ)
+with_cycles file None = None
+with_cycles file (Some cycles) = Some (file, cycles)
+
+abbrev pub with_file : Option Text → Option ℕ → Option (Text × ℕ)
+with_file None cycles = None
+with_file (Some file) cycles = with_cycles file cycles
+
+abbrev pub given_in : (Text → Option Text) → Option (Text × ℕ)
+given_in first_word = with_file (first_word (codes "FILE")) (option_and_then cycles_in (first_word (codes "cycles")))
+
+-- the first word of an argument, where `clap` takes these words
+abbrev pub entered : List Text → Text → Option Text
+entered words id = first_of id (matches_of the_command words)
+
+-- Where `clap` finds no fault with the words they are the command that they give. Words are refused where it finds one,
+-- or where the number of cycles is none; if an allocation fails either may stay unanswered.
+abbrev pub IsAnswer : List Text → Result Command OrderError → Type 0
+IsAnswer words (Ok command) =
+    (fault_of the_command words ≡ []) × (given_in (entered words) ≡ Some (command.file.now, command.cycles))
+IsAnswer words (Err refusal.Usage) = (0 < length (fault_of the_command words)) ⊎ (given_in (entered words) ≡ None)
+IsAnswer words (Err refusal.Memory) = Unit {0}

@@ -23,7 +23,6 @@ use fr_commands::files::file_named;
 use fr_core::world::World;
 use fr_schedule::cluster::Cluster;
 use fr_session::session::serve;
-use fr_words::error::OrderError;
 use fr_words::given::{texts_of, words_given};
 use fr_words::waiting::{WaitingReader, WaitingWriter};
 use std::io;
@@ -71,10 +70,7 @@ fn serve_world<R: Files + Input + Print + AllocGlobal + Clock>(
 fn run<R: Env + Files + Input + Print + AllocGlobal + Clock>(rt: &R) -> Result<(), Failure> {
     let words = words_given(rt)?;
     let texts: Vec<&str> = texts_of(rt.alloc(), &words)?;
-    match command_of(texts.as_slice()) {
-        Some(command) => serve_world(rt, command),
-        None => Err(Failure::Words(OrderError::Usage)),
-    }
+    serve_world(rt, command_of(rt.alloc(), texts.as_slice())?)
 }
 
 fn main(rt: HostRuntime) -> ExitCode {
