@@ -7,15 +7,21 @@
         world.cycle()
         print(world.node(1).read(1))
 """
-from musmyrtle.builder import NotInAScenario, Scenario
+import sys
+
+if sys.version_info < (3, 11):
+    # It stands before all imports, of which older versions can't do some, and in words that they know.
+    raise ImportError("musmyrtle needs Python 3.11, and this is Python {}.{}.{}".format(*sys.version_info[:3]))
+
+from musmyrtle.builder import NotInAScenario, Scenario, ScenarioText
 from musmyrtle.faults import Babble, Corrupt, Fault, Mute
 from musmyrtle.names import Names, UnknownName
 from musmyrtle.node import Buffer, Node
 from musmyrtle.refusals import (
-    AlreadyPut, AlreadyTaken, BadFault, BadLine, BadName, BadWindow, BusMemory, BusRefused, BusUnknownNode, HostFull,
-    HostRefused, Memory, NoQueue, NotAllPut, NotAllTaken, NotCollecting, NotFetched, NotObserved, NotReceive, NotSealed,
-    NotTransmit, NoWindow, Refused, SessionOver, SlotFull, SlotRefused, TimedOut, TooManyFaults, UnknownBuffer,
-    UnknownNode, UnknownTask, WindowOrder, WrongLength, WrongTurn, WrongWindow,
+    AlreadyPut, AlreadyTaken, BadCycles, BadFault, BadLine, BadName, BadWindow, BusMemory, BusRefused, BusUnknownNode,
+    ClusterRefused, HostFull, HostRefused, Memory, NoQueue, NotAllPut, NotAllTaken, NotCollecting, NotFetched,
+    NotObserved, NotReceive, NotSealed, NotStarted, NotTransmit, NoWindow, Refused, SessionOver, SlotFull, SlotRefused,
+    TimedOut, TooManyFaults, UnknownBuffer, UnknownNode, UnknownTask, WindowOrder, WrongLength, WrongTurn, WrongWindow,
 )
 from musmyrtle.replies import (
     Channel, Counters, Frame, Queue, ReceiveBuffer, Record, Report, Sent, TransmitBuffer, Window,
@@ -23,11 +29,12 @@ from musmyrtle.replies import (
 from musmyrtle.world import World
 
 __all__ = [
-    "AlreadyPut", "AlreadyTaken", "Babble", "BadFault", "BadLine", "BadName", "BadWindow", "Buffer", "BusMemory",
-    "BusRefused", "BusUnknownNode", "Channel", "Corrupt", "Counters", "Fault", "Frame", "HostFull", "HostRefused",
-    "Memory", "Mute", "Names", "Node", "NoQueue", "NotAllPut", "NotAllTaken", "NotCollecting", "NotFetched",
-    "NotInAScenario", "NotObserved", "NotReceive", "NotSealed", "NotTransmit", "NoWindow", "Queue", "ReceiveBuffer",
-    "Record", "Refused", "Report", "Scenario", "Sent", "SessionOver", "SlotFull", "SlotRefused", "TimedOut",
-    "TooManyFaults", "TransmitBuffer", "UnknownBuffer", "UnknownName", "UnknownNode", "UnknownTask", "Window",
-    "WindowOrder", "World", "WrongLength", "WrongTurn", "WrongWindow",
+    "AlreadyPut", "AlreadyTaken", "Babble", "BadCycles", "BadFault", "BadLine", "BadName", "BadWindow", "Buffer",
+    "BusMemory", "BusRefused", "BusUnknownNode", "Channel", "ClusterRefused", "Corrupt", "Counters", "Fault", "Frame",
+    "HostFull", "HostRefused", "Memory", "Mute", "Names", "Node", "NoQueue", "NotAllPut", "NotAllTaken",
+    "NotCollecting", "NotFetched", "NotInAScenario", "NotObserved", "NotReceive", "NotSealed", "NotStarted",
+    "NotTransmit", "NoWindow", "Queue", "ReceiveBuffer", "Record", "Refused", "Report", "Scenario", "ScenarioText",
+    "Sent", "SessionOver", "SlotFull", "SlotRefused", "TimedOut", "TooManyFaults", "TransmitBuffer", "UnknownBuffer",
+    "UnknownName", "UnknownNode", "UnknownTask", "Window", "WindowOrder", "World", "WrongLength", "WrongTurn",
+    "WrongWindow",
 ]

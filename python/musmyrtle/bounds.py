@@ -1,7 +1,9 @@
 """The numbers and payloads that a request can name. What is out of range is refused before anything is sent."""
 import operator
+from collections.abc import Callable
 from typing import SupportsIndex
 
+from musmyrtle.findings import counted
 from musmyrtle.replies import Channel, channel_of
 from musmyrtle.scenario import GREATEST, MOST_BYTES
 
@@ -59,11 +61,15 @@ def some_cycles(value: SupportsIndex) -> int:
     return within("the number of cycles", value, 0, MOST_CYCLES)
 
 
-def payload_hex(payload: bytes) -> str:
-    """Returns a payload as a request spells it. Raises `ValueError` unless it is 0 to 127 two-byte words."""
+def payload_hex(payload: bytes, wanted: Callable[[], int | None] = lambda: None) -> str:
+    """Returns a payload as a request spells it. Raises `ValueError` unless it is 0 to 127 two-byte words.
+
+    WANTED returns the length of the buffer's payload for the message, if that is known.
+    """
     if len(payload) % 2 or len(payload) > MOST_PAYLOAD:
-        raise ValueError(f"the payload has {len(payload)} bytes, and has to be two-byte words, {MOST_PAYLOAD} bytes at "
-                         "most")
+        length = wanted()
+        right = f"be two-byte words, {MOST_PAYLOAD} bytes at most" if length is None else f"have {length}"
+        raise ValueError(f"the payload has {counted(len(payload), 'byte')}, and has to {right}")
     return f"x{payload.hex()}"
 
 

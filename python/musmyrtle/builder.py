@@ -9,13 +9,13 @@
     scenario.babble("door", slot=3, data=b"\\0")
     Path("brakes.scenario").write_text(scenario.text())
 """
-import tomllib
 from collections.abc import Iterable
 from dataclasses import dataclass
 from pathlib import Path
 from typing import Any
 
 from musmyrtle.bounds import babble_hex, bit_number, buffer_number, node_number, payload_hex, run_cycles, task_number
+from musmyrtle.cluster_file import document_of, payload_length
 from musmyrtle.names import Names
 from musmyrtle.refusals import BadName
 from musmyrtle.session import FileName
@@ -26,6 +26,17 @@ MOST_PLACE = 8000
 
 class NotInAScenario(ValueError):
     """A scenario has no lines for this. The message says why."""
+
+
+class ScenarioText(str):
+    """The text of a scenario, with the line feed after `end` that a scenario has to end with.
+
+    `print` adds a line feed to what it prints, so it prints the text without the last one. For the same reason `str`
+    and an f-string give the text without it. All else, as `write`, `write_text` and `encode`, has the whole text.
+    """
+
+    def __str__(self) -> str:
+        return self.removesuffix("\n")
 
 
 @dataclass(frozen=True)
@@ -63,7 +74,9 @@ class Task:
         if len(payloads) < len(self.cycles):
             raise NotInAScenario(f"{len(payloads)} payloads for {len(self.cycles)} cycles")
         for cycle, data in zip(self.cycles, payloads):
-            self._line("commit", cycle, self.scenario.buffer(self.node, buffer), payload_hex(data))
+            number = self.scenario.buffer(self.node, buffer)
+            payload_word = payload_hex(data, lambda: payload_length(self.scenario.data, self.node, number))
+            self._line("commit", cycle, number, payload_word)
 
     def withdraw(self, buffer: str | int) -> None:
         """Takes the last commit of the buffer back in each of the cycles."""
@@ -97,11 +110,11 @@ class Scenario:
         Raises `OSError`, `ValueError` for other numbers and for what is no TOML, and `BadName`.
         """
         self.cycle_count = run_cycles(cycles)
-        data = Path(cluster).read_bytes()
-        self.names = Names.of(data)
+        self.data = Path(cluster).read_bytes()
+        self.names = Names.of(self.data)
         if self.names.wrong:
             raise BadName(self.names.wrong)
-        self.cluster: dict[str, Any] = tomllib.loads(data.decode("utf-8-sig"))
+        self.cluster: dict[str, Any] = document_of(self.data)
         self.scripts: dict[tuple[int, int], list[tuple[int, tuple[object, ...]]]] = {}
         self.faults: list[tuple[object, ...]] = []
 
@@ -190,14 +203,21 @@ class Scenario:
 
     # ---- the text
 
-    def text(self) -> str:
-        """Returns the text, as `fr_bench run` reads it: the lines of each task by cycle, then the fault lines."""
+    def text(self) -> ScenarioText:
+        """Returns the text, as `fr_bench run` reads it: the lines of each task by cycle, then the fault lines.
+
+        It can be printed and written to a file. Both make a scenario that is accepted.
+        """
         lines = ["frscenario 2"]
         for (node, task), calls in sorted(self.scripts.items()):
             for cycle, (kind, *words) in sorted(calls, key=lambda call: call[0]):
                 lines.append(" ".join(map(str, (kind, node, task, cycle, *words))))
         lines += [" ".join(map(str, words)) for words in self.faults]
-        return "".join(f"{line}\n" for line in [*lines, "end"])
+        return ScenarioText("".join(f"{line}\n" for line in [*lines, "end"]))
+
+    def __str__(self) -> str:
+        """Returns the text, so that `file.write(str(scenario))` writes it whole."""
+        return self.text()
 
 
 def place_of(slot: int | None, minislot: int | None) -> str:

@@ -138,9 +138,8 @@ class Child:
     # ---- standard error
 
     def last_words(self) -> str:
-        """Returns the end of what the program said on standard error, or how it ended if it said nothing.
+        """Returns the end of what the program said on standard error, or how it ended where it said nothing.
 
-        Lines, as a refusal and those by which a launcher explains it, are joined by semicolons.
         Waits for at most `LAST_SECONDS`, and not for other processes that hold the pipe.
         """
         until = time.monotonic() + LAST_SECONDS
@@ -154,8 +153,7 @@ class Child:
         for _ in range(16):
             if self._is_mute or not self._listen():
                 break
-        lines = self._said.decode(errors="replace").strip().splitlines()
-        return "; ".join(lines) or self._ended(until)
+        return self._said.decode(errors="replace").strip() or self._ended(until)
 
     def _ended(self, until: float) -> str:
         if not self._ends_within(max(0.0, until - time.monotonic())):

@@ -13,7 +13,7 @@ from musmyrtle.fault_runs import OUTCOME, Folder, pooled
 from musmyrtle.fault_table import Done
 from musmyrtle.outcomes import BadOutcome, Known, read_outcome
 from musmyrtle.played import Begun, Occasion, Played, Player
-from musmyrtle.refusals import Refused, SessionOver
+from musmyrtle.refusals import NotStarted, Refused, SessionOver
 from musmyrtle.scenario import Scenario
 from musmyrtle.visible import visible
 
@@ -54,13 +54,18 @@ def unplayed(error: SessionOver | Refused) -> list[Difference]:
 
 
 class Campaign:
-    """A cluster and a scenario with the run without a fault, with which the others are compared."""
+    """A cluster and a scenario with the run without a fault, with which the others are compared.
+
+    Raises `NotStarted` where there is no `fr_world`, and `NoReference` where that run has no outcome.
+    """
 
     def __init__(self, cluster: Cluster, scenario: Scenario, folder: Folder, means: Means) -> None:
         self.cluster, self.scenario, self.folder, self.means = cluster, scenario, folder, means
         self.player = Player(means.world, means.program, folder, cluster, scenario)
         try:
             self.recorded = self.player.record()
+        except NotStarted:
+            raise
         except (SessionOver, Refused) as error:
             raise NoReference(f"{means.world}: {error}") from None
         self.known: Known = {}

@@ -8,7 +8,7 @@ from pathlib import Path
 
 from musmyrtle.breaking import BrokenOff, breaking_off, temporary_folder
 from musmyrtle.children import Children
-from musmyrtle.command import FINE, USAGE, Stop, write
+from musmyrtle.command import FINE, USAGE
 from musmyrtle.fault_campaign import Campaign, Means, NoReference
 from musmyrtle.fault_costs import FAILED, Difference
 from musmyrtle.fault_hosts import Hosts, NoParallel
@@ -23,11 +23,12 @@ from musmyrtle.fault_table import BadTable, Ranks, Results, has_effect, listed, 
 from musmyrtle.fault_table import told as told_difference
 from musmyrtle.fault_table import worse
 from musmyrtle.findings import counted
+from musmyrtle.output import Stop, write
 from musmyrtle.program import is_launcher, itself
-from musmyrtle.refusals import SessionOver
-from musmyrtle.session import usual_world
+from musmyrtle.refusals import NotStarted, SessionOver
 from musmyrtle.visible import visible
 from musmyrtle.whole_files import Unusable, replace_file, spare_inputs
+from musmyrtle.world_program import usual_world
 
 FOUND, UNDONE = 3, 4
 MOST_WORSE = 20
@@ -119,8 +120,9 @@ def measured(given: argparse.Namespace, folder: Path) -> Results | None:
     means, files = means_of(given), Folder(folder, *inputs.data, given.cycles, children)
     try:
         campaign = Campaign(inputs.cluster, inputs.scenario, files, means)
-    except OSError as error:
-        raise Stop(USAGE, f"{means.world} can't be run: {error.strerror}") from None
+    except NotStarted as error:
+        other = "" if given.world else "; name another fr_world by --world FILE"
+        raise Stop(USAGE, f"{error.filename} can't be run: {os.strerror(error.errno or 0)}{other}") from None
     listing = campaign.listing(selection)
     faults = listing.faults()
     if given.list:

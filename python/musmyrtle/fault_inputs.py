@@ -8,10 +8,11 @@ from musmyrtle.answers import NO_REFUSALS, Answer
 from musmyrtle.children import Children
 from musmyrtle.cluster import Cluster
 from musmyrtle.cluster import Reading as ClusterReading
-from musmyrtle.command import REFUSED, USAGE, Stop, is_bold_on, told, write
+from musmyrtle.command import REFUSED, USAGE, is_bold_on, told
 from musmyrtle.fault_campaign import NoReference, no_outcome
 from musmyrtle.fault_runs import CLUSTER_FILE, SCENARIO_FILE, outcome_words
 from musmyrtle.lint import Lint, Task, lint, read_bytes
+from musmyrtle.output import Stop, write
 from musmyrtle.program import Answer as Asked
 from musmyrtle.program import ask
 from musmyrtle.scenario import Reading as ScenarioReading
@@ -46,7 +47,7 @@ def accepted(given: argparse.Namespace, folder: Path, children: Children) -> Inp
         said = f"refused {answer.refusal}" if answer.is_named else str(answer.refusal)
         raise NoReference(no_outcome(Answer(answer.status, "", said.removeprefix(f"status {answer.status}"))))
     files_read = data[given.cluster], data[given.scenario]
-    cluster = ClusterReading(read_text(given.cluster, files_read[0]).document or {}).cluster
+    cluster = ClusterReading(read_text(given.cluster, files_read[0]).document).cluster
     # Otherwise `found` has a refusal.
     assert cluster is not None
     return Inputs(cluster, ScenarioReading(given.scenario, files_read[1]).scenario, files_read)

@@ -42,7 +42,7 @@ one() {
         last=$(tail -n 1 "$run.told")
         case "$status $last" in
         NO_REFUSALS) fail "no answer: $last"; return ;;
-        REFUSED\ refused\ [A-Z]*) ;;
+        REFUSED\\ refused\\ [A-Z]*) ;;
         *) fail "no answer: status $status $last"; return ;;
         esac
     fi

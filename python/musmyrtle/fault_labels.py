@@ -1,8 +1,8 @@
 """How faults, nodes and buffers are named on a page, in a summary and on a terminal."""
-import tomllib
 from collections.abc import Iterable
 from dataclasses import dataclass, field
 
+from musmyrtle.cluster_file import document_of
 from musmyrtle.fault_list import ALL_STATIC, SingleFault
 from musmyrtle.names import tables_of
 from musmyrtle.visible import visible
@@ -20,11 +20,11 @@ class Labels:
 
     @classmethod
     def read(cls, cluster: bytes) -> "Labels":
-        """Returns the names that a cluster file has. A key `name` that isn't a string is none, and neither has a file
-        that isn't TOML 1.0 any, which is all that Python reads."""
+        """Returns the names that a cluster file has. A key `name` that isn't a string is none. A file that is no TOML
+        has no names."""
         try:
-            document = tomllib.loads(cluster.decode().removeprefix("\ufeff"))
-        except (ValueError, RecursionError):
+            document = document_of(cluster)
+        except ValueError:
             return cls()
         found = cls()
         for number, node in enumerate(tables_of(document.get("node"))):

@@ -234,4 +234,3 @@ def has_effect(done: Done, effects: Iterable[str]) -> bool:
     wanted = set(effects)
     wanted |= set(LOSSES) if "lost" in wanted else set()
     return any(it.effect in wanted for _, found in done for it in found)
-

@@ -64,7 +64,7 @@ class Trace:
     """The entries of a trace that begins with its run, whose cycles begin with the windows STARTS."""
 
     def __init__(self, lines: list[str], starts: list[int], parameters: Parameters) -> None:
-        self.entries = lines[lines.index("begin") + 1 : -1]
+        self.entries = lines[lines.index("begin") + 1:-1]
         self.starts, self.parameters = starts, parameters
 
     def pops(self) -> list[int]:

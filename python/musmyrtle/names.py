@@ -3,10 +3,11 @@
 The bench reads no key `name`, so `name = "pedal"` may stand in the table of each node and of each buffer.
 """
 import os
-import tomllib
 from collections.abc import Iterable, Mapping
 from functools import lru_cache
 from pathlib import Path
+
+from musmyrtle.cluster_file import document_of
 
 
 class UnknownName(KeyError):
@@ -63,11 +64,7 @@ class Names:
 @lru_cache(maxsize=8)
 def names_in(data: bytes) -> Names:
     """Returns the names of a cluster file's bytes. Raises `ValueError` where they are no TOML."""
-    try:
-        document = tomllib.loads(data.decode("utf-8-sig"))
-    except RecursionError:
-        raise ValueError("its arrays or tables are nested too deep") from None
-    tables = tables_of(document.get("node"))
+    tables = tables_of(document_of(data).get("node"))
     wrong: list[str] = []
     repeated: list[tuple[int | None, str]] = []
     nodes = named(tables, None, wrong, repeated)

@@ -40,8 +40,9 @@ class Node:
         Raises `ValueError` for a payload that isn't 0 to 127 two-byte words, `WrongLength` for one that isn't as long
         as the buffer's, `UnknownTask`, `UnknownBuffer`, `NotTransmit` and `HostFull`.
         """
-        payload_word = payload_hex(payload)
-        return int(self._ask(f"commit {self.number} {self._task} {buffer_number(buffer)} {payload_word}"))
+        number = buffer_number(buffer)
+        payload_word = payload_hex(payload, lambda: self.world.payload_length(self.number, number))
+        return int(self._ask(f"commit {self.number} {self._task} {number} {payload_word}"))
 
     def withdraw(self, buffer: int) -> int | None:
         """Takes the last commit of a transmit buffer, 0 to 63, back and returns its entry, or None if none is pending.

@@ -8,6 +8,7 @@ from musmyrtle.sending import first_minislot
 PAST_ALL = 8001
 """A minislot that no cycle has."""
 
+
 class Offers:
     """The offers of all nodes. Cycles are bits of a number: bit N is for the cycles that leave N when divided by 64."""
 

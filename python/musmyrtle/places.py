@@ -25,7 +25,7 @@ class Place:
     @property
     def source(self) -> str:
         """The text of the line."""
-        return self.text[self.begin : self.end].rstrip("\r")
+        return self.text[self.begin:self.end].rstrip("\r")
 
     def __str__(self) -> str:
         column = "" if self.column is None else f":{self.column}"

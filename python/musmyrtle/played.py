@@ -13,7 +13,7 @@ from musmyrtle.fifos import Fifo, Unread, read_fifo, table_of
 from musmyrtle.frames import data_frame
 from musmyrtle.refusals import Refused, SessionOver, refusal
 from musmyrtle.replies import Window, record_of, window_of
-from musmyrtle.scenario import FaultLine, Line, Scenario
+from musmyrtle.scenario import Line, Scenario
 from musmyrtle.session import Session
 from musmyrtle.traces import fetched
 

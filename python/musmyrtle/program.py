@@ -66,8 +66,12 @@ def itself(program: str) -> str:
 
 
 def is_launcher(program: str) -> bool:
-    """Returns whether a program is a launcher of the checkout, which runs nowhere else."""
-    return Path(program).resolve().parent == CHECKOUT
+    """Returns whether a program is a launcher of the checkout, which runs nowhere else.
+
+    A name without a slash is none: it is looked for on the path of commands, also where the checkout is the folder in
+    which that is done.
+    """
+    return os.sep in program and Path(program).resolve().parent == CHECKOUT
 
 
 Started = Callable[..., AbstractContextManager[subprocess.Popen[Any]]]

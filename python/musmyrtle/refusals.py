@@ -4,8 +4,8 @@
 class SessionOver(RuntimeError):
     """The session is over, and no further request can be asked. The message says why.
 
-    That is what the program said on standard error, as `refused Overlap 2 A 0`, or how it ended, or why a reply
-    couldn't be read to its end.
+    That is what the program said on standard error, as `refused Write`, or how it ended, or why a reply couldn't be
+    read to its end.
     """
 
 
@@ -15,6 +15,40 @@ class TimedOut(SessionOver, TimeoutError):
 
 class BadName(SessionOver, ValueError):
     """A key `name` of the cluster file isn't a string, so the world isn't opened."""
+
+
+class BadCycles(SessionOver, ValueError):
+    """A run has 1 to 1024 cycles, so the world isn't opened."""
+
+
+class ClusterRefused(SessionOver):
+    """The program refuses the cluster file, so the world isn't opened.
+
+    `refusal` has the words after `refused`, as `SlotTaken 1 A`, and `reason` what `fr_lint` says of the file, with line
+    and column. The reason is empty where none is known.
+    """
+
+    def __init__(self, refusal: str, reason: str = "") -> None:
+        # Both are arguments of the exception, so that it can be copied and pickled.
+        super().__init__(refusal, reason)
+        self.refusal, self.reason = refusal, reason
+
+    def __str__(self) -> str:
+        return f"refused {self.refusal}: {self.reason}" if self.reason else f"refused {self.refusal}"
+
+
+class NotStarted(SessionOver, OSError):
+    """The program can't be started: it isn't there, or it can't be executed.
+
+    `filename` is the program and `errno` the failure. `strerror` says why, and where `fr_world` is looked for.
+    """
+
+    def __init__(self, number: int, reason: str, program: str) -> None:
+        # RuntimeError comes first among the bases, and would keep nothing of these.
+        OSError.__init__(self, number, reason, program)
+
+    def __str__(self) -> str:
+        return f"{self.filename} can't be started: {self.strerror}"
 
 
 class Refused(Exception):
@@ -77,7 +111,21 @@ class NotReceive(HostRefused):
 
 
 class WrongLength(HostRefused):
-    """The payload doesn't have the buffer's length, two bytes for each of its words."""
+    """The payload doesn't have the buffer's length, two bytes for each of its words.
+
+    `wanted` is that length in bytes, or None where the cluster file couldn't be read, and `given` the payload's.
+    """
+
+    def __init__(self, names: tuple[str, ...], line: str, wanted: int | None = None) -> None:
+        super().__init__(names, line)
+        self.args = names, line, wanted
+        self.wanted = wanted
+        self.given = len(line.rpartition(" x")[2]) // 2
+
+    def __str__(self) -> str:
+        right = "has another length" if self.wanted is None else f"has to have {self.wanted}"
+        told = f"the payload has {self.given} bytes, and {right}"
+        return f"{' '.join(self.names)}: {told}: {self.line}"
 
 
 class HostFull(HostRefused):

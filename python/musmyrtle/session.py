@@ -1,6 +1,5 @@
 """A session with the program `fr_world`: requests, a line each, and the reply to each."""
 import os
-import shutil
 import threading
 import time
 import weakref
@@ -8,27 +7,13 @@ from collections.abc import Iterable
 
 from musmyrtle.child import Child, Gone, Late
 from musmyrtle.faults import is_fault_line
-from musmyrtle.program import CHECKOUT
+from musmyrtle.opening import refused_cluster
 from musmyrtle.refusals import SessionOver, TimedOut, refusal
+from musmyrtle.world_program import not_started
 
 VERSION = "frworld 1"
 CLOSE_SECONDS = 1.0
 FileName = str | os.PathLike[str]
-
-
-def usual_world() -> str:
-    """Returns the `fr_world` to run.
-
-    That is the program that the variable MUSMYRTLE_WORLD names, or the launcher of the checkout that this package is
-    in, or the program of its `dist/`, or `fr_world` on the path of commands.
-    """
-    named = os.environ.get("MUSMYRTLE_WORLD")
-    if named:
-        return named
-    for file in (CHECKOUT / "fr_world", CHECKOUT / "dist/fr_world"):
-        if file.is_file():
-            return str(file)
-    return shutil.which("fr_world") or "fr_world"
 
 
 class Session:
@@ -42,8 +27,8 @@ class Session:
     def __init__(self, program: FileName, cluster: FileName, cycles: int, timeout: float | None = None) -> None:
         """Starts the program and reads its first line.
 
-        TIMEOUT is the time limit of each request in seconds, or None for no limit. Raises `OSError` where the program
-        can't be started, `SessionOver` where it refuses the cluster or speaks another version, and `TimedOut`.
+        TIMEOUT is the time limit of each request in seconds, or None for no limit. Raises `NotStarted`,
+        `ClusterRefused`, `SessionOver` where the program speaks another version, and `TimedOut`.
         """
         command = [os.fspath(program), os.fspath(cluster), "--cycles", str(cycles)]
         self.lock = threading.RLock()
@@ -52,7 +37,10 @@ class Session:
         self._timeout = timeout
         self._over: str | None = None
         self._is_waiting = self._is_closed = False
-        self._child = Child(command)
+        try:
+            self._child = Child(command)
+        except OSError as error:
+            raise not_started(command[0], error) from None
         # A session that is dropped ends its program, and so does the end of this one.
         self._ender = weakref.finalize(self, self._child.end)
         _SESSIONS.add(self)
@@ -60,6 +48,9 @@ class Session:
             version = self._talk([], 1, b"", timeout)[0]
             if version != VERSION:
                 raise SessionOver(f"{command[0]} speaks {version[:60]!r}, not {VERSION!r}")
+        except SessionOver as error:
+            self.close()
+            raise refused_cluster(str(error), command[1]) or error from None
         except BaseException:
             self.close()
             raise

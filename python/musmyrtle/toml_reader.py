@@ -132,7 +132,7 @@ class Reader:
             if value is None:
                 value = self.known[word[0]] = bare_value(word[0], begin)
             return value
-        first = self.text[begin : begin + 1]
+        first = self.text[begin:begin + 1]
         if first and first in "\"'":
             found, self.at = string(self.text, begin)
             return found

@@ -10,14 +10,16 @@ from contextlib import AbstractContextManager, contextmanager, suppress
 from functools import partial
 
 from musmyrtle.bounds import run_cycles, some_cycles, window_number
+from musmyrtle.cluster_file import payload_length
 from musmyrtle.faults import Fault, fault_line
 from musmyrtle.names import Names, UnknownName
 from musmyrtle.node import Buffer, Node
-from musmyrtle.refusals import BadName, TooManyFaults, refusal
+from musmyrtle.refusals import BadCycles, BadName, TooManyFaults, WrongLength, refusal
 from musmyrtle.replies import Record, Window, record_of, window_of
-from musmyrtle.session import CLOSE_SECONDS, FileName, Session, usual_world
+from musmyrtle.session import CLOSE_SECONDS, FileName, Session
 from musmyrtle.stepping import requests_of
 from musmyrtle.texts import FILE_LIMIT
+from musmyrtle.world_program import usual_world
 
 __all__ = ["Buffer", "Host", "Node", "World"]
 
@@ -44,17 +46,20 @@ class World:
         """Opens the world of a cluster file for a run of so many cycles, 1 to 1024.
 
         PROGRAM is the `fr_world` to run, which `usual_world` finds otherwise. TIMEOUT is the time limit in seconds of
-        each request and of the opening, or None. Raises `ValueError` for another number of cycles, `OSError` where the
-        program can't be started, `SessionOver` with the refusal of a cluster file, `BadName` where a key `name` of it
-        isn't a string, and `TimedOut`.
+        each request and of the opening, or None. Raises `BadCycles` for another number of cycles, `NotStarted` where
+        the program can't be started, `ClusterRefused`, `BadName` where a key `name` of the cluster file isn't a string,
+        and `TimedOut`.
         """
-        cycles = run_cycles(cycles)
-        data = regular_file(cluster)
+        try:
+            cycles = run_cycles(cycles)
+        except ValueError as error:
+            raise BadCycles(*error.args) from None
+        self._data = regular_file(cluster)
         self._faults: list[tuple[Fault, Callable[[Window], bool]]] = []
         self._unread = ""
         self._session = Session(program or usual_world(), cluster, cycles, timeout)
         try:
-            self._names = self._read_names(data)
+            self._names = self._read_names(self._data)
         except BaseException:
             self._session.close()
             raise
@@ -82,7 +87,11 @@ class World:
         `ValueError` with nothing sent for more than one line and for characters that UTF-8 can't encode, `TimedOut`
         and `SessionOver`.
         """
-        return self._session.ask(line, timeout)
+        try:
+            return self._session.ask(line, timeout)
+        except WrongLength as error:
+            node, _, buffer = map(int, line.split(" ")[1:4])
+            raise WrongLength(error.names, line, self.payload_length(node, buffer)) from None
 
     def block(self, line: str, timeout: float | None = None) -> list[str]:
         """Returns the lines that a query is answered with, without the one that counts them.
@@ -123,11 +132,18 @@ class World:
     def names(self) -> Names:
         """The names of nodes and buffers, as the cluster file had them when the world was opened.
 
-        Raises `UnknownName` where they couldn't be read: Python reads TOML 1.0 alone.
+        Raises `UnknownName` where they couldn't be read, as from a pipe, which the program alone can read.
         """
         if self._names is None:
             raise UnknownName(f"no names are known: {self._unread}")
         return self._names
+
+    def payload_length(self, node: int, buffer: int) -> int | None:
+        """Returns the bytes of a transmit buffer's payload, as the cluster file had it when the world was opened.
+
+        Returns None where there is no such buffer, or where the file couldn't be read.
+        """
+        return None if self._data is None else payload_length(self._data, node, buffer)
 
     def _read_names(self, data: bytes | None) -> Names | None:
         """Reads the names of a file that the program has accepted. Raises `BadName` for one that isn't a string."""

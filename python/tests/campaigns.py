@@ -14,14 +14,16 @@ from musmyrtle.fault_runs import OUTCOME, Folder
 from musmyrtle.program import usual_program
 from musmyrtle.scenario import Reading as ScenarioReading
 from musmyrtle.scenario import Scenario
-from musmyrtle.session import usual_world
 from musmyrtle.texts import read_text
+from musmyrtle.world_program import usual_world
 
-PROGRAM = os.environ.get(OUTCOME[0].upper()) or usual_program(OUTCOME[0])
+PROGRAM = os.environ.get(OUTCOME[0].upper()) or usual_program(OUTCOME[0]) or OUTCOME[0]
 
 
 def cluster_of(text: str) -> Cluster:
-    return ClusterReading(read_text("cluster.toml", text.encode()).document).cluster
+    cluster = ClusterReading(read_text("cluster.toml", text.encode()).document).cluster
+    assert cluster is not None
+    return cluster
 
 
 def scenario_of(text: str) -> Scenario:

@@ -17,9 +17,6 @@ DIES_MIDWAY = GREETING + """sys.stdin.readline()
 sys.stderr.write('refused Read\\n')
 sys.exit(1)
 """
-IS_EXPLAINED = """sys.stderr.write('refused Read\\nfr_world: no such file: x\\n')
-sys.exit(1)
-"""
 IS_KILLED = GREETING + """sys.stdin.readline()
 os.kill(os.getpid(), signal.SIGKILL)
 """

@@ -8,6 +8,7 @@ import subprocess
 import sys
 import tempfile
 from pathlib import Path
+from typing import Any
 from unittest import mock
 
 from musmyrtle import command
@@ -29,18 +30,20 @@ class Command(Cases):
         os.chmod(path, stat.S_IRWXU)
         return path
 
-    def run_with(self, *words: str) -> tuple[int, str, str]:
+    def run_with(self, *words: str) -> tuple[str | int | None, str, str]:
         output, error = io.StringIO(), io.StringIO()
         with contextlib.redirect_stdout(output), contextlib.redirect_stderr(error):
+            status: str | int | None
             try:
                 status = command.main(list(words))
             except SystemExit as ended:
                 status = ended.code
         return status, output.getvalue(), error.getvalue()
 
-    def launch(self, *words: str, **streams) -> tuple[int, str]:
+    def launch(self, *words: str, **streams: Any) -> tuple[int, str]:
         """The status and standard error of the command as a process of its own."""
-        ran = subprocess.run([sys.executable, "-B", FR_LINT, *words], **{"stderr": subprocess.PIPE, **streams})
+        streams = {"stderr": subprocess.PIPE, **streams}
+        ran = subprocess.run([sys.executable, "-B", str(FR_LINT), *words], **streams)
         return ran.returncode, (ran.stderr or b"").decode()
 
     def copying(self) -> tuple[str, Path]:

@@ -14,8 +14,8 @@ from unittest.mock import patch
 
 from musmyrtle import played, program
 from musmyrtle.fault_command import main
-from musmyrtle.session import usual_world
-from tests.test_fault_costs import PROGRAM
+from musmyrtle.world_program import usual_world
+from tests.campaigns import PROGRAM
 from tests.two_nodes import SCENE, TWO_NODES
 
 TOP = Path(__file__).resolve().parents[2]

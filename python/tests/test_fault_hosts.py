@@ -16,8 +16,9 @@ from musmyrtle.fault_hosts import SSH_OPTIONS, Hosts, surroundings
 from musmyrtle.fault_list import Selection
 from musmyrtle.fault_log import Log
 from musmyrtle.fault_runs import Folder
-from musmyrtle.session import usual_world
-from tests.test_fault_costs import BY_HAND, PROGRAM, cluster_of, scenario_of
+from musmyrtle.world_program import usual_world
+from tests.campaigns import PROGRAM, cluster_of, scenario_of
+from tests.test_fault_costs import BY_HAND
 from tests.two_nodes import SCENE, TWO_NODES
 
 SOME = Selection(frozenset(["mute"]), frozenset([1]))

@@ -2,21 +2,15 @@
 import unittest
 from argparse import ArgumentTypeError
 
-from musmyrtle.cluster import Cluster
-from musmyrtle.cluster import Reading as ClusterReading
 from musmyrtle.fault_list import LeftOut, Listing, Selection, SingleFault, is_stopped
 from musmyrtle.fault_options import numbers_of, places_of
 from musmyrtle.fault_table import listed
 from musmyrtle.frames import data_frame
 from musmyrtle.played import Begun
 from musmyrtle.scenario import Reading as ScenarioReading
-from musmyrtle.texts import read_text
+from tests.campaigns import cluster_of
 from tests.cases import CLUSTER
 from tests.two_nodes import TWO_NODES
-
-
-def cluster_of(text: str) -> Cluster:
-    return ClusterReading(read_text("cluster.toml", text.encode()).document).cluster
 
 
 class Plays:

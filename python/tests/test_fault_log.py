@@ -18,7 +18,7 @@ def fault(node: int) -> SingleFault:
 
 
 class TestLog(unittest.TestCase):
-    def setUp(self):
+    def setUp(self) -> None:
         folder = tempfile.TemporaryDirectory()
         self.addCleanup(folder.cleanup)
         self.file = Path(folder.name) / "log"

@@ -3,6 +3,7 @@ import contextlib
 import io
 import tomllib
 import unittest
+from contextlib import chdir
 from pathlib import Path
 from tempfile import TemporaryDirectory
 from unittest.mock import patch
@@ -67,6 +68,12 @@ class Noted(unittest.TestCase):
         self.note(b"dist\n")
         other = str(self.checkout / "elsewhere" / NAME)
         self.assertEqual(itself(other), other)
+
+    def test_a_name_that_is_looked_for_on_the_path(self) -> None:
+        self.note(b"dist\n")
+        with chdir(self.checkout):
+            self.assertEqual(itself(NAME), NAME)
+            self.assertEqual(itself(f"./{NAME}"), str(self.checkout / "dist" / NAME))
 
 
 class Asked(unittest.TestCase):

@@ -8,7 +8,6 @@ import pickle
 import random
 import signal
 import subprocess
-import threading
 import time
 import unittest
 from concurrent.futures import ProcessPoolExecutor, ThreadPoolExecutor
@@ -244,18 +243,9 @@ class TestReplies(Sessions):
 
 
 class TestWrongPrograms(Sessions):
-    def test_one_that_cannot_be_started(self):
-        for program, kind in ((self.folder / "none", FileNotFoundError), (self.folder, PermissionError)):
-            with self.assertRaisesRegex(kind, str(program)):
-                World(THREE_NODES, 8, program=program)
-
     def test_one_that_speaks_another_version(self):
         with self.assertRaisesRegex(SessionOver, "speaks 'frworld 2', not 'frworld 1'"):
             self.fake("print('frworld 2', flush=True)\n")
-
-    def test_one_that_a_launcher_explains(self):
-        with self.assertRaisesRegex(SessionOver, "^refused Read; fr_world: no such file: x$"):
-            self.fake(fakes.IS_EXPLAINED)
 
     def test_one_that_ends(self):
         for text, said in ((fakes.DIES_MIDWAY, "^refused Read$"),
@@ -399,7 +389,7 @@ class TestRefusals(unittest.TestCase):
 
     def test_a_process_pool_hands_a_refusal_on(self):
         with ProcessPoolExecutor(1, multiprocessing.get_context("fork")) as pool:
-            with self.assertRaisesRegex(WrongLength, "^Host WrongLength: commit 0 0 0 x00000000$"):
+            with self.assertRaisesRegex(WrongLength, "^Host WrongLength: .*has to have 2: commit 0 0 0 x00000000$"):
                 pool.submit(commit_too_much, bytes(4)).result()
             self.assertEqual(pool.submit(commit_too_much, bytes(2)).result(), 0)
 

@@ -1,5 +1,7 @@
 """Worlds, and scenarios that a program makes."""
+import importlib
 import inspect
+import os
 import subprocess
 import sys
 import unittest
@@ -13,7 +15,7 @@ from musmyrtle import (
     UnknownName, UnknownNode, UnknownTask, Window, World, WrongLength, WrongTurn,
 )
 from musmyrtle.node import Buffer, Node
-from musmyrtle.session import usual_world
+from musmyrtle.world_program import usual_world
 
 TOP = Path(__file__).resolve().parents[2]
 THREE_NODES = TOP / "examples/three-nodes/cluster.toml"
@@ -310,23 +312,34 @@ class TestWorld(unittest.TestCase):
             with self.assertRaisesRegex(UnknownName, said):
                 call()
 
-    def test_a_cluster_that_python_cannot_read_has_no_names(self):
+    def test_names_of_a_cluster_in_toml_1_1(self):
         with TemporaryDirectory() as folder:
             cluster = Path(folder) / "cluster.toml"
             text = (HOSTS / "brakes.toml").read_text()
             cluster.write_text(text.replace('channels = "AB", sync = true, startup = true}]',
                                             'channels = "AB",\n  sync = true, startup = true}]', 1))
+            self.assertIn(",\n  sync", cluster.read_text())
             with World(cluster, cycles=1) as world:
-                self.assertEqual(world.node(1).number, 1)
-                with self.assertRaisesRegex(UnknownName, "no names are known: the cluster file can't be read: "):
-                    world["brake"]
+                self.assertEqual(world["brake"]["position"].number, 1)
+            self.assertEqual(Scenario(cluster, cycles=1).node("brake"), 1)
+
+    def test_a_cluster_that_the_program_alone_can_read_has_no_names(self):
+        with TemporaryDirectory() as folder:
+            pipe = Path(folder) / "pipe"
+            os.mkfifo(pipe)
+            with subprocess.Popen(["sh", "-c", f"cat '{HOSTS}/brakes.toml' >'{pipe}'"]):
+                world = World(pipe, cycles=1)
+            with world, self.assertRaisesRegex(UnknownName, "no names are known: the cluster file is no regular file"):
+                world["brake"]
+
+    def test_a_text_that_is_no_toml_has_no_names(self):
+        with self.assertRaisesRegex(ValueError, "^line 2, column 8: "):
+            Names.of(b"[params]\nidle = zero\n")
 
     def test_a_world_that_is_not_opened_says_why(self):
-        for cluster, said in (("/dev/null", "refused Params Missing static_slots"),
-                              (TOP / "no such file", "refused Read")):
-            with self.assertRaises(SessionOver) as raised:
-                World(cluster, 1)
-            self.assertEqual(str(raised.exception), said)
+        with self.assertRaises(SessionOver) as raised:
+            World("/dev/null", 1)
+        self.assertEqual(str(raised.exception), "refused Params Missing static_slots")
 
     def test_a_closed_world_is_over(self):
         self.world.close()
@@ -366,7 +379,6 @@ class TestScenario(unittest.TestCase):
             with self.assertRaises(NotInAScenario):
                 Scenario(cluster, cycles=4).lose(2)
 
-
     def test_numbers_out_of_range(self):
         scenario = Scenario(THREE_NODES, cycles=4)
         task = scenario.task(0)
@@ -395,8 +407,7 @@ class TestBrakes(unittest.TestCase):
     def setUp(self):
         sys.path.insert(0, str(HOSTS))
         self.addCleanup(sys.path.remove, str(HOSTS))
-        import brakes
-        self.brakes = brakes
+        self.brakes = importlib.import_module("brakes")
 
     def test_the_car_stops_beside_a_babbling_radio(self):
         with TemporaryDirectory() as folder:

@@ -41,4 +41,5 @@ def beside_loops(runs: Runs) -> None:
         for loop in loops:
             loop.kill()
             loop.wait()
-    runs.compare(f"a run beside busy loops in {beside:.1f} s, alone in {alone:.2f} s", beside < MOST_TIMES * alone, True)
+    name = f"a run beside busy loops in {beside:.1f} s, alone in {alone:.2f} s"
+    runs.compare(name, beside < MOST_TIMES * alone, True)

@@ -1,0 +1,25 @@
+"""What host programs and scenarios need of a cluster file, which the program has read before."""
+from musmyrtle.texts import NoText, read_text
+from musmyrtle.toml_tables import Table
+
+
+def document_of(data: bytes) -> Table:
+    """Returns the tables of a cluster file. Raises `ValueError`, with line and column, where it is no TOML."""
+    try:
+        return read_text("", data).document
+    except NoText as error:
+        place = error.why.place
+        where = "" if place is None else f"line {place.line}, column {place.column}: "
+        raise ValueError(f"{where}{error.why.headline}") from None
+
+
+def payload_length(data: bytes, node: int, buffer: int) -> int | None:
+    """Returns the bytes of a transmit buffer's payload, or None where the file has no such buffer or is refused."""
+    # It is needed only where a length is wrong, and each program that opens a world would wait for the import.
+    from musmyrtle.cluster import Reading
+    try:
+        cluster = Reading(document_of(data)).cluster
+    except ValueError:
+        return None
+    buffers = cluster.nodes[node].buffers if cluster and node < len(cluster.nodes) else []
+    return 2 * buffers[buffer].words if buffer < len(buffers) and buffers[buffer].transmits else None
