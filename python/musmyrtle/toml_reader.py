@@ -14,16 +14,16 @@ DEEPEST = 80
 NOT_DEEPER = f"At most {DEEPEST} arrays and inline tables in one another are read, and as many parts of a key."
 
 COMMENT = r"#[^\x00-\x08\x0a-\x1f\x7f]*+"
-GAPS = rf"(?:[ \t\n]++|\r\n|{COMMENT})*+"
+GAPS = rf"(?:[ \t\n]++|\r\n|{COMMENT})*"
 GAP = re.compile(GAPS)
 BLANK = re.compile(r"[ \t]*+")
-REST = rf"[ \t]*+(?:{COMMENT})?+"
+REST = rf"[ \t]*+(?:{COMMENT})?"
 LINE_END = re.compile(rf"{REST}(?:\r?\n|\Z)")
-BARE = re.compile(r"([-_0-9A-Za-z]++)[ \t]*+(\.)?+[ \t]*+")
+BARE = re.compile(r"([-_0-9A-Za-z]++)[ \t]*+(\.)?[ \t]*+")
 """A part of a key without quotes, and the point after it."""
 SIMPLE = re.compile(r"([-_0-9A-Za-z]++)[ \t]*+=[ \t]*+")
 """A key of one part without quotes, as most are, and what comes between it and its value."""
-COMMA = re.compile(rf"{GAPS}(,)?+{GAPS}")
+COMMA = re.compile(rf"{GAPS}(,)?{GAPS}")
 PART = "a name of letters, digits, - and _, or a string in quotes"
 
 

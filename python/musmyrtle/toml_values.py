@@ -8,12 +8,12 @@ GREATEST = 2**63 - 1
 MOST_DIGITS = 19
 VALUES = "a string in quotes, a number, true, false, a date, a time, an array or an inline table"
 
-WORD = re.compile(r"[-+.:_0-9A-Za-z]++(?:(?<=[0-9]{4}-[0-9]{2}-[0-9]{2}) (?=[0-9])[-+.:0-9A-Za-z]++)?+")
+WORD = re.compile(r"[-+.:_0-9A-Za-z]++(?:(?<=[0-9]{4}-[0-9]{2}-[0-9]{2}) (?=[0-9])[-+.:0-9A-Za-z]++)?")
 """The longest text that may be a value without quotes. A date and its time may have a space between them."""
-INTEGER = re.compile(r"[+-]?(?:0|[1-9](?:_?[0-9])*+)")
+INTEGER = re.compile(r"[+-]?(?:0|[1-9](?:_?[0-9])*)")
 # What few files have is compiled where it is first met, since each call of a command would wait for it.
-OTHER_INTEGER = r"0(?:x[0-9A-Fa-f](?:_?[0-9A-Fa-f])*+|o[0-7](?:_?[0-7])*+|b[01](?:_?[01])*+)"
-FLOAT = r"[+-]?(?:0|[1-9](?:_?[0-9])*+)(?:\.[0-9](?:_?[0-9])*+)?(?:[eE][+-]?[0-9](?:_?[0-9])*+)?"
+OTHER_INTEGER = r"0(?:x[0-9A-Fa-f](?:_?[0-9A-Fa-f])*|o[0-7](?:_?[0-7])*|b[01](?:_?[01])*)"
+FLOAT = r"[+-]?(?:0|[1-9](?:_?[0-9])*)(?:\.[0-9](?:_?[0-9])*)?(?:[eE][+-]?[0-9](?:_?[0-9])*)?"
 CONSTANTS: dict[str, bool | float] = {"true": True, "false": False} | {
     sign + it: float(sign + it) for sign in ("", "+", "-") for it in ("inf", "nan")}
 TIME = r"(?:[01][0-9]|2[0-3]):[0-5][0-9](?::(?:[0-5][0-9]|60)(?:\.[0-9]++)?)?"
@@ -22,17 +22,17 @@ MOMENT = rf"([0-9]{{4}})-([0-9]{{2}})-([0-9]{{2}})(?:[Tt ]{TIME}{OFFSET}?)?|{TIM
 DAYS = (31, 28, 31, 30, 31, 30, 31, 31, 30, 31, 30, 31)
 
 BODIES = {
-    '"': re.compile(r'((?:[^"\\\x00-\x08\x0a-\x1f\x7f]++|\\[^\x00-\x1f\x7f])*+)'),
+    '"': re.compile(r'((?:[^"\\\x00-\x08\x0a-\x1f\x7f]++|\\[^\x00-\x1f\x7f])*)'),
     "'": re.compile(r"([^'\x00-\x08\x0a-\x1f\x7f]*+)"),
 }
 """What may stand in a string of one line, by its quotes."""
 LONG_BODIES = {
     '"""':
-        r'(?:\r?\n)?+((?:[^"\\\x00-\x08\x0b-\x1f\x7f]++|\r\n|\\(?:\r\n|[^\x00-\x08\x0b-\x1f\x7f])|"{1,2}+(?!"))*+)',
-    "'''": r"(?:\r?\n)?+((?:[^'\x00-\x08\x0b-\x1f\x7f]++|\r\n|'{1,2}+(?!'))*+)",
+        r'(?:\r?\n)?((?:[^"\\\x00-\x08\x0b-\x1f\x7f]++|\r\n|\\(?:\r\n|[^\x00-\x08\x0b-\x1f\x7f])|"{1,2}(?!"))*)',
+    "'''": r"(?:\r?\n)?((?:[^'\x00-\x08\x0b-\x1f\x7f]++|\r\n|'{1,2}(?!'))*)",
 }
 """The same of strings of several lines."""
-LAST_QUOTES = r"""'{3,5}+|"{3,5}+"""
+LAST_QUOTES = r"""'{3,5}|"{3,5}"""
 """The end of a string of several lines, which may have two quotes before it."""
 CONTROL = r"[\x00-\x08\x0b\x0c\x0e-\x1f\x7f]|\r(?!\n)"
 ESCAPE = (r"\\(?:([btnfre\"\\])|x([0-9A-Fa-f]{2})|u([0-9A-Fa-f]{4})|U([0-9A-Fa-f]{8})"

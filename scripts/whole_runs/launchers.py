@@ -131,6 +131,9 @@ class Launchers:
         for name in ("lock", "noted", "folder", "found", "why", "sources"):
             made.note.unlink()
             self.runs.compare(f"a call with {name} in the environment", made.call(**{name: "7"}), RAN)
+        for option in ("noglob", "noexec"):
+            made.note.unlink()
+            self.runs.compare(f"a call with the shell option {option}", made.call(SHELLOPTS=option), RAN)
         (made.path / "crates/fr_bench/src/more.rt").write_text("more\n")
         self.runs.compare("a call after a change of the sources", made.call(),
                           not_run("the sources aren't those that dist/fr_bench was made from"))
