@@ -61,6 +61,7 @@ class Ownership:
     channels: str
     cycles: Cycles
     is_sync: bool
+    is_startup: bool = False
 
     def __str__(self) -> str:
         return f"ownership line {self.number} of node {self.node}"
@@ -359,7 +360,7 @@ class Reading:
         is_sync, is_startup = reader.flag("sync"), reader.flag("startup")
         if is_startup and not is_sync:
             reader.wrong("startup", "`sync = true` beside it: a startup frame is a sync frame as well")
-        return Ownership(node, number, path, slot, channels, cycles, is_sync)
+        return Ownership(node, number, path, slot, channels, cycles, is_sync, is_startup)
 
     def read_queue(self, node: Reader, number: int) -> Queue | None:
         table = node.table["queue"]
