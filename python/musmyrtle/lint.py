@@ -91,7 +91,7 @@ def read_bytes(file: str) -> bytes | None:
 def unreadable(file: str, what: str) -> Finding:
     path = Path(file)
     found = "is a folder" if path.is_dir() else "can't be read" if path.exists() else "isn't there"
-    return Finding(f"{what} {file!r} {found}", "Right would be the name of a file that can be read.")
+    return Finding(f"{what} {file!r} {found}", "Expected the name of a file that can be read.")
 
 
 def lint(task: Task, overwritten: dict[int, int] | None = None) -> Lint:

@@ -32,7 +32,7 @@ def silent_buffer(cluster: Cluster, text: Text, buffer: Buffer) -> Finding:
     headline = f"{buffer} never sends: "
     opens = f"slot {buffer.slot} opens at minislot {first} at the earliest, if nothing is sent in the slots before it"
     if first > minislots:
-        reason = f"S{opens[1:]}, and a cycle has {minislots}. Right would be a lower slot or more minislots."
+        reason = f"S{opens[1:]}, and a cycle has {minislots}. Expected a lower slot or more minislots."
         notes = (("`minislots`", ("params", "minislots")),)
         return text.finding(f"{headline}slot {buffer.slot} can't be reached", reason, (*buffer.path, "slot"), notes)
     key = f"latest_{buffer.channels.lower()}"
@@ -44,7 +44,7 @@ def silent_buffer(cluster: Cluster, text: Text, buffer: Buffer) -> Finding:
     else:
         headline += f"`{key}` of node {buffer.node} is {latest}, too early for slot {buffer.slot}"
         reason = f"S{opens[1:]}. "
-    reason += f"Right would be `{key} = {first}` or more."
+    reason += f"Expected `{key} = {first}` or more."
     return text.finding(headline, reason, (*buffer.path, "slot"), own)
 
 
@@ -58,7 +58,7 @@ def unfilled_slots(cluster: Cluster, text: Text) -> Iterator[Finding]:
                 channels = joined(empty)
                 headline = f"slot {line.slot} is owned by node {node.number} on {channels}, and never filled there"
                 reason = (f"No transmit buffer of the node is for it, so on {channels} the node sends null frames "
-                          f"alone. Right would be a transmit buffer with slot = {line.slot}, or no ownership there.")
+                          f"alone. Expected a transmit buffer with slot = {line.slot}, or no ownership there.")
                 yield text.finding(headline, reason, line.path)
 
 

@@ -75,7 +75,7 @@ class Command(Cases):
         status, output, _ = self.run_with(refused, "--program", self.stub(bad))
         self.assertEqual((status, output.splitlines()[:3]), (1, [f"fr_bench: refused {bad}", "",
                          f"{refused}:12:1: refused {bad}: `idle` of `[params]` is 3"]))
-        self.assertIn("     12 | idle = 3\n          ^\n    Right would be a whole number from 0 to 2.\n", output)
+        self.assertIn("     12 | idle = 3\n          ^\n    Expected a whole number from 0 to 2.\n", output)
 
     def test_the_program_decides(self):
         cluster, refused = self.written("cluster.toml", CLUSTER), self.written("refused.toml",
