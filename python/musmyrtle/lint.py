@@ -14,6 +14,10 @@ from musmyrtle.runs import Run
 from musmyrtle.scenario import Reading as ScenarioReading
 from musmyrtle.strikes import Strikes, small_journals
 from musmyrtle.texts import FILE_LIMIT, NoText, Text, read_text
+from musmyrtle.trace_why import is_trace
+
+TRACE_LIMIT = 98_548_055
+"""No trace is longer."""
 
 OF_CLUSTER: tuple[tuple[str, Callable[[Cluster, Text], Iterable[Finding]]], ...] = (
     ("repeated-name", ranges.repeated_names),
@@ -80,10 +84,11 @@ class Task:
 
 
 def read_bytes(file: str) -> bytes | None:
-    """The bytes of a file as far as they are looked at."""
+    """The bytes of a file as far as they are looked at, of a trace more than of others."""
     try:
         with open(file, "rb") as source:
-            return source.read(FILE_LIMIT + 1)
+            data = source.read(FILE_LIMIT + 1)
+            return data + source.read(TRACE_LIMIT) if is_trace(data) else data
     except (OSError, ValueError):
         return None
 

@@ -245,15 +245,16 @@ def columns(words: tuple[str, ...]) -> list[int]:
     return found
 
 
-def odd_spaces(text: str) -> tuple[str, str, int] | None:
+def odd_spaces(text: str, what: str = "A scenario") -> tuple[str, str, int] | None:
+    """Returns why a line has a space, a tab or a carriage return too many, is empty, or is a comment."""
     for odd, name in (("\r", "a carriage return"), ("\t", "a tab")):
         if odd in text:
             reason = "Expected a line feed alone at the end, and single spaces."
             return f"{name} stands in the line", reason, text.index(odd) + 1
     if not text:
-        return "the line is empty", "A scenario has no empty lines.", 1
+        return "the line is empty", f"{what} has no empty lines.", 1
     if text.lstrip(" ").startswith("#"):
-        return "the line is a comment", "A scenario has no comments.", 1
+        return "the line is a comment", f"{what} has no comments.", 1
     if "  " in text or text.startswith(" ") or text.endswith(" "):
         column = 1 if text.startswith(" ") else text.index("  ") + 2 if "  " in text else len(text)
         reason = "Expected one space between two words, and none at the ends."

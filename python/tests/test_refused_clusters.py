@@ -89,7 +89,7 @@ BUFFERS = (
      DYNAMIC.replace("= 1", "= 128")),
     ("BadBuffer 0 0", "cluster.toml:20:47", ('`preamble` of buffer 0 of node 0 is "no"',), EVENT,
      EVENT.replace("}", ', preamble = "no"}')),
-    ("BadBuffer 0 0", "cluster.toml:20:47", ("`repetition` of buffer 0 of node 0 is 65", "Expected 1, 2, 4, 8, 16, 32 or 64"),
+    ("BadBuffer 0 0", "cluster.toml:20:47", ("`repetition` of buffer 0 of node 0 is 65", "1, 2, 4, 8, 16, 32 or 64"),
      EVENT, EVENT.replace("}", ", repetition = 65}")),
 )
 CLASHES = (
