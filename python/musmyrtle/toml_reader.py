@@ -88,7 +88,8 @@ class Reader:
 
     def quoted_part(self, note: Noted | None) -> str:
         if not self.text.startswith(("'", '"'), self.at):
-            raise self.odd("the key is missing", f"Expected {PART}.", note)
+            closing = ", or the `}` of the inline table before" if note else ""
+            raise self.odd("the key is missing", f"Expected {PART}{closing}.", note)
         name, self.at = string(self.text, self.at, has_lines=False)
         self.skip(BLANK)
         return name
@@ -150,10 +151,19 @@ class Reader:
         has_more = not self.text.startswith("]", self.at)
         while has_more:
             begins.append(self.at)
-            found.append(self.value(depth))
+            try:
+                found.append(self.value(depth))
+            except NoToml as error:
+                raise self.in_array(error, begin) if depth == 1 and error.note is None else error from None
             has_more = self.goes_on("]", note)
         self.at += 1
         return found
+
+    def in_array(self, error: NoToml, begin: int) -> NoToml:
+        """Returns what is wrong with an item, with the array, whose end may be missing in an earlier line."""
+        if "\n" not in self.text[begin:error.at]:
+            return error
+        return NoToml(error.at, error.why, f"{error.right} Is the `]` of the array missing?", ("the array", begin))
 
     def inline_table(self, begin: int, depth: int) -> Table:
         found, note = Table(INLINE), ("the inline table", begin)
