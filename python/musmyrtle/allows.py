@@ -5,6 +5,7 @@ the comment has a line of its own.
 """
 import re
 from collections.abc import Iterator
+from itertools import islice
 
 from musmyrtle.findings import Finding, joined, nearest
 from musmyrtle.places import Place
@@ -37,6 +38,8 @@ WARNINGS = {
 }
 NOTES = {"fault-tolerance": "2 nodes have a startup slot, and none may fail"}
 NAMES = {**WARNINGS, **NOTES}
+MOST_UNKNOWN = 20
+"""Of so many unknown names a warning is made; the others are counted."""
 COMMENT = re.compile(r"""(?:[^"'#]|"(?:[^"\\]|\\.)*+"|'[^']*+')*+\#(.*)""")
 ALLOW = re.compile(r"\s*lint:\s*allow\b(.*)")
 
@@ -47,6 +50,13 @@ class Allows:
     def __init__(self, text: Text):
         self.text = text
         self.has_any = re.search(r"lint:\s*allow\b", text.places.text) is not None
+        self.kept: dict[int, frozenset[str]] = {}
+
+    def names_of(self, number: int) -> frozenset[str]:
+        """Returns the names that the comment of a line allows. A long line may have many findings."""
+        if number not in self.kept:
+            self.kept[number] = frozenset(self.names_in(self.line(number)))
+        return self.kept[number]
 
     def names_in(self, line: str) -> list[str]:
         """Returns the names in the comment of a line."""
@@ -64,18 +74,25 @@ class Allows:
         place = finding.place
         if not self.has_any or place is None or place.file != self.text.file or finding.name == "unknown-allow":
             return False
-        if finding.name in self.names_in(self.line(place.line)):
+        if finding.name in self.names_of(place.line):
             return True
-        before = self.line(place.line - 1) if place.line > 1 else ""
-        return before.lstrip().startswith("#") and finding.name in self.names_in(before)
+        before = place.line - 1
+        return before > 0 and finding.name in self.names_of(before) and self.line(before).lstrip().startswith("#")
 
-    def unknown(self) -> Iterator[Finding]:
-        """Returns a warning for each comment with a name that no warning has."""
+    def unknown(self) -> tuple[list[Finding], int]:
+        """Returns warnings of the first names in comments that no warning has, and how many more there are."""
+        found = self.unknown_names()
+        first = [unknown_name(name, self.place_in(number, line, name))
+                 for name, number, line in islice(found, MOST_UNKNOWN)]
+        return first, sum(1 for _ in found)
+
+    def unknown_names(self) -> Iterator[tuple[str, int, str]]:
+        """Returns each unknown name, with the number and the text of its line."""
         lines = self.text.places.text.split("\n") if self.has_any else []
         for number, line in enumerate(lines, 1):
             for name in self.names_in(line):
                 if name not in NAMES:
-                    yield unknown_name(name, self.place_in(number, line, name))
+                    yield name, number, line
 
     def place_in(self, number: int, line: str, name: str) -> Place:
         places = self.text.places

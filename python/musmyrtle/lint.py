@@ -48,17 +48,21 @@ class Lint:
     refusals: list[tuple[str, Finding]] = field(default_factory=list)
     warnings: list[Finding] = field(default_factory=list)
     further_warnings: int = 0
-    """How many unread keys there are beside those in `warnings`."""
+    """How many warnings there are beside those in `warnings`."""
     notes: list[Finding] = field(default_factory=list)
     """What is no mistake, and still worth knowing."""
     allowed: frozenset[str] = frozenset()
     """The names of warnings that are silenced everywhere."""
     allows: Allows | None = None
 
-    def warn(self, name: str, findings: Iterable[Finding]) -> None:
-        """Adds the findings of a name to the warnings, or to the notes, but for those that are silenced."""
+    def warn(self, name: str, findings: Iterable[Finding], further: int = 0) -> None:
+        """Adds the findings of a name to the warnings, or to the notes, but for those that are silenced.
+
+        FURTHER ones are counted only.
+        """
         if name in self.allowed:
             return
+        self.further_warnings += further
         named = (replace(it, name=name) for it in findings)
         kept = [it for it in named if self.allows is None or not self.allows.allow(it)]
         (self.notes if name in NOTES else self.warnings).extend(kept)
@@ -123,10 +127,8 @@ def lint(task: Task, overwritten: dict[int, int] | None = None) -> Lint:
 def lint_cluster(text: Text, found: Lint) -> Cluster | None:
     """The cluster, if it is to be taken. What nothing reads is told in any case."""
     found.allows = Allows(text)
-    found.warn("unknown-allow", found.allows.unknown())
-    keys, further = unread.unread_keys(text)
-    found.warn("unread-key", keys)
-    found.further_warnings = 0 if "unread-key" in found.allowed else further
+    found.warn("unknown-allow", *found.allows.unknown())
+    found.warn("unread-key", *unread.unread_keys(text))
     reading = ClusterReading(text.document)
     cluster = reading.cluster
     faults = reading.faults if cluster is None else clashes(cluster)
