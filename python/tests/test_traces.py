@@ -2,6 +2,7 @@
 import contextlib
 import io
 import os
+from threading import Thread
 
 from musmyrtle import command
 from musmyrtle.program import usual_program
@@ -78,13 +79,15 @@ class Traces(Cases):
         self.assertEqual((status, f"/dev/fd/{source}:9:10: refused WrongAnswer 9" in output), (1, True))
 
     def test_a_long_trace_in_a_pipe(self):
-        """More than the 1 MiB of a cluster file: 70,000 reads of 16 bytes each, of which one is wrong."""
-        long = BUFFER.replace("node 1 0 0 8 8", "node 1 0 0 16384 8").replace("read 0 0 -\n", 16000 * "read 0 0 -\n", 1)
-        padded = long.replace("see 0 x", "see 0 noise noise\n" * 70000 + "see 0 x", 1)
-        name = self.written("long", padded)
-        status, output, _ = self.run_with(name, "--program", VIEW)
-        # After five lines come 16,000 reads, a `fetch` and the first `see`, so the second one is line 16,008.
-        self.assertEqual((status, f"{name}:16008:1: refused Refused 16008: no window is fetched" in output), (1, True))
+        """3,000 commits of 254 bytes are more than the 1 MiB of a cluster file; all have to come to the program."""
+        head = "frtrace 3\nparams 3 4 127 20 5 0 10 90 0 5\nnode 1 0 0 16384 8\nown 1 A 0 0 0 1\ntx state 1 A 0 1 - 0\n"
+        long = f"{head}begin\n" + f"commit 0 0 x{'00' * 254}\n" * 3000 + "end\n"
+        pipe = self.folder / "pipe"
+        os.mkfifo(pipe)
+        writing = Thread(target=pipe.write_text, args=(long,), daemon=True)
+        writing.start()
+        self.assertEqual(self.run_with(str(pipe), "--program", VIEW), (0, "fr_view: accepted\n", ""))
+        writing.join()
 
     def test_words_and_programs(self):
         file = self.written("trace", BUFFER)
