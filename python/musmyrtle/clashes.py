@@ -31,7 +31,7 @@ def not_owned(cluster: Cluster) -> list[Fault]:
 def fault_of_unowned(cluster: Cluster, buffer: Buffer, channel: str, cycle: int) -> Fault:
     headline = f"{buffer} sends in slot {buffer.slot}, which isn't node {buffer.node}'s on {channel} in cycle {cycle}"
     reason = (f"A transmit buffer in a static slot wants an ownership line of its node for the slot, on each of its "
-              f"channels and in each of its cycles. Right would be a line in `own` with slot = {buffer.slot} that has "
+              f"channels and in each of its cycles. Expected a line in `own` with slot = {buffer.slot} that has "
               f"channel {channel} and cycle {cycle}, or another slot, or fewer channels or cycles of the buffer.")
     lines = [it for it in cluster.owned() if it.slot == buffer.slot]
     # A node without any line for the slot may have meant another one of its own.
@@ -44,7 +44,7 @@ def dynamic_both(cluster: Cluster) -> list[Fault]:
     last = cluster.parameters.static_slots
     return [Fault(f"DynamicBoth {it.node} {it.number}", f"{it} sends in dynamic slot {it.slot} on both channels",
                   f"Slots after the last static one, {last}, are dynamic, and there a transmit buffer is for one "
-                  'channel, since the channels count their slots apart. Right would be "A" or "B", or a buffer for '
+                  'channel, since the channels count their slots apart. Expected "A" or "B", or a buffer for '
                   "each.",
                   (*it.path, "channels"))
             for it in senders(cluster, False) if it.channels == "AB"]
@@ -85,7 +85,7 @@ def fault_of_overlap(slot: int, channel: str, cycle: int, claims: list[Claim]) -
     first, second = claims[:2]
     verb = "own" if isinstance(first, Ownership) else "send in"
     headline = f"{second} and {first} both {verb} slot {slot} on {channel} in cycle {cycle}"
-    reason = ("In each cycle a slot is one's on a channel. Right would be another slot or channel for one of them, or "
+    reason = ("In each cycle a slot is one's on a channel. Expected another slot or channel for one of them, or "
               "cycles that part them: a `repetition` for both and a `base` of its own for each.")
     others = [it for it in claims if it is not second]
     notes = tuple((f"{it} has slot {slot} on {it.channels} in {it.cycles}", it.path) for it in others[:MOST_NOTES])
@@ -109,7 +109,7 @@ def too_long(cluster: Cluster) -> list[Fault]:
         right = f"at most {least} under `{key}`" if least > 0 else "a shorter frame or more minislots"
         reason = (f"{buffer.words} words and 4 of header and trailer are {needed} minislots of "
                   f"{parameters.words_per_minislot} words; `{key}` of node {buffer.node} is {latest}, of "
-                  f"{parameters.minislots} minislots. Right would be {right}{fewer}.")
+                  f"{parameters.minislots} minislots. Expected {right}{fewer}.")
         notes = ((f"`{key}` of node {buffer.node}", ("node", buffer.node, key)),)
         found.append(Fault(f"TooLong {buffer.node} {buffer.number}", headline, reason, (*buffer.path, "words"), notes))
     return found

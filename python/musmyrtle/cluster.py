@@ -61,6 +61,7 @@ class Ownership:
     channels: str
     cycles: Cycles
     is_sync: bool
+    is_startup: bool = False
 
     def __str__(self) -> str:
         return f"ownership line {self.number} of node {self.node}"
@@ -182,11 +183,11 @@ class Reader:
         # What is meant is looked for only where it is told.
         meant = alike(self.table, self.known, key) if len(self.faults) < MOST_REASONS else []
         notes = [(f"`{it}` is read by nothing: is `{key}` meant?", (*self.path, it)) for it in meant]
-        self.note(f"{self.who} has no `{key}`", f"Right would be `{key}` with {right}.", notes=notes)
+        self.note(f"{self.who} has no `{key}`", f"Expected `{key}` with {right}.", notes=notes)
 
     def wrong(self, key: str, right: str) -> None:
         found = shown(self.table[key])
-        self.note(f"`{key}` of {self.who} is {found}", f"Right would be {right}.", (*self.path, key))
+        self.note(f"`{key}` of {self.who} is {found}", f"Expected {right}.", (*self.path, key))
 
     def number(self, key: str, least: int, greatest: int, usual: int | None = None, why: str = "") -> int:
         right = f"a whole number from {least} to {greatest}{why}"
@@ -221,12 +222,12 @@ class Reader:
     def cycles(self) -> Cycles:
         before = len(self.faults)
         base = self.number("base", 0, 63, 0)
-        repetition = self.number("repetition", 1, 64, 1)
+        repetition = self.table.get("repetition", 1)
+        if type(repetition) is not int or repetition not in REPETITIONS:
+            self.wrong("repetition", joined([str(it) for it in REPETITIONS], "or"))
         if len(self.faults) > before:
             return Cycles()
-        if repetition not in REPETITIONS:
-            self.wrong("repetition", joined([str(it) for it in REPETITIONS], "or"))
-        elif base >= repetition:
+        if base >= repetition:
             self.wrong("base", f"a number below `repetition`, which is {repetition}")
         else:
             return Cycles(base, repetition)
@@ -244,7 +245,7 @@ class Reader:
         for number, item in enumerate(value):
             if not isinstance(item, dict):
                 headline = f"item {number} of `{key}` of {self.who} is {shown(item)}"
-                self.note(headline, "Right would be a table.", (*self.path, key, number))
+                self.note(headline, "Expected a table.", (*self.path, key, number))
                 return None
         return value
 
@@ -287,7 +288,7 @@ class Reading:
         if "params" in self.document:
             found = f"under `params` {shown(self.document['params'])}, which is no table"
         keys = joined([f"`{it}`" for it in PARAMETERS])
-        reason = f"Right would be a table `[params]` with {keys}."
+        reason = f"Expected a table `[params]` with {keys}."
         return Fault(fault.refusal, f"the file has {found}", reason, fault.path)
 
     def summed(self, it: Parameters) -> Parameters | None:
@@ -299,7 +300,7 @@ class Reading:
         less = "more" if total > it.cycle_mt else "less"
         headline = f"the parts of the cycle are {total} macroticks long, and `cycle_mt` is {it.cycle_mt}"
         reason = (f"static_slots * static_mt + minislots * minislot_mt + symbol_mt + nit_mt is {parts} = {total}, "
-                  f"{abs(total - it.cycle_mt)} {less} than `cycle_mt`. Right would be {total} there, or other parts.")
+                  f"{abs(total - it.cycle_mt)} {less} than `cycle_mt`. Expected {total} there, or other parts.")
         self.faults.append(Fault("Params CycleSum", headline, reason, ("params", "cycle_mt")))
         return None
 
@@ -308,7 +309,7 @@ class Reading:
         if type(guard) is not str or guard not in GUARDS:
             right = joined([f'"{it}"' for it in GUARDS], "or")
             headline = f"`guard` at the top of the file is {shown(guard)}"
-            self.faults.append(Fault("BadGuard", headline, f"Right would be {right}.", ("guard",)))
+            self.faults.append(Fault("BadGuard", headline, f"Expected {right}.", ("guard",)))
             return "AB"
         return "" if guard == "none" else guard
 
@@ -316,11 +317,15 @@ class Reading:
         nodes = self.document.get("node")
         if isinstance(nodes, list) and 1 <= len(nodes) <= MOST_NODES:
             return [self.read_node(number, table, parameters) for number, table in enumerate(nodes)]
-        right = f"Right would be 1 to {MOST_NODES} tables `[[node]]`."
+        right = f"Expected 1 to {MOST_NODES} tables `[[node]]`."
         if "node" not in self.document:
             meant = alike(self.document, ("node",), "node")
             notes = tuple((f"`{it}` is read by nothing: is `node` meant?", (it,)) for it in meant)
             self.faults.append(Fault("TooManyNodes", "the file has no node", right, notes=notes))
+            return []
+        if isinstance(nodes, dict):
+            right = "Expected `[[node]]`, with two brackets at each side, for each node."
+            self.faults.append(Fault("TooManyNodes", "`node` is one table, `[node]`", right, ("node",)))
             return []
         is_long = isinstance(nodes, list) and len(nodes) > MOST_NODES
         place: Path = ("node", *([MOST_NODES] if is_long else []))
@@ -332,7 +337,7 @@ class Reading:
         path: Path = ("node", number)
         node, refusal = Node(number, path), f"BadNode {number}"
         if not isinstance(table, dict):
-            self.faults.append(Fault(refusal, f"node {number} is {shown(table)}", "Right would be a table.", path))
+            self.faults.append(Fault(refusal, f"node {number} is {shown(table)}", "Expected a table.", path))
             return node
         reader = Reader(table, path, f"node {number}", refusal, NODE_KEYS, self.faults)
         node.tasks = reader.number("tasks", 0, 8, 1)
@@ -359,7 +364,7 @@ class Reading:
         is_sync, is_startup = reader.flag("sync"), reader.flag("startup")
         if is_startup and not is_sync:
             reader.wrong("startup", "`sync = true` beside it: a startup frame is a sync frame as well")
-        return Ownership(node, number, path, slot, channels, cycles, is_sync)
+        return Ownership(node, number, path, slot, channels, cycles, is_sync, is_startup)
 
     def read_queue(self, node: Reader, number: int) -> Queue | None:
         table = node.table["queue"]

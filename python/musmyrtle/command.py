@@ -9,23 +9,30 @@ from contextlib import ExitStack, contextmanager, suppress
 from dataclasses import replace
 from typing import Any, NoReturn, TextIO
 
+from musmyrtle.allows import NAMES, expected_name
 from musmyrtle.findings import MOST_REASONS, block, counted
 from musmyrtle.lint import Lint, Task, lint, read_bytes
 from musmyrtle.output import Stop, write
+from musmyrtle.overwriting import Overwritten
 from musmyrtle.program import Answer, ask, no_answer, usual_program
 from musmyrtle.runs import MOST_CYCLES
+from musmyrtle.trace_why import MAGIC, NoAnswer, TraceFile, ask_why, finding_of, is_trace
 from musmyrtle.version import version
 from musmyrtle.visible import cut, visible
 
 FINE, REFUSED, USAGE, WARNED, BROKEN_OFF = 0, 1, 2, 4, 130
 MOST_WARNINGS, MOST_REPEATED = 40, 200
-ABOUT = """Says what is wrong with a cluster file, and with a scenario for it: where, why, and what would be right.
+ABOUT = """Says what is wrong with a cluster file, and with a scenario for it: where, why, and what is expected.
 
 What is refused is refused by fr_bench, which is run first: `check CLUSTER`, or `run CLUSTER SCENARIO --cycles N`. What
 is taken and still can't work, or breaks a rule of the standard that the bench doesn't ask for, is a warning."""
 STATUSES = """status: 0 where there is nothing to say but warnings, 1 where something is refused, 2 where the words are
 no command, fr_bench can't be run or fails, or the output can't be written, 4 where there are warnings and --strict is
 given, 130 where SIGINT broke it off"""
+SILENCED = """warnings: each ends with its name, as `[sync-nodes]`. `--allow NAME` silences it, and so does a comment
+`# lint: allow NAME: why` at the end of the line of its place in the cluster file, or alone in the line before. Names:
+
+"""
 
 
 class PrintVersion(argparse.Action):
@@ -57,18 +64,33 @@ def cycles_of(word: str) -> int:
     return int(word)
 
 
+def listed_names() -> str:
+    width = max(map(len, NAMES))
+    return "\n".join(f"  {name:{width}}  {what}" for name, what in NAMES.items())
+
+
+def allowed_name(word: str) -> str:
+    if word not in NAMES:
+        raise argparse.ArgumentTypeError(f"no warning has the name {word!r}. {expected_name(word)}")
+    return word
+
+
 def parsed(words: list[str] | None) -> argparse.Namespace:
-    parser = Parser(prog="fr_lint", description=ABOUT, epilog=STATUSES, allow_abbrev=False,
-                    formatter_class=argparse.RawDescriptionHelpFormatter)
-    parser.add_argument("cluster", metavar="CLUSTER", help="a cluster file")
+    parser = Parser(prog="fr_lint", description=ABOUT, epilog=f"{STATUSES}\n\n{SILENCED}{listed_names()}",
+                    allow_abbrev=False, formatter_class=argparse.RawDescriptionHelpFormatter)
+    parser.add_argument("cluster", metavar="CLUSTER",
+                        help="a cluster file, or a trace, of which fr_view says why it is refused")
     parser.add_argument("scenario", metavar="SCENARIO", nargs="?", help="a scenario; it wants --cycles as well")
     parser.add_argument("--cycles", metavar="N", type=cycles_of, help=f"the cycles of the run, 1 to {MOST_CYCLES}")
     parser.add_argument("--strict", action="store_true", help="end with status 4 where there are warnings")
-    parser.add_argument("--program", metavar="FILE", help="the fr_bench to ask, instead of the one beside fr_lint")
+    parser.add_argument("--allow", metavar="NAME", action="append", default=[], type=allowed_name,
+                        help="print no warning of this name; it may be given several times")
+    parser.add_argument("--program", metavar="FILE",
+                        help="the fr_bench to ask, or for a trace the fr_view, instead of the one beside fr_lint")
     given = parser.parse_args(words)
     if given.scenario is not None and given.cycles is None:
         parser.error("a scenario wants --cycles N")
-    given.program = given.program or usual_program()
+    given.named, given.program = given.program, given.program or usual_program()
     if given.program is None:
         parser.error("there is no fr_bench: name one by --program FILE")
     return given
@@ -123,6 +145,8 @@ def told(answer: Answer, found: Lint, is_bold: bool = False) -> Iterator[str]:
         yield from told_reasons(answer, found, is_bold)
     for finding in found.warnings[:MOST_WARNINGS]:
         yield block("warning", finding, is_bold)
+    for finding in found.notes[:MOST_WARNINGS]:
+        yield block("note", finding, is_bold)
     more = len(found.warnings[MOST_WARNINGS:]) + found.further_warnings
     if more:
         yield f"and {counted(more, 'more warning')}\n"
@@ -147,16 +171,53 @@ def is_bold_on(stream: TextIO | None) -> bool:
     return stream is not None and stream.isatty() and "NO_COLOR" not in os.environ
 
 
+def is_trace_file(file: str) -> bool:
+    try:
+        with open(file, "rb") as source:
+            return is_trace(source.read(len(MAGIC) + 1))
+    except (OSError, ValueError):
+        return False
+
+
+def traced(given: argparse.Namespace, task: Task) -> int:
+    """Asks `fr_view why` of a trace, and prints the reason in words. Answers the status."""
+    if given.scenario is not None or given.cycles is not None:
+        raise Stop(USAGE, f"{task.cluster} is a trace, and takes no scenario and no cycles")
+    program, file = given.named or usual_program("fr_view"), task.file(task.cluster)
+    if program is None:
+        raise Stop(USAGE, "there is no fr_view: name one by --program FILE")
+    try:
+        why = ask_why(program, file)
+        lines = ["fr_view: accepted\n"]
+        if why.refusal:
+            finding = finding_of(why, TraceFile(task.cluster, file, why.line))
+            told = block(f"refused {why.refusal}", finding, is_bold_on(sys.stdout))
+            lines = [f"fr_view: refused {why.refusal}\n", told]
+    except NoAnswer as error:
+        raise Stop(USAGE, visible(str(error))) from None
+    except OSError as error:
+        raise Stop(USAGE, f"{program} can't be run: {error.strerror}") from None
+    if isinstance(sys.stdout, io.TextIOWrapper):
+        sys.stdout.reconfigure(errors="backslashreplace")
+    with suppress(BrokenPipeError):
+        write(sys.stdout, ["\n".join(lines)])
+    return REFUSED if why.refusal else FINE
+
+
 def linted(given: argparse.Namespace) -> int:
     """Asks the program, and prints what is to be said. Answers the status."""
-    with lasting(Task(given.cluster, given.scenario, given.cycles)) as task:
+    whole = Task(given.cluster, given.scenario, given.cycles, allowed=frozenset(given.allow))
+    with lasting(whole) as task:
+        if is_trace_file(task.file(task.cluster)):
+            return traced(given, task)
         try:
-            answer = ask(given.program, words_for(task))
+            overwritten = Overwritten()
+            answer = ask(given.program, words_for(task), listen=overwritten.read if given.scenario else None)
         except OSError as error:
             raise Stop(USAGE, f"{given.program} can't be run: {error.strerror}") from None
         if not answer.is_one:
             raise Stop(USAGE, no_answer(given.program, words_for(task), answer))
-        found = lint(task)
+        found = lint(task, overwritten)
     if isinstance(sys.stdout, io.TextIOWrapper):
         # A file may have a name, or a line, that the terminal can't spell.
         sys.stdout.reconfigure(errors="backslashreplace")

@@ -33,6 +33,8 @@ class Finding:
     reason: str
     place: Place | None = None
     notes: tuple[Note, ...] = ()
+    name: str = ""
+    """Of a warning or a note the name by which it is silenced."""
 
 
 def joined(parts: list[str], last: str = "and") -> str:
@@ -104,7 +106,8 @@ def excerpt(place: Place) -> list[str]:
 def block(kind: str, finding: Finding, is_bold: bool = False) -> str:
     """The text of a finding, as a person reads it."""
     where = f"{finding.place}: " if finding.place else ""
-    head = visible(f"{where}{kind}: {finding.headline}")
+    name = f" [{finding.name}]" if finding.name else ""
+    head = visible(f"{where}{kind}: {finding.headline}{name}")
     lines = [f"\x1b[1m{head}\x1b[0m" if is_bold else head]
     lines += excerpt(finding.place) if finding.place else []
     reason = wrap(visible(finding.reason), WIDTH, break_long_words=False, break_on_hyphens=False)

@@ -1,22 +1,44 @@
 """What is to be said of a cluster file and a scenario, beside what `fr_bench` answers."""
-from dataclasses import dataclass, field
+from collections.abc import Callable, Iterable
+from dataclasses import dataclass, field, replace
 from pathlib import Path
 
-from musmyrtle import physical, receiving, sending, unread
+from musmyrtle import physical, ranges, receiving, sending, unread
+from musmyrtle.allows import NOTES, Allows
 from musmyrtle.clashes import clashes
 from musmyrtle.cluster import Cluster
 from musmyrtle.cluster import Reading as ClusterReading
 from musmyrtle.findings import Finding
+from musmyrtle.overwriting import overwriting_fifos
 from musmyrtle.runs import Run
 from musmyrtle.scenario import Reading as ScenarioReading
 from musmyrtle.strikes import Strikes, small_journals
 from musmyrtle.texts import FILE_LIMIT, NoText, Text, read_text
+from musmyrtle.trace_why import is_trace
 
-OF_CLUSTER = (
-    sending.silent_buffers, sending.unfilled_slots, sending.sync_slots, receiving.idle_receivers,
-    receiving.doubled_receivers, receiving.queues_behind_buffers, physical.short_slots,
+TRACE_LIMIT = 98_548_055
+"""No trace is longer."""
+
+OF_CLUSTER: tuple[tuple[str, Callable[[Cluster, Text], Iterable[Finding]]], ...] = (
+    ("repeated-name", ranges.repeated_names),
+    ("never-sends", sending.silent_buffers),
+    ("unfilled-slot", sending.unfilled_slots),
+    ("sync-nodes", sending.sync_nodes),
+    ("key-slot", sending.key_slots),
+    ("sync-channels", sending.sync_channels),
+    ("startup-nodes", sending.startup_nodes),
+    ("fault-tolerance", sending.fault_tolerance),
+    ("receives-nothing", receiving.idle_receivers),
+    ("doubled-receivers", receiving.doubled_receivers),
+    ("fifo-behind-buffer", receiving.queues_behind_buffers),
+    ("divided-slot", ranges.divided_slots),
+    ("standard-range", ranges.out_of_range),
+    ("bit-rate", ranges.other_bit_rate),
+    ("physical", physical.wrong_times),
+    ("short-slots", physical.short_slots),
+    ("action-point", physical.without_action_point),
 )
-"""The warnings of a cluster that is taken."""
+"""The warnings and notes of a cluster that is taken, with their names."""
 
 
 @dataclass
@@ -26,7 +48,24 @@ class Lint:
     refusals: list[tuple[str, Finding]] = field(default_factory=list)
     warnings: list[Finding] = field(default_factory=list)
     further_warnings: int = 0
-    """How many unread keys there are beside those in `warnings`."""
+    """How many warnings there are beside those in `warnings`."""
+    notes: list[Finding] = field(default_factory=list)
+    """What is no mistake, and still worth knowing."""
+    allowed: frozenset[str] = frozenset()
+    """The names of warnings that are silenced everywhere."""
+    allows: Allows | None = None
+
+    def warn(self, name: str, findings: Iterable[Finding], further: int = 0) -> None:
+        """Adds the findings of a name to the warnings, or to the notes, but for those that are silenced.
+
+        FURTHER ones are counted only.
+        """
+        if name in self.allowed:
+            return
+        self.further_warnings += further
+        named = (replace(it, name=name) for it in findings)
+        kept = [it for it in named if self.allows is None or not self.allows.allow(it)]
+        (self.notes if name in NOTES else self.warnings).extend(kept)
 
     def refuse(self, refusal: str, finding: Finding) -> None:
         self.refusals.append((refusal, finding))
@@ -41,16 +80,19 @@ class Task:
     cycles: int | None = None
     files: dict[str, str] = field(default_factory=dict)
     """For names of these the files that are read, where they aren't read by their names."""
+    allowed: frozenset[str] = frozenset()
+    """The names of warnings that are silenced everywhere."""
 
     def file(self, name: str) -> str:
         return self.files.get(name, name)
 
 
 def read_bytes(file: str) -> bytes | None:
-    """The bytes of a file as far as they are looked at."""
+    """The bytes of a file as far as they are looked at, of a trace more than of others."""
     try:
         with open(file, "rb") as source:
-            return source.read(FILE_LIMIT + 1)
+            data = source.read(FILE_LIMIT + 1)
+            return data + source.read(TRACE_LIMIT) if is_trace(data) else data
     except (OSError, ValueError):
         return None
 
@@ -58,11 +100,12 @@ def read_bytes(file: str) -> bytes | None:
 def unreadable(file: str, what: str) -> Finding:
     path = Path(file)
     found = "is a folder" if path.is_dir() else "can't be read" if path.exists() else "isn't there"
-    return Finding(f"{what} {file!r} {found}", "Right would be the name of a file that can be read.")
+    return Finding(f"{what} {file!r} {found}", "Expected the name of a file that can be read.")
 
 
-def lint(task: Task) -> Lint:
-    found = Lint()
+def lint(task: Task, overwritten: dict[int, int] | None = None) -> Lint:
+    """Returns what is to be said. OVERWRITTEN has the frames that the FIFO of each node overwrote in the run."""
+    found = Lint(allowed=task.allowed)
     data = read_bytes(task.file(task.cluster))
     if data is None:
         found.refuse("Read", unreadable(task.cluster, "the cluster file"))
@@ -74,16 +117,18 @@ def lint(task: Task) -> Lint:
         return found
     cluster = lint_cluster(text, found)
     if cluster and task.scenario is not None:
-        lint_scenario(task, task.scenario, cluster, text, found)
+        lint_scenario(task, cluster, text, found, overwritten or {})
     elif cluster:
         # One cycle is the shortest run: a cluster with less room has none.
-        found.warnings += small_journals(cluster, text, task.cycles or 1)
+        found.warn("small-journal", small_journals(cluster, text, task.cycles or 1))
     return found
 
 
 def lint_cluster(text: Text, found: Lint) -> Cluster | None:
     """The cluster, if it is to be taken. What nothing reads is told in any case."""
-    found.warnings, found.further_warnings = unread.unread_keys(text)
+    found.allows = Allows(text)
+    found.warn("unknown-allow", *found.allows.unknown())
+    found.warn("unread-key", *unread.unread_keys(text))
     reading = ClusterReading(text.document)
     cluster = reading.cluster
     faults = reading.faults if cluster is None else clashes(cluster)
@@ -91,13 +136,14 @@ def lint_cluster(text: Text, found: Lint) -> Cluster | None:
         found.refuse(fault.refusal, text.finding(fault.headline, fault.reason, fault.path, fault.notes))
     if cluster is None or faults:
         return None
-    found.warnings += unread.idle_keys(text, cluster.parameters.static_slots)
-    for warnings in OF_CLUSTER:
-        found.warnings += warnings(cluster, text)
+    found.warn("idle-key", unread.idle_keys(text, cluster.parameters.static_slots))
+    for name, warnings in OF_CLUSTER:
+        found.warn(name, warnings(cluster, text))
     return cluster
 
 
-def lint_scenario(task: Task, name: str, cluster: Cluster, text: Text, found: Lint) -> None:
+def lint_scenario(task: Task, cluster: Cluster, text: Text, found: Lint, overwritten: dict[int, int]) -> None:
+    name = task.scenario or ""
     data, cycles = read_bytes(task.file(name)), task.cycles or 1
     if data is None:
         found.refuse("Read", unreadable(name, "the scenario"))
@@ -105,4 +151,5 @@ def lint_scenario(task: Task, name: str, cluster: Cluster, text: Text, found: Li
     scenario = ScenarioReading(name, data).scenario
     found.refusals += scenario.refusals or Run(cluster, text, scenario, cycles).refusals()
     if not found.refusals:
-        found.warnings += Strikes(cluster, scenario, cycles).findings()
+        found.warn("idle-fault", Strikes(cluster, scenario, cycles).findings())
+        found.warn("fifo-overwrites", overwriting_fifos(cluster, text, scenario, overwritten))

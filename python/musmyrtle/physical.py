@@ -3,17 +3,22 @@
 A byte is ten bits on the bus: two of a start sequence, and eight. Before the first byte a transmission start sequence
 of at least three bits and a frame start bit go out, and after the last one two bits of an end sequence; a dynamic frame
 has at least two bits of a trailing sequence more (chapter 3). Eleven bits of silence tell that the channel is idle
-again (chapters 3 and 5). Action points, delays and the clocks' deviations come on top (chapter 5), and aren't known.
+again (chapters 3 and 5). A static slot also has an action point offset at both ends. Delays and the clocks' deviations
+come on top (chapter 5), and aren't known.
 """
 from collections.abc import Iterator
+from typing import TypeGuard
 
-from musmyrtle.cluster import Cluster
+from musmyrtle.cluster import PARAMETERS, Cluster
 from musmyrtle.findings import MOST_NOTES, Finding, counted, shown
+from musmyrtle.standard import rule_of
 from musmyrtle.texts import Text
 
 BITS_OF_BYTE = 10
 BYTES_BESIDE_PAYLOAD = 8
 START, END, TRAILING, IDLE = 3 + 1, 2, 2, 11
+UNITS = {"bit_rate": "bits a second", "macrotick_us": "microseconds"}
+LONGEST_SLOT = PARAMETERS["static_mt"][1]
 
 
 def bits_of_frame(words: int, is_dynamic: bool) -> int:
@@ -22,44 +27,84 @@ def bits_of_frame(words: int, is_dynamic: bool) -> int:
     return START + BITS_OF_BYTE * (BYTES_BESIDE_PAYLOAD + 2 * words) + END + trailing + IDLE
 
 
-def short_slots(cluster: Cluster, text: Text) -> Iterator[Finding]:
+def bit_and_macrotick(text: Text) -> tuple[float | None, float | None]:
+    """Returns the bits a second and the microseconds of a macrotick, as far as the file has numbers for them."""
+    table = text.document.get("physical")
+    values = [table.get(key) if isinstance(table, dict) else None for key in UNITS]
+    bit_rate, macrotick = (float(it) if is_number(it) else None for it in values)
+    return bit_rate, macrotick
+
+
+def is_number(value: object) -> TypeGuard[int | float]:
+    return not isinstance(value, bool) and isinstance(value, int | float) and 1e-6 <= value < 1e12
+
+
+def wrong_times(_: Cluster, text: Text) -> Iterator[Finding]:
+    """Returns warnings of keys of `physical` that are no numbers."""
     if "physical" not in text.document:
         return
     table = text.document["physical"]
     if not isinstance(table, dict):
-        yield text.finding("`physical` is no table", "It isn't looked at. Right would be `[physical]`.", ("physical",))
+        yield text.finding("`physical` is no table", "It isn't looked at. Expected `[physical]`.", ("physical",))
         return
-    bits = []
-    for key, unit in (("bit_rate", "bits a second"), ("macrotick_us", "microseconds")):
-        value = table.get(key)
-        if isinstance(value, bool) or not isinstance(value, int | float) or not 1e-6 <= value < 1e12:
-            found = f"is {shown(value)}" if key in table else "is missing"
-            reason = f"Slots aren't held to their times without. Right would be a number from 1e-6 to 1e12, of {unit}."
+    for key, unit in UNITS.items():
+        if not is_number(table.get(key)):
+            found = f"is {shown(table[key])}" if key in table else "is missing"
+            reason = f"Slots aren't held to their times without. Expected a number from 1e-6 to 1e12, of {unit}."
             yield text.finding(f"`{key}` of `[physical]` {found}", reason, ("physical", key))
-        else:
-            bits.append(value)
-    if len(bits) == 2:
-        bits_of_macrotick = bits[0] * bits[1] / 1_000_000
-        yield from short_static_slots(cluster, text, bits_of_macrotick)
-        yield from short_minislots(cluster, text, bits_of_macrotick)
 
 
-def short_static_slots(cluster: Cluster, text: Text, bits_of_macrotick: float) -> Iterator[Finding]:
+def bits_of_macrotick(text: Text) -> float | None:
+    bit_rate, macrotick = bit_and_macrotick(text)
+    return None if bit_rate is None or macrotick is None else bit_rate * macrotick / 1_000_000
+
+
+def short_slots(cluster: Cluster, text: Text) -> Iterator[Finding]:
+    """Returns warnings of static slots and of minislots that are too short for their frames."""
+    bits = bits_of_macrotick(text)
+    if bits is not None:
+        yield from short_static_slots(cluster, text, bits)
+        yield from short_minislots(cluster, text, bits)
+
+
+def static_bits(cluster: Cluster, bits: float) -> tuple[int, float]:
+    """Returns the bits that a static frame needs, and those that a static slot has."""
+    return bits_of_frame(cluster.parameters.static_words, False), cluster.parameters.static_mt * bits
+
+
+def short_static_slots(cluster: Cluster, text: Text, bits: float) -> Iterator[Finding]:
     parameters = cluster.parameters
-    needed, had = bits_of_frame(parameters.static_words, False), parameters.static_mt * bits_of_macrotick
+    needed, had = static_bits(cluster, bits)
     if needed > had:
-        headline = f"a static slot has room for {had:g} bits, and its frame needs {needed} at least"
-        least = -int(-needed // bits_of_macrotick)
+        room = "is shorter than one bit" if had < 1 else f"has room for {had:g} bits"
+        least = -int(-needed // bits)
         reason = (f"{parameters.static_words} words are {START} + {BITS_OF_BYTE} * ({BYTES_BESIDE_PAYLOAD} + 2 * "
                   f"{parameters.static_words}) + {END} + {IDLE} = {needed} bits: start, bytes, end and silence "
-                  f"(chapters 3 and 5). `static_mt` is {parameters.static_mt} macroticks of {bits_of_macrotick:g} "
-                  f"bits. Right would be at least {least}.")
+                  f"(chapters 3 and 5). `static_mt` is {parameters.static_mt} macroticks of {bits:g} bits. Expected ")
+        reason += f"at least {least}." if least <= LONGEST_SLOT else (
+            "`bit_rate` in bits a second and `macrotick_us` in microseconds, such as 10_000_000 and 1.")
+        headline = f"a static slot {room}, and its frame needs {needed} at least"
         yield text.finding(headline, reason, ("params", "static_mt"), [("`[physical]`", ("physical",))])
 
 
-def short_minislots(cluster: Cluster, text: Text, bits_of_macrotick: float) -> Iterator[Finding]:
+def without_action_point(cluster: Cluster, text: Text) -> Iterator[Finding]:
+    """Returns a warning where a static frame fits, and doesn't with the least action point offset at both ends."""
+    bits = bits_of_macrotick(text)
+    if bits is None:
+        return
+    needed, had = static_bits(cluster, bits)
+    least = 2 * rule_of("gdActionPointOffset").least
+    if needed <= had < needed + least * bits:
+        headline = f"a static slot has {had - needed:g} bits left, too few for an action point offset"
+        reason = (f"Its frame needs {needed} of {had:g} bits. `gdActionPointOffset` is at least 1 macrotick before the "
+                  f"frame and after it, here 2 * {bits:g} bits (chapter 5 and appendix B). The bench doesn't model "
+                  f"action points. Expected `static_mt` of at least {-int(-needed // bits) + least}.")
+        yield text.finding(headline, reason, ("params", "static_mt"), [("`[physical]`", ("physical",))])
+
+
+def short_minislots(cluster: Cluster, text: Text, bits: float) -> Iterator[Finding]:
     parameters = cluster.parameters
-    had_each = parameters.minislot_mt * bits_of_macrotick
+    had_each = parameters.minislot_mt * bits
     short = []
     for buffer in cluster.buffers():
         if not buffer.transmits or cluster.is_static(buffer.slot):
@@ -72,7 +117,7 @@ def short_minislots(cluster: Cluster, text: Text, bits_of_macrotick: float) -> I
     if short:
         headline = f"minislots are too short for the frames of {counted(len(short), 'buffer')}"
         reason = (f"p words are {START} + {BITS_OF_BYTE} * ({BYTES_BESIDE_PAYLOAD} + 2 * p) + {END} + {TRAILING} + "
-                  "{IDLE} bits: start, bytes, end, trailing and silence (chapters 3 and 5). A frame has the minislots "
-                  "of its words, with `idle` more. Right would be a greater `minislot_mt`, or a smaller "
+                  f"{IDLE} bits: start, bytes, end, trailing and silence (chapters 3 and 5). A frame has the minislots "
+                  "of its words, with `idle` more. Expected a greater `minislot_mt`, or a smaller "
                   "`words_per_minislot`.")
         yield text.finding(headline, reason, ("params", "minislot_mt"), short[:MOST_NOTES])

@@ -5,11 +5,12 @@ import shutil
 import signal
 import subprocess
 from collections import deque
-from collections.abc import Callable
-from contextlib import AbstractContextManager
+from collections.abc import Callable, Iterator
+from contextlib import AbstractContextManager, contextmanager
 from dataclasses import dataclass
 from pathlib import Path
-from typing import Any
+from threading import Thread
+from typing import IO, Any
 
 from musmyrtle.output import pass_on
 
@@ -78,15 +79,31 @@ Started = Callable[..., AbstractContextManager[subprocess.Popen[Any]]]
 """Starts a program as `subprocess.Popen` does."""
 
 
-def ask(program: str, words: list[str], started: Started = subprocess.Popen) -> Answer:
+@contextmanager
+def listened(running: subprocess.Popen[Any], listen: Callable[[IO[str]], None] | None) -> Iterator[None]:
+    """Gives the program's output to a function, while this lasts and until the output ends."""
+    if listen is None or running.stdout is None:
+        yield
+        return
+    listening = Thread(target=listen, args=(running.stdout,), daemon=True)
+    listening.start()
+    yield
+    listening.join()
+
+
+def ask(program: str, words: list[str], started: Started = subprocess.Popen,
+        listen: Callable[[IO[str]], None] | None = None) -> Answer:
     """Returns the program's answer. What its launcher says meanwhile, as that it builds first, is passed on.
 
-    The lines by which a launcher explains a refusal aren't, since this package has longer reasons of its own.
+    The lines by which a launcher explains a refusal aren't, since this package has longer reasons of its own. LISTEN
+    reads what the program prints, in a thread of its own, until its end.
     """
     refusal = None
     told: deque[str] = deque(maxlen=MOST_TOLD)
-    streams: dict[str, Any] = {"stdin": subprocess.DEVNULL, "stdout": subprocess.DEVNULL, "stderr": subprocess.PIPE}
-    with started([program, *words], text=True, errors="replace", **streams) as running:
+    streams: dict[str, Any] = {"stdin": subprocess.DEVNULL, "stdout": subprocess.PIPE if listen else subprocess.DEVNULL,
+                               "stderr": subprocess.PIPE}
+    with (started([program, *words], text=True, errors="replace", **streams) as running,
+          listened(running, listen)):
         # A line without an end comes in parts, so that a program can't fill the memory.
         while running.stderr and (line := running.stderr.readline(LONGEST_TOLD)):
             line = line.rstrip("\n")

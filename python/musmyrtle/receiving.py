@@ -61,7 +61,7 @@ def idle_receiver(traffic: Traffic, text: Text, buffer: Buffer) -> Finding:
     where = f"in slot {buffer.slot} on {buffer.channels}"
     where += "" if buffer.cycles.repetition == 1 else f" in {buffer.cycles}"
     headline = f"{buffer} receives nothing: nobody sends data {where}"
-    reason = ("Null frames don't count. Right would be a slot, channels and cycles in which another node has a "
+    reason = ("Null frames don't count. Expected a slot, channels and cycles in which another node has a "
               "transmit buffer.")
     return text.finding(headline, reason, (*buffer.path, "slot"), notes)
 
@@ -86,7 +86,7 @@ def doubled_receivers(cluster: Cluster, text: Text) -> Iterator[Finding]:
                 channels = joined(sorted(set(first.channels) & set(second.channels)))
                 slot = f"slot {second.slot} on {channels}"
                 headline = f"{second} and buffer {first.number} take the same frames of {slot}"
-                reason = ("Each takes them, and each `read` is of one buffer. Right would be one buffer, or other "
+                reason = ("Each takes them, and each `read` is of one buffer. Expected one buffer, or other "
                           "channels or cycles.")
                 yield text.finding(headline, reason, second.path, [(str(first), first.path)])
 
@@ -100,7 +100,7 @@ def queues_behind_buffers(cluster: Cluster, text: Text) -> Iterator[Finding]:
             slots = sorted({it.slot for it in taking})
             named = f"slot{'s' if slots[1:] else ''} {joined([str(it) for it in slots])}"
             headline = f"{queue} stands behind {counted(len(taking), 'receive buffer')}"
-            reason = (f"What a receive buffer admits doesn't come to the queue, here frames of {named}. Right would be "
+            reason = (f"What a receive buffer admits doesn't come to the queue, here frames of {named}. Expected "
                       "a queue for other slots, or no such buffer, if these frames are meant to be popped.")
             notes = [(f"{it} takes slot {it.slot} on {it.channels} in {it.cycles}", it.path) for it in taking]
             yield text.finding(headline, reason, queue.path, notes[:MOST_NOTES])

@@ -2,7 +2,7 @@
 from collections.abc import Iterator
 
 from musmyrtle.cluster import Buffer, Cluster, Node
-from musmyrtle.findings import Finding, Note, counted
+from musmyrtle.findings import MOST_NOTES, Finding, Note, counted, joined
 from musmyrtle.places import Path, Place
 from musmyrtle.scenario import FaultLine, FaultLines, Line, Scenario
 from musmyrtle.texts import Text
@@ -65,7 +65,7 @@ class Run:
         note = self.note(node.path, f"node {node.number}")
         if line.kind == "pop":
             headline = f"node {node.number} has no queue"
-            reason = f"Right would be a table `queue` of node {node.number}, or another node."
+            reason = f"Expected a table `queue` of node {node.number}, or another node."
             return None if node.queue else Finding(headline, reason, self.scenario.place_of(line), (note,))
         number = line.value("BUFFER")
         if number >= len(node.buffers):
@@ -80,7 +80,7 @@ class Run:
             right = "a receive buffer" if line.kind == "read" else "a transmit buffer, of kind event or state"
             place = self.scenario.place_of(line, "BUFFER")
             headline = f"`{line.kind}` names {buffer}, which is of kind {buffer.kind}"
-            return Finding(headline, f"Right would be {right}.", place, (note,))
+            return Finding(headline, f"Expected {right}.", place, (note,))
         if line.kind == "commit" and line.size != 2 * buffer.words:
             reason = f"{buffer} sends {counted(buffer.words, 'word')}, which is {counted(2 * buffer.words, 'byte')}."
             if self.cluster.is_static(buffer.slot):
@@ -112,6 +112,9 @@ class Run:
         if line.place is None or line.place <= most:
             return None
         reason = f"The cluster has {counted(most, name)}."
+        if line.is_static and line.place - most <= parameters.minislots:
+            reason += (f" Slot {line.place} is a dynamic slot, and `sN` is for static slots. Expected `mN` for the "
+                       f"minislot at which it opens: `m{line.place - most}` if nothing is sent in the slots before it.")
         note = self.note(("params", key), f"`{key}`")
         return Finding(f"there is no {name} {line.place}", reason, scenario.place_of(line, "PLACE"), (note,))
 
@@ -123,24 +126,24 @@ class Run:
         place = next((it.word("PLACE") for it in (line, other) if it.place is not None), "s*")
         when = "in every cycle" if cycle is None else f"in cycle {cycle}"
         headline = f"two lines {line.kind}{whose} on {line.word('CHANNEL')} at {place} {when}"
-        reason = "A window takes one fault of a kind for each node and channel. Right would be another cycle or place."
+        reason = "A window takes one fault of a kind for each node and channel. Expected another cycle or place."
         note = Note(f"line {other.number} names it too", self.scenario.place_of(other, "PLACE"))
         return Finding(headline, reason, self.scenario.place_of(line, "PLACE"), (note,))
 
     def no_rooms(self) -> Refusals:
-        return [(f"NoRoom {node.number}", finding) for node in self.cluster.nodes for finding in self.no_room(node)]
+        """The findings in the order of their nodes, for host entries before slot entries."""
+        found = [(node, it) for node in self.cluster.nodes for it in self.no_host_room(node)]
+        found += slot_rooms(self.cluster, self.text, self.cycles)
+        return [(f"NoRoom {node.number}", it) for node, it in sorted(found, key=lambda it: it[0].number)]
 
-    def no_room(self, node: Node) -> Iterator[Finding]:
+    def no_host_room(self, node: Node) -> Iterator[Finding]:
         lines = sum(len(it) for (number, _), it in self.scenario.scripts.items() if number == node.number)
         if lines > node.host_entries:
             has = counted(lines, "line")
             headline = f"node {node.number} has {has} in the scenario, and room for {node.host_entries}"
             right = f"`host_entries = {lines}` or more" if lines <= MOST_HOST_ENTRIES else "fewer lines"
-            reason = f"Each `commit`, `withdraw`, `read` and `pop` is an entry of its journal. Right would be {right}."
+            reason = f"Each `commit`, `withdraw`, `read` and `pop` is an entry of its journal. Expected {right}."
             yield Finding(headline, reason, self.place_of(node, "host_entries"))
-        finding = slot_room(self.cluster, node, self.cycles, self.place_of(node, "slot_entries"))
-        if finding:
-            yield finding
 
     def place_of(self, node: Node, key: str) -> Place | None:
         return self.text.place_of((*node.path, key))
@@ -149,18 +152,29 @@ class Run:
         return Note(text, self.text.place_of(path))
 
 
-def slot_room(cluster: Cluster, node: Node, cycles: int, place: Place | None) -> Finding | None:
-    """Why the journal of a node is too small for so many cycles, if it is."""
+def slot_rooms(cluster: Cluster, text: Text, cycles: int) -> list[tuple[Node, Finding]]:
+    """Returns why journals are too small for so many cycles: one finding for all nodes with the same room."""
+    needed = 2 * cycles * cluster.parameters.windows
+    short: dict[int, list[Node]] = {}
+    for node in cluster.nodes:
+        if needed > node.slot_entries:
+            short.setdefault(node.slot_entries, []).append(node)
+    return [(nodes[0], slot_room(cluster, text, cycles, nodes)) for nodes in short.values()]
+
+
+def slot_room(cluster: Cluster, text: Text, cycles: int, nodes: list[Node]) -> Finding:
+    """Why the journals of nodes with the same room are too small for so many cycles."""
     windows = cluster.parameters.windows
-    needed = 2 * cycles * windows
-    if needed <= node.slot_entries:
-        return None
+    needed, had = 2 * cycles * windows, nodes[0].slot_entries
     want = f"{counted(cycles, 'cycle')} want{'s' if cycles == 1 else ''}"
-    headline = f"{want} {needed} slot entries of node {node.number}, and it has {node.slot_entries}"
+    who = f"node {nodes[0].number}, and it has"
+    if len(nodes) > 1:
+        who = f"each of nodes {joined([str(it.number) for it in nodes])}, and each has"
     right = f"`slot_entries = {needed}` or more"
     if needed > MOST_SLOT_ENTRIES:
         most = MOST_SLOT_ENTRIES // (2 * windows)
         right = f"at most {counted(most, 'cycle')}, with `slot_entries = {2 * windows * most}`"
     reason = (f"Each window is two entries of the journal, and each cycle has up to {windows} windows, its static "
-              f"slots and minislots: 2 * {cycles} * {windows} = {needed}. Right would be {right}.")
-    return Finding(headline, reason, place)
+              f"slots and minislots: 2 * {cycles} * {windows} = {needed}. Expected {right}.")
+    notes = [(f"node {it.number}", (*it.path, "slot_entries")) for it in nodes[1:1 + MOST_NOTES]]
+    return text.finding(f"{want} {needed} slot entries of {who} {had}", reason, (*nodes[0].path, "slot_entries"), notes)

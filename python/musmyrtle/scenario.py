@@ -158,7 +158,7 @@ class Reading:
                 break
             if number > MOST_LINES:
                 headline = f"the scenario has more than {MOST_LINES} lines, and no `end` before"
-                reason = f"Right would be `end` in line {MOST_LINES} at the latest."
+                reason = f"Expected `end` in line {MOST_LINES} at the latest."
                 self.refuse("TooManyLines", headline, reason, number)
                 return
             if len(line.encode()) > LONGEST_LINE:
@@ -174,7 +174,7 @@ class Reading:
     def read_end(self, number: int, lines: list[str]) -> None:
         if number + 1 < len(lines) or lines[number]:
             headline = f"after `end`, in line {number}, the file goes on"
-            reason = "Right would be nothing after `end` and its line feed."
+            reason = "Expected nothing after `end` and its line feed."
             self.refuse(f"BadLine {number + 1}", headline, reason, number + 1)
 
     def read_line(self, number: int, text: str) -> bool:
@@ -194,7 +194,7 @@ class Reading:
 
 
 def bad_magic(lines: list[str]) -> tuple[str, str]:
-    right = "Right would be `frscenario 2`, or `frscenario 1`, and a line feed."
+    right = "Expected `frscenario 2`, or `frscenario 1`, and a line feed."
     if lines == [""]:
         return "the scenario is empty", right
     if lines[0].endswith("\r"):
@@ -206,11 +206,11 @@ def bad_magic(lines: list[str]) -> tuple[str, str]:
 
 def truncated(lines: list[str]) -> tuple[str, str]:
     if lines[-1] == "end":
-        return "the line `end` has no line feed", "Right would be a line feed at the end of the file."
+        return "the line `end` has no line feed", "Expected a line feed at the end of the file."
     if lines[-1]:
-        reason = "Right would be the rest of the line, and then `end` in a line."
+        reason = "Expected the rest of the line, and then `end` in a line."
         return "the file ends within a line, before `end`", reason
-    return "the file ends without the line `end`", "Right would be `end` as the last line."
+    return "the file ends without the line `end`", "Expected `end` as the last line."
 
 
 def bad_words(words: tuple[str, ...], text: str, version: int) -> tuple[str, str, int] | None:
@@ -222,17 +222,17 @@ def bad_words(words: tuple[str, ...], text: str, version: int) -> tuple[str, str
     if kind not in FORMS:
         meant = nearest(kind, tuple(FORMS))
         hint = f"Is `{meant}` meant? " if meant else ""
-        return f"no line begins with `{cut(kind)}`", f"{hint}Right would be one of {', '.join(FORMS)}.", 1
+        return f"no line begins with `{cut(kind)}`", f"{hint}Expected one of {', '.join(FORMS)}.", 1
     if kind == "withdraw" and version == 1:
-        return "version 1 has no line `withdraw`", "Right would be `frscenario 2` as the first line.", 1
+        return "version 1 has no line `withdraw`", "Expected `frscenario 2` as the first line.", 1
     form = " ".join([kind, *FORMS[kind]])
     if len(words) != 1 + len(FORMS[kind]):
         headline = f"the line has {len(words)} words, and `{kind}` has {1 + len(FORMS[kind])}"
-        return headline, f"Right would be `{form}`.", len(text) + 1
+        return headline, f"Expected `{form}`.", len(text) + 1
     for name, word, column in zip(FORMS[kind], words[1:], columns(words)):
         right = wrong_word(kind, name, word)
         if right:
-            return f"{name} is `{cut(word)}`", f"Right would be {right}, in `{form}`.", column
+            return f"{name} is `{cut(word)}`", f"Expected {right}, in `{form}`.", column
     return None
 
 
@@ -245,18 +245,19 @@ def columns(words: tuple[str, ...]) -> list[int]:
     return found
 
 
-def odd_spaces(text: str) -> tuple[str, str, int] | None:
+def odd_spaces(text: str, what: str = "A scenario") -> tuple[str, str, int] | None:
+    """Returns why a line has a space, a tab or a carriage return too many, is empty, or is a comment."""
     for odd, name in (("\r", "a carriage return"), ("\t", "a tab")):
         if odd in text:
-            reason = "Right would be a line feed alone at the end, and single spaces."
+            reason = "Expected a line feed alone at the end, and single spaces."
             return f"{name} stands in the line", reason, text.index(odd) + 1
     if not text:
-        return "the line is empty", "A scenario has no empty lines.", 1
+        return "the line is empty", f"{what} has no empty lines.", 1
     if text.lstrip(" ").startswith("#"):
-        return "the line is a comment", "A scenario has no comments.", 1
+        return "the line is a comment", f"{what} has no comments.", 1
     if "  " in text or text.startswith(" ") or text.endswith(" "):
         column = 1 if text.startswith(" ") else text.index("  ") + 2 if "  " in text else len(text)
-        reason = "Right would be one space between two words, and none at the ends."
+        reason = "Expected one space between two words, and none at the ends."
         return "a space too many stands in the line", reason, column
     return None
 

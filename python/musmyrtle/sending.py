@@ -1,12 +1,10 @@
-"""Warnings of what is to be sent and can't be, of slots that are owned for nothing, and of sync slots."""
+"""Warnings of what is to be sent and can't be, of slots that are owned for nothing, and of sync and startup nodes."""
 from collections.abc import Iterator
 
-from musmyrtle.cluster import Buffer, Cluster, Node
+from musmyrtle.cluster import Buffer, Cluster, Node, Ownership
 from musmyrtle.findings import Finding, counted, joined
+from musmyrtle.standard import rule_of
 from musmyrtle.texts import Text
-
-LEAST_SYNC_NODES = 2
-MOST_SYNC_NODES = 15
 
 
 def first_minislot(cluster: Cluster, slot: int) -> int:
@@ -34,7 +32,7 @@ def silent_buffer(cluster: Cluster, text: Text, buffer: Buffer) -> Finding:
     headline = f"{buffer} never sends: "
     opens = f"slot {buffer.slot} opens at minislot {first} at the earliest, if nothing is sent in the slots before it"
     if first > minislots:
-        reason = f"S{opens[1:]}, and a cycle has {minislots}. Right would be a lower slot or more minislots."
+        reason = f"S{opens[1:]}, and a cycle has {minislots}. Expected a lower slot or more minislots."
         notes = (("`minislots`", ("params", "minislots")),)
         return text.finding(f"{headline}slot {buffer.slot} can't be reached", reason, (*buffer.path, "slot"), notes)
     key = f"latest_{buffer.channels.lower()}"
@@ -46,7 +44,7 @@ def silent_buffer(cluster: Cluster, text: Text, buffer: Buffer) -> Finding:
     else:
         headline += f"`{key}` of node {buffer.node} is {latest}, too early for slot {buffer.slot}"
         reason = f"S{opens[1:]}. "
-    reason += f"Right would be `{key} = {first}` or more."
+    reason += f"Expected `{key} = {first}` or more."
     return text.finding(headline, reason, (*buffer.path, "slot"), own)
 
 
@@ -60,38 +58,77 @@ def unfilled_slots(cluster: Cluster, text: Text) -> Iterator[Finding]:
                 channels = joined(empty)
                 headline = f"slot {line.slot} is owned by node {node.number} on {channels}, and never filled there"
                 reason = (f"No transmit buffer of the node is for it, so on {channels} the node sends null frames "
-                          f"alone. Right would be a transmit buffer with slot = {line.slot}, or no ownership there.")
+                          f"alone. Expected a transmit buffer with slot = {line.slot}, or no ownership there.")
                 yield text.finding(headline, reason, line.path)
 
 
-def sync_slots(cluster: Cluster, text: Text) -> Iterator[Finding]:
+def sync_nodes(cluster: Cluster, text: Text) -> Iterator[Finding]:
+    """Returns a warning where there are too few or too many sync nodes."""
+    rule = rule_of("gSyncNodeMax")
     syncing = [node for node in cluster.nodes if any(line.is_sync for line in node.owned)]
-    if not LEAST_SYNC_NODES <= len(syncing) <= MOST_SYNC_NODES:
+    if not rule.admits(len(syncing)):
         names = f": {joined([str(it.number) for it in syncing])}" if syncing else ""
         headline = f"the cluster has {counted(len(syncing), 'node')} with a sync slot{names}"
-        reason = (f"A cluster has {LEAST_SYNC_NODES} to {MOST_SYNC_NODES} sync nodes (chapter 8, clock "
-                  "synchronization). Right would be `sync = true` at an ownership line of each of these. The bench "
-                  "runs in step without.")
+        reason = (f"A cluster has {rule.least} to {rule.greatest} sync nodes (chapter 8, clock synchronization, "
+                  f"`{rule.name}`). Expected `sync = true` at an ownership line of each of these. The bench runs in "
+                  "step without.")
         yield text.finding(headline, reason, ("node",) if len(syncing) < 1 else syncing[0].path)
-    for node in syncing:
-        yield from sync_slots_of(node, text)
 
 
-def sync_slots_of(node: Node, text: Text) -> Iterator[Finding]:
-    lines = [line for line in node.owned if line.is_sync]
-    slots = sorted({line.slot for line in lines})
-    if len(slots) > 1:
-        headline = f"node {node.number} has {len(slots)} sync slots: {joined([str(it) for it in slots])}"
-        reason = ("A node sends sync frames in one slot, its key slot (chapter 8). Right would be `sync = true` for "
-                  "one slot.")
-        second = next(line for line in lines if line.slot != lines[0].slot)
-        yield text.finding(headline, reason, (*second.path, "sync"), [(str(lines[0]), (*lines[0].path, "sync"))])
-    for slot in slots:
-        own = [line for line in lines if line.slot == slot]
-        channels = {channel for line in own for channel in line.channels}
-        if len(channels) == 1:
-            only = channels.pop()
-            headline = f"sync slot {slot} of node {node.number} is on channel {only} only"
-            reason = ("A sync frame goes out on each channel that the node is attached to, which here is both (chapter "
-                      '8). Right would be `channels = "AB"`.')
-            yield text.finding(headline, reason, (*own[0].path, "channels"))
+def starting(cluster: Cluster) -> list[Node]:
+    return [node for node in cluster.nodes if any(line.is_startup for line in node.owned)]
+
+
+def startup_nodes(cluster: Cluster, text: Text) -> Iterator[Finding]:
+    """Returns a warning where the cluster has too few startup (coldstart) nodes to start."""
+    nodes, least = starting(cluster), rule_of("coldstart nodes").least
+    if len(nodes) < least:
+        names = f": {joined([str(it.number) for it in nodes])}" if nodes else ""
+        reason = (f"A cluster starts by at least {least} coldstart nodes (chapter 7, startup), and by 3 where one may "
+                  "fail. Expected `sync = true, startup = true` at an ownership line of each of these. The bench "
+                  "begins with a cluster that has started.")
+        headline = f"the cluster has {counted(len(nodes), 'startup node')}{names}"
+        yield text.finding(headline, reason, nodes[0].path if nodes else ("node",))
+
+
+def fault_tolerance(cluster: Cluster, text: Text) -> Iterator[Finding]:
+    """Returns a note where the cluster starts, and doesn't once a startup node fails."""
+    nodes = starting(cluster)
+    if len(nodes) == 2:
+        headline = f"the cluster has 2 startup nodes: {joined([str(it.number) for it in nodes])}"
+        reason = ("If one of them fails, the cluster doesn't start (chapter 7, startup). Expected 3 startup nodes "
+                  "where it has to start all the same.")
+        yield text.finding(headline, reason, nodes[0].path)
+
+
+def syncing(cluster: Cluster) -> Iterator[tuple[Node, list[Ownership]]]:
+    """Returns each sync node with its sync slots."""
+    for node in cluster.nodes:
+        lines = [line for line in node.owned if line.is_sync]
+        if lines:
+            yield node, lines
+
+
+def key_slots(cluster: Cluster, text: Text) -> Iterator[Finding]:
+    """Returns a warning for each node with several sync slots."""
+    for node, lines in syncing(cluster):
+        slots = sorted({line.slot for line in lines})
+        if len(slots) > 1:
+            headline = f"node {node.number} has {len(slots)} sync slots: {joined([str(it) for it in slots])}"
+            reason = ("A node sends sync frames in one slot, its key slot (chapter 8). Expected `sync = true` for one "
+                      "slot.")
+            second = next(line for line in lines if line.slot != lines[0].slot)
+            yield text.finding(headline, reason, (*second.path, "sync"), [(str(lines[0]), (*lines[0].path, "sync"))])
+
+
+def sync_channels(cluster: Cluster, text: Text) -> Iterator[Finding]:
+    """Returns a warning for each sync slot on one channel only."""
+    for node, lines in syncing(cluster):
+        for slot in sorted({line.slot for line in lines}):
+            own = [line for line in lines if line.slot == slot]
+            channels = {channel for line in own for channel in line.channels}
+            if len(channels) == 1:
+                headline = f"sync slot {slot} of node {node.number} is on channel {channels.pop()} only"
+                reason = ("A sync frame goes out on each channel that the node is attached to, which here is both "
+                          '(chapter 8). Expected `channels = "AB"`.')
+                yield text.finding(headline, reason, (*own[0].path, "channels"))

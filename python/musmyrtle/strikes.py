@@ -5,7 +5,7 @@ from functools import cached_property
 from musmyrtle.cluster import CYCLES, LAST_SLOT, Cluster
 from musmyrtle.findings import Finding
 from musmyrtle.offers import Offers
-from musmyrtle.runs import slot_room
+from musmyrtle.runs import slot_rooms
 from musmyrtle.scenario import FaultLine, Scenario
 from musmyrtle.texts import Text
 
@@ -31,7 +31,7 @@ class Strikes:
 
     def why_nothing(self, line: FaultLine) -> str | None:
         if line.kind == "babble" and line.size == 0:
-            return "A babble without bytes adds no transmission. Right would be `x` and some hexadecimal digits."
+            return "A babble without bytes adds no transmission. Expected `x` and some hexadecimal digits."
         if not line.is_static and not self.may_open(line):
             return self.unopened(line)
         if line.kind == "mute" and not self.offers(line, line.value("NODE")):
@@ -88,7 +88,4 @@ class Strikes:
 
 
 def small_journals(cluster: Cluster, text: Text, cycles: int) -> Iterator[Finding]:
-    for node in cluster.nodes:
-        finding = slot_room(cluster, node, cycles, text.place_of((*node.path, "slot_entries")))
-        if finding:
-            yield finding
+    return (finding for _, finding in slot_rooms(cluster, text, cycles))

@@ -63,7 +63,7 @@ def not_utf8(file: str, data: bytes, at: int) -> Finding:
     begin = data.rfind(b"\n", 0, at) + 1
     source = data[begin:].split(b"\n", 1)[0].decode(errors="replace")
     place = Place(file, data.count(b"\n", 0, at) + 1, len(data[begin:at].decode(errors="replace")) + 1, source)
-    reason = "TOML is UTF-8: right would be a file saved as that."
+    reason = "TOML is UTF-8. Expected a file saved as UTF-8."
     return Finding(f"the byte 0x{data[at]:02x} is no UTF-8", reason, place)
 
 

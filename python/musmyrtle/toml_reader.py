@@ -47,7 +47,7 @@ class Reader:
             end = LINE_END.match(self.text, self.at)
             if end is None:
                 self.skip(re.compile(REST))
-                raise self.odd("more stands in the line", "Right would be a line for each key and each header.")
+                raise self.odd("more stands in the line", "Expected a line for each key and each header.")
             self.at = end.end()
             self.skip(GAP)
         return root
@@ -58,7 +58,7 @@ class Reader:
 
     def need(self, word: str, why: str) -> None:
         if not self.text.startswith(word, self.at):
-            raise self.odd(why, f"Right would be `{word}` here.")
+            raise self.odd(why, f"Expected `{word}` here.")
         self.at += len(word)
 
     def odd(self, why: str, right: str, note: Noted | None = None) -> NoToml:
@@ -88,7 +88,8 @@ class Reader:
 
     def quoted_part(self, note: Noted | None) -> str:
         if not self.text.startswith(("'", '"'), self.at):
-            raise self.odd("the key is missing", f"Right would be {PART}.", note)
+            closing = ", or the `}` of the inline table before" if note else ""
+            raise self.odd("the key is missing", f"Expected {PART}{closing}.", note)
         name, self.at = string(self.text, self.at, has_lines=False)
         self.skip(BLANK)
         return name
@@ -141,7 +142,7 @@ class Reader:
                 raise too_deep(begin)
             self.at += 1
             return self.array(begin, depth + 1) if first == "[" else self.inline_table(begin, depth + 1)
-        raise self.odd("the value is missing", f"Right would be {VALUES}.")
+        raise self.odd("the value is missing", f"Expected {VALUES}.")
 
     def array(self, begin: int, depth: int) -> Array:
         found = Array()
@@ -150,10 +151,19 @@ class Reader:
         has_more = not self.text.startswith("]", self.at)
         while has_more:
             begins.append(self.at)
-            found.append(self.value(depth))
+            try:
+                found.append(self.value(depth))
+            except NoToml as error:
+                raise self.in_array(error, begin) if depth == 1 and error.note is None else error from None
             has_more = self.goes_on("]", note)
         self.at += 1
         return found
+
+    def in_array(self, error: NoToml, begin: int) -> NoToml:
+        """Returns what is wrong with an item, with the array, whose end may be missing in an earlier line."""
+        if "\n" not in self.text[begin:error.at]:
+            return error
+        return NoToml(error.at, error.why, f"{error.right} Is the `]` of the array missing?", ("the array", begin))
 
     def inline_table(self, begin: int, depth: int) -> Table:
         found, note = Table(INLINE), ("the inline table", begin)
@@ -174,7 +184,7 @@ class Reader:
         if text.startswith(closing, self.at):
             return False
         if found is None or found[1] is None:
-            raise self.odd(f"{note[0]} has no end", f"Right would be a comma or `{closing}` here.", note)
+            raise self.odd(f"{note[0]} has no end", f"Expected a comma or `{closing}` here.", note)
         return True
 
 
@@ -183,7 +193,12 @@ def too_deep(at: int) -> NoToml:
 
 
 def twice(table: Table, name: str, at: int) -> NoToml:
-    right = "Right would be each key once, and each table in one place."
+    right = "Expected each key once, and each table in one place."
+    return NoToml(at, f"`{cut(name)}` stands twice", right, ("the first one", table.begins[name]))
+
+
+def header_twice(table: Table, name: str, at: int) -> NoToml:
+    right = f"A header `[{cut(name)}]` opens one table. Expected `[[{cut(name)}]]` for each of several."
     return NoToml(at, f"`{cut(name)}` stands twice", right, ("the first one", table.begins[name]))
 
 
@@ -205,6 +220,8 @@ def opened_table(table: Table, name: str, at: int, begin: int) -> Table:
     held = table.get(name)
     if held is None:
         held = table[name] = Table(BY_HEADER)
+    elif isinstance(held, Array) and held.is_of_headers or isinstance(held, Table) and held.made is BY_HEADER:
+        raise header_twice(table, name, at)
     elif not isinstance(held, Table) or held.made is not ON_THE_WAY:
         raise twice(table, name, at)
     held.made = BY_HEADER
@@ -218,6 +235,8 @@ def opened_item(table: Table, name: str, at: int, begin: int) -> Table:
     if held is None:
         held = table[name] = Array(is_of_headers=True)
         table.begins[name] = begin
+    if isinstance(held, Table) and held.made is BY_HEADER:
+        raise header_twice(table, name, at)
     if not isinstance(held, Array) or not held.is_of_headers:
         raise twice(table, name, at)
     made = Table(BY_HEADER)

@@ -80,7 +80,7 @@ def bare_value(word: str, at: int) -> bool | int | float | Moment:
     found = re.fullmatch(MOMENT, word)
     if found and (found[1] is None or is_date(*map(int, found.groups()))):
         return Moment(word)
-    raise NoToml(at, f"`{cut(word)}` is no value", f"Right would be {VALUES}.")
+    raise NoToml(at, f"`{cut(word)}` is no value", f"Expected {VALUES}.")
 
 
 def in_64_bits(number: int, at: int) -> int:
@@ -118,12 +118,12 @@ def unfinished(text: str, at: int, end: int, quotes: str) -> NoToml:
     if control:
         return no_control(control)
     where = "" if len(quotes) == 3 else " in its line"
-    return NoToml(at, f"the string has no end{where}", f"Right would be {quotes} after it.")
+    return NoToml(at, f"the string has no end{where}", f"Expected {quotes} after it.")
 
 
 def no_control(found: re.Match[str]) -> NoToml:
     why = f"the control character 0x{ord(found[0]):02x} stands in the text"
-    return NoToml(found.start(), why, "Right would be a text without it, or its escape in a string.")
+    return NoToml(found.start(), why, "Expected a text without it, or its escape in a string.")
 
 
 def character(escape: re.Match[str], at: int) -> str:
@@ -135,8 +135,8 @@ def character(escape: re.Match[str], at: int) -> str:
         code = int(digits, 16)
         if code < 0xD800 or 0xDFFF < code <= 0x10FFFF:
             return chr(code)
-        raise NoToml(at, f"the string has the escape `{escape[0]}`, which is no character", "Right would be another.")
+        raise NoToml(at, f"the string has the escape `{escape[0]}`, which is no character", "Expected another.")
     if len(escape[0]) > 1:
         return ""
     raise NoToml(at, "the string has a backslash before no escape",
-                 r"Right would be \\ for a backslash, or a string in single quotes.")
+                 r"Expected \\ for a backslash, or a string in single quotes.")

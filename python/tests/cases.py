@@ -1,5 +1,6 @@
 """What the tests share: the cluster of three nodes and its scenario, changed, and what is said of them."""
 import os
+import re
 import tempfile
 import unittest
 from pathlib import Path
@@ -8,8 +9,15 @@ from musmyrtle.command import told, words_for
 from musmyrtle.lint import Lint, Task, lint
 from musmyrtle.program import Answer, ask
 
+
+def without_allows(text: str) -> str:
+    """Returns a cluster file without the comments that silence its warnings."""
+    return re.sub(r" *# lint: allow.*", "", text)
+
+
 EXAMPLES = Path(__file__).resolve().parents[2] / "examples"
-CLUSTER = (EXAMPLES / "three-nodes/cluster.toml").read_text()
+WITH_ALLOWS = (EXAMPLES / "three-nodes/cluster.toml").read_text()
+CLUSTER = without_allows(WITH_ALLOWS)
 SCENARIO = (EXAMPLES / "three-nodes/scenario").read_text()
 PROGRAM = os.environ.get("FR_BENCH")
 """The program to which each refusal is held as well, if it is named."""

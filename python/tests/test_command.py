@@ -64,16 +64,18 @@ class Command(Cases):
         cluster, scenario = self.written("cluster.toml", CLUSTER), self.written("scenario", SCENARIO)
         fine = CLUSTER.replace('"AB"}]\nbuffer = [\n  {kind = "state"',
                                '"AB", sync = true}]\nbuffer = [\n  {kind = "state"')
+        fine = fine.replace("sync = true", "sync = true, startup = true")
         quiet, refused = self.written("fine.toml", fine), self.written("refused.toml",
                                                                        CLUSTER.replace("idle = 0", "idle = 3"))
         taken, bad = ["--program", self.stub()], "Params OutOfRange idle"
-        self.assertEqual(self.run_with(quiet, "--strict", *taken), (0, "fr_bench: accepted\n", ""))
+        self.assertEqual(self.run_with(quiet, "--strict", "--allow", "fault-tolerance", *taken),
+                         (0, "fr_bench: accepted\n", ""))
         self.assertEqual(self.run_with(cluster, *taken)[0], 0)
         self.assertEqual(self.run_with(cluster, scenario, "--cycles", "4", "--strict", *taken)[0], 4)
         status, output, _ = self.run_with(refused, "--program", self.stub(bad))
         self.assertEqual((status, output.splitlines()[:3]), (1, [f"fr_bench: refused {bad}", "",
                          f"{refused}:12:1: refused {bad}: `idle` of `[params]` is 3"]))
-        self.assertIn("     12 | idle = 3\n          ^\n    Right would be a whole number from 0 to 2.\n", output)
+        self.assertIn("     12 | idle = 3\n          ^\n    Expected a whole number from 0 to 2.\n", output)
 
     def test_the_program_decides(self):
         cluster, refused = self.written("cluster.toml", CLUSTER), self.written("refused.toml",
@@ -167,8 +169,8 @@ class Command(Cases):
         many = many.replace("slot = 4, ", "slot = 104, ").replace("latest_a = 4", f"latest_a = 4\nown = [{slots}]")
         status, output, _ = self.run_with(self.written("cluster.toml", f"{keys}{many}"), "--program", self.stub())
         self.assertEqual((status, output.count("is read by nothing"), output.count(": warning: ")), (0, 20, 40))
-        # 60 keys and 50 slots that are never filled, a queue to which nothing comes, and one sync node alone.
-        self.assertEqual(output.splitlines()[-1], "and 72 more warnings")
+        # 60 keys and 50 slots that are never filled, a queue to which nothing comes, one sync node, no startup node.
+        self.assertEqual(output.splitlines()[-1], "and 73 more warnings")
         wrong = self.written("cluster.toml", many.replace(slots, slots.replace("B", "C")))
         status, output, _ = self.run_with(wrong, "--program", self.stub("BadNode 2"))
         self.assertEqual((status, output.count(": refused BadNode 2: "), output.splitlines()[-1]),

@@ -66,6 +66,11 @@ TEXTS = {
             [f"{{x = '{'y' * 50_000}', own = [{', '.join([own(9999, 99)] * 64)}]}}"] * 16) + "]\n"),
     "ownership lines for one cycle each": ("Overlap 1 A 0", PARAMETERS + "".join(
         node([own(it + 1, base, 64) for base in range(64)], [buffer("event", it + 1, "AB")] * 64) for it in range(16))),
+    "comments that allow unknown names": (None, CLUSTER + "# lint: allow sync-nod\n" * 40_000),
+    "a comment that allows many names": (None, CLUSTER + "# lint: allow " + "sync-nod " * 110_000 + "\n"),
+    "a long line with many warnings and names": (None, "node = [" + ", ".join(
+        f"{{own = [{', '.join(own(64 * it + slot, 0, 2) for slot in range(1, 64))}]}}" for it in range(15))
+        + "] # lint: allow " + "unfilled-slots " * 60_000 + "\n" + PARAMETERS),
 }
 """Cluster files, with the first refusal that has to be found."""
 

@@ -130,7 +130,7 @@ class TestRefusedCluster(Folders):
         self.assertEqual(found.refusal, "Overlap 1 A 0")
         told = str(found)
         self.assertTrue(told.startswith(f"refused Overlap 1 A 0: {cluster}:26:8: "), told)
-        for words in ("both own slot 1 on A in cycle 0.", "Right would be another slot",
+        for words in ("both own slot 1 on A in cycle 0.", "Expected another slot",
                       f"({cluster}:17:8: ownership line 0 of node 0 has slot 1 on AB in every cycle)"):
             self.assertIn(words, told)
         self.assertEqual(len(told.splitlines()), 1)
@@ -145,7 +145,7 @@ class TestRefusedCluster(Folders):
         for cluster, said in ((self.folder / "none", "isn't there"), (self.folder, "is a folder")):
             found = self.refused(cluster)
             self.assertEqual(found.refusal, "Read")
-            self.assertTrue(found.reason.startswith(f"the cluster file '{cluster}' {said}. Right would be"), found)
+            self.assertTrue(found.reason.startswith(f"the cluster file '{cluster}' {said}. Expected"), found)
 
     def test_the_reason_is_that_of_the_refusal_or_what_the_program_says(self) -> None:
         """A file that changes meanwhile has another fault, or none."""

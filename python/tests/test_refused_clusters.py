@@ -44,7 +44,7 @@ NODES = (
     ("BadNode 2", "cluster.toml:35:1", ("`latest_b` of node 2 is 5",), "latest_a = 4", "latest_b = 5"),
     ("BadNode 0", "cluster.toml:16:1", ("`host_entries`", "from 1 to 16384"), "tasks = 2", "host_entries = 16385"),
     ("BadNode 0", "cluster.toml:16:1", ("`slot_entries`", "from 2 to 65536"), "tasks = 2", "slot_entries = 1"),
-    ("BadNode 0", "cluster.toml:1:9", ("node 0 is 1", "Right would be a table"),
+    ("BadNode 0", "cluster.toml:1:9", ("node 0 is 1", "Expected a table"),
      CLUSTER[CLUSTER.index("[[node]]"):], "[other]\n", 'guard = "A"\n', "node = [1]\n"),
     ("BadNode 0", "cluster.toml:17:1", ("`own` of node 0 is a table", "an array of tables"), OWN, "own = {slot = 1}"),
     ("BadNode 0", "cluster.toml:17:1", ("is an array of 65", "at most 64"), OWN, f"own = [{'{}, ' * 64}{{}}]"),
@@ -89,7 +89,7 @@ BUFFERS = (
      DYNAMIC.replace("= 1", "= 128")),
     ("BadBuffer 0 0", "cluster.toml:20:47", ('`preamble` of buffer 0 of node 0 is "no"',), EVENT,
      EVENT.replace("}", ', preamble = "no"}')),
-    ("BadBuffer 0 0", "cluster.toml:20:47", ("`repetition` of buffer 0 of node 0 is 65", "from 1 to 64"),
+    ("BadBuffer 0 0", "cluster.toml:20:47", ("`repetition` of buffer 0 of node 0 is 65", "1, 2, 4, 8, 16, 32 or 64"),
      EVENT, EVENT.replace("}", ", repetition = 65}")),
 )
 CLASHES = (
@@ -170,5 +170,5 @@ class RefusedClusters(Cases):
         """A last comma and a line break in an inline table, an escape of TOML 1.1, and a byte order mark."""
         newer = "\ufeff" + self.changed(CLUSTER, (EVENT, EVENT.replace("}", ',\n  name = "\\e",}')))
         self.quiet("", newer.replace(", sync = true", ", sync = true, startup = true,").replace(
-            'slot = 2, channels = "AB"}]\nbuf', 'slot = 2, channels = "AB", sync = true}]\nbuf'))
+            'slot = 2, channels = "AB"}]\nbuf', 'slot = 2, channels = "AB", sync = true, startup = true}]\nbuf'))
         self.refused("BadNode 0", "cluster.toml:16:1", ("is 9",), newer.replace("tasks = 2", "tasks = 9", 1))

@@ -1,5 +1,5 @@
 """What is accepted and still can't work, or breaks a rule of the standard: the text goes in, the words come out."""
-from tests.cases import CLUSTER, EXAMPLES, SCENARIO, Cases
+from tests.cases import CLUSTER, EXAMPLES, SCENARIO, Cases, without_allows
 
 OWN = 'own = [{slot = 1, channels = "AB", sync = true}]'
 SECOND_OWN = 'own = [{slot = 2, channels = "AB"}]'
@@ -58,7 +58,7 @@ RECEIVING = (
 )
 PHYSICAL = (
     ("cluster.toml:7:1", ("room for 100 bits, and its frame needs 117", "4 + 10 * (8 + 2 * 1) + 2 + 11 = 117",
-                          "Right would be at least 24"),
+                          "Expected at least 24"),
      "[[node]]", "[physical]\nbit_rate = 5_000_000\nmacrotick_us = 1\n[[node]]"),
     ("cluster.toml:8:1",
      ("too short for the frames of 1 buffer", "1 words need 119 bits, and have 1 minislot of 50 bits"),
@@ -124,10 +124,13 @@ class Warnings(Cases):
         self.warned("cluster.toml:15:1", ("16 nodes with a sync slot", "2 to 15"), head + "".join(nodes))
         self.quiet("with a sync slot", head + "".join(nodes[1:]))
 
-    def test_the_car_has_queues_behind_buffers_alone(self):
+    def test_the_car_has_queues_behind_buffers_and_a_divided_slot(self):
         car = EXAMPLES / "vehicle"
         found, _ = self.look((car / "cluster.toml").read_text(), (car / "scenario").read_text(), 8)
-        self.assertEqual({it.headline.partition(" stands ")[2] for it in found.warnings}, {"behind 1 receive buffer"})
+        self.assertEqual(found.warnings, [])
+        bare = without_allows((car / "cluster.toml").read_text())
+        found, _ = self.look(bare, (car / "scenario").read_text(), 8)
+        self.assertEqual(sorted(it.name for it in found.warnings), ["divided-slot"] + 3 * ["fifo-behind-buffer"])
 
     def test_warnings_come_with_a_refusal_too(self):
         found, answer = self.look(CLUSTER.replace("latest_a = 4", "latestA = 4").replace("idle = 0", "idle = 3"))

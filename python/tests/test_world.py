@@ -235,7 +235,7 @@ class TestWorld(unittest.TestCase):
                            (f"{begin}read 1 0 0 1\nread 1 0 4 1\n{end}", "line 3: there is no cycle 4 in 4 cycles"),
                            (f"{begin}mute 0 A 4 s*\n{end}", "line 2: there is no cycle 4 in 4 cycles"),
                            (f"{begin}pop 0 0 2\npop 0 0 1\n{end}", "line 3: cycle 1 comes after cycle 2"),
-                           (f"{begin}pop 0 0 x\n{end}", "line 2: CYCLE is `x`. Right would be a number"),
+                           (f"{begin}pop 0 0 x\n{end}", "line 2: CYCLE is `x`. Expected a number"),
                            (f"{begin}pop 0 0 0\n{end}now\n", "line 4: after `end`")):
             with self.assertRaisesRegex(ValueError, f"^scenario {said}"):
                 self.world.play_scenario(text, 4)
