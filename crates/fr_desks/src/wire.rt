@@ -43,6 +43,9 @@ const MOST_SLEEPS: u32 = 65_536;
 /// A pause that isn't long takes off one part in so many of the calls that sleep at once after the next long one.
 const RELIEF: u32 = 8;
 
+/// Of so many takes one reads the clock while no pause was long, since two readings cost a tenth of a hand-over.
+const TIMED_TAKES: u32 = 8;
+
 /// Why a call of a wire is refused (own profile).
 #[derive(Clone, Copy, Debug, PartialEq, Eq, Error)]
 pub enum WireError {
@@ -82,10 +85,6 @@ impl Wired {
 struct Signal {
     /// How often these calls look in a row.
     looks: u32,
-    /// How many more calls sleep at once.
-    sleeps: AtomicU32,
-    /// How many calls sleep at once after the next long pause.
-    next_sleeps: AtomicU32,
     sleepers: Condvar,
 }
 
@@ -94,8 +93,6 @@ impl Signal {
     fn new(looks: u32) -> Signal {
         Signal {
             looks,
-            sleeps: AtomicU32::new(0),
-            next_sleeps: AtomicU32::new(SLEEPS),
             sleepers: Condvar::new(),
         }
     }
@@ -103,15 +100,6 @@ impl Signal {
     /// Wakes all that sleep.
     fn give(&self) {
         self.sleepers.notify_all();
-    }
-
-    /// Returns whether a call that isn't due sleeps at once, and counts it.
-    fn sleeps_at_once(&self) -> bool {
-        let left = self.sleeps.load(Ordering::Relaxed);
-        if left > 0 {
-            self.sleeps.store(left - 1, Ordering::Relaxed);
-        }
-        left > 0
     }
 
     /// Looks at the hint until the call is due by what it tells, some times in a row. Says whether it was.
@@ -128,26 +116,95 @@ impl Signal {
 
     /// Lets other threads run until the call is due by the hint, for a while, and not where other processes take the
     /// cores.
-    fn look_out<R: Clock, F: Fn(Stage) -> bool>(&self, rt: &R, hint: &Hint, is_due: &F)
+    fn look_out<R: Clock, F: Fn(Stage) -> bool>(
+        &self,
+        rt: &R,
+        hint: &Hint,
+        rest: &Rest,
+        is_timed: bool,
+        is_due: &F,
+    )
         requires { F.IsAlwaysCallable is_due.now }
     {
-        if is_due(hint.stage()) || self.sleeps_at_once() || self.looks_due(hint, is_due) {
+        if is_due(hint.stage()) || rest.sleeps_at_once() || self.looks_due(hint, is_due) {
             return;
         }
+        if is_timed || rest.had_long_pauses() {
+            self.look_by_clock(rt, hint, rest, is_due);
+        } else {
+            self.look_on(hint, is_due);
+        }
+    }
+
+    /// Lets other threads run until the call is due by the hint, for a while.
+    fn look_on<F: Fn(Stage) -> bool>(&self, hint: &Hint, is_due: &F)
+        requires { F.IsAlwaysCallable is_due.now }
+    {
+        for _ in 0..LOOKS {
+            thread::yield_now();
+            if self.looks_due(hint, is_due) {
+                return;
+            }
+        }
+    }
+
+    /// The same until a pause is long.
+    fn look_by_clock<R: Clock, F: Fn(Stage) -> bool>(
+        &self,
+        rt: &R,
+        hint: &Hint,
+        rest: &Rest,
+        is_due: &F,
+    )
+        requires { F.IsAlwaysCallable is_due.now }
+    {
         let mut then = microseconds(rt);
         for _ in 0..LOOKS {
             thread::yield_now();
             let now = microseconds(rt);
             if now.saturating_sub(then) > LONG_PAUSE {
-                self.sleep_more();
+                rest.sleep_more();
                 return;
             }
             if self.looks_due(hint, is_due) {
-                self.sleep_less();
+                rest.sleep_less();
                 return;
             }
             then = now;
         }
+    }
+}
+
+/// How calls rest where other processes take the cores.
+#[derive(Drop)]
+struct Rest {
+    /// How many more calls sleep at once.
+    sleeps: AtomicU32,
+    /// How many calls sleep at once after the next long pause.
+    next_sleeps: AtomicU32,
+}
+
+impl Rest {
+    /// Returns the rest of calls that had no long pause yet.
+    fn new() -> Rest {
+        Rest {
+            sleeps: AtomicU32::new(0),
+            next_sleeps: AtomicU32::new(SLEEPS),
+        }
+    }
+
+    /// Returns whether a call that isn't due sleeps at once, and counts it.
+    fn sleeps_at_once(&self) -> bool {
+        let left = self.sleeps.load(Ordering::Relaxed);
+        if left > 0 {
+            self.sleeps.store(left - 1, Ordering::Relaxed);
+        }
+        left > 0
+    }
+
+    /// Returns whether more pauses were long than the short ones after them made up for.
+    fn had_long_pauses(&self) -> bool {
+        self.next_sleeps.load(Ordering::Relaxed) > SLEEPS
     }
 
     /// Has the next calls sleep at once, and twice as many after the next long pause.
@@ -192,6 +249,7 @@ pub struct Wire {
     for_bus: Signal,
     /// How far the open window has come, for calls that look before they go for the lock.
     hint: Hint,
+    rest: Rest,
 }
 
 impl Model for Wire {
@@ -214,6 +272,7 @@ impl Wire {
             for_nodes: Signal::new(1),
             for_bus: Signal::new(LOOKS_IN_A_ROW),
             hint: Hint::new(),
+            rest: Rest::new(),
         }
     }
 
@@ -224,17 +283,19 @@ impl Wire {
         node.number() < self.nodes
     }
 
-    /// The bus under its lock, once the call is due at the stage that the window has come to.
+    /// The bus under its lock, once the call is due at the stage that the window has come to. A call that is timed tells
+    /// whether other processes take the cores.
     fn ready<R: Wait + Clock, F: Fn(Stage) -> bool>(
         &self,
         rt: &R,
         signal: &Signal,
+        is_timed: bool,
         is_due: F,
     ) -> Result<MutexGuard<'_, Wired>, WireError>
         requires { F.IsAlwaysCallable is_due }
         ensures { IfErr result (λ e. e ≡ refusal.Stopped) }
     {
-        signal.look_out(rt, &self.hint, &is_due);
+        signal.look_out(rt, &self.hint, &self.rest, is_timed, &is_due);
         let mut wired = self.lock.lock(rt);
         if !is_due(wired.stage()) {
             wired = signal
@@ -257,7 +318,12 @@ impl Wire {
             ⊎ ((e ≡ refusal.Bus bus.UnknownNode) × (self.now ≤ node))) }
     {
         let known = self.has_node(node);
-        let wired = self.ready(rt, &self.for_nodes, |stage| !known || stage.lets_offer())?;
+        let wired = self.ready(
+            rt,
+            &self.for_nodes,
+            false,
+            |stage| !known || stage.lets_offer(),
+        )?;
         if known {
             Ok(wired.bus.collecting())
         } else {
@@ -274,7 +340,12 @@ impl Wire {
         offer: &Offer,
     ) -> Result<(), WireError> {
         let known = self.has_node(node);
-        let mut wired = self.ready(rt, &self.for_nodes, |stage| !known || stage.lets_offer())?;
+        let mut wired = self.ready(
+            rt,
+            &self.for_nodes,
+            false,
+            |stage| !known || stage.lets_offer(),
+        )?;
         let answer = wired.bus.put(node, number, offer);
         let all = answer.is_ok() && wired.bus.all_put();
         if all {
@@ -289,7 +360,7 @@ impl Wire {
 
     /// The bus's inject, once the open window collects. Refused with `Stopped`, and as the bus's is.
     pub fn inject<R: Wait + Clock>(&self, rt: &R, fault: Fault) -> Result<(), WireError> {
-        let mut wired = self.ready(rt, &self.for_nodes, |stage| stage.lets_offer())?;
+        let mut wired = self.ready(rt, &self.for_nodes, false, |stage| stage.lets_offer())?;
         let answer = wired.bus.inject(fault);
         answer.map_err(|error| WireError::Bus(error))
     }
@@ -306,7 +377,7 @@ impl Wire {
 
     /// The bus's seal, once all have put.
     fn seal_all<R: Wait + Clock>(&self, rt: &R) -> Result<(), WireError> {
-        let mut wired = self.ready(rt, &self.for_bus, |stage| stage.lets_seal())?;
+        let mut wired = self.ready(rt, &self.for_bus, true, |stage| stage.lets_seal())?;
         let answer = wired.bus.seal();
         self.hint.tell(wired.stage());
         drop(wired);
@@ -339,7 +410,13 @@ impl Wire {
         b: &mut Seen,
     ) -> Result<(), WireError> {
         let known = self.has_node(node);
-        let mut wired = self.ready(rt, &self.for_nodes, |stage| !known || stage.lets_take())?;
+        let is_timed = number.wrapping_add(u32::from(node.number())) % TIMED_TAKES == 0;
+        let mut wired = self.ready(
+            rt,
+            &self.for_nodes,
+            is_timed,
+            |stage| !known || stage.lets_take(),
+        )?;
         let answer = wired.bus.take_into(node, number, a, b);
         let all = answer.is_ok() && wired.bus.all_taken();
         if all {
@@ -354,7 +431,7 @@ impl Wire {
 
     /// The bus's advance, once all have taken. Refused with `Stopped`, and as the bus's is.
     pub fn advance<R: Wait + Clock>(&self, rt: &R) -> Result<(), WireError> {
-        let mut wired = self.ready(rt, &self.for_bus, |stage| stage.lets_advance())?;
+        let mut wired = self.ready(rt, &self.for_bus, true, |stage| stage.lets_advance())?;
         let answer = wired.bus.advance();
         let over = wired.bus.phase() == Phase::Finished;
         self.hint.tell(wired.stage());
