@@ -1,5 +1,6 @@
 -- How many of a list pass a test where none does, and where all do.
-use Rattle.std.proofs.Common.{◌≡◌, ℕ, suc, ◌+◌, ◌*◌, ◌≤◌, Bool, true, false, cond, List, [], ◌∷◌, length, replicate, refl, sym, ap, ◌∙◌, arith}
+use Rattle.std.proofs.Common.{◌≡◌, ℕ, suc, ◌+◌, ◌*◌, ◌≤◌, Bool, true, false, cond, List, [], ◌∷◌, length, replicate}
+use Rattle.std.proofs.Common.{refl, sym, ap, ◌∙◌, arith}
 use Rattle.std.specs.Prelude.{◌&&◌, ◌==◌}
 use Rattle.std.specs.List.{count_by, list_all}
 use Rattle.std.proofs.lemmas.List.Folds.{sum_by-replicate}
@@ -22,5 +23,6 @@ count_all p (x ∷ xs) =
     ∙ ap (λ n. n == suc (length xs)) (sym (sum_by-cons (λ y. cond (p y) 1 0) x xs))
 
 -- all pass where as many pass as there are
-pub all_counted : {X : Type 0} (p : X → Bool) (xs : List X) (count n : ℕ) → count ≡ count_by p xs → n ≡ length xs → (count == n) ≡ list_all p xs
+pub all_counted : {X : Type 0} (p : X → Bool) (xs : List X) (count n : ℕ) → count ≡ count_by p xs → n ≡ length xs
+    → (count == n) ≡ list_all p xs
 all_counted p xs count n counted many = (λ i. counted i == many i) ∙ sym (count_all p xs)

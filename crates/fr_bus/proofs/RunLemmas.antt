@@ -27,7 +27,8 @@ use Rattle.fr_slots.specs.Windows.{Opportunity, static_window}
 -- ---- a new bus
 
 begins : (p : Parameters) (cycles : ℕ) → 1 ≤ cycles → is_some (following p cycles []) ≡ true
-begins p cycles some = ap (λ b. is_some (cond b (Some (static_window 0 0 1)) None)) (lt-ltb 0 cycles (omega (arith, some)))
+begins p cycles some = ap (λ b. is_some (cond b (Some (static_window 0 0 1)) None))
+    (lt-ltb 0 cycles (omega (arith, some)))
 
 pub run_new : (d : Description) (cycles : ℕ) → IsCluster d → 1 ≤ cycles → cycles ≤ 1024 → IsRun (new_bus d cycles)
 unfolding AllAfter
@@ -42,15 +43,19 @@ run_new d cycles lawful some few = record {
 
 -- ---- a seal
 
-stands_open : (phase : Phase) (b : BusState) → collects phase ≡ true → Stands phase b → (b.opened ≡ next_of_bus b) × (is_some b.opened ≡ true)
+stands_open : (phase : Phase) (b : BusState) → collects phase ≡ true → Stands phase b
+    → (b.opened ≡ next_of_bus b) × (is_some b.opened ≡ true)
 stands_open Collect b e stands = stands
 stands_open InSealed b e stands = absurd (let none : ⊥ = cc in none)
 stands_open Finished b e stands = absurd (let none : ⊥ = cc in none)
 
 -- the open window is the one that the course leads to
-pub opened_is_next : (b : BusState) (c : Standpoint) (w : Opportunity) → IsRun b → c ≡ course_of b.cluster.params b.cycles b.sealed → collects b.phase ≡ true → b.opened ≡ Some w → next_of c ≡ Some w
+pub opened_is_next : (b : BusState) (c : Standpoint) (w : Opportunity) → IsRun b
+    → c ≡ course_of b.cluster.params b.cycles b.sealed → collects b.phase ≡ true → b.opened ≡ Some w
+    → next_of c ≡ Some w
 opened_is_next b c w run course collecting opened =
-    ap next_of course ∙ next_is b.cluster.params b.cycles b.sealed ∙ sym (stands_open b.phase b collecting run.stands).0 ∙ opened
+    ap next_of course ∙ next_is b.cluster.params b.cycles b.sealed ∙ sym (stands_open b.phase b collecting run.stands).0
+        ∙ opened
 
 at_end : {X : Type 0} (xs : List X) (x : X) → slice_get (xs ++ x ∷ []) (length xs) ≡ Some x
 at_end [] x = refl
@@ -62,27 +67,34 @@ last_more xs x =
     ap (slice_get (xs ++ x ∷ [])) place ∙ at_end xs x
 
 -- what is appended is the next window's outcome
-recorded_more : (b : BusState) (w : Opportunity) → IsRun b → collects b.phase ≡ true → b.opened ≡ Some w → IsRecorded b.cluster b.cycles b.sealed (outcome_of b w)
+recorded_more : (b : BusState) (w : Opportunity) → IsRun b → collects b.phase ≡ true → b.opened ≡ Some w
+    → IsRecorded b.cluster b.cycles b.sealed (outcome_of b w)
 recorded_more b w run collecting opened =
-    (sym (stands_open b.phase b collecting run.stands).0 ∙ opened, record { stations = b.stations; one_each = run.one_each; sent_is = refl })
+    (sym (stands_open b.phase b collecting run.stands).0 ∙ opened,
+        record { stations = b.stations; one_each = run.one_each; sent_is = refl })
 
 abbrev with_sealed : BusState → List Recorded → BusState
 with_sealed b sealed = record b { phase = InSealed; sealed = sealed }
 
-pub run_sealed : (b : BusState) (w : Opportunity) (sealed : List Recorded) → sealed ≡ b.sealed ++ outcome_of b w ∷ [] → IsRun b → collects b.phase ≡ true → b.opened ≡ Some w → IsRun (with_sealed b sealed)
+pub run_sealed : (b : BusState) (w : Opportunity) (sealed : List Recorded) → sealed ≡ b.sealed ++ outcome_of b w ∷ []
+    → IsRun b → collects b.phase ≡ true → b.opened ≡ Some w → IsRun (with_sealed b sealed)
 run_sealed b w sealed same run collecting opened =
     subst (λ rs. IsRun (with_sealed b rs)) (sym same) (record {
       lawful = run.lawful;
       some_cycles = run.some_cycles;
       few_cycles = run.few_cycles;
       one_each = run.one_each;
-      recorded = AllAfter-snoc (IsRecorded b.cluster b.cycles) b.sealed (outcome_of b w) run.recorded (recorded_more b w run collecting opened);
-      stands = (opened ∙ sym (ap (λ o. option_map (λ (r : Recorded). r.window) o) (last_more b.sealed (outcome_of b w))), ap is_some opened);
+      recorded = AllAfter-snoc (IsRecorded b.cluster b.cycles) b.sealed (outcome_of b w) run.recorded
+          (recorded_more b w run collecting opened);
+      stands = (opened ∙ sym (ap (λ o. option_map (λ (r : Recorded). r.window) o)
+          (last_more b.sealed (outcome_of b w))), ap is_some opened);
     })
 
 -- and the course that passed the window is that of the record
-pub course_sealed : (b : BusState) (w : Opportunity) (c new : Standpoint) (x y : ℕ) (sealed : List Recorded) → new ≡ passed c w x y → c ≡ course_of b.cluster.params b.cycles b.sealed
-    → x ≡ longest A (outcome_of b w).sent → y ≡ longest B (outcome_of b w).sent → sealed ≡ b.sealed ++ outcome_of b w ∷ [] → new ≡ course_of b.cluster.params b.cycles sealed
+pub course_sealed : (b : BusState) (w : Opportunity) (c new : Standpoint) (x y : ℕ) (sealed : List Recorded)
+    → new ≡ passed c w x y → c ≡ course_of b.cluster.params b.cycles b.sealed
+    → x ≡ longest A (outcome_of b w).sent → y ≡ longest B (outcome_of b w).sent
+        → sealed ≡ b.sealed ++ outcome_of b w ∷ [] → new ≡ course_of b.cluster.params b.cycles sealed
 course_sealed b w c new x y sealed passes course on_a on_b same =
     passes
     ∙ (λ i. passed (course i) w (on_a i) (on_b i))
@@ -91,7 +103,8 @@ course_sealed b w c new x y sealed passes course on_a on_b same =
 
 -- ---- an advance
 
-stands_at : (next : Option Opportunity) (b : BusState) → b.opened ≡ next → next_of_bus b ≡ next → Stands (phase_at next) b
+stands_at : (next : Option Opportunity) (b : BusState) → b.opened ≡ next → next_of_bus b ≡ next
+    → Stands (phase_at next) b
 stands_at None b opened is = (opened, is)
 stands_at (Some w) b opened is = (opened ∙ sym is, ap is_some opened)
 
@@ -106,7 +119,8 @@ run_advanced b run = record {
 }
 
 -- what an advance leaves, by its parts
-pub advanced_is : (b : BusState) (c : Standpoint) (phase : Phase) (opened : Option Opportunity) (stations : List Station) → c ≡ course_of b.cluster.params b.cycles b.sealed
+pub advanced_is : (b : BusState) (c : Standpoint) (phase : Phase) (opened : Option Opportunity)
+    (stations : List Station) → c ≡ course_of b.cluster.params b.cycles b.sealed
     → opened ≡ next_of c → phase ≡ phase_at opened → stations ≡ replicate (length b.stations) idle_station
     → record b { phase = phase; opened = opened; stations = stations; corrupt_a = None; corrupt_b = None } ≡ advanced b
 advanced_is b c phase opened stations course opened_is phase_is stations_are =
@@ -126,12 +140,14 @@ all_begun p cycles [] e = by_case (nat_lt 0 cycles) refl e
 all_begun p cycles (r ∷ rs) e = by_case (nat_lt (cycles_begun (r ∷ rs)) cycles) refl _ e
   where
     by_case : (b : Bool) → nat_lt (cycles_begun (r ∷ rs)) cycles ≡ b → (inner : Option Opportunity)
-        → option_or inner (cond b (Some (static_window (length (r ∷ rs)) (cycles_begun (r ∷ rs) % 64) 1)) None) ≡ None → cycles ≤ cycles_begun (r ∷ rs)
+        → option_or inner (cond b (Some (static_window (length (r ∷ rs)) (cycles_begun (r ∷ rs) % 64) 1)) None) ≡ None
+            → cycles ≤ cycles_begun (r ∷ rs)
     by_case b f (Some w) e = absurd (let none : ⊥ = cc in none)
     by_case true f None e = absurd (let none : ⊥ = cc in none)
     by_case false f None e = ltb-false (cycles_begun (r ∷ rs)) cycles f
 
-pub all_cycles : (b : BusState) (c : Standpoint) → IsRun b → IsCourse c → c ≡ course_of b.cluster.params b.cycles b.sealed → b.phase ≡ Finished → cycles_begun b.sealed ≡ b.cycles
+pub all_cycles : (b : BusState) (c : Standpoint) → IsRun b → IsCourse c
+    → c ≡ course_of b.cluster.params b.cycles b.sealed → b.phase ≡ Finished → cycles_begun b.sealed ≡ b.cycles
 all_cycles b c run course same finished =
     let at_most = subst (λ (s : Standpoint). s.begun ≤ s.cycles) same course.begun_fit in
     let stands : Stands Finished b = subst (λ (phase : Phase). Stands phase b) finished run.stands in

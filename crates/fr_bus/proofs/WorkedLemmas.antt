@@ -20,17 +20,20 @@ use Rattle.fr_status.specs.declared.seen.Seen.{Seen}
 use Rattle.fr_status.specs.declared.seen.Seen.TheVariants.{Silence, Own as Owns, Conflict, Noise, Bytes}
 
 abbrev one_word : Parameters
-one_word = record { static_slots = 3; minislots = 4; static_words = 1; static_mt = 20; minislot_mt = 5; symbol_mt = 0; nit_mt = 10; cycle_mt = 90; idle = 0; words_per_minislot = 5 }
+one_word = record { static_slots = 3; minislots = 4; static_words = 1; static_mt = 20; minislot_mt = 5; symbol_mt = 0;
+    nit_mt = 10; cycle_mt = 90; idle = 0; words_per_minislot = 5 }
 
 abbrev owning_in : CycleClass → ℕ → Plan
-owning_in cycles slot = record (empty_plan 2 0 0 256 4096) { owned = record { slot = slot; channels = channels.Both; sync = false; startup = false; cycles = cycles } ∷ [] }
+owning_in cycles slot = record (empty_plan 2 0 0 256 4096) { owned =
+    record { slot = slot; channels = channels.Both; sync = false; startup = false; cycles = cycles } ∷ [] }
 
 abbrev owning : ℕ → Plan
 owning slot = owning_in (record { base = 0; repetition = 1 }) slot
 
 -- nodes 0 and 1 own slots 1 and 2, and channel A is guarded
 abbrev three_nodes : Description
-three_nodes = record { params = one_word; guard = Some channels.A; plans = owning 1 ∷ owning 2 ∷ empty_plan 2 4 0 256 4096 ∷ [] }
+three_nodes = record { params = one_word; guard = Some channels.A; plans =
+    owning 1 ∷ owning 2 ∷ empty_plan 2 4 0 256 4096 ∷ [] }
 
 abbrev second_slot : Opportunity
 second_slot = static_window 1 0 2
@@ -77,13 +80,15 @@ abbrev recorded_with : Side → Recorded
 recorded_with a = record { window = second_slot; sent = sent_with a; corrupt_a = None; corrupt_b = None }
 
 abbrev Sees : Side → ℕ → Seen → Seen → Type 0
-Sees side node a b = (seen_by one_word (recorded_with side) A node ≡ a) × (seen_by one_word (recorded_with side) B node ≡ b)
+Sees side node a b = (seen_by one_word (recorded_with side) A node ≡ a) ×
+    (seen_by one_word (recorded_with side) B node ≡ b)
 
 -- the guardian blocks the babble on A, and B carries both
 pub a_babble_is_blocked_on_the_guarded_channel : sent_with offering ≡ listed Passed
 a_babble_is_blocked_on_the_guarded_channel = refl
 
-pub the_others_receive_on_a : Sees offering 0 (Bytes sample) Noise × Sees offering 1 Owns Conflict × Sees offering 2 (Bytes sample) Conflict
+pub the_others_receive_on_a : Sees offering 0 (Bytes sample) Noise × Sees offering 1 Owns Conflict × Sees offering 2
+    (Bytes sample) Conflict
 the_others_receive_on_a = ((refl, refl), (refl, refl), (refl, refl))
 
 -- a mute loses the offer on A alone
@@ -105,7 +110,8 @@ two_owners = record {
 
 -- what becomes of both nodes' offers: of node 0's on A and on B, and of node 1's
 abbrev fates_in : ℕ → List Fate
-fates_in cycle = map (λ (t : Sent). t.fate) (sent_from two_owners (static_window 1 cycle 3) 0 (sender offering ∷ sender offering ∷ []))
+fates_in cycle = map (λ (t : Sent). t.fate) (sent_from two_owners (static_window 1 cycle 3) 0
+    (sender offering ∷ sender offering ∷ []))
 
 -- on A the owner of the cycle passes alone, and nobody does in a cycle without an owner
 pub a_divided_slot_is_guarded_by_cycles :
@@ -116,7 +122,8 @@ a_divided_slot_is_guarded_by_cycles = (refl, refl, refl, refl)
 -- ---- a dynamic segment: ten minislots of four words, one idle after a transmission
 
 abbrev four_words : Parameters
-four_words = record { static_slots = 3; minislots = 10; static_words = 1; static_mt = 20; minislot_mt = 5; symbol_mt = 4; nit_mt = 6; cycle_mt = 120; idle = 1; words_per_minislot = 4 }
+four_words = record { static_slots = 3; minislots = 10; static_words = 1; static_mt = 20; minislot_mt = 5; symbol_mt =
+    4; nit_mt = 6; cycle_mt = 120; idle = 1; words_per_minislot = 4 }
 
 abbrev quiet : Opportunity → Recorded
 quiet w = record { window = w; sent = []; corrupt_a = None; corrupt_b = None }
@@ -139,12 +146,15 @@ first_minislot_sealed = record {
   corrupt_b = None;
 }
 
-pub static_slots_come_first : (following four_words 2 [] ≡ Some (static_window 0 0 1)) × (following four_words 2 static_part ≡ Some (dynamic 3 1 (Some 4) (Some 4)))
+pub static_slots_come_first : (following four_words 2 [] ≡ Some (static_window 0 0 1)) ×
+    (following four_words 2 static_part ≡ Some (dynamic 3 1 (Some 4) (Some 4)))
 static_slots_come_first = (refl, refl)
 
 pub a_long_slot_leaves_the_other_channel_alone :
     (following four_words 2 (static_part ++ first_minislot_sealed ∷ []) ≡ Some (dynamic 4 2 (Some 5) None))
-    × (following four_words 2 (static_part ++ first_minislot_sealed ∷ quiet (dynamic 4 2 (Some 5) None) ∷ []) ≡ Some (dynamic 5 3 (Some 6) None))
-    × (following four_words 2 (static_part ++ first_minislot_sealed ∷ quiet (dynamic 4 2 (Some 5) None) ∷ quiet (dynamic 5 3 (Some 6) None) ∷ [])
+    × (following four_words 2 (static_part ++ first_minislot_sealed ∷ quiet (dynamic 4 2 (Some 5) None) ∷ []) ≡ Some
+        (dynamic 5 3 (Some 6) None))
+    × (following four_words 2 (static_part ++ first_minislot_sealed ∷ quiet (dynamic 4 2 (Some 5) None) ∷ quiet
+        (dynamic 5 3 (Some 6) None) ∷ [])
     ≡ Some (dynamic 6 4 (Some 7) (Some 5)))
 a_long_slot_leaves_the_other_channel_alone = (refl, refl, refl)

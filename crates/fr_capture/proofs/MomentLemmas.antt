@@ -21,24 +21,30 @@ use Rattle.fr_status.specs.declared.seen.Seen.{Seen}
 
 -- ---- one entry more
 
-last_window-snoc : (before : List Entry) (e : Entry) → last_window (before ++ e ∷ []) ≡ option_or (fetched before e) (last_window before)
+last_window-snoc : (before : List Entry) (e : Entry) → last_window (before ++ e ∷ []) ≡ option_or (fetched before e)
+    (last_window before)
 last_window-snoc before e = last_after-snoc fetched before e
 
-last_fetch-snoc : (before : List Entry) (e : Entry) → last_fetch (before ++ e ∷ []) ≡ option_or (fetch_number before e) (last_fetch before)
+last_fetch-snoc : (before : List Entry) (e : Entry) → last_fetch (before ++ e ∷ []) ≡ option_or (fetch_number before e)
+    (last_fetch before)
 last_fetch-snoc before e = last_after-snoc fetch_number before e
 
-rounds-snoc : (p : Parameters) (before : List Entry) (e : Entry) → rounds p (before ++ e ∷ []) ≡ rounds p before + cond (begins_round p before e) 1 0
+rounds-snoc : (p : Parameters) (before : List Entry) (e : Entry)
+    → rounds p (before ++ e ∷ []) ≡ rounds p before + cond (begins_round p before e) 1 0
 rounds-snoc p before e = count_after-snoc (begins_round p) before e
 
-pub sightings-snoc : (s : State) (before : List Entry) (e : Entry) → sightings_in s (before ++ e ∷ []) ≡ sightings_in s before ++ sightings_at s before e
+pub sightings-snoc : (s : State) (before : List Entry) (e : Entry)
+    → sightings_in s (before ++ e ∷ []) ≡ sightings_in s before ++ sightings_at s before e
 sightings-snoc s before e = each_after-snoc (sightings_at s) before e
 
 -- ---- an entry that fetches nothing
 
-IsMoment-same : (p : Parameters) (before after : List Entry) (last : Option Moment) → last_window after ≡ last_window before → last_fetch after ≡ last_fetch before
+IsMoment-same : (p : Parameters) (before after : List Entry) (last : Option Moment)
+    → last_window after ≡ last_window before → last_fetch after ≡ last_fetch before
     → rounds p after ≡ rounds p before + 0 → IsMoment p before last → IsMoment p after last
 IsMoment-same p before after None windows fetches same h = (windows ∙ h.0, omega (arith, same, h.1))
-IsMoment-same p before after (Some m) windows fetches same h = (windows ∙ h.0, h.1, omega (arith, same, h.2), fetches ∙ h.3)
+IsMoment-same p before after (Some m) windows fetches same h =
+    (windows ∙ h.0, h.1, omega (arith, same, h.2), fetches ∙ h.3)
 
 -- ---- a fetch
 
@@ -50,7 +56,8 @@ later_round : (low : Bool) (r : ℕ) → cond low (r + 1) r ≡ r + cond low 1 0
 later_round true r = refl
 later_round false r = omega arith
 
-next_round : (p : Parameters) (before : List Entry) (w : Opportunity) (m : Moment) → last_window before ≡ Some m.window → m.place ≡ place_in_round p m.window → m.rounds ≡ rounds p before
+next_round : (p : Parameters) (before : List Entry) (w : Opportunity) (m : Moment) → last_window before ≡ Some m.window
+    → m.place ≡ place_in_round p m.window → m.rounds ≡ rounds p before
     → rounds_at (place_in_round p w) (Some m) ≡ rounds p before + cond (is_not_later p w (last_window before)) 1 0
 next_round p before w m window place over =
     ap (λ (n : ℕ). cond (leb (place_in_round p w) n) (m.rounds + 1) m.rounds) place
@@ -58,7 +65,8 @@ next_round p before w m window place over =
     ∙ ap (λ (n : ℕ). n + cond (leb (place_in_round p w) (place_in_round p m.window)) 1 0) over
     ∙ ap (λ (o : Option Opportunity). rounds p before + cond (is_not_later p w o) 1 0) (sym window)
 
-fetch_moment : (p : Parameters) (before : List Entry) (last : Option Moment) (number : ℕ) (w : Opportunity) (a b : Offered) → number ≡ length before → IsMoment p before last
+fetch_moment : (p : Parameters) (before : List Entry) (last : Option Moment) (number : ℕ) (w : Opportunity)
+    (a b : Offered) → number ≡ length before → IsMoment p before last
     → IsMoment p (before ++ Fetch w a b ∷ []) (moment_after p last number (Fetch w a b))
 fetch_moment p before None number w a b here h = (
   last_window-snoc before (Fetch w a b),
@@ -73,8 +81,10 @@ fetch_moment p before (Some m) number w a b here h = (
   last_fetch-snoc before (Fetch w a b) ∙ ap (λ (n : ℕ). Some n) (sym here),
 )
 
-module _ (p : Parameters) (before : List Entry) (last : Option Moment) (number : ℕ) (here : number ≡ length before) (h : IsMoment p before last) where
-  none : (e : Entry) → fetched before e ≡ None → fetch_number before e ≡ None → begins_round p before e ≡ false → IsMoment p (before ++ e ∷ []) last
+module _ (p : Parameters) (before : List Entry) (last : Option Moment) (number : ℕ) (here : number ≡ length before)
+    (h : IsMoment p before last) where
+  none : (e : Entry) → fetched before e ≡ None → fetch_number before e ≡ None → begins_round p before e ≡ false
+      → IsMoment p (before ++ e ∷ []) last
   none e window fetch begins =
       IsMoment-same p before (before ++ e ∷ []) last
       (last_window-snoc before e ∙ ap (λ (o : Option Opportunity). option_or o (last_window before)) window)
@@ -91,18 +101,24 @@ module _ (p : Parameters) (before : List Entry) (last : Option Moment) (number :
 
 -- ---- what is seen then
 
-time_same : (p : Parameters) (before : List Entry) (m : Moment) → m.place ≡ place_in_round p m.window → m.rounds ≡ rounds p before → time_of p before m.window ≡ time_at p m
+time_same : (p : Parameters) (before : List Entry) (m : Moment) → m.place ≡ place_in_round p m.window
+    → m.rounds ≡ rounds p before → time_of p before m.window ≡ time_at p m
 time_same p before m place over =
-    ap (λ (n : ℕ). n * round_length p + place_in_round p m.window) (sym over) ∙ ap (λ (n : ℕ). m.rounds * round_length p + n) (sym place)
+    ap (λ (n : ℕ). n * round_length p + place_in_round p m.window) (sym over) ∙ ap
+        (λ (n : ℕ). m.rounds * round_length p + n) (sym place)
 
-window_same : (s : State) (before : List Entry) (last : Option Moment) (a b : Seen) → IsMoment s.params before last → in_window s before (last_window before) a b ≡ in_moment s last a b
+window_same : (s : State) (before : List Entry) (last : Option Moment) (a b : Seen) → IsMoment s.params before last
+    → in_window s before (last_window before) a b ≡ in_moment s last a b
 window_same s before None a b h = ap (λ (o : Option Opportunity). in_window s before o a b) h.0
 window_same s before (Some m) a b h =
     ap (λ (o : Option Opportunity). in_window s before o a b) h.0
-    ∙ ap (λ (t : ℕ). sighting s t (last_fetch before) m.window a b A ∷ sighting s t (last_fetch before) m.window a b B ∷ []) (time_same s.params before m h.1 h.2)
-    ∙ ap (λ (f : Option ℕ). sighting s (time_at s.params m) f m.window a b A ∷ sighting s (time_at s.params m) f m.window a b B ∷ []) h.3
+    ∙ ap (λ (t : ℕ). sighting s t (last_fetch before) m.window a b A ∷ sighting s t
+        (last_fetch before) m.window a b B ∷ []) (time_same s.params before m h.1 h.2)
+    ∙ ap (λ (f : Option ℕ). sighting s (time_at s.params m) f m.window a b A ∷ sighting s
+        (time_at s.params m) f m.window a b B ∷ []) h.3
 
-pub seen_same : (s : State) (before : List Entry) (last : Option Moment) (e : Entry) → IsMoment s.params before last → sightings_at s before e ≡ seen_after s last e
+pub seen_same : (s : State) (before : List Entry) (last : Option Moment) (e : Entry) → IsMoment s.params before last
+    → sightings_at s before e ≡ seen_after s last e
 seen_same s before last (Commit task buffer payload) h = refl
 seen_same s before last (Withdraw task buffer of) h = refl
 seen_same s before last (Read task buffer from) h = refl
@@ -121,6 +137,7 @@ unfolding count_after
 count-few test before [] = omega arith
 count-few test before (x ∷ xs) = omega (arith, counted (test before x), count-few test (before ++ x ∷ []) xs)
 
-pub few_rounds : (p : Parameters) (before : List Entry) (last : Option Moment) (most : ℕ) → IsMoment p before last → length before ≤ most → HasRounds most last
+pub few_rounds : (p : Parameters) (before : List Entry) (last : Option Moment) (most : ℕ) → IsMoment p before last
+    → length before ≤ most → HasRounds most last
 few_rounds p before None most h few = tt
 few_rounds p before (Some m) most h few = omega (arith, h.2, count-few (begins_round p) [] before)

@@ -1,5 +1,6 @@
 -- The frame that is valid in a slot is the one that the bytes are read as, and what takes it is what a window brings.
-use Rattle.std.proofs.Common.{◌≡◌, ℕ, ◌++◌, List, [], Option, Some, None, Bool, true, false, if◌then◌else◌, ap, refl, ◌∙◌}
+use Rattle.std.proofs.Common.{◌≡◌, ℕ, ◌++◌, List, [], Option, Some, None, Bool, true, false, if◌then◌else◌, ap, refl}
+use Rattle.std.proofs.Common.{◌∙◌}
 use Rattle.std.specs.Option.{option_and_then, option_or}
 use Rattle.std.specs.Prelude.{is_some}
 use Rattle.arrayvec.specs.ArrayVec.{ArrayVec}
@@ -30,7 +31,8 @@ right : (b : Bool) (f : Fields) → option_or (if b then Some f else None) (Some
 right true f = refl
 right false f = refl
 
-valid_read : (p : Parameters) (cycle : ℕ) (slot : Option ℕ) (read : Option Fields) → option_or (option_and_then (λ s. passed p cycle s read) slot) read ≡ read
+valid_read : (p : Parameters) (cycle : ℕ) (slot : Option ℕ) (read : Option Fields)
+    → option_or (option_and_then (λ s. passed p cycle s read) slot) read ≡ read
 valid_read p cycle None read = refl
 valid_read p cycle (Some s) None = refl
 valid_read p cycle (Some s) (Some f) = right (passes p cycle s f) f
@@ -39,7 +41,8 @@ valid_read p cycle (Some s) (Some f) = right (passes p cycle s f) f
 abbrev pub frame_on : Parameters → Opportunity → Channel → Seen → Option Fields
 frame_on p w channel seen = option_and_then (λ s. frame_in p w.cycle s channel seen) (slot_of w channel)
 
-seen_read : (p : Parameters) (w : Opportunity) (channel : Channel) (takers : List Taker) (seen : Seen) (handed : Option (ArrayVec ℕ))
+seen_read : (p : Parameters) (w : Opportunity) (channel : Channel) (takers : List Taker) (seen : Seen)
+    (handed : Option (ArrayVec ℕ))
     → seen_by channel takers seen handed (frame_on p w channel seen) ≡ seen_text channel takers seen handed
 unfolding Rattle.fr_status.specs.Status.frame_in
 seen_read p w channel takers Silence handed = refl
@@ -48,12 +51,15 @@ seen_read p w channel takers Conflict handed = refl
 seen_read p w channel takers Noise handed = refl
 seen_read p w channel takers Overrun handed = refl
 seen_read p w channel takers (Bytes bytes) handed =
-    ap (λ (f : Option Fields). content_text (refusal channel bytes.items) f takers bytes.items) (valid_read p w.cycle (slot_of w channel) (decoded channel bytes.items))
+    ap (λ (f : Option Fields). content_text (refusal channel bytes.items) f takers bytes.items)
+        (valid_read p w.cycle (slot_of w channel) (decoded channel bytes.items))
 
 module _ (all : Bool) (s : State) (m : Moment) (a b : Seen) where
   -- the line as the code writes it is that of the sighting
-  pub line_same : (channel : Channel) (came_a came_b : Bool) (told : Channel) (seen : Seen) (word : List ℕ) (frame : Option Fields)
-      → came_a ≡ is_some (data_frame_seen s.params m.window A a) → came_b ≡ is_some (data_frame_seen s.params m.window B b)
+  pub line_same : (channel : Channel) (came_a came_b : Bool) (told : Channel) (seen : Seen) (word : List ℕ)
+      (frame : Option Fields)
+      → came_a ≡ is_some (data_frame_seen s.params m.window A a)
+          → came_b ≡ is_some (data_frame_seen s.params m.window B b)
       → told ≡ channel → seen ≡ seen_on channel a b
       → word ≡ seen_word s.params m.window.cycle (slot_of m.window channel) channel (seen_on channel a b)
       → frame ≡ frame_on s.params m.window channel (seen_on channel a b)
@@ -61,9 +67,11 @@ module _ (all : Bool) (s : State) (m : Moment) (a b : Seen) where
   line_same channel came_a came_b told seen word frame a_is b_is told_is seen_is word_is frame_is =
       let on = seen_on channel a b in
       let handed = handed_by s (Some m.entry) channel in
-      let front = first_text (time_at s.params m) m.window.cycle (slot_of m.window channel) channel (seen_word s.params m.window.cycle (slot_of m.window channel) channel on) in
+      let front = first_text (time_at s.params m) m.window.cycle (slot_of m.window channel) channel
+          (seen_word s.params m.window.cycle (slot_of m.window channel) channel on) in
       (λ i. line_by all s m came_a came_b (told_is i) (seen_is i) (word_is i) (frame_is i))
-      ∙ ap (λ (takers : List Taker). if is_told all (slot_of m.window channel) on then front ++ seen_by channel takers on handed (frame_on s.params m.window channel on) else [])
+      ∙ ap (λ (takers : List Taker). if is_told all (slot_of m.window channel) on then
+          front ++ seen_by channel takers on handed (frame_on s.params m.window channel on) else [])
       (takers_is s.params s.plan m.window a b came_a came_b a_is b_is channel)
       ∙ ap (λ (t : List ℕ). if is_told all (slot_of m.window channel) on then front ++ t else [])
       (seen_read s.params m.window channel (takers_of s.params s.plan m.window a b channel) on handed)

@@ -23,7 +23,8 @@ use Rattle.fr_capture.proofs.MomentLemmas.{one_moment, seen_same, sightings-snoc
 use Rattle.fr_journal.specs.declared.entry.Entry.{Entry}
 
 -- of so many entries what is seen has been written, after the heading
-pub record IsShown (form : Form) (s : State) (entries : List Entry) (count : ℕ) (start now : Option (List ℕ)) (piece : List ℕ)
+pub record IsShown (form : Form) (s : State) (entries : List Entry) (count : ℕ) (start now : Option (List ℕ))
+    (piece : List ℕ)
     (last : Option Moment) : Type 0 where
   pub handed : List ℕ
   pub written : Appends start now handed
@@ -32,22 +33,29 @@ pub record IsShown (form : Form) (s : State) (entries : List Entry) (count : ℕ
 
 module _ (form : Form) (s : State) (entries : List Entry) (start : Option (List ℕ)) where
   pub shown_none : (piece : List ℕ) → piece ≡ heading form → IsShown form s entries 0 start start piece None
-  unfolding Rattle.fr_slots.specs.History.each_after Rattle.fr_slots.specs.History.last_after Rattle.fr_slots.specs.History.count_after
-  shown_none piece is = record { handed = []; written = Appends-nil start; text_is = is ∙ sym (append-nil (heading form)); moment_is = (refl, refl) }
+  unfolding Rattle.fr_slots.specs.History.each_after Rattle.fr_slots.specs.History.last_after
+      Rattle.fr_slots.specs.History.count_after
+  shown_none piece is = record { handed = []; written = Appends-nil start; text_is =
+      is ∙ sym (append-nil (heading form)); moment_is = (refl, refl) }
 
   more-texts : (before : List Entry) (last : Option Moment) (e : Entry) → IsMoment s.params before last
-      → flat_map (shown form s.params) (sightings_in s (before ++ e ∷ [])) ≡ flat_map (shown form s.params) (sightings_in s before) ++ flat_map (shown form s.params) (seen_after s last e)
+      → flat_map (shown form s.params) (sightings_in s (before ++ e ∷ [])) ≡ flat_map (shown form s.params)
+          (sightings_in s before) ++ flat_map (shown form s.params) (seen_after s last e)
   more-texts before last e moment =
       ap (flat_map (shown form s.params)) (sightings-snoc s before e)
       ∙ flat_map-append (shown form s.params) (sightings_in s before) (sightings_at s before e)
-      ∙ ap (λ (more : List Sighting). flat_map (shown form s.params) (sightings_in s before) ++ flat_map (shown form s.params) more) (seen_same s before last e moment)
+      ∙ ap (λ (more : List Sighting). flat_map (shown form s.params) (sightings_in s before) ++ flat_map
+          (shown form s.params) more) (seen_same s before last e moment)
 
-  pub shown_entry : (count : ℕ) (e : Entry) (now : Option (List ℕ)) (piece next : List ℕ) (last : Option Moment) → count < length entries → e ≡ get_or entries count e
-      → IsShown form s entries count start now piece last → next ≡ piece ++ flat_map (shown form s.params) (seen_after s last e)
+  pub shown_entry : (count : ℕ) (e : Entry) (now : Option (List ℕ)) (piece next : List ℕ) (last : Option Moment)
+      → count < length entries → e ≡ get_or entries count e
+      → IsShown form s entries count start now piece last → next ≡ piece ++ flat_map (shown form s.params)
+          (seen_after s last e)
       → IsShown form s entries (count + 1) start now next (moment_after s.params last count e)
   shown_entry count e now piece next last lt at h is =
       let before = take count entries in
-      let longer : take (count + 1) entries ≡ before ++ e ∷ [] = take_more entries count e lt ∙ ap (λ (x : Entry). before ++ x ∷ []) (sym at) in
+      let longer : take (count + 1) entries ≡ before ++ e ∷ [] =
+          take_more entries count e lt ∙ ap (λ (x : Entry). before ++ x ∷ []) (sym at) in
       let number_is : count ≡ length before = omega (arith, length-take count entries, lt) in
       let more = flat_map (shown form s.params) (seen_after s last e) in
       let so_far = flat_map (shown form s.params) (sightings_in s before) in
@@ -61,10 +69,12 @@ module _ (form : Form) (s : State) (entries : List Entry) (start : Option (List 
             ∙ append_assoc (heading form) so_far more
             ∙ ap (λ (t : List ℕ). heading form ++ t) (sym (more-texts before last e h.moment_is))
             ∙ ap (λ (es : List Entry). heading form ++ flat_map (shown form s.params) (sightings_in s es)) (sym longer);
-        moment_is = subst (λ (es : List Entry). IsMoment s.params es (moment_after s.params last count e)) (sym longer) (one_moment s.params before last count number_is h.moment_is e);
+        moment_is = subst (λ (es : List Entry). IsMoment s.params es (moment_after s.params last count e)) (sym longer)
+            (one_moment s.params before last count number_is h.moment_is e);
       }
 
-  pub shown_handed : (count : ℕ) (now next : Option (List ℕ)) (piece empty : List ℕ) (last : Option Moment) → IsShown form s entries count start now piece last → Appends now next piece
+  pub shown_handed : (count : ℕ) (now next : Option (List ℕ)) (piece empty : List ℕ) (last : Option Moment)
+      → IsShown form s entries count start now piece last → Appends now next piece
       → empty ≡ [] → IsShown form s entries count start next empty last
   shown_handed count now next piece empty last h handed is = record {
     handed = h.handed ++ piece;
@@ -73,15 +83,20 @@ module _ (form : Form) (s : State) (entries : List Entry) (start : Option (List 
     moment_is = h.moment_is;
   }
 
-  pub shown_all : {X E : Type 0} (r : Result X E) (count : ℕ) (now next : Option (List ℕ)) (piece : List ℕ) (last : Option Moment) → IsShown form s entries count start now piece last
+  pub shown_all : {X E : Type 0} (r : Result X E) (count : ℕ) (now next : Option (List ℕ)) (piece : List ℕ)
+      (last : Option Moment) → IsShown form s entries count start now piece last
       → length entries ≤ count → OnOk r (Appends now next piece) → OnOk r (Appends start next (shown_of form s entries))
   shown_all (Err e) count now next piece last h all handed = tt
   shown_all (Ok x) count now next piece last h all handed =
-      let text : h.handed ++ piece ≡ shown_of form s entries = h.text_is ∙ ap (λ (es : List Entry). heading form ++ flat_map (shown form s.params) (sightings_in s es)) (take_all count entries all) in
+      let text : h.handed ++ piece ≡ shown_of form s entries =
+          h.text_is ∙ ap (λ (es : List Entry). heading form ++ flat_map (shown form s.params) (sightings_in s es))
+          (take_all count entries all) in
       subst (λ (t : List ℕ). Appends start next t) text (Appends-trans start now next h.handed piece h.written handed)
 
-  pub shown_rounds : (count most : ℕ) (now : Option (List ℕ)) (piece : List ℕ) (last : Option Moment) → IsShown form s entries count start now piece last → count ≤ most → HasRounds most last
-  shown_rounds count most now piece last h few = few_rounds s.params (take count entries) last most h.moment_is (omega (arith, length-take count entries))
+  pub shown_rounds : (count most : ℕ) (now : Option (List ℕ)) (piece : List ℕ) (last : Option Moment)
+      → IsShown form s entries count start now piece last → count ≤ most → HasRounds most last
+  shown_rounds count most now piece last h few = few_rounds s.params (take count entries) last most h.moment_is
+      (omega (arith, length-take count entries))
 
 -- ---- a trace that is accepted, and what is written of it
 
@@ -100,45 +115,63 @@ kept_memory : (old new : Option (List ℕ)) → IsWritingFault old new error.Mem
 kept_memory old new (inl is) = absurd (cc)
 kept_memory old new (inr h) = h.1
 
-pub shows_form : (written : State → List ℕ) (text old new : Option (List ℕ)) (s : State) (r : Result (Unit {0}) TraceError) → Understands text (Ok s)
+pub shows_form : (written : State → List ℕ) (text old new : Option (List ℕ)) (s : State)
+    (r : Result (Unit {0}) TraceError) → Understands text (Ok s)
     → OnOk r (Appends old new (written s)) → IfErr r (IsWritingFault old new) → Shows written text old new r
 shows_form written text old new s (Ok x) told done refused = (s, told.0, told.1, done)
 shows_form written text old new s (Err error.Write) told done refused = (s, told.0, told.1)
-shows_form written text old new s (Err error.Memory) told done refused = (accepted_begins text s told.1 told.0, kept_memory old new refused)
+shows_form written text old new s (Err error.Memory) told done refused =
+    (accepted_begins text s told.1 told.0, kept_memory old new refused)
 shows_form written text old new s (Err error.Read) told done refused = absurd (no_read old new refused)
-shows_form written text old new s (Err error.BadMagic) told done refused = absurd (no_other old new error.BadMagic tt refused)
-shows_form written text old new s (Err (error.BadLine n)) told done refused = absurd (no_other old new (error.BadLine n) tt refused)
-shows_form written text old new s (Err (error.LineTooLong n)) told done refused = absurd (no_other old new (error.LineTooLong n) tt refused)
-shows_form written text old new s (Err (error.Refused n)) told done refused = absurd (no_other old new (error.Refused n) tt refused)
-shows_form written text old new s (Err (error.WrongAnswer n)) told done refused = absurd (no_other old new (error.WrongAnswer n) tt refused)
-shows_form written text old new s (Err error.Truncated) told done refused = absurd (no_other old new error.Truncated tt refused)
+shows_form written text old new s (Err error.BadMagic) told done refused =
+    absurd (no_other old new error.BadMagic tt refused)
+shows_form written text old new s (Err (error.BadLine n)) told done refused =
+    absurd (no_other old new (error.BadLine n) tt refused)
+shows_form written text old new s (Err (error.LineTooLong n)) told done refused =
+    absurd (no_other old new (error.LineTooLong n) tt refused)
+shows_form written text old new s (Err (error.Refused n)) told done refused =
+    absurd (no_other old new (error.Refused n) tt refused)
+shows_form written text old new s (Err (error.WrongAnswer n)) told done refused =
+    absurd (no_other old new (error.WrongAnswer n) tt refused)
+shows_form written text old new s (Err error.Truncated) told done refused =
+    absurd (no_other old new error.Truncated tt refused)
 
-ends_at : (text rest : List ℕ) (old new : Option (List ℕ)) (s : State) (r : Result (Unit {0}) TraceError) → StopsAtEnd text rest → Understands (Some text) (Ok s)
+ends_at : (text rest : List ℕ) (old new : Option (List ℕ)) (s : State) (r : Result (Unit {0}) TraceError)
+    → StopsAtEnd text rest → Understands (Some text) (Ok s)
     → IfErr r (IsWritingFault old new) → EndsAt text rest r
 ends_at text rest old new s (Ok x) stops told refused = stops
 ends_at text rest old new s (Err error.Write) stops told refused = stops
 ends_at text rest old new s (Err error.Memory) stops told refused = inr (stops, (s, told.0, told.1))
 ends_at text rest old new s (Err error.Read) stops told refused = absurd (no_read old new refused)
-ends_at text rest old new s (Err error.BadMagic) stops told refused = absurd (no_other old new error.BadMagic tt refused)
-ends_at text rest old new s (Err (error.BadLine n)) stops told refused = absurd (no_other old new (error.BadLine n) tt refused)
-ends_at text rest old new s (Err (error.LineTooLong n)) stops told refused = absurd (no_other old new (error.LineTooLong n) tt refused)
-ends_at text rest old new s (Err (error.Refused n)) stops told refused = absurd (no_other old new (error.Refused n) tt refused)
-ends_at text rest old new s (Err (error.WrongAnswer n)) stops told refused = absurd (no_other old new (error.WrongAnswer n) tt refused)
-ends_at text rest old new s (Err error.Truncated) stops told refused = absurd (no_other old new error.Truncated tt refused)
+ends_at text rest old new s (Err error.BadMagic) stops told refused =
+    absurd (no_other old new error.BadMagic tt refused)
+ends_at text rest old new s (Err (error.BadLine n)) stops told refused =
+    absurd (no_other old new (error.BadLine n) tt refused)
+ends_at text rest old new s (Err (error.LineTooLong n)) stops told refused =
+    absurd (no_other old new (error.LineTooLong n) tt refused)
+ends_at text rest old new s (Err (error.Refused n)) stops told refused =
+    absurd (no_other old new (error.Refused n) tt refused)
+ends_at text rest old new s (Err (error.WrongAnswer n)) stops told refused =
+    absurd (no_other old new (error.WrongAnswer n) tt refused)
+ends_at text rest old new s (Err error.Truncated) stops told refused =
+    absurd (no_other old new error.Truncated tt refused)
 
 -- what is read of a trace that is accepted
-pub ends_form : (text rest old new : Option (List ℕ)) (s : State) (r : Result (Unit {0}) TraceError) → Stops text rest (Ok tt) → Understands text (Ok s)
+pub ends_form : (text rest old new : Option (List ℕ)) (s : State) (r : Result (Unit {0}) TraceError)
+    → Stops text rest (Ok tt) → Understands text (Ok s)
     → IfErr r (IsWritingFault old new) → Ends text rest r
 ends_form None rest old new s r stops told refused = tt
 ends_form (Some text) None old new s r stops told refused = stops
 ends_form (Some text) (Some rest) old new s r stops told refused = ends_at text rest old new s r stops told refused
 
 -- an error of writing is of no line
-line_of_writing : (text : List ℕ) (old new : Option (List ℕ)) (e : TraceError) → IsWritingFault old new e → NamesItsLine e text
+line_of_writing : (text : List ℕ) (old new : Option (List ℕ)) (e : TraceError) → IsWritingFault old new e
+    → NamesItsLine e text
 line_of_writing text old new e (inl is) = subst (λ (x : TraceError). NamesItsLine x text) (sym is) tt
 line_of_writing text old new e (inr h) = subst (λ (x : TraceError). NamesItsLine x text) (sym h.0) tt
 
-pub line_form : (text old new : Option (List ℕ)) (r : Result (Unit {0}) TraceError) → IfErr r (IsWritingFault old new) → IfSome text (λ t. LineIsNamed r t)
+pub line_form : (text old new : Option (List ℕ)) (r : Result (Unit {0}) TraceError) → IfErr r (IsWritingFault old new)
+    → IfSome text (λ t. LineIsNamed r t)
 line_form None old new r refused = tt
 line_form (Some text) old new (Ok x) refused = tt
 line_form (Some text) old new (Err e) refused = line_of_writing text old new e refused

@@ -11,24 +11,30 @@ use Rattle.fr_timing.specs.Layout.{IsAt}
 use Rattle.fr_timing.proofs.LayoutLemmas.{started_found, started_only, located_only, located_none}
 
 -- what is told of a start is what it is by its definition
-pub start_same : (p : Parameters) (x : Place) (answer : Option ℕ) → IfSome answer (λ m. IsAt p m x) → ((m : ℕ) → IsAt p m x → answer ≡ Some m) → answer ≡ start_at p x
+pub start_same : (p : Parameters) (x : Place) (answer : Option ℕ) → IfSome answer (λ m. IsAt p m x)
+    → ((m : ℕ) → IsAt p m x → answer ≡ Some m) → answer ≡ start_at p x
 start_same p x (Some m) found only = sym (started_only p x (start_at p x) refl m found)
 start_same p x None found only = none (start_at p x) refl
   where
     none : (o : Option ℕ) → start_at p x ≡ o → None ≡ start_at p x
     none None is = sym is
-    none (Some m) is = only m (subst (λ (o : Option ℕ). IfSome o (λ n. IsAt p n x)) is (started_found p x (start_at p x) refl)) ∙ sym is
+    none (Some m) is = only m (subst (λ (o : Option ℕ). IfSome o (λ n. IsAt p n x)) is
+        (started_found p x (start_at p x) refl)) ∙ sym is
 
 -- a place lies in the cycle
-pub start_below : (p : Parameters) → IsParameters p → (x : Place) (answer : Option ℕ) → IfSome answer (λ m. IsAt p m x) → unwrap_or answer 0 < p.cycle_mt
+pub start_below : (p : Parameters) → IsParameters p → (x : Place) (answer : Option ℕ) → IfSome answer (λ m. IsAt p m x)
+    → unwrap_or answer 0 < p.cycle_mt
 start_below p lawful x None found = omega (arith, lawful.cycle_mt_fit.from_least)
-start_below p lawful x (Some m) found = elim (cases_lt m p.cycle_mt) [ inl below ↦ below | inr behind ↦ absurd (clash behind) ]
+start_below p lawful x (Some m) found = elim (cases_lt m p.cycle_mt)
+    [ inl below ↦ below | inr behind ↦ absurd (clash behind) ]
   where
     clash : p.cycle_mt ≤ m → ⊥
-    clash behind = let none = (located_none p lawful m (place_at p m) refl).1 behind in let some = located_only p m (place_at p m) refl x found in let e = sym none ∙ ap is_some some in cc
+    clash behind = let none = (located_none p lawful m (place_at p m) refl).1 behind in let some =
+        located_only p m (place_at p m) refl x found in let e = sym none ∙ ap is_some some in cc
 
 -- a time of so many rounds is short of what 32 bits hold in seconds
-pub few_time : (rounds length place : ℕ) → rounds ≤ 1000000 → length ≤ 1280000 → place < 2 ^ 32 → rounds * length + place < 2 ^ 32 * 1000000
+pub few_time : (rounds length place : ℕ) → rounds ≤ 1000000 → length ≤ 1280000 → place < 2 ^ 32
+    → rounds * length + place < 2 ^ 32 * 1000000
 few_time rounds length place few short fits =
     let more : rounds * length ≤ rounds * 1280000 = mul-le-mul_left rounds short in
     omega (arith, more)

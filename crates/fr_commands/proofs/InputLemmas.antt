@@ -4,7 +4,8 @@ use Rattle.std.proofs.lemmas.List.{length-take, take_all}
 use Rattle.std.proofs.lemmas.Bool.{cases_lt}
 
 -- what is short is all that there is
-pub whole : (limit : ℕ) (text got : List ℕ) → got ≡ take (limit + 1) text → length got ≤ limit → (got ≡ text) × (length text ≤ limit)
+pub whole : (limit : ℕ) (text got : List ℕ) → got ≡ take (limit + 1) text → length got ≤ limit
+    → (got ≡ text) × (length text ≤ limit)
 whole limit text got is few =
     elim (cases_lt limit (length text)) [
       | inl long ↦

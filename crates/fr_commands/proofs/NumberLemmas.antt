@@ -30,7 +30,8 @@ pub digits_are_text : (digits : List ℕ) → list_all is_ascii_digit digits ≡
 digits_are_text digits are = IsUtf8-from_ascii digits (IsAscii-from_digits digits (own.to digits (told digits are)))
 
 -- 1 to 10 digits are a number that 64 bits hold, and `parse` finds it
-pub parsed : {E : Type 0} (digits : List ℕ) (r : Result ℕ E) → ParsesUnsigned 64 10 digits r → list_all is_ascii_digit digits ≡ true → 0 < length digits → length digits ≤ 10
+pub parsed : {E : Type 0} (digits : List ℕ) (r : Result ℕ E) → ParsesUnsigned 64 10 digits r
+    → list_all is_ascii_digit digits ≡ true → 0 < length digits → length digits ≤ 10
     → r ≡ Ok (digits_value 10 digits)
 parsed digits r parses are some few =
     let below = digits_value-lt 10 digits (own.to digits (told digits are)) in
@@ -38,10 +39,12 @@ parsed digits r parses are some few =
     let fits : digits_value 10 digits < 2 ^ 64 = omega arith in
     Ok-from_Ok_iff r _ _ (parse_digits own 64 digits r parses (told digits are)) (some, fits)
 
-pub is_magnitude : (digits : List ℕ) → list_all is_ascii_digit digits ≡ true → 0 < length digits → length digits ≤ 10 → magnitude_in digits ≡ Some (digits_value 10 digits)
+pub is_magnitude : (digits : List ℕ) → list_all is_ascii_digit digits ≡ true → 0 < length digits → length digits ≤ 10
+    → magnitude_in digits ≡ Some (digits_value 10 digits)
 is_magnitude digits are some few = rw (lt-ltb 0 (length digits) some, le-leb (length digits) 10 few, are) refl
 
 -- one more number after those so far
-pub one_more : (numbers : List ℤ) (z : ℤ) (rest : Option (List ℤ)) → joined (numbers ++ z ∷ []) rest ≡ joined numbers (before (Some z) rest)
+pub one_more : (numbers : List ℤ) (z : ℤ) (rest : Option (List ℤ))
+    → joined (numbers ++ z ∷ []) rest ≡ joined numbers (before (Some z) rest)
 one_more numbers z None = refl
 one_more numbers z (Some rest) = ap Some (append_assoc numbers (z ∷ []) rest)

@@ -33,7 +33,8 @@ use Rattle.fr_commands.specs.PlanText.{AreGuardTexts, IsPlanText, Adds}
 
 -- ---- nodes
 
-of_nodes-more : {X : Type 0} (text : ℕ → X → List ℕ) (node place : ℕ) (xs : List X) (item : X) → slice_get xs place ≡ Some item
+of_nodes-more : {X : Type 0} (text : ℕ → X → List ℕ) (node place : ℕ) (xs : List X) (item : X)
+    → slice_get xs place ≡ Some item
     → of_nodes text node (take (place + 1) xs) ≡ of_nodes text node (take place xs) ++ text (node + place) item
 unfolding of_nodes
 of_nodes-more text node place [] item is = cc is
@@ -45,35 +46,42 @@ of_nodes-more text node (suc place) (x ∷ xs) item is =
     let next : suc place + 1 ≡ suc (place + 1) = omega arith in
     let here : node + 1 + place ≡ node + suc place = omega arith in
     ap (λ (n : ℕ). of_nodes text node (take n (x ∷ xs))) next
-    ∙ ap (λ (t : List ℕ). text node x ++ t) (of_nodes-more text (node + 1) place xs item is ∙ ap (λ (n : ℕ). of_nodes text (node + 1) (take place xs) ++ text n item) here)
+    ∙ ap (λ (t : List ℕ). text node x ++ t) (of_nodes-more text (node + 1) place xs item is ∙ ap
+        (λ (n : ℕ). of_nodes text (node + 1) (take place xs) ++ text n item) here)
     ∙ sym (append_assoc (text node x) (of_nodes text (node + 1) (take place xs)) (text (node + suc place) item))
 
 -- the texts of so many nodes have been written
-pub record AreNodes {X : Type 0} (text : ℕ → X → List ℕ) (xs : List X) (count : ℕ) (old new : Option (List ℕ)) : Type 0 where
+pub record AreNodes {X : Type 0} (text : ℕ → X → List ℕ) (xs : List X) (count : ℕ)
+    (old new : Option (List ℕ)) : Type 0 where
   pub added : Appends old new (of_nodes text 0 (take count xs))
 
 pub no_node : {X : Type 0} (text : ℕ → X → List ℕ) (xs : List X) (old : Option (List ℕ)) → AreNodes text xs 0 old old
 unfolding of_nodes
 no_node text xs old = record { added = Appends-nil old }
 
-pub one_node : {X : Type 0} (text : ℕ → X → List ℕ) (xs : List X) (count : ℕ) (item : X) (old mid new : Option (List ℕ)) → slice_get xs count ≡ Some item
+pub one_node : {X : Type 0} (text : ℕ → X → List ℕ) (xs : List X) (count : ℕ) (item : X) (old mid new : Option (List ℕ))
+    → slice_get xs count ≡ Some item
     → AreNodes text xs count old mid → Appends mid new (text count item) → AreNodes text xs (count + 1) old new
 one_node text xs count item old mid new is h more =
     let here : 0 + count ≡ count = omega arith in
     record {
       added = subst (λ (t : List ℕ). Appends old new t)
-          (sym (of_nodes-more text 0 count xs item is ∙ ap (λ (n : ℕ). of_nodes text 0 (take count xs) ++ text n item) here))
+          (sym (of_nodes-more text 0 count xs item is ∙ ap (λ (n : ℕ). of_nodes text 0 (take count xs) ++ text n item)
+              here))
           (Appends-trans old mid new (of_nodes text 0 (take count xs)) (text count item) h.added more);
     }
 
-pub all_nodes : {X : Type 0} (text : ℕ → X → List ℕ) (xs : List X) (count : ℕ) (old new : Option (List ℕ)) → AreNodes text xs count old new → count ≡ length xs
+pub all_nodes : {X : Type 0} (text : ℕ → X → List ℕ) (xs : List X) (count : ℕ) (old new : Option (List ℕ))
+    → AreNodes text xs count old new → count ≡ length xs
     → Appends old new (of_nodes text 0 xs)
-all_nodes {X = X} text xs count old new h all = subst (λ (xs : List X). Appends old new (of_nodes text 0 xs)) (take_all count xs (omega arith)) h.added
+all_nodes {X = X} text xs count old new h all = subst (λ (xs : List X). Appends old new (of_nodes text 0 xs))
+    (take_all count xs (omega arith)) h.added
 
 -- ---- the owner of a static slot
 
 of_nodes-none : (text : ℕ → Plan → List ℕ) (node : ℕ) (plans : List Plan)
-    → ((place : ℕ) (plan : Plan) → slice_get plans place ≡ Some plan → text (node + place) plan ≡ []) → of_nodes text node plans ≡ []
+    → ((place : ℕ) (plan : Plan) → slice_get plans place ≡ Some plan → text (node + place) plan ≡ [])
+        → of_nodes text node plans ≡ []
 unfolding of_nodes
 of_nodes-none text node [] none = refl
 of_nodes-none text node (x ∷ plans) none =
@@ -84,8 +92,10 @@ of_nodes-none text node (x ∷ plans) none =
     let next : node + 1 + place ≡ node + suc place = omega arith in
     ap (λ (n : ℕ). text n plan) next ∙ none (suc place) plan at)
 
-of_nodes-one : (text : ℕ → Plan → List ℕ) (node : ℕ) (plans : List Plan) (m : ℕ) (plan : Plan) → slice_get plans m ≡ Some plan
-    → ((place : ℕ) (other : Plan) → slice_get plans place ≡ Some other → (place ≡ m → ⊥) → text (node + place) other ≡ [])
+of_nodes-one : (text : ℕ → Plan → List ℕ) (node : ℕ) (plans : List Plan) (m : ℕ) (plan : Plan)
+    → slice_get plans m ≡ Some plan
+    → ((place : ℕ) (other : Plan) → slice_get plans place ≡ Some other → (place ≡ m → ⊥)
+        → text (node + place) other ≡ [])
     → of_nodes text node plans ≡ text (node + m) plan
 unfolding of_nodes
 of_nodes-one text node [] m plan at others = cc at
@@ -96,7 +106,8 @@ of_nodes-one text node (x ∷ plans) zero plan at others =
     (of_nodes-none text (node + 1) plans
     (λ place other there.
     let next : node + 1 + place ≡ node + suc place = omega arith in
-    ap (λ (n : ℕ). text n other) next ∙ others (suc place) other there (λ zero_is. let none : ⊥ = omega (arith, zero_is) in none)))
+    ap (λ (n : ℕ). text n other) next ∙ others (suc place) other there
+        (λ zero_is. let none : ⊥ = omega (arith, zero_is) in none)))
     ∙ append-nil (text node x) ∙ ap (text node) same ∙ ap (λ (n : ℕ). text n plan) here
 of_nodes-one text node (x ∷ plans) (suc m) plan at others =
     let here : node ≡ node + 0 = omega arith in
@@ -110,16 +121,19 @@ of_nodes-one text node (x ∷ plans) (suc m) plan at others =
     ∙ ap (λ (n : ℕ). text n plan) next
 
 -- a line that begins at a cycle is for it
-begun_claims : (slot : ℕ) (channel : Channel) (base : ℕ) (own : Own) → IsOwn own → begins_at slot channel base own ≡ true
+begun_claims : (slot : ℕ) (channel : Channel) (base : ℕ) (own : Own) → IsOwn own
+    → begins_at slot channel base own ≡ true
     → claims slot channel base own ≡ true
 begun_claims slot channel base own lawful begins =
-    let (front, first) = and_parts (own.slot == slot && includes own.channels channel) (own.cycles.base == base) begins in
+    let (front, first) = and_parts (own.slot == slot && includes own.channels channel)
+        (own.cycles.base == base) begins in
     let base_is = eqb-true own.cycles.base base first in
     let below : base < own.cycles.repetition = omega (arith, base_is, lawful.cycles_are.base_below) in
     and_from _ _ front (eq-eqb (base % own.cycles.repetition) own.cycles.base (mod-eq_of_lt below ∙ sym base_is))
 
 -- where no line is for the cycle, none begins at it
-unowned_text : (slot : ℕ) (channel : Channel) (base node : ℕ) (owned : List Own) → Each IsOwn owned → is_owned owned slot channel base ≡ false
+unowned_text : (slot : ℕ) (channel : Channel) (base node : ℕ) (owned : List Own) → Each IsOwn owned
+    → is_owned owned slot channel base ≡ false
     → flat_map (own_text slot channel base node) owned ≡ []
 unowned_text slot channel base node [] lawful unowned = refl
 unowned_text slot channel base node (own ∷ owned) lawful unowned =
@@ -129,17 +143,22 @@ unowned_text slot channel base node (own ∷ owned) lawful unowned =
     (false_from_ne_true _ (λ begins. both_ways _ here (begun_claims slot channel base own lawful.0 begins))))
     ∙ unowned_text slot channel base node owned lawful.1 later
 
-module _ (d : Description) (lawful : IsCluster d) (slot : ℕ) (channel : Channel) (base : ℕ) (static : is_static_slot d.params slot ≡ true) where
-  owner_is : (n : ℕ) (plan : Plan) → slice_get d.plans n ≡ Some plan → is_owned plan.owned slot channel base ≡ true → IsSender d base slot channel n
+module _ (d : Description) (lawful : IsCluster d) (slot : ℕ) (channel : Channel) (base : ℕ)
+    (static : is_static_slot d.params slot ≡ true) where
+  owner_is : (n : ℕ) (plan : Plan) → slice_get d.plans n ≡ Some plan → is_owned plan.owned slot channel base ≡ true
+      → IsSender d base slot channel n
   owner_is n plan at owns = record {
     plan = plan;
     at = at;
-    sends = cond-true (is_static_slot d.params slot) (is_owned plan.owned slot channel base) (list_any (sends_at slot channel base) plan.buffers) static ∙ owns;
+    sends = cond-true (is_static_slot d.params slot) (is_owned plan.owned slot channel base)
+        (list_any (sends_at slot channel base) plan.buffers) static ∙ owns;
   }
 
-  no_line : (n : ℕ) (plan : Plan) → slice_get d.plans n ≡ Some plan → (IsSender d base slot channel n → ⊥) → (node : ℕ) → owner_text slot channel base node plan ≡ []
+  no_line : (n : ℕ) (plan : Plan) → slice_get d.plans n ≡ Some plan → (IsSender d base slot channel n → ⊥) → (node : ℕ)
+      → owner_text slot channel base node plan ≡ []
   no_line n plan at never node =
-      unowned_text slot channel base node plan.owned (each_at (IsNode d.params) d.plans n plan lawful.nodes_are at).0.owned_are
+      unowned_text slot channel base node plan.owned (each_at
+          (IsNode d.params) d.plans n plan lawful.nodes_are at).0.owned_are
       (false_from_ne_true _ (λ owns. never (owner_is n plan at owns)))
 
   from_zero : (n : ℕ) → 0 + n ≡ n
@@ -151,11 +170,13 @@ module _ (d : Description) (lawful : IsCluster d) (slot : ℕ) (channel : Channe
   owner_line few n plan at sender =
       of_nodes-one (owner_text slot channel base) 0 d.plans n plan at
       (λ place other there differ.
-      no_line place other there (λ sends. differ (lawful.one_sender base slot channel place n few sends sender)) (0 + place))
+      no_line place other there (λ sends. differ (lawful.one_sender base slot channel place n few sends sender))
+          (0 + place))
       ∙ ap (λ (k : ℕ). owner_text slot channel base k plan) (from_zero n)
 
   pub no_owner : ((n : ℕ) → IsSender d base slot channel n → ⊥) → base_text d.plans slot channel base ≡ []
-  no_owner never = of_nodes-none (owner_text slot channel base) 0 d.plans (λ place plan at. no_line place plan at (never place) (0 + place))
+  no_owner never = of_nodes-none (owner_text slot channel base) 0 d.plans
+      (λ place plan at. no_line place plan at (never place) (0 + place))
 
 -- ---- no line begins at a cycle from the greatest repetition on
 
@@ -164,32 +185,40 @@ each_front P [] ys all = (tt, all)
 each_front P (x ∷ xs) ys all = let (front, back) = each_front P xs ys all.1 in ((all.0, front), back)
 
 -- what is so of all lines is so of those of a node
-of_plan : (P : Own → Type 0) (plans : List Plan) (n : ℕ) (plan : Plan) → Each P (all_owned plans) → slice_get plans n ≡ Some plan → Each P plan.owned
+of_plan : (P : Own → Type 0) (plans : List Plan) (n : ℕ) (plan : Plan) → Each P (all_owned plans)
+    → slice_get plans n ≡ Some plan → Each P plan.owned
 of_plan P [] n plan all at = cc at
 of_plan P (first ∷ plans) zero plan all at =
     subst (λ (x : Plan). Each P x.owned) (same_Some first plan at) (each_front P first.owned (all_owned plans) all).0
-of_plan P (first ∷ plans) (suc n) plan all at = of_plan P plans n plan (each_front P first.owned (all_owned plans) all).1 at
+of_plan P (first ∷ plans) (suc n) plan all at = of_plan P plans n plan
+    (each_front P first.owned (all_owned plans) all).1 at
 
-late_text : (slot : ℕ) (channel : Channel) (base node most : ℕ) (owned : List Own) → Each IsOwn owned → AreWithin most owned → most ≤ base
+late_text : (slot : ℕ) (channel : Channel) (base node most : ℕ) (owned : List Own) → Each IsOwn owned
+    → AreWithin most owned → most ≤ base
     → flat_map (own_text slot channel base node) owned ≡ []
 late_text slot channel base node most [] lawful within late = refl
 late_text slot channel base node most (own ∷ owned) lawful within late =
     ap (λ (text : List ℕ). text ++ flat_map (own_text slot channel base node) owned)
     (cond-false (begins_at slot channel base own) (slot_line slot channel node own.cycles) []
     (false_from_ne_true _ (λ begins.
-    let (front, first) = and_parts (own.slot == slot && includes own.channels channel) (own.cycles.base == base) begins in
+    let (front, first) = and_parts (own.slot == slot && includes own.channels channel)
+        (own.cycles.base == base) begins in
     let base_is = eqb-true own.cycles.base base first in
     let no : ⊥ = omega (arith, base_is, lawful.0.cycles_are.base_below, within.0, late) in no)))
     ∙ late_text slot channel base node most owned lawful.1 within.1 late
 
-none_begins : (d : Description) → IsCluster d → (slot : ℕ) (channel : Channel) (base : ℕ) → cycles_told d ≤ base → base_text d.plans slot channel base ≡ []
+none_begins : (d : Description) → IsCluster d → (slot : ℕ) (channel : Channel) (base : ℕ) → cycles_told d ≤ base
+    → base_text d.plans slot channel base ≡ []
 none_begins d lawful slot channel base late =
     of_nodes-none (owner_text slot channel base) 0 d.plans
     (λ place plan at.
-    late_text slot channel base (0 + place) (cycles_told d) plan.owned (each_at (IsNode d.params) d.plans place plan lawful.nodes_are at).0.owned_are
-    (of_plan (λ own. own.cycles.repetition ≤ cycles_told d) d.plans place plan (within_period (all_owned d.plans)) at) late)
+    late_text slot channel base (0 + place) (cycles_told d) plan.owned
+        (each_at (IsNode d.params) d.plans place plan lawful.nodes_are at).0.owned_are
+    (of_plan (λ own. own.cycles.repetition ≤ cycles_told d) d.plans place plan (within_period (all_owned d.plans)) at)
+        late)
 
-nothing_from : (text : ℕ → List ℕ) (first : ℕ) → ((n : ℕ) → first ≤ n → text n ≡ []) → (count : ℕ) → flat_map text (range_with_len first count) ≡ []
+nothing_from : (text : ℕ → List ℕ) (first : ℕ) → ((n : ℕ) → first ≤ n → text n ≡ []) → (count : ℕ)
+    → flat_map text (range_with_len first count) ≡ []
 nothing_from text first none zero = refl
 nothing_from text first none (suc count) =
     ap (λ (t : List ℕ). t ++ flat_map text (range_with_len (first + 1) count)) (none first (omega arith))
@@ -204,10 +233,12 @@ range-split first (suc m) n =
     let all : suc m + n ≡ suc (m + n) = omega arith in
     let next : first + 1 + m ≡ first + suc m = omega arith in
     ap (range_with_len first) all
-    ∙ ap (λ (xs : List ℕ). first ∷ xs) (range-split (first + 1) m n ∙ ap (λ (k : ℕ). range_with_len (first + 1) m ++ range_with_len k n) next)
+    ∙ ap (λ (xs : List ℕ). first ∷ xs) (range-split (first + 1) m n ∙ ap
+        (λ (k : ℕ). range_with_len (first + 1) m ++ range_with_len k n) next)
 
 -- the lines of the cycles below the greatest repetition are all lines
-pub owners_all : (d : Description) → IsCluster d → (slot : ℕ) (channel : Channel) (cycles : ℕ) → cycles ≡ cycles_told d → cycles ≤ 64
+pub owners_all : (d : Description) → IsCluster d → (slot : ℕ) (channel : Channel) (cycles : ℕ) → cycles ≡ cycles_told d
+    → cycles ≤ 64
     → flat_map (base_text d.plans slot channel) (range_with_len 0 cycles) ≡ owners_text d.plans slot channel
 unfolding owners_text
 owners_all d lawful slot channel cycles is few =
@@ -228,16 +259,19 @@ range-more first (suc count) =
     let next : suc count + 1 ≡ suc (count + 1) = omega arith in
     let here : first + 1 + count ≡ first + suc count = omega arith in
     ap (λ (n : ℕ). range_with_len first n) next
-    ∙ ap (λ (xs : List ℕ). first ∷ xs) (range-more (first + 1) count ∙ ap (λ (n : ℕ). range_with_len (first + 1) count ++ n ∷ []) here)
+    ∙ ap (λ (xs : List ℕ). first ∷ xs) (range-more (first + 1) count ∙ ap
+        (λ (n : ℕ). range_with_len (first + 1) count ++ n ∷ []) here)
 
 -- one number more
-pub one_more : (text : ℕ → List ℕ) (first count : ℕ) (old mid new : Option (List ℕ)) → Appends old mid (flat_map text (range_with_len first count))
+pub one_more : (text : ℕ → List ℕ) (first count : ℕ) (old mid new : Option (List ℕ))
+    → Appends old mid (flat_map text (range_with_len first count))
     → Appends mid new (text (first + count)) → Appends old new (flat_map text (range_with_len first (count + 1)))
 one_more text first count old mid new before more =
     let texts = ap (flat_map text) (range-more first count)
     ∙ flat_map-append text (range_with_len first count) ((first + count) ∷ [])
     ∙ ap (λ (t : List ℕ). flat_map text (range_with_len first count) ++ t) (append-nil (text (first + count))) in
-    subst (λ (t : List ℕ). Appends old new t) (sym texts) (Appends-trans old mid new (flat_map text (range_with_len first count)) (text (first + count)) before more)
+    subst (λ (t : List ℕ). Appends old new t) (sym texts) (Appends-trans old mid new
+        (flat_map text (range_with_len first count)) (text (first + count)) before more)
 
 -- ---- guards
 
@@ -252,33 +286,40 @@ one_guard d node old mid first new before on_a on_b =
     let (a, a_is, added_a) = on_a in
     let (b, b_is, added_b) = on_b in (
       texts ++ a ++ b,
-      subst (λ (n : ℕ). AreGuardTexts d n (texts ++ a ++ b)) (sym (add-one node)) (texts, a, b, texts_are, a_is, b_is, refl),
+      subst (λ (n : ℕ). AreGuardTexts d n (texts ++ a ++ b)) (sym (add-one node))
+          (texts, a, b, texts_are, a_is, b_is, refl),
       Appends-trans old first new (texts ++ a) b (Appends-trans old mid first texts a added added_a) added_b,
     )
 
-pub no_cycle : (d : Description) (node : ℕ) (channel : Channel) (old : Option (List ℕ)) → Adds (AreCycleTexts d node channel 0) old old
+pub no_cycle : (d : Description) (node : ℕ) (channel : Channel) (old : Option (List ℕ))
+    → Adds (AreCycleTexts d node channel 0) old old
 no_cycle d node channel old = ([], refl, Appends-nil old)
 
-pub one_cycle : (d : Description) (node : ℕ) (channel : Channel) (cycle : ℕ) (old mid new : Option (List ℕ)) → Adds (AreCycleTexts d node channel cycle) old mid
+pub one_cycle : (d : Description) (node : ℕ) (channel : Channel) (cycle : ℕ) (old mid new : Option (List ℕ))
+    → Adds (AreCycleTexts d node channel cycle) old mid
     → Adds (IsGuardText d node channel cycle) mid new → Adds (AreCycleTexts d node channel (cycle + 1)) old new
 one_cycle d node channel cycle old mid new before here =
     let (texts, texts_are, added) = before in
     let (last, last_is, added_last) = here in (
       texts ++ last,
-      subst (λ (n : ℕ). AreCycleTexts d node channel n (texts ++ last)) (sym (add-one cycle)) (texts, last, texts_are, last_is, refl),
+      subst (λ (n : ℕ). AreCycleTexts d node channel n (texts ++ last)) (sym (add-one cycle))
+          (texts, last, texts_are, last_is, refl),
       Appends-trans old mid new texts last added added_last,
     )
 
 -- ---- the plan
 
 -- the parts of a plan's text, the last of which may not have been written
-pub plan_done : {X E : Type 0} (r : Result X E) (d : Description) (nodes : ℕ) (old first second new : Option (List ℕ)) → nodes ≡ length d.plans
-    → Appends old first (static_text d) → Appends first second (dynamic_text d) → OnOk r (Adds (AreGuardTexts d nodes) second new)
+pub plan_done : {X E : Type 0} (r : Result X E) (d : Description) (nodes : ℕ) (old first second new : Option (List ℕ))
+    → nodes ≡ length d.plans
+    → Appends old first (static_text d) → Appends first second (dynamic_text d)
+        → OnOk r (Adds (AreGuardTexts d nodes) second new)
     → OnOk r (Adds (IsPlanText d) old new)
 plan_done (Err e) d nodes old first second new all slots buffers guards = tt
 plan_done (Ok x) d nodes old first second new all slots buffers guards =
     let (texts, texts_are, added) = guards in (
       static_text d ++ dynamic_text d ++ texts,
       record { guards = texts; guards_are = subst (λ (n : ℕ). AreGuardTexts d n texts) all texts_are; text_is = refl },
-      Appends-trans old second new (static_text d ++ dynamic_text d) texts (Appends-trans old first second (static_text d) (dynamic_text d) slots buffers) added,
+      Appends-trans old second new (static_text d ++ dynamic_text d) texts
+          (Appends-trans old first second (static_text d) (dynamic_text d) slots buffers) added,
     )

@@ -25,7 +25,8 @@ pub seal_cluster : (b : BusState) (opened : Option Opportunity) → (sealed_with
 seal_cluster b None = refl
 seal_cluster b (Some window) = refl
 
-looked_cluster : (w : WorldState) (n : ℕ) (opened : Option Opportunity) → (looked w n opened).bus.cluster ≡ w.bus.cluster
+looked_cluster : (w : WorldState) (n : ℕ) (opened : Option Opportunity)
+    → (looked w n opened).bus.cluster ≡ w.bus.cluster
 looked_cluster w n None = refl
 looked_cluster w n (Some window) = refl
 

@@ -22,7 +22,8 @@ headline w lawful accounted run one_sender kept = record {
 }
 
 -- the same, where the interfaces and the bus were lent
-pub headline_of : (w : WorldState) (lent : List State) (bus : BusState) → lent ≡ w.interfaces → bus ≡ w.bus → All IsLegalInterface lent → All AreAccounted lent → IsRun bus
+pub headline_of : (w : WorldState) (lent : List State) (bus : BusState) → lent ≡ w.interfaces → bus ≡ w.bus
+    → All IsLegalInterface lent → All AreAccounted lent → IsRun bus
     → OneSenderEach bus.cluster bus.sealed → IsWorld w → Headline w
 headline_of w lent bus p q lawful accounted run one_sender kept =
     headline w (subst (All IsLegalInterface) p lawful) (subst (All AreAccounted) p accounted) (subst IsRun q run)

@@ -40,9 +40,11 @@ outcome_judged d r o =
     (λ node channel babble muted bytes within. judged muted (passes d node r.window channel)) 0 o.stations (omega arith)
 
 -- the law of a record at one of its windows
-pub recorded_at : (d : Description) (cycles : ℕ) (rs : List Recorded) (k : ℕ) (r : Recorded) → AllAfter (IsRecorded d cycles) [] rs → slice_get rs k ≡ Some r
+pub recorded_at : (d : Description) (cycles : ℕ) (rs : List Recorded) (k : ℕ) (r : Recorded)
+    → AllAfter (IsRecorded d cycles) [] rs → slice_get rs k ≡ Some r
     → IsRecorded d cycles (take k rs) r
 recorded_at d cycles rs k r all at = AllAfter-at (IsRecorded d cycles) rs k r all at
 
-pub are_judged : (d : Description) (cycles : ℕ) (rs : List Recorded) → AllAfter (IsRecorded d cycles) [] rs → AreJudged d rs
+pub are_judged : (d : Description) (cycles : ℕ) (rs : List Recorded) → AllAfter (IsRecorded d cycles) [] rs
+    → AreJudged d rs
 are_judged d cycles rs all k r at = outcome_judged d r (recorded_at d cycles rs k r all at).1

@@ -26,7 +26,8 @@ eqb_of a b e = elim (eqb_tells a b) [
 
 -- ---- one element exchanged
 
-get_set_here : {X : Type 0} (xs : List X) (i : ℕ) (x y : X) → slice_get xs i ≡ Some x → slice_get (set xs i y) i ≡ Some y
+get_set_here : {X : Type 0} (xs : List X) (i : ℕ) (x y : X) → slice_get xs i ≡ Some x
+    → slice_get (set xs i y) i ≡ Some y
 get_set_here [] i x y at = absurd (let none : ⊥ = cc in none)
 get_set_here (z ∷ xs) zero x y at = refl
 get_set_here (z ∷ xs) (suc i) x y at = get_set_here xs i x y at
@@ -94,7 +95,8 @@ module _ (s : State) (k : ℕ) where
       by_entry (Fetch window a b) told = absurd (let none : ⊥ = cc in none)
       by_entry (Observe number a b) told = absurd (let none : ⊥ = cc in none)
 
-  others_done : (task : ℕ) (e : Entry) (done : ℕ × Deed) → done_by s k e ≡ Some done → ¬ (done.0 ≡ task) → deed_in s task k e ≡ None
+  others_done : (task : ℕ) (e : Entry) (done : ℕ × Deed) → done_by s k e ≡ Some done → ¬ (done.0 ≡ task)
+      → deed_in s task k e ≡ None
   others_done task e done is other = by_entry e is
     where
       of_pair : (t : ℕ) (d : Deed) → (t, d) ≡ done → cond (t == task) (Some d) None ≡ None
@@ -111,12 +113,15 @@ module _ (s : State) (k : ℕ) where
 -- ---- the course of one task
 
 module _ (s : State) (scripts : List Scripted) (n : ℕ) where
-  done_at : (task k : ℕ) (e : Entry) (o : Option Deed) → slice_get s.entries k ≡ Some e → deed_in s task k e ≡ o → deed_at s task (take k s.entries) e ≡ option_to_list o
+  done_at : (task k : ℕ) (e : Entry) (o : Option Deed) → slice_get s.entries k ≡ Some e → deed_in s task k e ≡ o
+      → deed_at s task (take k s.entries) e ≡ option_to_list o
   done_at task k e o at is =
       let within : k < length s.entries = slice_get_within s.entries k e at in
-      ap (λ m. option_to_list (deed_in s task m e)) (length-take-le k s.entries (omega (arith, within))) ∙ ap option_to_list is
+      ap (λ m. option_to_list (deed_in s task m e)) (length-take-le k s.entries (omega (arith, within)))
+          ∙ ap option_to_list is
 
-  course_past : (task k : ℕ) (x : Course) (e : Entry) → IsCourse s scripts n task k x → slice_get s.entries k ≡ Some e → deed_in s task k e ≡ None → IsCourse s scripts n task (k + 1) x
+  course_past : (task k : ℕ) (x : Course) (e : Entry) → IsCourse s scripts n task k x → slice_get s.entries k ≡ Some e
+      → deed_in s task k e ≡ None → IsCourse s scripts n task (k + 1) x
   course_past task k x e far at is =
       let few = far.few in
       record {
@@ -125,13 +130,15 @@ module _ (s : State) (scripts : List Scripted) (n : ℕ) where
         fits = far.fits;
       }
 
-  course_on : (task k : ℕ) (x y : Course) (e : Entry) (d : Deed) → IsCourse s scripts n task k x → slice_get s.entries k ≡ Some e → deed_in s task k e ≡ Some d
+  course_on : (task k : ℕ) (x y : Course) (e : Entry) (d : Deed) → IsCourse s scripts n task k x
+      → slice_get s.entries k ≡ Some e → deed_in s task k e ≡ Some d
       → CourseNext scripts n task d x y → IsCourse s scripts n task (k + 1) y
   course_on task k x y e d far at is next =
       let few = far.few in
       let one_more = next.deeds in
       let given : deed_at s task (take k s.entries) e ≡ d ∷ [] = done_at task k e (Some d) at is in
-      let here : slice_get (deeds_of s task) x.deeds ≡ Some d = stands (deed_at s task) s.entries k x.deeds e at far.as_many d given in
+      let here : slice_get (deeds_of s task) x.deeds ≡ Some d =
+          stands (deed_at s task) s.entries k x.deeds e at far.as_many d given in
       record {
         as_many = as_many_on (deed_at s task) s.entries k x.deeds e at far.as_many d given ∙ sym next.deeds;
         few = omega (arith, few, one_more);
@@ -139,9 +146,12 @@ module _ (s : State) (scripts : List Scripted) (n : ℕ) where
           λ yes. let both = next.agrees.0 yes in λ j below.
               elim (eqb_tells j x.deeds) [
                 | inl same ↦ λ other there.
-                    let alike : d ≡ other = some_alike d other (sym here ∙ ap (slice_get (deeds_of s task)) (sym same.1) ∙ there) in
-                    subst (λ m. HaveLines scripts n task m other) (sym same.1) (subst (HaveLines scripts n task x.deeds) alike both.1)
-                | inr other ↦ far.fits.0 both.0 j (let less : j < x.deeds = omega (arith, below, one_more, other.1) in less)
+                    let alike : d ≡ other = some_alike d other
+                        (sym here ∙ ap (slice_get (deeds_of s task)) (sym same.1) ∙ there) in
+                    subst (λ m. HaveLines scripts n task m other) (sym same.1)
+                        (subst (HaveLines scripts n task x.deeds) alike both.1)
+                | inr other ↦ far.fits.0 both.0 j (let less : j < x.deeds =
+                    omega (arith, below, one_more, other.1) in less)
               ],
           λ all. next.agrees.1 (
             far.fits.1 (λ j below. all j (omega (arith, below, one_more))),
@@ -153,57 +163,73 @@ module _ (s : State) (scripts : List Scripted) (n : ℕ) where
   -- ---- the courses of all tasks
 
   pub courses_first : AreCourses s scripts n 0 new_courses
-  courses_first = record { as_many = refl; each = λ task x at. subst (IsCourse s scripts n task 0) (new_course task x at) (first task) }
+  courses_first = record { as_many = refl; each = λ task x at. subst (IsCourse s scripts n task 0)
+      (new_course task x at) (first task) }
     where
       first : (task : ℕ) → IsCourse s scripts n task 0 (record { deeds = 0; agrees = true })
-      first task = record { as_many = ap length (nil_of (deed_at s task)); few = omega arith; fits = (λ yes j below. absurd (omega (arith, below)), λ all. refl) }
+      first task = record { as_many = ap length (nil_of (deed_at s task)); few = omega arith; fits =
+          (λ yes j below. absurd (omega (arith, below)), λ all. refl) }
 
-  pub courses_past : (k : ℕ) (xs : List Course) (e : Entry) → AreCourses s scripts n k xs → slice_get s.entries k ≡ Some e → done_by s k e ≡ None → AreCourses s scripts n (k + 1) xs
+  pub courses_past : (k : ℕ) (xs : List Course) (e : Entry) → AreCourses s scripts n k xs
+      → slice_get s.entries k ≡ Some e → done_by s k e ≡ None → AreCourses s scripts n (k + 1) xs
   courses_past k xs e far at none = record {
     as_many = far.as_many;
     each = λ task x there. course_past task k x e (far.each task x there) at (none_done s k task e none);
   }
 
-  pub courses_on : (k : ℕ) (xs : List Course) (e : Entry) (done : ℕ × Deed) (x y : Course) → AreCourses s scripts n k xs → slice_get s.entries k ≡ Some e
-      → done_by s k e ≡ Some done → slice_get xs done.0 ≡ Some x → CourseNext scripts n done.0 done.1 x y → AreCourses s scripts n (k + 1) (set xs done.0 y)
+  pub courses_on : (k : ℕ) (xs : List Course) (e : Entry) (done : ℕ × Deed) (x y : Course) → AreCourses s scripts n k xs
+      → slice_get s.entries k ≡ Some e
+      → done_by s k e ≡ Some done → slice_get xs done.0 ≡ Some x → CourseNext scripts n done.0 done.1 x y
+          → AreCourses s scripts n (k + 1) (set xs done.0 y)
   courses_on k xs e done x y far at is there next = record {
     as_many = length_set xs done.0 y ∙ far.as_many;
     each = λ task z here.
         elim (eqb_tells done.0 task) [
           | inl same ↦
-              let alike : y ≡ z = some_alike y z (sym (get_set_here xs done.0 x y there) ∙ ap (slice_get (set xs done.0 y)) same.1 ∙ here) in
+              let alike : y ≡ z = some_alike y z (sym (get_set_here xs done.0 x y there) ∙ ap
+                  (slice_get (set xs done.0 y)) same.1 ∙ here) in
               subst (λ m. IsCourse s scripts n m (k + 1) z) same.1 (subst (IsCourse s scripts n done.0 (k + 1)) alike
               (course_on done.0 k x y e done.1 (far.each done.0 x there) at (own_done s k e done is) next))
           | inr other ↦
-              course_past task k z e (far.each task z (sym (get_set_other xs done.0 task y (λ same. other.1 (sym same))) ∙ here)) at (others_done s k task e done is other.1)
+              course_past task k z e (far.each task z (sym (get_set_other xs done.0 task y (λ same. other.1 (sym same)))
+                  ∙ here)) at (others_done s k task e done is other.1)
         ];
   }
 
-  pub few_deeds : (k : ℕ) (xs : List Course) (place : ℕ) (x : Course) → AreCourses s scripts n k xs → place < most_tasks → k < most_entries → (get_or xs place x).deeds < most_entries
+  pub few_deeds : (k : ℕ) (xs : List Course) (place : ℕ) (x : Course) → AreCourses s scripts n k xs → place < most_tasks
+      → k < most_entries → (get_or xs place x).deeds < most_entries
   few_deeds k xs place x far few below =
       let many = far.as_many in
       let upto = (far.each place (get_or xs place x) (slice_get-get_or xs place x (omega (arith, few, many)))).few in
       omega (arith, upto, below)
 
-  pub courses_set : (k : ℕ) (xs : List Course) (e : Entry) (done : ℕ × Deed) (place : ℕ) (x y : Course) → AreCourses s scripts n k xs → slice_get s.entries k ≡ Some e
-      → done_by s k e ≡ Some done → place ≡ done.0 → place < most_tasks → CourseNext scripts n done.0 done.1 (get_or xs place x) y → AreCourses s scripts n (k + 1) (set xs place y)
+  pub courses_set : (k : ℕ) (xs : List Course) (e : Entry) (done : ℕ × Deed) (place : ℕ) (x y : Course)
+      → AreCourses s scripts n k xs → slice_get s.entries k ≡ Some e
+      → done_by s k e ≡ Some done → place ≡ done.0 → place < most_tasks
+          → CourseNext scripts n done.0 done.1 (get_or xs place x) y → AreCourses s scripts n (k + 1) (set xs place y)
   courses_set k xs e done place x y far at is same few next =
       let many = far.as_many in
-      let there : slice_get xs place ≡ Some (get_or xs place x) = slice_get-get_or xs place x (omega (arith, few, many)) in
+      let there : slice_get xs place ≡ Some (get_or xs place x) =
+          slice_get-get_or xs place x (omega (arith, few, many)) in
       subst (λ m. AreCourses s scripts n (k + 1) (set xs m y)) (sym same)
-      (courses_on k xs e done (get_or xs place x) y far at is (subst (λ m. slice_get xs m ≡ Some (get_or xs place x)) same there) next)
+      (courses_on k xs e done (get_or xs place x) y far at is
+          (subst (λ m. slice_get xs m ≡ Some (get_or xs place x)) same there) next)
 
   -- ---- all that was done
 
-  whole : (task : ℕ) (x : Course) → IsCourse s scripts n task (length s.entries) x → IsWhole scripts n task (deeds_of s task) x
+  whole : (task : ℕ) (x : Course) → IsCourse s scripts n task (length s.entries) x
+      → IsWhole scripts n task (deeds_of s task) x
   whole task x far = record { as_many = as_many_all (deed_at s task) s.entries x.deeds far.as_many; fits = far.fits }
 
-  pub whole_at : (k : ℕ) (xs : List Course) → k ≡ length s.entries → AreCourses s scripts n k xs → (task : ℕ) (x : Course) → slice_get xs task ≡ Some x
+  pub whole_at : (k : ℕ) (xs : List Course) → k ≡ length s.entries → AreCourses s scripts n k xs
+      → (task : ℕ) (x : Course) → slice_get xs task ≡ Some x
       → IsWhole scripts n task (deeds_of s task) x
   whole_at k xs end far task x at = whole task x (subst (λ m. IsCourse s scripts n task m x) end (far.each task x at))
 
-module _ (scripts : List Scripted) (n task : ℕ) (deeds : List Deed) (x : Course) (all : IsWhole scripts n task deeds x) where
-  lines_from : (o : Option Scripted) → ((j : ℕ) (d : Deed) → slice_get deeds j ≡ Some d → IfSome o (λ script. is_for n task script ≡ true → HasLine (slice_get script.lines j) d))
+module _ (scripts : List Scripted) (n task : ℕ) (deeds : List Deed) (x : Course)
+    (all : IsWhole scripts n task deeds x) where
+  lines_from : (o : Option Scripted) → ((j : ℕ) (d : Deed) → slice_get deeds j ≡ Some d
+      → IfSome o (λ script. is_for n task script ≡ true → HasLine (slice_get script.lines j) d))
       → IfSome o (λ script. is_for n task script ≡ true → length script.lines ≡ x.deeds)
       → IfSome o (λ script. is_for n task script ≡ true → AreLines script.lines deeds)
   lines_from None lines long = tt
@@ -215,7 +241,8 @@ module _ (scripts : List Scripted) (n task : ℕ) (deeds : List Deed) (x : Cours
   pub suits_are : Suits scripts n task x → AreScripts scripts n task deeds
   suits_are suits = record {
     given = λ k. lines_from (slice_get scripts k)
-        (λ j d there. all.fits.0 suits.agrees j (let long = all.as_many in let within : j < length deeds = slice_get_within deeds j d there in omega (arith, long, within)) d there k)
+        (λ j d there. all.fits.0 suits.agrees j (let long = all.as_many in let within : j < length deeds =
+            slice_get_within deeds j d there in omega (arith, long, within)) d there k)
         (suits.given k);
     missing = λ none. none_left deeds (all.as_many ∙ suits.missing none);
   }
@@ -224,7 +251,8 @@ module _ (scripts : List Scripted) (n task : ℕ) (deeds : List Deed) (x : Cours
       none_left [] long = refl
       none_left (d ∷ ds) long = absurd (let none : ⊥ = omega (arith, long) in none)
 
-  line_from : (o : Option Scripted) (j : ℕ) (d : Deed) → slice_get deeds j ≡ Some d → IfSome o (λ script. is_for n task script ≡ true → AreLines script.lines deeds)
+  line_from : (o : Option Scripted) (j : ℕ) (d : Deed) → slice_get deeds j ≡ Some d
+      → IfSome o (λ script. is_for n task script ≡ true → AreLines script.lines deeds)
       → IfSome o (λ script. is_for n task script ≡ true → HasLine (slice_get script.lines j) d)
   line_from None j d there are = tt
   line_from (Some script) j d there are = λ own.
@@ -234,7 +262,8 @@ module _ (scripts : List Scripted) (n task : ℕ) (deeds : List Deed) (x : Cours
       let line = get_within script.lines j (omega (arith, long, within)) in
       subst (λ o. HasLine o d) (sym line.1) (lines.each j line.0 d line.1 there)
 
-  long_from : (o : Option Scripted) → IfSome o (λ script. is_for n task script ≡ true → AreLines script.lines deeds) → IfSome o (λ script. is_for n task script ≡ true → length script.lines ≡ x.deeds)
+  long_from : (o : Option Scripted) → IfSome o (λ script. is_for n task script ≡ true → AreLines script.lines deeds)
+      → IfSome o (λ script. is_for n task script ≡ true → length script.lines ≡ x.deeds)
   long_from None are = tt
   long_from (Some script) are = λ own. (are own).as_many ∙ all.as_many
 
@@ -246,8 +275,10 @@ module _ (scripts : List Scripted) (n task : ℕ) (deeds : List Deed) (x : Cours
   }
 
 -- the first task that differs by the courses is the first that differs by what was done
-pub task_found : (scripts : List Scripted) (n : ℕ) (deeds : ℕ → List Deed) (xs : List Course) (r : Option ℕ) → length xs ≡ most_tasks
-    → ((task : ℕ) (x : Course) → slice_get xs task ≡ Some x → IsWhole scripts n task (deeds task) x) → FindsTask (SuitsAt scripts n xs) r
+pub task_found : (scripts : List Scripted) (n : ℕ) (deeds : ℕ → List Deed) (xs : List Course) (r : Option ℕ)
+    → length xs ≡ most_tasks
+    → ((task : ℕ) (x : Course) → slice_get xs task ≡ Some x → IsWhole scripts n task (deeds task) x)
+        → FindsTask (SuitsAt scripts n xs) r
     → FindsTask (λ task. AreScripts scripts n task (deeds task)) r
 task_found scripts n deeds xs r many all found = by_result r found
   where
@@ -256,7 +287,8 @@ task_found scripts n deeds xs r many all found = by_result r found
         let x = get_within xs task (omega (arith, few, many)) in
         suits_are scripts n task (deeds task) x.0 (all task x.0 x.1) (suits x.0 x.1)
 
-    by_result : (o : Option ℕ) → FindsTask (SuitsAt scripts n xs) o → FindsTask (λ task. AreScripts scripts n task (deeds task)) o
+    by_result : (o : Option ℕ) → FindsTask (SuitsAt scripts n xs) o
+        → FindsTask (λ task. AreScripts scripts n task (deeds task)) o
     by_result None each = λ task few. are task few (each task few)
     by_result (Some task) first = (
       first.0,
@@ -267,12 +299,15 @@ task_found scripts n deeds xs r many all found = by_result r found
           },
     )
 
-whole_new : (scripts : List Scripted) (n task : ℕ) (x : Course) → slice_get new_courses task ≡ Some x → IsWhole scripts n task [] x
+whole_new : (scripts : List Scripted) (n task : ℕ) (x : Course) → slice_get new_courses task ≡ Some x
+    → IsWhole scripts n task [] x
 whole_new scripts n task x at = subst (IsWhole scripts n task []) (new_course task x at)
     (record { as_many = refl; fits = (λ yes j below. absurd (omega (arith, below)), λ all. refl) })
 
 -- a node that isn't there did nothing
-pub task_found_new : (scripts : List Scripted) (n : ℕ) (xs : List Course) (r : Option ℕ) → xs ≡ new_courses → FindsTask (SuitsAt scripts n xs) r
+pub task_found_new : (scripts : List Scripted) (n : ℕ) (xs : List Course) (r : Option ℕ) → xs ≡ new_courses
+    → FindsTask (SuitsAt scripts n xs) r
     → FindsTask (λ task. AreScripts scripts n task []) r
 task_found_new scripts n xs r is found =
-    task_found scripts n (λ task. []) new_courses r refl (whole_new scripts n) (subst (λ l. FindsTask (SuitsAt scripts n l) r) is found)
+    task_found scripts n (λ task. []) new_courses r refl (whole_new scripts n)
+        (subst (λ l. FindsTask (SuitsAt scripts n l) r) is found)

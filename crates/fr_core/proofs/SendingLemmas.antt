@@ -43,8 +43,10 @@ pub record IsFound {X : Type 0} (test : X → Bool) (xs : List X) : Type 0 where
   pub place : ℕ
   pub at : position test xs ≡ Some place
 
-pub found_in : {X : Type 0} (test : X → Bool) (xs : List X) (k : ℕ) (x : X) (o : Option ℕ) → position test xs ≡ o → slice_get xs k ≡ Some x → test x ≡ true → IsFound test xs
-found_in test xs k x None is at passes = differ passes (position_from-none test 0 xs k x (sym (position_from-zero test xs) ∙ is) at)
+pub found_in : {X : Type 0} (test : X → Bool) (xs : List X) (k : ℕ) (x : X) (o : Option ℕ) → position test xs ≡ o
+    → slice_get xs k ≡ Some x → test x ≡ true → IsFound test xs
+found_in test xs k x None is at passes = differ passes (position_from-none test 0 xs k x
+    (sym (position_from-zero test xs) ∙ is) at)
 found_in test xs k x (Some j) is at passes = record { place = j; at = is }
 
 -- ---- a channel of a filter
@@ -64,7 +66,8 @@ slot_at : (slot : ℕ) (o : Option ℕ) → is_slot_at slot o ≡ true → o ≡
 slot_at slot None e = absurd (let none : ⊥ = cc in none)
 slot_at slot (Some s) e = ap Some (eqb-true s slot e)
 
-slot_on : (w : Opportunity) (channel : Channel) (slot : ℕ) → IsInRange w → is_static w ≡ true → w.a ≡ Some slot → slot_of w channel ≡ Some slot
+slot_on : (w : Opportunity) (channel : Channel) (slot : ℕ) → IsInRange w → is_static w ≡ true → w.a ≡ Some slot
+    → slot_of w channel ≡ Some slot
 slot_on w A slot range static is = is
 slot_on w B slot range static is = sym (range.window_is.static_same (eqb-true w.minislot 0 static)) ∙ is
 
@@ -76,84 +79,113 @@ or_rest : (p q : Bool) → q ≡ true → (p || q) ≡ true
 or_rest true q e = refl
 or_rest false q e = e
 
-sends_on : (number : ℕ) (w : Opportunity) (x y : Offered) (plan : Plan) (before : List Entry) (channel : Channel) → x ≡ offered plan before w A → y ≡ offered plan before w B
+sends_on : (number : ℕ) (w : Opportunity) (x y : Offered) (plan : Plan) (before : List Entry) (channel : Channel)
+    → x ≡ offered plan before w A → y ≡ offered plan before w B
     → offered plan before w channel ≡ Data number → sends number (Fetch w x y) ≡ true
-sends_on number w x y plan before A e f is = or_first (is_data_of number x) (is_data_of number y) (ap (is_data_of number) (e ∙ is) ∙ eq-eqb number number refl)
-sends_on number w x y plan before B e f is = or_rest (is_data_of number x) (is_data_of number y) (ap (is_data_of number) (f ∙ is) ∙ eq-eqb number number refl)
+sends_on number w x y plan before A e f is = or_first (is_data_of number x) (is_data_of number y)
+    (ap (is_data_of number) (e ∙ is) ∙ eq-eqb number number refl)
+sends_on number w x y plan before B e f is = or_rest (is_data_of number x) (is_data_of number y)
+    (ap (is_data_of number) (f ∙ is) ∙ eq-eqb number number refl)
 
-module _ (p : Parameters) (plan : Plan) (k : ℕ) (b : Buffer) (at : buffer_at plan k ≡ Some b) (static : is_static_slot p b.filter.slot ≡ true) (transmitting : transmits b ≡ true) (one : HasOneSender plan) where
+module _ (p : Parameters) (plan : Plan) (k : ℕ) (b : Buffer) (at : buffer_at plan k ≡ Some b)
+    (static : is_static_slot p b.filter.slot ≡ true) (transmitting : transmits b ≡ true) (one : HasOneSender plan) where
   -- the buffer is the one that transmits where it admits
-  transmits_there : (w : Opportunity) (channel : Channel) → w.cycle < 64 → IsSlot b.filter.slot → slot_of w channel ≡ Some b.filter.slot → includes b.filter.channels channel ≡ true
+  transmits_there : (w : Opportunity) (channel : Channel) → w.cycle < 64 → IsSlot b.filter.slot
+      → slot_of w channel ≡ Some b.filter.slot → includes b.filter.channels channel ≡ true
       → cycle_admitted b.filter.cycles w.cycle ≡ true → transmitter plan w channel ≡ Some k
   transmits_there w channel cycle_fits slot_fits is included admitted =
       let slot = b.filter.slot in
       let own_slot : (b.filter.slot == slot) ≡ true = eq-eqb slot slot refl in
       let sends_it : sends_at slot channel w.cycle b ≡ true =
-      both (transmits b) ((b.filter.slot == slot && includes b.filter.channels channel) && cycle_admitted b.filter.cycles w.cycle) transmitting
-      (both (b.filter.slot == slot && includes b.filter.channels channel) (cycle_admitted b.filter.cycles w.cycle) (both (b.filter.slot == slot) (includes b.filter.channels channel) own_slot included) admitted) in
-      let passes : is_admitting w channel b ≡ true = ap (λ (o : Option ℕ). transmits b && admits_slot b.filter w.cycle channel o) is ∙ sends_it in
-      let found = found_in (is_admitting w channel) plan.buffers k b (position (is_admitting w channel) plan.buffers) refl at passes in
+      both (transmits b) ((b.filter.slot == slot && includes b.filter.channels channel)
+          && cycle_admitted b.filter.cycles w.cycle) transmitting
+      (both (b.filter.slot == slot && includes b.filter.channels channel) (cycle_admitted b.filter.cycles w.cycle)
+          (both (b.filter.slot == slot) (includes b.filter.channels channel) own_slot included) admitted) in
+      let passes : is_admitting w channel b ≡ true = ap (λ (o : Option ℕ). transmits b && admits_slot b.filter w.cycle
+          channel o) is ∙ sends_it in
+      let found = found_in (is_admitting w channel) plan.buffers k b
+          (position (is_admitting w channel) plan.buffers) refl at passes in
       let first = position-Some (is_admitting w channel) plan.buffers found.place b found.at in
       let other = get_or plan.buffers found.place b in
-      let other_sends : sends_at slot channel w.cycle other ≡ true = ap (λ (o : Option ℕ). transmits other && admits_slot other.filter w.cycle channel o) (sym is) ∙ first.1 in
+      let other_sends : sends_at slot channel w.cycle other ≡ true =
+          ap (λ (o : Option ℕ). transmits other && admits_slot other.filter w.cycle channel o) (sym is) ∙ first.1 in
       found.at ∙ ap Some (one slot channel w.cycle found.place k other b cycle_fits slot_fits
-      (record { at = slice_get-get_or plan.buffers found.place b first.0; sends = other_sends }) (record { at = at; sends = sends_it }))
+      (record { at = slice_get-get_or plan.buffers found.place b first.0; sends = other_sends })
+          (record { at = at; sends = sends_it }))
 
-  offers_ready : (before : List Entry) (w : Opportunity) (channel : Channel) (slot number : ℕ) → is_static w ≡ true → slot_of w channel ≡ Some slot → transmitter plan w channel ≡ Some k
+  offers_ready : (before : List Entry) (w : Opportunity) (channel : Channel) (slot number : ℕ) → is_static w ≡ true
+      → slot_of w channel ≡ Some slot → transmitter plan w channel ≡ Some k
       → ready b.mode k before ≡ Some number → offered plan before w channel ≡ Data number
   offers_ready before w channel slot number still is transmitter_is ready_is =
       let otherwise = cond (owns plan w channel slot) Null Nothing in
       ap (offered_at plan before w channel) is
-      ∙ ap (λ (t : Bool). data_or otherwise (cond (t || nat_le w.minislot (latest_on plan channel)) (option_and_then (ready_in plan before) (transmitter plan w channel)) None)) still
+      ∙ ap (λ (t : Bool). data_or otherwise (cond (t || nat_le w.minislot (latest_on plan channel))
+          (option_and_then (ready_in plan before) (transmitter plan w channel)) None)) still
       ∙ ap (λ (t : Option ℕ). data_or otherwise (option_and_then (ready_in plan before) t)) transmitter_is
       ∙ ap (λ (o : Option Buffer). data_or otherwise (option_and_then (λ (x : Buffer). ready x.mode k before) o)) at
       ∙ ap (data_or otherwise) ready_is
 
   -- a window that takes the commit sends it
-  sent : (before : List Entry) (w : Opportunity) (x y : Offered) (number cycle : ℕ) → IsLegalFetch p plan before w x y → IsInRange w
-      → (is_window_of b.filter.slot w ≡ true → cycle % 64 ≡ w.cycle) → (is_window_of b.filter.slot w && is_turn_of b cycle) ≡ true
+  sent : (before : List Entry) (w : Opportunity) (x y : Offered) (number cycle : ℕ) → IsLegalFetch p plan before w x y
+      → IsInRange w
+      → (is_window_of b.filter.slot w ≡ true → cycle % 64 ≡ w.cycle)
+          → (is_window_of b.filter.slot w && is_turn_of b cycle) ≡ true
       → ready b.mode k before ≡ Some number → sends number (Fetch w x y) ≡ true
   sent before w x y number cycle legal range timed taking ready_is =
-      let window : is_window_of b.filter.slot w ≡ true = both_first (is_window_of b.filter.slot w) (is_turn_of b cycle) taking in
+      let window : is_window_of b.filter.slot w ≡ true = both_first (is_window_of b.filter.slot w) (is_turn_of b cycle)
+          taking in
       let still : is_static w ≡ true = both_first (is_static w) (is_slot_at b.filter.slot w.a) window in
-      let on_a : w.a ≡ Some b.filter.slot = slot_at b.filter.slot w.a (both_rest (is_static w) (is_slot_at b.filter.slot w.a) window) in
+      let on_a : w.a ≡ Some b.filter.slot = slot_at b.filter.slot w.a
+          (both_rest (is_static w) (is_slot_at b.filter.slot w.a) window) in
       let admitted : cycle_admitted b.filter.cycles w.cycle ≡ true =
-      ap (cycle_admitted b.filter.cycles) (sym (timed window)) ∙ both_rest (is_window_of b.filter.slot w) (is_turn_of b cycle) taking in
+      ap (cycle_admitted b.filter.cycles) (sym (timed window)) ∙ both_rest (is_window_of b.filter.slot w)
+          (is_turn_of b cycle) taking in
       let c = included b.filter.channels in
       let is : slot_of w c.channel ≡ Some b.filter.slot = slot_on w c.channel b.filter.slot range still on_a in
       let slot_fits : IsSlot b.filter.slot = subst IsSlotOrNone on_a range.slot_a in
       sends_on number w x y plan before c.channel legal.offer_a legal.offer_b
-      (offers_ready before w c.channel b.filter.slot number still is (transmits_there w c.channel range.cycle_fits slot_fits is c.is admitted) ready_is)
+      (offers_ready before w c.channel b.filter.slot number still is
+          (transmits_there w c.channel range.cycle_fits slot_fits is c.is admitted) ready_is)
 
   -- ---- over a journal
 
   module _ (of_slot : is_buffer_of b.filter.slot (Some b) ≡ true) (sending : is_receive b.mode ≡ false) where
-    fetch_takes : (before : List Entry) (w : Opportunity) (x y : Offered) (t : Bool) → (is_window_of b.filter.slot w && is_turn_of b (run_cycle (before ++ Fetch w x y ∷ []))) ≡ t
-        → IsLegalFetch p plan before w x y → IsInRange w → (is_window_of b.filter.slot w ≡ true → run_cycle (before ++ Fetch w x y ∷ []) % 64 ≡ w.cycle)
+    fetch_takes : (before : List Entry) (w : Opportunity) (x y : Offered) (t : Bool)
+        → (is_window_of b.filter.slot w && is_turn_of b (run_cycle (before ++ Fetch w x y ∷ []))) ≡ t
+        → IsLegalFetch p plan before w x y → IsInRange w → (is_window_of b.filter.slot w ≡ true
+            → run_cycle (before ++ Fetch w x y ∷ []) % 64 ≡ w.cycle)
         → Takes plan b.filter.slot k b at of_slot sending t before (Fetch w x y)
     fetch_takes before w x y true is legal range timed = (
-      λ number ready_is. sent before w x y number (run_cycle (before ++ Fetch w x y ∷ [])) legal range timed is ready_is,
+      λ number ready_is. sent before w x y number (run_cycle (before ++ Fetch w x y ∷ [])) legal range timed is
+          ready_is,
       λ number last out. sent_is_ready p plan k b at static before w x y number legal last out,
     )
     fetch_takes before w x y false is legal range timed =
-        λ number last. unsent p plan k b at static before w x y number (run_cycle (before ++ Fetch w x y ∷ [])) legal range timed last is
+        λ number last. unsent p plan k b at static before w x y number
+            (run_cycle (before ++ Fetch w x y ∷ [])) legal range timed last is
 
-    entry_takes : (before : List Entry) (e : Entry) → IsLegal p plan before e → IsEntry e → IsTimed b.filter.slot before e → IsTaking plan b.filter.slot k b at of_slot sending before e
+    entry_takes : (before : List Entry) (e : Entry) → IsLegal p plan before e → IsEntry e
+        → IsTimed b.filter.slot before e → IsTaking plan b.filter.slot k b at of_slot sending before e
     entry_takes before (Commit task j payload) legal range timed = tt
     entry_takes before (Withdraw task j of) legal range timed = legal.found
     entry_takes before (Read task j from) legal range timed = tt
     entry_takes before (Pop task from) legal range timed = tt
     entry_takes before (Fetch w x y) legal range timed =
-        fetch_takes before w x y (is_window_of b.filter.slot w && is_turn_of b (run_cycle (before ++ Fetch w x y ∷ []))) refl legal range.window_is timed
+        fetch_takes before w x y (is_window_of b.filter.slot w && is_turn_of b (run_cycle (before ++ Fetch w x y ∷ [])))
+            refl legal range.window_is timed
     entry_takes before (Observe number x y) legal range timed = tt
 
-    all_take : (before es : List Entry) → AllAfter (IsLegal p plan) before es → AllAfter (λ (b : List Entry) (e : Entry). IsEntry e) before es → AllAfter (IsTimed b.filter.slot) before es
+    all_take : (before es : List Entry) → AllAfter (IsLegal p plan) before es
+        → AllAfter (λ (b : List Entry) (e : Entry). IsEntry e) before es → AllAfter (IsTimed b.filter.slot) before es
         → AllAfter (IsTaking plan b.filter.slot k b at of_slot sending) before es
     unfolding AllAfter
     all_take before [] legal ranges timed = tt
-    all_take before (e ∷ es) legal ranges timed = (entry_takes before e legal.0 ranges.0 timed.0, all_take (before ++ e ∷ []) es legal.1 ranges.1 timed.1)
+    all_take before (e ∷ es) legal ranges timed = (entry_takes before e legal.0 ranges.0 timed.0,
+        all_take (before ++ e ∷ []) es legal.1 ranges.1 timed.1)
 
     -- in a legal journal the account leaves over the payload that the buffer has ready
-    pub account_is_ready : (es : List Entry) → AllAfter (IsLegal p plan) [] es → AllAfter (λ (b : List Entry) (e : Entry). IsEntry e) [] es → AllAfter (IsTimed b.filter.slot) [] es
+    pub account_is_ready : (es : List Entry) → AllAfter (IsLegal p plan) [] es
+        → AllAfter (λ (b : List Entry) (e : Entry). IsEntry e) [] es → AllAfter (IsTimed b.filter.slot) [] es
         → left_over b k (account plan b.filter.slot es) ≡ option_map (payload_of es) (ready b.mode k es)
-    account_is_ready es legal ranges timed = left_over_is plan b.filter.slot k b at of_slot sending es (all_take [] es legal ranges timed)
+    account_is_ready es legal ranges timed = left_over_is plan b.filter.slot k b at of_slot sending es
+        (all_take [] es legal ranges timed)

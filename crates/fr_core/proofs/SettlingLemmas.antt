@@ -45,7 +45,8 @@ numbered d r cluster o =
     let as_many = o.one_each in
     let few = cluster.few_nodes in
     ap (list_all is_numbered) o.sent_is
-    ∙ of_all d r.window is_numbered (last_node + 1) (λ node channel babble muted bytes within. lt_of node (last_node + 1) within)
+    ∙ of_all d r.window is_numbered (last_node + 1) (λ node channel babble muted bytes within. lt_of node
+        (last_node + 1) within)
     0 o.stations (omega (arith, as_many, few))
 
 -- ---- fates that are right for each node are those of the guardians
@@ -66,19 +67,22 @@ right_judged d w t e =
     due_judged t.fate (passes d t.node w t.channel)
     (both_rest there due (if_own (t.node == t.node) (there && due) (eq-eqb t.node t.node refl) e))
 
-all_judged : (d : Description) (w : Opportunity) (sent : List Sent) → ((n : ℕ) → n ≤ last_node → list_all (is_right d n w) sent ≡ true)
+all_judged : (d : Description) (w : Opportunity) (sent : List Sent)
+    → ((n : ℕ) → n ≤ last_node → list_all (is_right d n w) sent ≡ true)
     → list_all is_numbered sent ≡ true → list_all (is_judged_in d w) sent ≡ true
 unfolding is_numbered
 all_judged d w [] right few = refl
 all_judged d w (t ∷ ts) right few =
-    let below : t.node < last_node + 1 = ltb-true t.node (last_node + 1) (both_first (is_numbered t) (list_all is_numbered ts) few) in
+    let below : t.node < last_node + 1 = ltb-true t.node (last_node + 1)
+        (both_first (is_numbered t) (list_all is_numbered ts) few) in
     let own : list_all (is_right d t.node w) (t ∷ ts) ≡ true = right t.node (omega (arith, below)) in
     both (is_judged_in d w t) (list_all (is_judged_in d w) ts)
     (right_judged d w t (both_first (is_right d t.node w t) (list_all (is_right d t.node w) ts) own))
     (all_judged d w ts (λ n le. both_rest (is_right d n w t) (list_all (is_right d n w) ts) (right n le))
     (both_rest (is_numbered t) (list_all is_numbered ts) few))
 
-pub agreed_judged : (d : Description) (is : List State) (b : BusState) (given : List Scripted) → IsRun b → Agrees d is b.sealed given → AreJudged d b.sealed
+pub agreed_judged : (d : Description) (is : List State) (b : BusState) (given : List Scripted) → IsRun b
+    → Agrees d is b.sealed given → AreJudged d b.sealed
 agreed_judged d is b given run a k r at =
     all_judged d r.window r.sent (λ n le. (a.offers n le k).fates r at)
     (numbered b.cluster r run.lawful (outcome_at b.cluster b.cycles [] b.sealed k r run.recorded at))
@@ -97,7 +101,8 @@ judged_let_pass d w t judged channel e =
     subst (λ (c : Channel). passes d t.node w c ≡ true) (channel_case t.channel channel on)
     (passed_is t.fate (passes d t.node w t.channel) fate judged)
 
-all_let_pass : (d : Description) (w : Opportunity) (sent : List Sent) → list_all (is_judged_in d w) sent ≡ true → All (IsLetPass d w) sent
+all_let_pass : (d : Description) (w : Opportunity) (sent : List Sent) → list_all (is_judged_in d w) sent ≡ true
+    → All (IsLetPass d w) sent
 all_let_pass d w [] judged = All-nil (IsLetPass d w)
 all_let_pass d w (t ∷ ts) judged =
     All-cons (IsLetPass d w) t ts
@@ -109,17 +114,23 @@ one_sender d rs cluster judged r channel slot t of_record static guarded opened 
     let within = of_record.1 in
     let at : slice_get rs of_record.0 ≡ Some r =
     slice_get-get_or rs of_record.0 r within ∙ ap (λ (x : Recorded). Some x) of_record.2 in
-    passed_sends d cluster r (all_let_pass d r.window r.sent (judged of_record.0 r at)) channel slot t static guarded opened of_passed
+    passed_sends d cluster r (all_let_pass d r.window r.sent (judged of_record.0 r at)) channel slot t static guarded
+        opened of_passed
 
 -- ---- the answer
 
-pub answer_one_sender : (d : Description) (is : List State) (b : BusState) (given : List Scripted) (answer : Result Settled SettleError)
+pub answer_one_sender : (d : Description) (is : List State) (b : BusState) (given : List Scripted)
+    (answer : Result Settled SettleError)
     → IsCluster d → IsRun b → Settles d is b.sealed given answer → OnOk answer (OneSenderEach d b.sealed)
-answer_one_sender d is b given (Ok x) cluster run told = one_sender d b.sealed cluster (agreed_judged d is b given run told.0)
+answer_one_sender d is b given (Ok x) cluster run told = one_sender d b.sealed cluster
+    (agreed_judged d is b given run told.0)
 answer_one_sender d is b given (Err e) cluster run told = tt
 
-pub answer_receivers : (d : Description) (is : List State) (b : BusState) (given : List Scripted) (answer : Result Settled SettleError)
-    → IsCluster d → IsRun b → All IsLegalInterface is → Settles d is b.sealed given answer → OnOk answer (Receivers d is b.sealed)
+pub answer_receivers : (d : Description) (is : List State) (b : BusState) (given : List Scripted)
+    (answer : Result Settled SettleError)
+    → IsCluster d → IsRun b → All IsLegalInterface is → Settles d is b.sealed given answer
+        → OnOk answer (Receivers d is b.sealed)
 answer_receivers d is b given (Ok x) cluster run lawful told =
-    receivers d is b.sealed cluster (agreed_judged d is b given run told.0) (legal_at is lawful) (each_follows d is b.sealed given cluster told.0)
+    receivers d is b.sealed cluster (agreed_judged d is b given run told.0) (legal_at is lawful)
+        (each_follows d is b.sealed given cluster told.0)
 answer_receivers d is b given (Err e) cluster run lawful told = tt

@@ -50,7 +50,8 @@ even_cycles m slot = record {
 -- buffer 0 is of slot 1, and buffer 1 of slot 2
 abbrev planned : Mode → Plan
 planned m = record (empty_plan 1 0 0 8 8) {
-  owned = record { slot = 1; channels = channels.A; sync = false; startup = false; cycles = record { base = 0; repetition = 1 } } ∷ [];
+  owned = record { slot = 1; channels = channels.A; sync = false; startup = false; cycles =
+      record { base = 0; repetition = 1 } } ∷ [];
   buffers = even_cycles m 1 ∷ even_cycles m 2 ∷ [];
 }
 
@@ -82,7 +83,8 @@ third = Some (0 ∷ 3 ∷ [])
 
 -- cycle 1 isn't admitted, so cycle 2 has the third commit, and cycle 4 has it in state mode alone
 pub an_event_commit_is_sent_in_one_admitted_cycle :
-    sent_in_cycle mode.Event 1 kept ∷ sent_in_cycle mode.Event 2 kept ∷ sent_in_cycle mode.Event 4 (kept ++ turns 2 ∷ [])
+    sent_in_cycle mode.Event 1 kept ∷ sent_in_cycle mode.Event 2 kept ∷ sent_in_cycle mode.Event 4
+        (kept ++ turns 2 ∷ [])
     ∷ sent_in_cycle mode.State 4 (kept ++ turns 2 ∷ []) ∷ sent_in_cycle mode.State 65 kept ∷ []
     ≡ None ∷ third ∷ None ∷ third ∷ None ∷ []
 an_event_commit_is_sent_in_one_admitted_cycle = refl
@@ -123,14 +125,17 @@ a_commit_is_pending_until_an_admitted_cycle = refl
 -- slot 1 is the node's on channel A in each cycle, in the even ones with sync frames
 abbrev divided : Plan
 divided = record (empty_plan 1 0 0 8 8) {
-  owned = record { slot = 1; channels = channels.A; sync = true; startup = false; cycles = record { base = 0; repetition = 2 } }
-      ∷ record { slot = 1; channels = channels.A; sync = false; startup = false; cycles = record { base = 1; repetition = 2 } } ∷ [];
+  owned = record { slot = 1; channels = channels.A; sync = true; startup = false; cycles =
+      record { base = 0; repetition = 2 } }
+      ∷ record { slot = 1; channels = channels.A; sync = false; startup = false; cycles =
+          record { base = 1; repetition = 2 } } ∷ [];
 }
 
 abbrev is_sync_in : ℕ → Bool
 is_sync_in cycle = (frame_by_account one_word divided 1 A cycle []).sync
 
-pub a_frame_is_that_of_the_line_of_its_cycle : is_sync_in 0 ∷ is_sync_in 1 ∷ is_sync_in 64 ∷ is_sync_in 67 ∷ [] ≡ true ∷ false ∷ true ∷ false ∷ []
+pub a_frame_is_that_of_the_line_of_its_cycle : is_sync_in 0 ∷ is_sync_in 1 ∷ is_sync_in 64 ∷ is_sync_in 67 ∷ []
+    ≡ true ∷ false ∷ true ∷ false ∷ []
 a_frame_is_that_of_the_line_of_its_cycle = refl
 
 -- ---- mutes and babbles
@@ -147,12 +152,15 @@ owner_sent mute babble = of_owner 0 A mute (Some sample) babble
 -- what node 1 and the owner see
 abbrev both_see : Option ℕ → List Sent → List Seen
 both_see corrupt sent =
-    seen_of one_word (turn_of 1 0) corrupt 1 (all_passed A sent) ∷ seen_of one_word (turn_of 1 0) corrupt 0 (all_passed A sent) ∷ []
+    seen_of one_word (turn_of 1 0) corrupt 1 (all_passed A sent) ∷ seen_of one_word (turn_of 1 0) corrupt 0
+        (all_passed A sent) ∷ []
 
-pub an_owner_that_babbles_beside_its_offer_makes_noise : both_see None (owner_sent false (Some babbled)) ≡ Noise ∷ Conflict ∷ []
+pub an_owner_that_babbles_beside_its_offer_makes_noise : both_see None (owner_sent false (Some babbled))
+    ≡ Noise ∷ Conflict ∷ []
 an_owner_that_babbles_beside_its_offer_makes_noise = refl
 
-pub a_muted_owner_that_babbles_is_seen_to_babble : both_see None (owner_sent true (Some babbled)) ≡ Bytes babbled ∷ Owns ∷ []
+pub a_muted_owner_that_babbles_is_seen_to_babble : both_see None (owner_sent true (Some babbled))
+    ≡ Bytes babbled ∷ Owns ∷ []
 a_muted_owner_that_babbles_is_seen_to_babble = refl
 
 pub a_muted_owner_is_silent : both_see None (owner_sent true None) ≡ Silence ∷ Silence ∷ []
@@ -178,10 +186,12 @@ beside =
     owner_sent false None ++ record { node = 0; channel = B; babble = false; bytes = sample; fate = Muted }
     ∷ record { node = 1; channel = A; babble = true; bytes = babbled; fate = Blocked } ∷ []
 
-pub faults_of_others_leave_a_slot_faultless : (list_all (is_clean A 0) beside ≡ true) × (own A 0 beside ≡ owner_sent false None)
+pub faults_of_others_leave_a_slot_faultless : (list_all (is_clean A 0) beside ≡ true) ×
+    (own A 0 beside ≡ owner_sent false None)
 faults_of_others_leave_a_slot_faultless = (refl, refl)
 
 pub a_fault_of_the_owner_does_not :
-    (list_all (is_clean A 0) (owner_sent true None) ≡ false) × (list_all (is_clean A 0) (owner_sent false (Some babbled)) ≡ false)
+    (list_all (is_clean A 0) (owner_sent true None) ≡ false) ×
+        (list_all (is_clean A 0) (owner_sent false (Some babbled)) ≡ false)
     × (list_all (is_clean B 0) beside ≡ false)
 a_fault_of_the_owner_does_not = (refl, refl, refl)

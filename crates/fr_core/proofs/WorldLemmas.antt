@@ -33,7 +33,8 @@ record HasShape (w : WorldState) : Type 0 where
 -- ---- one change
 
 -- an interface with another journal
-kept_interface : (w : WorldState) (n : ℕ) (i : State) → without_entries i ≡ without_entries (interface_at w n) → HasShape w → HasShape (with_interface w n i)
+kept_interface : (w : WorldState) (n : ℕ) (i : State) → without_entries i ≡ without_entries (interface_at w n)
+    → HasShape w → HasShape (with_interface w n i)
 kept_interface w n i same kept = record {
   configured = map-set_same without_entries w.interfaces n i no_interface same ∙ kept.configured;
   a_controller_each = length-set w.interfaces n i ∙ kept.a_controller_each;
@@ -106,16 +107,20 @@ shape : (w : WorldState) → IsWorld w → HasShape w
 shape w kept = record { configured = kept.configured; a_controller_each = kept.a_controller_each }
 
 whole : (w : WorldState) → HasShape w → Agreement w → IsWorld w
-whole w shape agrees = record { configured = shape.configured; a_controller_each = shape.a_controller_each; agrees = agrees }
+whole w shape agrees = record { configured = shape.configured; a_controller_each = shape.a_controller_each; agrees =
+    agrees }
 
-pub kept_step : (old : WorldState) (event : Event) (answer : Result Reply StepError) (new : WorldState) → Steps old event answer new → IsWorld old → IsWorld new
+pub kept_step : (old : WorldState) (event : Event) (answer : Result Reply StepError) (new : WorldState)
+    → Steps old event answer new → IsWorld old → IsWorld new
 kept_step old event (Ok reply) new step kept =
-    rw step.2 (whole (step_done old event) (kept_done old event (shape old kept)) (keeps_done old event step.0 kept.a_controller_each kept.agrees))
+    rw step.2 (whole (step_done old event) (kept_done old event (shape old kept))
+        (keeps_done old event step.0 kept.a_controller_each kept.agrees))
 kept_step old event (Err e) new step kept = rw step.1 kept
 
 -- ---- the opening world
 
-opening_configured : (params : Parameters) (plans : List Plan) → map without_entries (map (new_interface params) plans) ≡ map (new_interface params) plans
+opening_configured : (params : Parameters) (plans : List Plan)
+    → map without_entries (map (new_interface params) plans) ≡ map (new_interface params) plans
 opening_configured params [] = refl
 opening_configured params (plan ∷ plans) = ap (λ l. new_interface params plan ∷ l) (opening_configured params plans)
 

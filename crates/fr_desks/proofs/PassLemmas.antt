@@ -30,5 +30,6 @@ all_last {X} P xs ys x all e =
     subst P (get_or-append_seam xs x [] x) (whole (length xs) x (omega (arith, length-append xs (x ∷ []))))
 
 -- the same of what is found at a place
-pub numbered_found : {X : Type 0} (f : X → ℕ) (xs : List X) → ((k : ℕ) (d : X) → k < length xs → f (get_or xs k d) ≡ k) → AreNumbered f xs
+pub numbered_found : {X : Type 0} (f : X → ℕ) (xs : List X) → ((k : ℕ) (d : X) → k < length xs → f (get_or xs k d) ≡ k)
+    → AreNumbered f xs
 numbered_found f xs all k x at = ap f (sym (get_or_from_slice_get xs k x x at)) ∙ all k x (slice_get_within xs k x at)

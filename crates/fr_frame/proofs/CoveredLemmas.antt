@@ -31,7 +31,8 @@ bits_of-digits a b =
     ∙ ap (λ (t : List Bool). a ∷ t) (bits_of-digit b)
 
 -- the same as code joins them, in an integer of `m` bits
-pub digits_joined : (m : ℕ) (a b : Bool) (x y : ℕ) → 2 ≤ m → x ≡ cond a 1 0 → y ≡ cond b 1 0 → bit_or (x * 2 % 2 ^ m) y ≡ digits a b
+pub digits_joined : (m : ℕ) (a b : Bool) (x y : ℕ) → 2 ≤ m → x ≡ cond a 1 0 → y ≡ cond b 1 0
+    → bit_or (x * 2 % 2 ^ m) y ≡ digits a b
 digits_joined m a b x y fits x_is y_is =
     ap (λ (n : ℕ). bit_or (n * 2 % 2 ^ m) y) x_is ∙ ap (bit_or (cond a 1 0 * 2 % 2 ^ m)) y_is
     ∙ or_is 1 1 m (cond a 1 0) (cond b 1 0) (digit_fits a) (digit_fits b) fits
@@ -40,9 +41,11 @@ digits_joined m a b x y fits x_is y_is =
 abbrev covered_number : Bool → Bool → ℕ → ℕ → ℕ
 covered_number sync startup id size = (digits sync startup * 2048 + id) * 128 + size / 2
 
-covered_number-joined : (sync startup : Bool) (id size s t i words : ℕ) → s ≡ cond sync 1 0 → t ≡ cond startup 1 0 → i ≡ id → words ≡ size / 2
+covered_number-joined : (sync startup : Bool) (id size s t i words : ℕ) → s ≡ cond sync 1 0 → t ≡ cond startup 1 0
+    → i ≡ id → words ≡ size / 2
     → id < 2 ^ 11 → size ≤ 254
-    → bit_or (bit_or (bit_or (s * 2 % 2 ^ 32) t * 2048 % 2 ^ 32) i * 128 % 2 ^ 32) words ≡ covered_number sync startup id size
+    → bit_or (bit_or (bit_or (s * 2 % 2 ^ 32) t * 2048 % 2 ^ 32) i * 128 % 2 ^ 32) words
+        ≡ covered_number sync startup id size
 covered_number-joined sync startup id size s t i words s_is t_is i_is words_is id_fits short =
     let indicators = digits sync startup in
     let small : indicators < 2 ^ 2 = digits_fit sync startup in
@@ -51,24 +54,30 @@ covered_number-joined sync startup id size s t i words s_is t_is i_is words_is i
     ap (λ (x : ℕ). bit_or (x * 2048 % 2 ^ 32) i) (digits_joined 32 sync startup s t (lit≤ tt) s_is t_is)
     ∙ ap (bit_or (indicators * 2048 % 2 ^ 32)) i_is
     ∙ or_is 2 11 32 indicators id small id_fits (lit≤ tt) in
-    ap (λ (x : ℕ). bit_or (x * 128 % 2 ^ 32) words) second ∙ ap (bit_or ((indicators * 2048 + id) * 128 % 2 ^ 32)) words_is
+    ap (λ (x : ℕ). bit_or (x * 128 % 2 ^ 32) words) second ∙ ap
+        (bit_or ((indicators * 2048 + id) * 128 % 2 ^ 32)) words_is
     ∙ or_is 13 7 32 (indicators * 2048 + id) (size / 2) (omega arith) few (lit≤ tt)
 
-pub covered_joined : (f : Fields) (s t i words : ℕ) → s ≡ cond f.sync 1 0 → t ≡ cond f.startup 1 0 → i ≡ f.id → words ≡ length f.payload / 2
+pub covered_joined : (f : Fields) (s t i words : ℕ) → s ≡ cond f.sync 1 0 → t ≡ cond f.startup 1 0 → i ≡ f.id
+    → words ≡ length f.payload / 2
     → f.id < 2 ^ 11 → IsPayload f.payload
     → bits_of 20 (bit_or (bit_or (bit_or (s * 2 % 2 ^ 32) t * 2048 % 2 ^ 32) i * 128 % 2 ^ 32) words) ≡ covered f
 unfolding covered
 covered_joined f s t i words s_is t_is i_is words_is id_fits payload_fits =
     let indicators = digits f.sync f.startup in
     let few : length f.payload / 2 < 2 ^ 7 = omega (arith, payload_fits.short) in
-    ap (bits_of 20) (covered_number-joined f.sync f.startup f.id (length f.payload) s t i words s_is t_is i_is words_is id_fits payload_fits.short)
+    ap (bits_of 20) (covered_number-joined f.sync f.startup f.id
+        (length f.payload) s t i words s_is t_is i_is words_is id_fits payload_fits.short)
     ∙ bits_of-joined 13 7 (indicators * 2048 + f.id) (length f.payload / 2) few
     ∙ ap (λ (t : List Bool). t ++ bits_of 7 (length f.payload / 2)) (bits_of-joined 2 11 indicators f.id id_fits)
-    ∙ ap (λ (t : List Bool). (t ++ bits_of 11 f.id) ++ bits_of 7 (length f.payload / 2)) (bits_of-digits f.sync f.startup)
+    ∙ ap (λ (t : List Bool). (t ++ bits_of 11 f.id) ++ bits_of 7 (length f.payload / 2))
+        (bits_of-digits f.sync f.startup)
 
-pub covered_fits : (sync startup : Bool) (id size s t i words : ℕ) → s ≡ cond sync 1 0 → t ≡ cond startup 1 0 → i ≡ id → words ≡ size / 2
+pub covered_fits : (sync startup : Bool) (id size s t i words : ℕ) → s ≡ cond sync 1 0 → t ≡ cond startup 1 0 → i ≡ id
+    → words ≡ size / 2
     → id < 2 ^ 11 → size ≤ 254
     → bit_or (bit_or (bit_or (s * 2 % 2 ^ 32) t * 2048 % 2 ^ 32) i * 128 % 2 ^ 32) words < 2 ^ 20
 covered_fits sync startup id size s t i words s_is t_is i_is words_is id_fits short =
     let below : covered_number sync startup id size < 2 ^ 20 = omega (arith, digits_fit sync startup, short) in
-    subst (λ (n : ℕ). n < 2 ^ 20) (sym (covered_number-joined sync startup id size s t i words s_is t_is i_is words_is id_fits short)) below
+    subst (λ (n : ℕ). n < 2 ^ 20) (sym (covered_number-joined sync startup id size s t i words s_is t_is i_is words_is
+        id_fits short)) below

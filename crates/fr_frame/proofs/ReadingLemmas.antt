@@ -13,23 +13,30 @@ use Rattle.fr_frame.specs.Header.{bits_at, number_at, flag_at}
 use Rattle.fr_frame.specs.Refusal.{refusal}
 use Rattle.fr_frame.proofs.FieldLemmas.{field-bits, field-number, number-read}
 
-pub refused_length : (channel : Channel) (bytes : List ℕ) → ltb (length bytes) 8 ≡ false → eqb (length bytes) (8 + 2 * number_at 16 7 bytes) ≡ false
+pub refused_length : (channel : Channel) (bytes : List ℕ) → ltb (length bytes) 8 ≡ false
+    → eqb (length bytes) (8 + 2 * number_at 16 7 bytes) ≡ false
     → refusal channel bytes ≡ Some LengthMismatch
 refused_length channel bytes t1 t2 = rw (t1, t2) refl
 
-pub refused_header : (channel : Channel) (bytes : List ℕ) → ltb (length bytes) 8 ≡ false → eqb (length bytes) (8 + 2 * number_at 16 7 bytes) ≡ true
-    → eqb (number_at 23 11 bytes) (number_of (header_check (bits_at 3 20 bytes))) ≡ false → refusal channel bytes ≡ Some HeaderCrc
+pub refused_header : (channel : Channel) (bytes : List ℕ) → ltb (length bytes) 8 ≡ false
+    → eqb (length bytes) (8 + 2 * number_at 16 7 bytes) ≡ true
+    → eqb (number_at 23 11 bytes) (number_of (header_check (bits_at 3 20 bytes))) ≡ false
+        → refusal channel bytes ≡ Some HeaderCrc
 refused_header channel bytes t1 t2 t3 = rw (t1, t2, t3) refl
 
-pub refused_frame : (channel : Channel) (bytes : List ℕ) → ltb (length bytes) 8 ≡ false → eqb (length bytes) (8 + 2 * number_at 16 7 bytes) ≡ true
+pub refused_frame : (channel : Channel) (bytes : List ℕ) → ltb (length bytes) 8 ≡ false
+    → eqb (length bytes) (8 + 2 * number_at 16 7 bytes) ≡ true
     → eqb (number_at 23 11 bytes) (number_of (header_check (bits_at 3 20 bytes))) ≡ true
-    → eqb (number_of (bits_of_bytes (drop (length bytes - 3) bytes))) (number_of (frame_check channel (take (length bytes - 3) bytes))) ≡ false
+    → eqb (number_of (bits_of_bytes (drop (length bytes - 3) bytes)))
+        (number_of (frame_check channel (take (length bytes - 3) bytes))) ≡ false
     → refusal channel bytes ≡ Some FrameCrc
 refused_frame channel bytes t1 t2 t3 t4 = rw (t1, t2, t3, t4) refl
 
-pub not_refused : (channel : Channel) (bytes : List ℕ) → ltb (length bytes) 8 ≡ false → eqb (length bytes) (8 + 2 * number_at 16 7 bytes) ≡ true
+pub not_refused : (channel : Channel) (bytes : List ℕ) → ltb (length bytes) 8 ≡ false
+    → eqb (length bytes) (8 + 2 * number_at 16 7 bytes) ≡ true
     → eqb (number_at 23 11 bytes) (number_of (header_check (bits_at 3 20 bytes))) ≡ true
-    → eqb (number_of (bits_of_bytes (drop (length bytes - 3) bytes))) (number_of (frame_check channel (take (length bytes - 3) bytes))) ≡ true
+    → eqb (number_of (bits_of_bytes (drop (length bytes - 3) bytes)))
+        (number_of (frame_check channel (take (length bytes - 3) bytes))) ≡ true
     → refusal channel bytes ≡ None
 not_refused channel bytes t1 t2 t3 t4 = rw (t1, t2, t3, t4) refl
 
@@ -39,75 +46,104 @@ pub long_enough : (n : ℕ) → 8 ≤ n → ltb n 8 ≡ false
 long_enough n h = le-ltb n 8 h
 
 -- the code's words are those of the bits
-pub words_is : (h : ℕ) (bytes : List ℕ) → bits_of 40 h ≡ bits_of_bytes (take 5 bytes) → number_at 16 7 bytes ≡ bit_and (h / 131072) 127
+pub words_is : (h : ℕ) (bytes : List ℕ) → bits_of 40 h ≡ bits_of_bytes (take 5 bytes)
+    → number_at 16 7 bytes ≡ bit_and (h / 131072) 127
 words_is h bytes e = field-number 16 7 17 h (bits_of_bytes (take 5 bytes)) e
 
-pub stored_is : (h : ℕ) (bytes : List ℕ) → bits_of 40 h ≡ bits_of_bytes (take 5 bytes) → number_at 23 11 bytes ≡ bit_and (h / 64) 2047
+pub stored_is : (h : ℕ) (bytes : List ℕ) → bits_of 40 h ≡ bits_of_bytes (take 5 bytes)
+    → number_at 23 11 bytes ≡ bit_and (h / 64) 2047
 stored_is h bytes e = field-number 23 11 6 h (bits_of_bytes (take 5 bytes)) e
 
-pub covered_is : (h : ℕ) (bytes : List ℕ) → bits_of 40 h ≡ bits_of_bytes (take 5 bytes) → bits_at 3 20 bytes ≡ bits_of 20 (bit_and (h / 131072) 1048575)
+pub covered_is : (h : ℕ) (bytes : List ℕ) → bits_of 40 h ≡ bits_of_bytes (take 5 bytes)
+    → bits_at 3 20 bytes ≡ bits_of 20 (bit_and (h / 131072) 1048575)
 covered_is h bytes e = field-bits 3 20 17 h (bits_of_bytes (take 5 bytes)) e
 
-pub header_read : (h : ℕ) (bytes : List ℕ) → 5 ≤ length bytes → bits_of (8 * length (take 5 bytes)) h ≡ bits_of_bytes (take 5 bytes) → bits_of 40 h ≡ bits_of_bytes (take 5 bytes)
+pub header_read : (h : ℕ) (bytes : List ℕ) → 5 ≤ length bytes
+    → bits_of (8 * length (take 5 bytes)) h ≡ bits_of_bytes (take 5 bytes) → bits_of 40 h ≡ bits_of_bytes (take 5 bytes)
 header_read h bytes long e =
     let five : 40 ≡ 8 * length (take 5 bytes) = omega (arith, length-take 5 bytes) in
     ap (λ (m : ℕ). bits_of m h) five ∙ e
 
 -- ---- the four tests, from what the code compares
 
-pub length_test : (h : ℕ) (bytes : List ℕ) → bits_of 40 h ≡ bits_of_bytes (take 5 bytes) → length bytes ≡ 8 + 2 * bit_and (h / 131072) 127 → eqb (length bytes) (8 + 2 * number_at 16 7 bytes) ≡ true
+pub length_test : (h : ℕ) (bytes : List ℕ) → bits_of 40 h ≡ bits_of_bytes (take 5 bytes)
+    → length bytes ≡ 8 + 2 * bit_and (h / 131072) 127 → eqb (length bytes) (8 + 2 * number_at 16 7 bytes) ≡ true
 length_test h bytes e is = eq-eqb _ _ (is ∙ ap (λ (w : ℕ). 8 + 2 * w) (sym (words_is h bytes e)))
 
-pub length_test_fails : (h : ℕ) (bytes : List ℕ) → bits_of 40 h ≡ bits_of_bytes (take 5 bytes) → (length bytes ≡ 8 + 2 * bit_and (h / 131072) 127 → ⊥) → eqb (length bytes) (8 + 2 * number_at 16 7 bytes) ≡ false
+pub length_test_fails : (h : ℕ) (bytes : List ℕ) → bits_of 40 h ≡ bits_of_bytes (take 5 bytes)
+    → (length bytes ≡ 8 + 2 * bit_and (h / 131072) 127 → ⊥) → eqb (length bytes) (8 + 2 * number_at 16 7 bytes) ≡ false
 length_test_fails h bytes e not_is = ne_eqb _ _ (λ same. not_is (same ∙ ap (λ (w : ℕ). 8 + 2 * w) (words_is h bytes e)))
 
-header_crc_is : (h crc : ℕ) (bytes : List ℕ) → bits_of 40 h ≡ bits_of_bytes (take 5 bytes) → crc ≡ number_of (header_check (bits_of 20 (bit_and (h / 131072) 1048575))) → number_of (header_check (bits_at 3 20 bytes)) ≡ crc
+header_crc_is : (h crc : ℕ) (bytes : List ℕ) → bits_of 40 h ≡ bits_of_bytes (take 5 bytes)
+    → crc ≡ number_of (header_check (bits_of 20 (bit_and (h / 131072) 1048575)))
+    → number_of (header_check (bits_at 3 20 bytes)) ≡ crc
 header_crc_is h crc bytes e is = ap (λ (t : List Bool). number_of (header_check t)) (covered_is h bytes e) ∙ sym is
 
-pub header_test : (h crc : ℕ) (bytes : List ℕ) → bits_of 40 h ≡ bits_of_bytes (take 5 bytes) → crc ≡ number_of (header_check (bits_of 20 (bit_and (h / 131072) 1048575)))
+pub header_test : (h crc : ℕ) (bytes : List ℕ) → bits_of 40 h ≡ bits_of_bytes (take 5 bytes)
+    → crc ≡ number_of (header_check (bits_of 20 (bit_and (h / 131072) 1048575)))
     → bit_and (h / 64) 2047 ≡ crc → eqb (number_at 23 11 bytes) (number_of (header_check (bits_at 3 20 bytes))) ≡ true
 header_test h crc bytes e is same = eq-eqb _ _ (stored_is h bytes e ∙ same ∙ sym (header_crc_is h crc bytes e is))
 
-pub header_test_fails : (h crc : ℕ) (bytes : List ℕ) → bits_of 40 h ≡ bits_of_bytes (take 5 bytes) → crc ≡ number_of (header_check (bits_of 20 (bit_and (h / 131072) 1048575)))
-    → (bit_and (h / 64) 2047 ≡ crc → ⊥) → eqb (number_at 23 11 bytes) (number_of (header_check (bits_at 3 20 bytes))) ≡ false
-header_test_fails h crc bytes e is other = ne_eqb _ _ (λ same. other (sym (stored_is h bytes e) ∙ same ∙ header_crc_is h crc bytes e is))
+pub header_test_fails : (h crc : ℕ) (bytes : List ℕ) → bits_of 40 h ≡ bits_of_bytes (take 5 bytes)
+    → crc ≡ number_of (header_check (bits_of 20 (bit_and (h / 131072) 1048575)))
+    → (bit_and (h / 64) 2047 ≡ crc → ⊥) → eqb (number_at 23 11 bytes) (number_of (header_check (bits_at 3 20 bytes)))
+        ≡ false
+header_test_fails h crc bytes e is other = ne_eqb _ _ (λ same. other
+    (sym (stored_is h bytes e) ∙ same ∙ header_crc_is h crc bytes e is))
 
 -- the slice of the last three bytes
-pub last_part : (bytes : List ℕ) → take (length bytes - (length bytes - 3)) (drop (length bytes - 3) bytes) ≡ drop (length bytes - 3) bytes
-last_part bytes = take_all (length bytes - (length bytes - 3)) (drop (length bytes - 3) bytes) (omega (arith, length-drop (length bytes - 3) bytes))
+pub last_part : (bytes : List ℕ) → take (length bytes - (length bytes - 3)) (drop (length bytes - 3) bytes) ≡ drop
+    (length bytes - 3) bytes
+last_part bytes = take_all (length bytes - (length bytes - 3)) (drop (length bytes - 3) bytes)
+    (omega (arith, length-drop (length bytes - 3) bytes))
 
-last_is : (n : ℕ) (bytes part : List ℕ) → part ≡ drop (length bytes - 3) bytes → bits_of (8 * length part) n ≡ bits_of_bytes part → n < 2 ^ (8 * length part)
+last_is : (n : ℕ) (bytes part : List ℕ) → part ≡ drop (length bytes - 3) bytes
+    → bits_of (8 * length part) n ≡ bits_of_bytes part → n < 2 ^ (8 * length part)
     → number_of (bits_of_bytes (drop (length bytes - 3) bytes)) ≡ n
-last_is n bytes part is read fits = ap (λ (t : List ℕ). number_of (bits_of_bytes t)) (sym is) ∙ number-read part n read fits
+last_is n bytes part is read fits = ap (λ (t : List ℕ). number_of (bits_of_bytes t)) (sym is)
+    ∙ number-read part n read fits
 
-pub frame_test : (channel : Channel) (n crc : ℕ) (bytes part : List ℕ) → part ≡ drop (length bytes - 3) bytes → bits_of (8 * length part) n ≡ bits_of_bytes part → n < 2 ^ (8 * length part)
+pub frame_test : (channel : Channel) (n crc : ℕ) (bytes part : List ℕ) → part ≡ drop (length bytes - 3) bytes
+    → bits_of (8 * length part) n ≡ bits_of_bytes part → n < 2 ^ (8 * length part)
     → crc ≡ number_of (frame_check channel (take (length bytes - 3) bytes)) → n ≡ crc
-    → eqb (number_of (bits_of_bytes (drop (length bytes - 3) bytes))) (number_of (frame_check channel (take (length bytes - 3) bytes))) ≡ true
-frame_test channel n crc bytes part is read fits crc_is same = eq-eqb _ _ (last_is n bytes part is read fits ∙ same ∙ crc_is)
+    → eqb (number_of (bits_of_bytes (drop (length bytes - 3) bytes)))
+        (number_of (frame_check channel (take (length bytes - 3) bytes))) ≡ true
+frame_test channel n crc bytes part is read fits crc_is same =
+    eq-eqb _ _ (last_is n bytes part is read fits ∙ same ∙ crc_is)
 
-pub frame_test_fails : (channel : Channel) (n crc : ℕ) (bytes part : List ℕ) → part ≡ drop (length bytes - 3) bytes → bits_of (8 * length part) n ≡ bits_of_bytes part → n < 2 ^ (8 * length part)
+pub frame_test_fails : (channel : Channel) (n crc : ℕ) (bytes part : List ℕ) → part ≡ drop (length bytes - 3) bytes
+    → bits_of (8 * length part) n ≡ bits_of_bytes part → n < 2 ^ (8 * length part)
     → crc ≡ number_of (frame_check channel (take (length bytes - 3) bytes)) → (n ≡ crc → ⊥)
-    → eqb (number_of (bits_of_bytes (drop (length bytes - 3) bytes))) (number_of (frame_check channel (take (length bytes - 3) bytes))) ≡ false
-frame_test_fails channel n crc bytes part is read fits crc_is other = ne_eqb _ _ (λ same. other (sym (last_is n bytes part is read fits) ∙ same ∙ sym crc_is))
+    → eqb (number_of (bits_of_bytes (drop (length bytes - 3) bytes)))
+        (number_of (frame_check channel (take (length bytes - 3) bytes))) ≡ false
+frame_test_fails channel n crc bytes part is read fits crc_is other =
+    ne_eqb _ _ (λ same. other (sym (last_is n bytes part is read fits) ∙ same ∙ sym crc_is))
 
 -- ---- the fields
 
-flag_read : (place low h : ℕ) (bytes : List ℕ) → bits_of (place + (1 + low)) h ≡ bits_of_bytes (take 5 bytes) → eqb (bit_and (h / 2 ^ low) 1) 1 ≡ flag_at place bytes
-flag_read place low h bytes e = ap (λ (x : ℕ). eqb x 1) (sym (field-number place 1 low h (bits_of_bytes (take 5 bytes)) e))
+flag_read : (place low h : ℕ) (bytes : List ℕ) → bits_of (place + (1 + low)) h ≡ bits_of_bytes (take 5 bytes)
+    → eqb (bit_and (h / 2 ^ low) 1) 1 ≡ flag_at place bytes
+flag_read place low h bytes e = ap (λ (x : ℕ). eqb x 1) (sym
+    (field-number place 1 low h (bits_of_bytes (take 5 bytes)) e))
 
-cycle_read : (h : ℕ) (bytes : List ℕ) → bits_of 40 h ≡ bits_of_bytes (take 5 bytes) → bit_and h 63 ≡ number_at 34 6 bytes
+cycle_read : (h : ℕ) (bytes : List ℕ) → bits_of 40 h ≡ bits_of_bytes (take 5 bytes)
+    → bit_and h 63 ≡ number_at 34 6 bytes
 cycle_read h bytes e =
     sym (field-number 34 6 0 h (bits_of_bytes (take 5 bytes)) e ∙ ap (λ (x : ℕ). bit_and x 63) (div-one h))
 
 -- the slice of the bytes in the middle
-payload_read : (bytes : List ℕ) → 8 ≤ length bytes → take (length (take (length bytes - 3) bytes) - 5) (drop 5 (take (length bytes - 3) bytes)) ≡ payload_of bytes
+payload_read : (bytes : List ℕ) → 8 ≤ length bytes → take (length (take (length bytes - 3) bytes) - 5)
+    (drop 5 (take (length bytes - 3) bytes)) ≡ payload_of bytes
 payload_read bytes long =
     let sum : length bytes - 3 ≡ 5 + (length bytes - 8) = omega arith in
-    take_all (length (take (length bytes - 3) bytes) - 5) (drop 5 (take (length bytes - 3) bytes)) (omega (arith, length-drop 5 (take (length bytes - 3) bytes)))
+    take_all (length (take (length bytes - 3) bytes) - 5) (drop 5 (take (length bytes - 3) bytes))
+        (omega (arith, length-drop 5 (take (length bytes - 3) bytes)))
     ∙ ap (λ (n : ℕ). drop 5 (take n bytes)) sum ∙ drop-take 5 (length bytes - 8) bytes
 
-pub fields_read : (h cycle : ℕ) (payload bytes : List ℕ) → 8 ≤ length bytes → bits_of 40 h ≡ bits_of_bytes (take 5 bytes)
-    → payload ≡ take (length (take (length bytes - 3) bytes) - 5) (drop 5 (take (length bytes - 3) bytes)) → cycle ≡ bit_and h 63
+pub fields_read : (h cycle : ℕ) (payload bytes : List ℕ) → 8 ≤ length bytes
+    → bits_of 40 h ≡ bits_of_bytes (take 5 bytes)
+    → payload ≡ take (length (take (length bytes - 3) bytes) - 5) (drop 5 (take (length bytes - 3) bytes))
+        → cycle ≡ bit_and h 63
     → record {
       preamble = eqb (bit_and (h / 274877906944) 1) 1;
       has_data = eqb (bit_and (h / 137438953472) 1) 1;

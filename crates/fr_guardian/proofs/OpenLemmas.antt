@@ -26,7 +26,8 @@ use Rattle.fr_guardian.proofs.SpanLemmas.{AllIn, NoneIn, AreBelow, none_below, c
 
 -- the place is known by dividing
 at_place : (p : Parameters) → IsParameters p → (m : ℕ) (place : Place) → place_at p m ≡ Some place → IsAt p m place
-at_place p lawful m place is = subst (λ (o : Option Place). IfSome o (λ x. IsAt p m x)) is (located_found p lawful m (place_at p m) refl)
+at_place p lawful m place is = subst (λ (o : Option Place). IfSome o (λ x. IsAt p m x)) is
+    (located_found p lawful m (place_at p m) refl)
 
 -- ---- static slots
 
@@ -52,7 +53,8 @@ slot_place p earlier m h =
     grind (arith, nat_tests)
 
 -- an open static slot
-pub slot_open : (p : Parameters) → IsParameters p → (guarded : Bool) (owned : List Own) (cycle : ℕ) (channel : Channel) (earlier : ℕ)
+pub slot_open : (p : Parameters) → IsParameters p → (guarded : Bool) (owned : List Own) (cycle : ℕ) (channel : Channel)
+    (earlier : ℕ)
     → earlier < p.static_slots → is_open guarded owned cycle channel (static_slot (earlier + 1)) ≡ true
     → AllIn (IsOpenTo p guarded owned cycle channel) (earlier * p.static_mt) (earlier * p.static_mt + p.static_mt)
 slot_open p lawful guarded owned cycle channel earlier below opens m from before =
@@ -80,7 +82,8 @@ dynamic_place : (p : Parameters) (m : ℕ) → dynamic_start p ≤ m → m < sym
 unfolding place_at
 dynamic_place p m from before = grind (arith, nat_tests)
 
-pub dynamic_open : (p : Parameters) → IsParameters p → (guarded : Bool) (owned : List Own) (cycle : ℕ) (channel : Channel)
+pub dynamic_open : (p : Parameters) → IsParameters p → (guarded : Bool) (owned : List Own) (cycle : ℕ)
+    (channel : Channel)
     → AllIn (IsOpenTo p guarded owned cycle channel) (dynamic_start p) (symbol_start p)
 dynamic_open p lawful guarded owned cycle channel m from before =
     record { place = _; at = at_place p lawful m _ (dynamic_place p m from before); opens = refl }
@@ -91,11 +94,13 @@ data IsBehind (found : Option Place) : Type 0 where
   of_idle : (offset : ℕ) → found ≡ Some (Idle offset) → IsBehind found
   of_none : found ≡ None → IsBehind found
 
-symbol_place : (p : Parameters) (m : ℕ) → symbol_start p ≤ m → m < idle_start p → place_at p m ≡ Some (Symbol (m - symbol_start p))
+symbol_place : (p : Parameters) (m : ℕ) → symbol_start p ≤ m → m < idle_start p
+    → place_at p m ≡ Some (Symbol (m - symbol_start p))
 unfolding place_at
 symbol_place p m from before = grind (arith, nat_tests)
 
-idle_place : (p : Parameters) (m : ℕ) → idle_start p ≤ m → m < cycle_end p → place_at p m ≡ Some (Idle (m - idle_start p))
+idle_place : (p : Parameters) (m : ℕ) → idle_start p ≤ m → m < cycle_end p
+    → place_at p m ≡ Some (Idle (m - idle_start p))
 unfolding place_at
 idle_place p m from before = grind (arith, nat_tests)
 
@@ -115,12 +120,14 @@ behind_place p m from =
     ]
 
 never_open : (guarded : Bool) (owned : List Own) (cycle : ℕ) (channel : Channel) (place other : Place) → place ≡ other
-    → is_open guarded owned cycle channel (part_of other) ≡ false → is_open guarded owned cycle channel (part_of place) ≡ true → ⊥
+    → is_open guarded owned cycle channel (part_of other) ≡ false
+        → is_open guarded owned cycle channel (part_of place) ≡ true → ⊥
 never_open guarded owned cycle channel place other same closed opens =
     let there = subst (λ (x : Place). is_open guarded owned cycle channel (part_of x) ≡ true) same opens in
     cc
 
-pub behind_closed : (p : Parameters) (guarded : Bool) (owned : List Own) (cycle : ℕ) (channel : Channel) (m : ℕ) → symbol_start p ≤ m → IsOpenTo p guarded owned cycle channel m → ⊥
+pub behind_closed : (p : Parameters) (guarded : Bool) (owned : List Own) (cycle : ℕ) (channel : Channel) (m : ℕ)
+    → symbol_start p ≤ m → IsOpenTo p guarded owned cycle channel m → ⊥
 behind_closed p guarded owned cycle channel m from h =
     let here = located_only p m (place_at p m) refl h.place h.at in
     elim (behind_place p m from) [
@@ -132,7 +139,8 @@ behind_closed p guarded owned cycle channel m from h =
 -- ---- what the loop keeps
 
 -- the intervals before `since`, from which on all is open up to `upto`
-pub record IsFound (p : Parameters) (guarded : Bool) (owned : List Own) (cycle : ℕ) (channel : Channel) (since upto : ℕ) (spans : List Span) : Type 0 where
+pub record IsFound (p : Parameters) (guarded : Bool) (owned : List Own) (cycle : ℕ) (channel : Channel) (since upto : ℕ)
+    (spans : List Span) : Type 0 where
   pub below : AreBelow (IsOpenTo p guarded owned cycle channel) since spans
   pub ordered : since ≤ upto
   pub inside : AllIn (IsOpenTo p guarded owned cycle channel) since upto
@@ -140,12 +148,16 @@ pub record IsFound (p : Parameters) (guarded : Bool) (owned : List Own) (cycle :
 next_slot : (earlier size : ℕ) → (earlier + 1) * size ≡ earlier * size + size
 next_slot earlier size = omega arith
 
-module _ (p : Parameters) (lawful : IsParameters p) (guarded : Bool) (owned : List Own) (cycle : ℕ) (channel : Channel) where
+module _ (p : Parameters) (lawful : IsParameters p) (guarded : Bool) (owned : List Own) (cycle : ℕ)
+    (channel : Channel) where
   pub found_none : IsFound p guarded owned cycle channel 0 (0 * p.static_mt) []
-  found_none = record { below = none_below (IsOpenTo p guarded owned cycle channel); ordered = omega arith; inside = λ m from before. absurd (omega arith) }
+  found_none = record { below = none_below (IsOpenTo p guarded owned cycle channel); ordered = omega arith; inside =
+      λ m from before. absurd (omega arith) }
 
-  pub found_open : (earlier since : ℕ) (xs : List Span) → earlier < p.static_slots → IsFound p guarded owned cycle channel since (earlier * p.static_mt) xs
-      → is_open guarded owned cycle channel (static_slot (earlier + 1)) ≡ true → IsFound p guarded owned cycle channel since ((earlier + 1) * p.static_mt) xs
+  pub found_open : (earlier since : ℕ) (xs : List Span) → earlier < p.static_slots
+      → IsFound p guarded owned cycle channel since (earlier * p.static_mt) xs
+      → is_open guarded owned cycle channel (static_slot (earlier + 1)) ≡ true
+          → IsFound p guarded owned cycle channel since ((earlier + 1) * p.static_mt) xs
   found_open earlier since xs below h opens =
       record {
         below = h.below;
@@ -153,22 +165,30 @@ module _ (p : Parameters) (lawful : IsParameters p) (guarded : Bool) (owned : Li
         inside = λ m from before.
             elim (cases_lt m (earlier * p.static_mt)) [
               | inl sooner ↦ h.inside m from sooner
-              | inr here ↦ slot_open p lawful guarded owned cycle channel earlier below opens m here (omega (arith, next_slot earlier p.static_mt))
+              | inr here ↦ slot_open p lawful guarded owned cycle channel earlier below opens m here
+                  (omega (arith, next_slot earlier p.static_mt))
             ];
       }
 
-  pub found_closed : (earlier since : ℕ) (xs : List Span) → earlier < p.static_slots → IsFound p guarded owned cycle channel since (earlier * p.static_mt) xs
+  pub found_closed : (earlier since : ℕ) (xs : List Span) → earlier < p.static_slots
+      → IsFound p guarded owned cycle channel since (earlier * p.static_mt) xs
       → is_open guarded owned cycle channel (static_slot (earlier + 1)) ≡ false
-      → IsFound p guarded owned cycle channel (earlier * p.static_mt + p.static_mt) ((earlier + 1) * p.static_mt) (xs ++ run since (earlier * p.static_mt))
+      → IsFound p guarded owned cycle channel (earlier * p.static_mt + p.static_mt) ((earlier + 1) * p.static_mt)
+          (xs ++ run since (earlier * p.static_mt))
   found_closed earlier since xs below h closed =
       record {
-        below = closed_below (IsOpenTo p guarded owned cycle channel) xs since (earlier * p.static_mt) (earlier * p.static_mt + p.static_mt) h.below h.ordered h.inside (omega (arith, lawful.static_mt_fit.from_least)) (slot_closed p guarded owned cycle channel earlier below closed);
+        below = closed_below (IsOpenTo p guarded owned cycle channel) xs since (earlier * p.static_mt)
+            (earlier * p.static_mt + p.static_mt) h.below h.ordered h.inside
+            (omega (arith, lawful.static_mt_fit.from_least))
+            (slot_closed p guarded owned cycle channel earlier below closed);
         ordered = omega (arith, next_slot earlier p.static_mt);
         inside = λ m from before. absurd (omega (arith, next_slot earlier p.static_mt));
       }
 
-  pub found_all : (since : ℕ) (xs : List Span) → IsFound p guarded owned cycle channel since (p.static_slots * p.static_mt) xs
-      → AreMaximalIntervals (IsOpenTo p guarded owned cycle channel) (xs ++ run since (p.static_slots * p.static_mt + p.minislots * p.minislot_mt))
+  pub found_all : (since : ℕ) (xs : List Span) → IsFound p guarded owned cycle channel since
+      (p.static_slots * p.static_mt) xs
+      → AreMaximalIntervals (IsOpenTo p guarded owned cycle channel)
+          (xs ++ run since (p.static_slots * p.static_mt + p.minislots * p.minislot_mt))
   found_all since xs h =
       closed_last (IsOpenTo p guarded owned cycle channel) xs since (symbol_start p) h.below (omega (arith, h.ordered))
       (λ m from before.
@@ -179,18 +199,25 @@ module _ (p : Parameters) (lawful : IsParameters p) (guarded : Bool) (owned : Li
       (λ m from inside. behind_closed p guarded owned cycle channel m from inside)
 
   -- the same, with the length of a slot under another name
-  pub step_open : (size earlier since : ℕ) (xs : List Span) → size ≡ p.static_mt → earlier < p.static_slots → IsFound p guarded owned cycle channel since (earlier * size) xs
-      → is_open guarded owned cycle channel (static_slot (earlier + 1)) ≡ true → IsFound p guarded owned cycle channel since ((earlier + 1) * size) xs
+  pub step_open : (size earlier since : ℕ) (xs : List Span) → size ≡ p.static_mt → earlier < p.static_slots
+      → IsFound p guarded owned cycle channel since (earlier * size) xs
+      → is_open guarded owned cycle channel (static_slot (earlier + 1)) ≡ true
+          → IsFound p guarded owned cycle channel since ((earlier + 1) * size) xs
   step_open size earlier since xs is below h opens =
       subst (λ n. IsFound p guarded owned cycle channel since ((earlier + 1) * n) xs) (sym is)
-      (found_open earlier since xs below (subst (λ n. IsFound p guarded owned cycle channel since (earlier * n) xs) is h) opens)
+      (found_open earlier since xs below (subst (λ n. IsFound p guarded owned cycle channel since (earlier * n) xs) is
+          h) opens)
 
-  pub step_closed : (size earlier since : ℕ) (xs : List Span) → size ≡ p.static_mt → earlier < p.static_slots → IsFound p guarded owned cycle channel since (earlier * size) xs
+  pub step_closed : (size earlier since : ℕ) (xs : List Span) → size ≡ p.static_mt → earlier < p.static_slots
+      → IsFound p guarded owned cycle channel since (earlier * size) xs
       → is_open guarded owned cycle channel (static_slot (earlier + 1)) ≡ false
-      → IsFound p guarded owned cycle channel (earlier * size + size) ((earlier + 1) * size) (xs ++ run since (earlier * size))
+      → IsFound p guarded owned cycle channel (earlier * size + size) ((earlier + 1) * size)
+          (xs ++ run since (earlier * size))
   step_closed size earlier since xs is below h closed =
-      subst (λ n. IsFound p guarded owned cycle channel (earlier * n + n) ((earlier + 1) * n) (xs ++ run since (earlier * n))) (sym is)
-      (found_closed earlier since xs below (subst (λ n. IsFound p guarded owned cycle channel since (earlier * n) xs) is h) closed)
+      subst (λ n. IsFound p guarded owned cycle channel (earlier * n + n) ((earlier + 1) * n)
+          (xs ++ run since (earlier * n))) (sym is)
+      (found_closed earlier since xs below (subst (λ n. IsFound p guarded owned cycle channel since (earlier * n) xs) is
+          h) closed)
 
   pub step_last : (size slots since end : ℕ) (xs : List Span) → size ≡ p.static_mt → slots ≡ p.static_slots
       → end ≡ symbol_start p → IsFound p guarded owned cycle channel since (slots * size) xs
@@ -200,14 +227,17 @@ module _ (p : Parameters) (lawful : IsParameters p) (guarded : Bool) (owned : Li
       subst (λ n. AreMaximalIntervals (IsOpenTo p guarded owned cycle channel) (xs ++ run since n)) (sym same)
       (found_all since xs (subst (λ n. IsFound p guarded owned cycle channel since n xs) upto h))
 
-pub same_found : (p : Parameters) (guarded : Bool) (owned : List Own) (cycle : ℕ) (channel : Channel) (since other upto : ℕ) (xs ys : List Span) → since ≡ other → xs ≡ ys
+pub same_found : (p : Parameters) (guarded : Bool) (owned : List Own) (cycle : ℕ) (channel : Channel)
+    (since other upto : ℕ) (xs ys : List Span) → since ≡ other → xs ≡ ys
     → IsFound p guarded owned cycle channel other upto ys → IsFound p guarded owned cycle channel since upto xs
 same_found p guarded owned cycle channel since other upto xs ys a b h =
-    subst (λ n. IsFound p guarded owned cycle channel n upto xs) (sym a) (subst (λ (zs : List Span). IsFound p guarded owned cycle channel other upto zs) (sym b) h)
+    subst (λ n. IsFound p guarded owned cycle channel n upto xs) (sym a)
+        (subst (λ (zs : List Span). IsFound p guarded owned cycle channel other upto zs) (sym b) h)
 
 -- ---- the slots that a node owns
 
-pub owned_none : (owned : List Own) (cycle : ℕ) (channel : Channel) (slots : List Bool) → owned ≡ [] → slots ≡ replicate 2048 false
+pub owned_none : (owned : List Own) (cycle : ℕ) (channel : Channel) (slots : List Bool) → owned ≡ []
+    → slots ≡ replicate 2048 false
     → AreOwnedSlots owned cycle channel slots
 owned_none owned cycle channel slots none is = record {
   size = ap length is ∙ length-replicate 2048 false;
@@ -217,7 +247,8 @@ owned_none owned cycle channel slots none is = record {
 }
 
 any_more : (owned : List Own) (own : Own) (slot : ℕ) (channel : Channel) (cycle : ℕ)
-    → is_owned (owned ++ own ∷ []) slot channel cycle ≡ (is_owned owned slot channel cycle || claims slot channel cycle own)
+    → is_owned (owned ++ own ∷ []) slot channel cycle ≡ (is_owned owned slot channel cycle
+        || claims slot channel cycle own)
 any_more [] own slot channel cycle = or_none (claims slot channel cycle own)
   where
     or_none : (b : Bool) → (b || false) ≡ b
@@ -240,21 +271,25 @@ or_one true b is = refl
 or_one false b is = is
 
 -- a line claims no slot but its own
-other_slot : (own : Own) (slot : ℕ) (channel : Channel) (cycle : ℕ) → (slot ≡ own.slot → ⊥) → claims slot channel cycle own ≡ false
+other_slot : (own : Own) (slot : ℕ) (channel : Channel) (cycle : ℕ) → (slot ≡ own.slot → ⊥)
+    → claims slot channel cycle own ≡ false
 other_slot own slot channel cycle other =
     false_from_ne_true (claims slot channel cycle own) (λ pass.
-    let (front, in_cycle) = and_parts (own.slot == slot && includes own.channels channel) (cycle_admitted own.cycles cycle) pass in
+    let (front, in_cycle) = and_parts (own.slot == slot && includes own.channels channel)
+        (cycle_admitted own.cycles cycle) pass in
     let (same, includes_it) = and_parts (own.slot == slot) (includes own.channels channel) front in
     other (sym (eqb-true own.slot slot same)))
 
 -- a line that doesn't claim its own slot claims none
-pub owned_apart : (owned : List Own) (own : Own) (cycle : ℕ) (channel : Channel) (slots : List Bool) → AreOwnedSlots owned cycle channel slots
+pub owned_apart : (owned : List Own) (own : Own) (cycle : ℕ) (channel : Channel) (slots : List Bool)
+    → AreOwnedSlots owned cycle channel slots
     → claims own.slot channel cycle own ≡ false → AreOwnedSlots (owned ++ own ∷ []) cycle channel slots
 owned_apart owned own cycle channel slots h apart = record {
   size = h.size;
   each = λ slot below.
       h.each slot below
-      ∙ sym (any_more owned own slot channel cycle ∙ or_nothing (is_owned owned slot channel cycle) (claims slot channel cycle own) (unclaimed slot));
+      ∙ sym (any_more owned own slot channel cycle ∙ or_nothing (is_owned owned slot channel cycle)
+          (claims slot channel cycle own) (unclaimed slot));
 }
   where
     unclaimed : (slot : ℕ) → claims slot channel cycle own ≡ false
@@ -264,8 +299,10 @@ owned_apart owned own cycle channel slots h apart = record {
           | inr other ↦ other_slot own slot channel cycle other
         ]
 
-pub owned_more : (owned : List Own) (own : Own) (cycle : ℕ) (channel : Channel) (slots : List Bool) → AreOwnedSlots owned cycle channel slots
-    → claims own.slot channel cycle own ≡ true → own.slot < 2048 → AreOwnedSlots (owned ++ own ∷ []) cycle channel (set slots own.slot true)
+pub owned_more : (owned : List Own) (own : Own) (cycle : ℕ) (channel : Channel) (slots : List Bool)
+    → AreOwnedSlots owned cycle channel slots
+    → claims own.slot channel cycle own ≡ true → own.slot < 2048
+        → AreOwnedSlots (owned ++ own ∷ []) cycle channel (set slots own.slot true)
 owned_more owned own cycle channel slots h claimed within = record {
   size = length-set slots own.slot true ∙ h.size;
   each = λ slot below.
@@ -274,16 +311,21 @@ owned_more owned own cycle channel slots h claimed within = record {
             ap (λ k. get_or (set slots own.slot true) k false) same
             ∙ get_or-set_same slots own.slot true false (omega (arith, h.size, within))
             ∙ sym (any_more owned own slot channel cycle
-            ∙ or_one (is_owned owned slot channel cycle) (claims slot channel cycle own) (ap (λ k. claims k channel cycle own) same ∙ claimed))
+            ∙ or_one (is_owned owned slot channel cycle) (claims slot channel cycle own)
+                (ap (λ k. claims k channel cycle own) same ∙ claimed))
         | inr other ↦
             get_or-set_other slots own.slot slot true false other
             ∙ h.each slot below
             ∙ sym (any_more owned own slot channel cycle
-            ∙ or_nothing (is_owned owned slot channel cycle) (claims slot channel cycle own) (other_slot own slot channel cycle other))
+            ∙ or_nothing (is_owned owned slot channel cycle) (claims slot channel cycle own)
+                (other_slot own slot channel cycle other))
       ];
 }
 
 -- whether the slot is open, by the slots that the node owns
-pub open_by_slots : (owned : List Own) (cycle : ℕ) (channel : Channel) (slots : List Bool) (guarded : Bool) (number : ℕ) → AreOwnedSlots owned cycle channel slots
-    → number < 2048 → (not guarded || get_or slots number false) ≡ is_open guarded owned cycle channel (static_slot number)
-open_by_slots owned cycle channel slots guarded number h below = ap (λ (b : Bool). not guarded || b) (h.each number below)
+pub open_by_slots : (owned : List Own) (cycle : ℕ) (channel : Channel) (slots : List Bool) (guarded : Bool) (number : ℕ)
+    → AreOwnedSlots owned cycle channel slots
+    → number < 2048 → (not guarded || get_or slots number false) ≡ is_open guarded owned cycle channel
+        (static_slot number)
+open_by_slots owned cycle channel slots guarded number h below =
+    ap (λ (b : Bool). not guarded || b) (h.each number below)

@@ -15,7 +15,8 @@ use Rattle.fr_guardian.specs.Periods.{period}
 -- ---- repetitions
 
 -- what is true of each number of a list is true of one that is in it
-of_each : (test : ℕ → Bool) (n : ℕ) (xs : List ℕ) → list_any (λ x. n == x) xs ≡ true → list_all test xs ≡ true → test n ≡ true
+of_each : (test : ℕ → Bool) (n : ℕ) (xs : List ℕ) → list_any (λ x. n == x) xs ≡ true → list_all test xs ≡ true
+    → test n ≡ true
 of_each test n [] any all = cc any
 of_each test n (x ∷ xs) any all =
     let (here, later) = and_parts (test x) (list_all test xs) all in
@@ -47,22 +48,27 @@ abbrev pub AreWithin : ℕ → List Own → Type 0
 AreWithin most owned = Each (λ own. own.cycles.repetition ≤ most) owned
 
 claims_again : (most : ℕ) → is_repetition most ≡ true → (own : Own) → IsOwn own → own.cycles.repetition ≤ most
-    → (slot : ℕ) (channel : Channel) (cycle : ℕ) → claims slot channel (cycle % most) own ≡ claims slot channel cycle own
+    → (slot : ℕ) (channel : Channel) (cycle : ℕ) → claims slot channel (cycle % most) own ≡ claims slot channel cycle
+        own
 claims_again most is own lawful within slot channel cycle =
     ap (λ rest. own.slot == slot && includes own.channels channel && (rest == own.cycles.base))
     (mod-mod_of_dvd own.cycles.repetition cycle
-    (dvd_of_mod-eq-zero own.cycles.repetition (no_rest most own.cycles.repetition is lawful.cycles_are.repetition_is within)))
+    (dvd_of_mod-eq-zero own.cycles.repetition (no_rest most own.cycles.repetition is lawful.cycles_are.repetition_is
+        within)))
 
 pub owned_again : (most : ℕ) → is_repetition most ≡ true → (owned : List Own) → Each IsOwn owned → AreWithin most owned
-    → (slot : ℕ) (channel : Channel) (cycle : ℕ) → is_owned owned slot channel (cycle % most) ≡ is_owned owned slot channel cycle
+    → (slot : ℕ) (channel : Channel) (cycle : ℕ) → is_owned owned slot channel (cycle % most) ≡ is_owned owned slot
+        channel cycle
 owned_again most is [] lawful within slot channel cycle = refl
 owned_again most is (own ∷ owned) lawful within slot channel cycle =
-    ap (λ b. b || is_owned owned slot channel (cycle % most)) (claims_again most is own lawful.0 within.0 slot channel cycle)
+    ap (λ b. b || is_owned owned slot channel (cycle % most))
+        (claims_again most is own lawful.0 within.0 slot channel cycle)
     ∙ ap (λ b. claims slot channel cycle own || b) (owned_again most is owned lawful.1 within.1 slot channel cycle)
 
 pub within_64 : (owned : List Own) → Each IsOwn owned → AreWithin 64 owned
 within_64 [] lawful = tt
-within_64 (own ∷ owned) lawful = (at_most_64 own.cycles.repetition lawful.0.cycles_are.repetition_is, within_64 owned lawful.1)
+within_64 (own ∷ owned) lawful = (at_most_64 own.cycles.repetition lawful.0.cycles_are.repetition_is,
+    within_64 owned lawful.1)
 
 -- ---- the period
 
@@ -80,14 +86,16 @@ greater_is a b is_a is_b =
 pub period_is : (owned : List Own) → Each IsOwn owned → is_repetition (period owned) ≡ true
 unfolding period
 period_is [] lawful = refl
-period_is (own ∷ owned) lawful = greater_is own.cycles.repetition (period owned) lawful.0.cycles_are.repetition_is (period_is owned lawful.1)
+period_is (own ∷ owned) lawful = greater_is own.cycles.repetition (period owned) lawful.0.cycles_are.repetition_is
+    (period_is owned lawful.1)
 
 pub within_period : (owned : List Own) → AreWithin (period owned) owned
 unfolding period
 within_period [] = tt
 within_period (own ∷ owned) = (
   le-max_left own.cycles.repetition (period owned),
-  within_more (period owned) (max own.cycles.repetition (period owned)) (le-max_right own.cycles.repetition (period owned)) owned (within_period owned),
+  within_more (period owned) (max own.cycles.repetition (period owned))
+      (le-max_right own.cycles.repetition (period owned)) owned (within_period owned),
 )
 
 pub period_some : (owned : List Own) → 1 ≤ period owned
@@ -104,9 +112,12 @@ max_assoc a b c = omega arith
 pub period-append : (xs ys : List Own) → period (xs ++ ys) ≡ max (period xs) (period ys)
 unfolding period
 period-append [] ys = sym (max-eq_right (period_some ys))
-period-append (own ∷ xs) ys = ap (max own.cycles.repetition) (period-append xs ys) ∙ max_assoc own.cycles.repetition (period xs) (period ys)
+period-append (own ∷ xs) ys = ap (max own.cycles.repetition) (period-append xs ys) ∙ max_assoc own.cycles.repetition
+    (period xs) (period ys)
 
 -- with one line more
 pub period_more : (owned : List Own) (own : Own) → period (owned ++ own ∷ []) ≡ max own.cycles.repetition (period owned)
 unfolding period
-period_more owned own = let some = period_some owned in period-append owned (own ∷ []) ∙ (let e : max (period owned) (max own.cycles.repetition 1) ≡ max own.cycles.repetition (period owned) = omega (arith, some) in e)
+period_more owned own = let some = period_some owned in period-append owned (own ∷ []) ∙
+    (let e : max (period owned) (max own.cycles.repetition 1) ≡ max own.cycles.repetition (period owned) =
+    omega (arith, some) in e)

@@ -9,7 +9,8 @@ data Placed (x : Span) (xs : List Span) (n : ℕ) : Type 0 where
   in_first : x.0 ≤ n → n < x.1 → Placed x xs n
   in_later : (span : Span) → Contains xs span → span.0 ≤ n → n < span.1 → Placed x xs n
 
-placed_at : (x : Span) (xs : List Span) (n : ℕ) (span : Span) → Contains (x ∷ xs) span → span.0 ≤ n → n < span.1 → Placed x xs n
+placed_at : (x : Span) (xs : List Span) (n : ℕ) (span : Span) → Contains (x ∷ xs) span → span.0 ≤ n → n < span.1
+    → Placed x xs n
 placed_at x xs n span (zero, below, is) from before =
     in_first (subst (λ (s : Span). s.0 ≤ n) (sym is) from) (subst (λ (s : Span). n < s.1) (sym is) before)
 placed_at x xs n span (suc k, below, is) from before = in_later span (k, omega arith, is) from before
@@ -22,7 +23,8 @@ module _ (In : ℕ → Type 0) (x : Span) (xs : List Span) (h : AreMaximalInterv
   first_some = h.not_empty 0 x (omega arith)
 
   inside : (n : ℕ) → x.0 ≤ n → n < x.1 → In n
-  inside n from before = h.covers_only n (record { span = x; of_list = (0, omega arith, refl); from_start = from; before_end = before })
+  inside n from before = h.covers_only n
+      (record { span = x; of_list = (0, omega arith, refl); from_start = from; before_end = before })
 
   later : (span : Span) → Contains xs span → x.1 < span.0
   later span (k, below, is) = subst (λ (s : Span). x.1 < s.0) is (h.apart 0 (suc k) span (omega arith) (omega arith))
@@ -49,21 +51,26 @@ module _ (In : ℕ → Type 0) (x : Span) (xs : List Span) (h : AreMaximalInterv
         covers = λ n in_set.
             elim (placed x xs n (h.covers n in_set.0)) [
               | in_first from before ↦ absurd (omega (arith, in_set.1))
-              | in_later span of_list from before ↦ record { span = span; of_list = of_list; from_start = from; before_end = before }
+              | in_later span of_list from before ↦ record { span = span; of_list = of_list; from_start = from;
+                  before_end = before }
             ];
         covers_only = λ n covered. (
-          h.covers_only n (record { span = covered.span; of_list = (suc covered.of_list.0, omega (arith, covered.of_list.1), covered.of_list.2); from_start = covered.from_start; before_end = covered.before_end }),
+          h.covers_only n (record { span = covered.span; of_list =
+              (suc covered.of_list.0, omega (arith, covered.of_list.1), covered.of_list.2); from_start =
+              covered.from_start; before_end = covered.before_end }),
           omega (arith, later covered.span covered.of_list, covered.from_start),
         );
       }
 
-same_start : (In : ℕ → Type 0) (x y : Span) (xs ys : List Span) → AreMaximalIntervals In (x ∷ xs) → AreMaximalIntervals In (y ∷ ys) → x.0 ≡ y.0
+same_start : (In : ℕ → Type 0) (x y : Span) (xs ys : List Span) → AreMaximalIntervals In (x ∷ xs)
+    → AreMaximalIntervals In (y ∷ ys) → x.0 ≡ y.0
 same_start In x y xs ys h k =
     let there = least In x xs h y.0 (inside In y ys k y.0 (omega arith) (first_some In y ys k)) in
     let here = least In y ys k x.0 (inside In x xs h x.0 (omega arith) (first_some In x xs h)) in
     omega arith
 
-not_sooner : (In : ℕ → Type 0) (x y : Span) (xs ys : List Span) → AreMaximalIntervals In (x ∷ xs) → AreMaximalIntervals In (y ∷ ys) → y.1 ≤ x.1
+not_sooner : (In : ℕ → Type 0) (x y : Span) (xs ys : List Span) → AreMaximalIntervals In (x ∷ xs)
+    → AreMaximalIntervals In (y ∷ ys) → y.1 ≤ x.1
 not_sooner In x y xs ys h k =
     let start = same_start In x y xs ys h k in
     let some = first_some In x xs h in
@@ -72,7 +79,8 @@ not_sooner In x y xs ys h k =
       | inr later ↦ later
     ]
 
-same_end : (In : ℕ → Type 0) (x y : Span) (xs ys : List Span) → AreMaximalIntervals In (x ∷ xs) → AreMaximalIntervals In (y ∷ ys) → x.1 ≡ y.1
+same_end : (In : ℕ → Type 0) (x y : Span) (xs ys : List Span) → AreMaximalIntervals In (x ∷ xs)
+    → AreMaximalIntervals In (y ∷ ys) → x.1 ≡ y.1
 same_end In x y xs ys h k =
     let here = not_sooner In x y xs ys h k in
     let there = not_sooner In y x ys xs k h in
@@ -81,10 +89,13 @@ same_end In x y xs ys h k =
 same_span : (x y : Span) → x.0 ≡ y.0 → x.1 ≡ y.1 → x ≡ y
 same_span (a, b) (c, d) p q = cc
 
-no_first : (In : ℕ → Type 0) (x : Span) (xs : List Span) → AreMaximalIntervals In [] → AreMaximalIntervals In (x ∷ xs) → ⊥
-no_first In x xs h k = let covered = h.covers x.0 (inside In x xs k x.0 (omega arith) (first_some In x xs k)) in omega (arith, covered.of_list.1)
+no_first : (In : ℕ → Type 0) (x : Span) (xs : List Span) → AreMaximalIntervals In [] → AreMaximalIntervals In (x ∷ xs)
+    → ⊥
+no_first In x xs h k = let covered = h.covers x.0 (inside In x xs k x.0 (omega arith) (first_some In x xs k)) in omega
+    (arith, covered.of_list.1)
 
-pub maximal_same : (In : ℕ → Type 0) (xs ys : List Span) → AreMaximalIntervals In xs → AreMaximalIntervals In ys → ys ≡ xs
+pub maximal_same : (In : ℕ → Type 0) (xs ys : List Span) → AreMaximalIntervals In xs → AreMaximalIntervals In ys
+    → ys ≡ xs
 maximal_same In [] [] h k = refl
 maximal_same In [] (y ∷ ys) h k = absurd (no_first In y ys h k)
 maximal_same In (x ∷ xs) [] h k = absurd (no_first In x xs k h)

@@ -22,10 +22,12 @@ abbrev pub NoneIn : (ℕ → Type 0) → ℕ → ℕ → Type 0
 NoneIn In start end = (n : ℕ) → start ≤ n → n < end → In n → ⊥
 
 covered_left : (xs ys : List Span) (n : ℕ) → IsCovered xs n → IsCovered (xs ++ ys) n
-covered_left xs ys n h = record { span = h.span; of_list = Contains-append_left xs ys h.span h.of_list; from_start = h.from_start; before_end = h.before_end }
+covered_left xs ys n h = record { span = h.span; of_list = Contains-append_left xs ys h.span h.of_list; from_start =
+    h.from_start; before_end = h.before_end }
 
 covered_last : (xs : List Span) (x : Span) (n : ℕ) → x.0 ≤ n → n < x.1 → IsCovered (xs ++ x ∷ []) n
-covered_last xs x n from before = record { span = x; of_list = Contains-push xs x; from_start = from; before_end = before }
+covered_last xs x n from before = record { span = x; of_list = Contains-push xs x; from_start = from; before_end =
+    before }
 
 record IsWithin (x : Span) (n : ℕ) : Type 0 where
   from_start : x.0 ≤ n
@@ -34,9 +36,11 @@ record IsWithin (x : Span) (n : ℕ) : Type 0 where
 covered_cases : (xs : List Span) (x : Span) (n : ℕ) → IsCovered (xs ++ x ∷ []) n → IsCovered xs n ⊎ IsWithin x n
 covered_cases xs x n h =
     elim (Contains-push_cases xs x h.span h.of_list) [
-      | inl before ↦ inl (record { span = h.span; of_list = before; from_start = h.from_start; before_end = h.before_end })
+      | inl before ↦ inl (record { span = h.span; of_list = before; from_start = h.from_start; before_end =
+          h.before_end })
       | inr here ↦
-          inr (record { from_start = subst (λ (y : Span). y.0 ≤ n) (sym here) h.from_start; before_end = subst (λ (y : Span). n < y.1) (sym here) h.before_end })
+          inr (record { from_start = subst (λ (y : Span). y.0 ≤ n) (sym here) h.from_start; before_end =
+              subst (λ (y : Span). n < y.1) (sym here) h.before_end })
     ]
 
 -- one more interval, behind all others
@@ -45,7 +49,8 @@ pushed : (In : ℕ → Type 0) (xs : List Span) (since end : ℕ) → AreBelow I
 pushed In xs since end h some inside =
     record {
       not_empty = All-push (λ (x : Span). x.0 < x.1) xs (since, end) h.maximal.not_empty some;
-      apart = all_pairs_push (λ (x y : Span). x.1 < y.0) xs (since, end) h.maximal.apart (λ k d below. All-get_or (λ (x : Span). x.1 < since) xs k d below h.ended);
+      apart = all_pairs_push (λ (x y : Span). x.1 < y.0) xs (since, end) h.maximal.apart
+          (λ k d below. All-get_or (λ (x : Span). x.1 < since) xs k d below h.ended);
       covers = λ n in_set.
           elim (cases_lt n since) [
             | inl before ↦ covered_left xs _ n (h.maximal.covers n (in_set.0, before))
@@ -59,7 +64,8 @@ pushed In xs since end h some inside =
     }
 
 -- no more intervals
-kept : (In : ℕ → Type 0) (xs : List Span) (since end : ℕ) → AreBelow In since xs → since ≤ end → end ≤ since → AreMaximalIntervals (λ n. In n × (n < end)) xs
+kept : (In : ℕ → Type 0) (xs : List Span) (since end : ℕ) → AreBelow In since xs → since ≤ end → end ≤ since
+    → AreMaximalIntervals (λ n. In n × (n < end)) xs
 kept In xs since end h a b =
     record {
       not_empty = h.maximal.not_empty;
@@ -78,24 +84,30 @@ closed_at : (In : ℕ → Type 0) (xs : List Span) (since end : ℕ) → AreBelo
     → AreMaximalIntervals (λ n. In n × (n < end)) (xs ++ run since end)
 closed_at In xs since end h ordered inside =
     elim (cases_lt since end) [
-      | inl some ↦ subst (λ (ys : List Span). AreMaximalIntervals (λ n. In n × (n < end)) (xs ++ ys)) (sym (run-some since end some)) (pushed In xs since end h some inside)
+      | inl some ↦ subst (λ (ys : List Span). AreMaximalIntervals (λ n. In n × (n < end)) (xs ++ ys))
+          (sym (run-some since end some)) (pushed In xs since end h some inside)
       | inr none ↦
-          subst (λ (ys : List Span). AreMaximalIntervals (λ n. In n × (n < end)) (xs ++ ys)) (sym (run-none since end none))
-          (subst (λ (ys : List Span). AreMaximalIntervals (λ n. In n × (n < end)) ys) (sym (append-nil xs)) (kept In xs since end h ordered none))
+          subst (λ (ys : List Span). AreMaximalIntervals (λ n. In n × (n < end)) (xs ++ ys))
+              (sym (run-none since end none))
+          (subst (λ (ys : List Span). AreMaximalIntervals (λ n. In n × (n < end)) ys) (sym (append-nil xs))
+              (kept In xs since end h ordered none))
     ]
 
-ended_at : (xs : List Span) (since end : ℕ) → All (λ (x : Span). x.1 < since) xs → since ≤ end → All (λ (x : Span). x.1 ≤ end) (xs ++ run since end)
+ended_at : (xs : List Span) (since end : ℕ) → All (λ (x : Span). x.1 < since) xs → since ≤ end
+    → All (λ (x : Span). x.1 ≤ end) (xs ++ run since end)
 ended_at xs since end h ordered =
     let before = All-weaker (λ (x : Span). x.1 < since) (λ (x : Span). x.1 ≤ end) (λ x k. omega arith) xs h in
     elim (cases_lt since end) [
-      | inl some ↦ subst (λ (ys : List Span). All (λ (x : Span). x.1 ≤ end) (xs ++ ys)) (sym (run-some since end some)) (All-push (λ (x : Span). x.1 ≤ end) xs (since, end) before (omega arith))
+      | inl some ↦ subst (λ (ys : List Span). All (λ (x : Span). x.1 ≤ end) (xs ++ ys)) (sym (run-some since end some))
+          (All-push (λ (x : Span). x.1 ≤ end) xs (since, end) before (omega arith))
       | inr none ↦
           subst (λ (ys : List Span). All (λ (x : Span). x.1 ≤ end) (xs ++ ys)) (sym (run-none since end none))
           (subst (λ (ys : List Span). All (λ (x : Span). x.1 ≤ end) ys) (sym (append-nil xs)) before)
     ]
 
 -- the same intervals for another bound, where nothing of the set lies between
-same_below : (In : ℕ → Type 0) (xs : List Span) (end next : ℕ) → AreMaximalIntervals (λ n. In n × (n < end)) xs → end ≤ next → NoneIn In end next
+same_below : (In : ℕ → Type 0) (xs : List Span) (end next : ℕ) → AreMaximalIntervals (λ n. In n × (n < end)) xs
+    → end ≤ next → NoneIn In end next
     → AreMaximalIntervals (λ n. In n × (n < next)) xs
 same_below In xs end next h ordered none =
     record {
@@ -124,16 +136,20 @@ none_below In =
     }
 
 -- behind a part of the set comes one that isn't in it
-pub closed_below : (In : ℕ → Type 0) (xs : List Span) (since end next : ℕ) → AreBelow In since xs → since ≤ end → AllIn In since end → end < next → NoneIn In end next
+pub closed_below : (In : ℕ → Type 0) (xs : List Span) (since end next : ℕ) → AreBelow In since xs → since ≤ end
+    → AllIn In since end → end < next → NoneIn In end next
     → AreBelow In next (xs ++ run since end)
 closed_below In xs since end next h ordered inside more none =
     record {
-      maximal = same_below In (xs ++ run since end) end next (closed_at In xs since end h ordered inside) (omega arith) none;
-      ended = All-weaker (λ (x : Span). x.1 ≤ end) (λ (x : Span). x.1 < next) (λ x k. omega arith) (xs ++ run since end) (ended_at xs since end h.ended ordered);
+      maximal = same_below In (xs ++ run since end) end next (closed_at In xs since end h ordered inside)
+          (omega arith) none;
+      ended = All-weaker (λ (x : Span). x.1 ≤ end) (λ (x : Span). x.1 < next) (λ x k. omega arith) (xs ++ run since end)
+          (ended_at xs since end h.ended ordered);
     }
 
 -- behind the last part nothing is in the set
-pub closed_last : (In : ℕ → Type 0) (xs : List Span) (since end : ℕ) → AreBelow In since xs → since ≤ end → AllIn In since end → ((n : ℕ) → end ≤ n → In n → ⊥)
+pub closed_last : (In : ℕ → Type 0) (xs : List Span) (since end : ℕ) → AreBelow In since xs → since ≤ end
+    → AllIn In since end → ((n : ℕ) → end ≤ n → In n → ⊥)
     → AreMaximalIntervals In (xs ++ run since end)
 closed_last In xs since end h ordered inside none =
     let w = closed_at In xs since end h ordered inside in
@@ -150,9 +166,11 @@ closed_last In xs since end h ordered inside none =
 
 -- ---- sets of the same numbers
 
-pub same_set : (In Out : ℕ → Type 0) (xs : List Span) → ((n : ℕ) → In n → Out n) → ((n : ℕ) → Out n → In n) → AreMaximalIntervals In xs → AreMaximalIntervals Out xs
+pub same_set : (In Out : ℕ → Type 0) (xs : List Span) → ((n : ℕ) → In n → Out n) → ((n : ℕ) → Out n → In n)
+    → AreMaximalIntervals In xs → AreMaximalIntervals Out xs
 same_set In Out xs there back h =
-    record { not_empty = h.not_empty; apart = h.apart; covers = λ n in_set. h.covers n (back n in_set); covers_only = λ n covered. there n (h.covers_only n covered) }
+    record { not_empty = h.not_empty; apart = h.apart; covers = λ n in_set. h.covers n (back n in_set); covers_only =
+        λ n covered. there n (h.covers_only n covered) }
 
 pub none_of : (In : ℕ → Type 0) → ((n : ℕ) → In n → ⊥) → AreMaximalIntervals In []
 none_of In none =

@@ -43,53 +43,69 @@ below_there (y ∷ xs) (suc n) x is = omega (arith, below_there xs n x is)
 
 module _ (plan : Plan) (xs : List Entry) (number : ℕ) (line : Buffer) (there : buffer_at plan number ≡ Some line) where
   pub number_there : number < length (transmitters plan xs)
-  number_there = omega (arith, length-each (transmitter_of xs) 0 plan.buffers, below_there plan.buffers number line there)
+  number_there = omega (arith, length-each (transmitter_of xs) 0 plan.buffers,
+      below_there plan.buffers number line there)
 
-  pub commits_fit : length xs ≤ 81920 → IfSome (slice_get (transmitters plan xs) number) (λ b. b.tally.committed + 1 < 2 ^ 32)
+  pub commits_fit : length xs ≤ 81920 → IfSome (slice_get (transmitters plan xs) number)
+      (λ b. b.tally.committed + 1 < 2 ^ 32)
   commits_fit few =
       let is : slice_get (transmitters plan xs) number ≡ Some (transmitter_of xs number line.mode) =
-      get_each (transmitter_of xs) number plan.buffers ∙ ap (option_map (λ (b : Buffer). transmitter_of xs number b.mode)) there in
-      subst (λ (o : Option Transmitter). IfSome o (λ b. b.tally.committed + 1 < 2 ^ 32)) (sym is) (omega (arith, few, committed-most number xs))
+      get_each (transmitter_of xs) number plan.buffers ∙ ap (option_map
+          (λ (b : Buffer). transmitter_of xs number b.mode)) there in
+      subst (λ (o : Option Transmitter). IfSome o (λ b. b.tally.committed + 1 < 2 ^ 32)) (sym is)
+          (omega (arith, few, committed-most number xs))
 
 -- ---- a read
 
 module _ (s : State) (number : ℕ) (line : Buffer) (there : buffer_at s.plan number ≡ Some line) where
   pub received_line : is_receive line.mode ≡ true → received_by s number ≡ held s.params line.filter s.entries
-  received_line receives = ap (option_and_then (received_in s)) there ∙ ap (λ (t : Bool). cond t (held s.params line.filter s.entries) None) receives
+  received_line receives = ap (option_and_then (received_in s)) there ∙ ap
+      (λ (t : Bool). cond t (held s.params line.filter s.entries) None) receives
 
 -- ---- the queue
 
 module _ (params : Parameters) (plan : Plan) (xs : List Entry) where
-  pub queue-none : (o : Option Queue) → option_map (λ (q : Queue). let w : Waiting = record { capacity = q.capacity; frames = []; lost = 0 } in w) o ≡ option_map (waiting_of params plan []) o
+  pub queue-none : (o : Option Queue) → option_map (λ (q : Queue). let w : Waiting =
+      record { capacity = q.capacity; frames = []; lost = 0 } in w) o ≡ option_map (waiting_of params plan []) o
   queue-none None = refl
   queue-none (Some q) = ap Some (sym (waiting-none params plan q))
 
   pub queue-other : (e : Entry) → ((q : Queue) → moves_at params plan q xs e ≡ []) → is_answered_pop e ≡ false
-      → (o : Option Queue) → option_map (waiting_of params plan xs) o ≡ option_map (waiting_of params plan (xs ++ e ∷ [])) o
+      → (o : Option Queue) → option_map (waiting_of params plan xs) o ≡ option_map
+          (waiting_of params plan (xs ++ e ∷ [])) o
   queue-other e still unpopped None = refl
   queue-other e still unpopped (Some q) = ap Some (sym (waiting-other params plan q xs e (still q) unpopped))
 
   -- what a pop takes
-  pub front_of : (o : Option Queue) → option_and_then (λ (w : Waiting). slice_get w.frames 0) (option_map (waiting_of params plan xs) o) ≡ option_and_then (λ (q : Queue). oldest q.capacity (moves params plan q xs)) o
+  pub front_of : (o : Option Queue) → option_and_then (λ (w : Waiting). slice_get w.frames 0)
+      (option_map (waiting_of params plan xs) o) ≡ option_and_then
+      (λ (q : Queue). oldest q.capacity (moves params plan q xs)) o
   front_of None = refl
   front_of (Some q) = refl
 
-  pub front_receivable : AreEntries xs → (o : Option Queue) → IfSome (option_map frame_of (option_and_then (λ (q : Queue). oldest q.capacity (moves params plan q xs)) o)) IsReceivable
+  pub front_receivable : AreEntries xs → (o : Option Queue) → IfSome
+      (option_map frame_of (option_and_then (λ (q : Queue). oldest q.capacity (moves params plan q xs)) o)) IsReceivable
   front_receivable are None = tt
   front_receivable are (Some q) = oldest_is_receivable params plan q q.capacity xs are
 
-  pub queue-pop : (task : ℕ) (from : Option Origin) (o : Option Queue) → from ≡ option_map origin_of (option_and_then (λ (q : Queue). oldest q.capacity (moves params plan q xs)) o)
-      → option_map without_oldest (option_map (waiting_of params plan xs) o) ≡ option_map (waiting_of params plan (xs ++ Pop task from ∷ [])) o
+  pub queue-pop : (task : ℕ) (from : Option Origin) (o : Option Queue)
+      → from ≡ option_map origin_of (option_and_then (λ (q : Queue). oldest q.capacity (moves params plan q xs)) o)
+      → option_map without_oldest (option_map (waiting_of params plan xs) o) ≡ option_map
+          (waiting_of params plan (xs ++ Pop task from ∷ [])) o
   queue-pop task from None is = refl
   queue-pop task from (Some q) is = ap Some (waiting-pop params plan q xs task from is)
 
-  pub queue-observe : (n : ℕ) (a b : Seen) (window : Opportunity) → IsLegalJournal params plan xs → open_window xs ≡ Some window → (o : Option Queue) → plan.queue ≡ o
-      → with_arrivals plan (length xs) window (data_frame_seen params window A a) (data_frame_seen params window B b) o (option_map (waiting_of params plan xs) o)
+  pub queue-observe : (n : ℕ) (a b : Seen) (window : Opportunity) → IsLegalJournal params plan xs
+      → open_window xs ≡ Some window → (o : Option Queue) → plan.queue ≡ o
+      → with_arrivals plan (length xs) window (data_frame_seen params window A a) (data_frame_seen params window B b) o
+          (option_map (waiting_of params plan xs) o)
       ≡ option_map (waiting_of params plan (xs ++ Observe n a b ∷ [])) o
   queue-observe n a b window legal opened None there = refl
-  queue-observe n a b window legal opened (Some q) there = ap Some (waiting-observe params plan q there xs n a b window legal opened)
+  queue-observe n a b window legal opened (Some q) there = ap Some
+      (waiting-observe params plan q there xs n a b window legal opened)
 
-  pub losses_fit : length xs ≤ 81920 → (o : Option Queue) → IfSome (option_map (waiting_of params plan xs) o) (λ w. w.lost + 2 < 2 ^ 32)
+  pub losses_fit : length xs ≤ 81920 → (o : Option Queue) → IfSome (option_map (waiting_of params plan xs) o)
+      (λ w. w.lost + 2 < 2 ^ 32)
   losses_fit few None = tt
   losses_fit few (Some q) = omega (arith, few, lost-most params plan q xs)
 
@@ -99,7 +115,8 @@ for_some P (Some y) h = λ x e. let same : y ≡ x = cc in subst P same h
 
 -- a pop that is answered by the queue that is there
 pub pop_queued : (params : Parameters) (plan : Plan) (xs : List Entry) (from : Option Origin) (o : Option Queue)
-    → from ≡ option_map origin_of (option_and_then (λ (q : Queue). oldest q.capacity (moves params plan q xs)) o) → is_some o ≡ true
+    → from ≡ option_map origin_of (option_and_then (λ (q : Queue). oldest q.capacity (moves params plan q xs)) o)
+        → is_some o ≡ true
     → IsSomeAnd o (λ q. from ≡ option_map origin_of (oldest q.capacity (moves params plan q xs)))
 pop_queued params plan xs from None is some = absurd cc
 pop_queued params plan xs from (Some q) is some = is

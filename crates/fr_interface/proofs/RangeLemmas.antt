@@ -1,6 +1,7 @@
 -- Searches among lines, where nothing is found outside a range, and the range of each slot.
 use Rattle.std.proofs.Common.{◌≡◌, ℕ, zero, suc, ◌+◌, ◌-◌, ◌≤◌, ◌<◌, Bool, true, false, cond, eqb, ltb, ◌||◌, List, []}
-use Rattle.std.proofs.Common.{◌∷◌, ◌++◌, length, map, take, drop, set, slice_range, Option, Some, None, option_map, refl}
+use Rattle.std.proofs.Common.{◌∷◌, ◌++◌, length, map, take, drop, set, slice_range, Option, Some, None, option_map}
+use Rattle.std.proofs.Common.{refl}
 use Rattle.std.proofs.Common.{sym, ap, subst, ◌∙◌, arith, min, max, is_some, inl, inr, ◌⊎◌, replicate, get_or, take_all}
 use Rattle.std.proofs.Common.{length-append, length-set}
 use Rattle.std.proofs.Common.{eqb-true, ltb-true}
@@ -71,17 +72,21 @@ module _ {X : Type 0} (test : X → Bool) where
 
   -- ---- the first place
 
-  from_shift : (xs : List X) (m n : ℕ) → position_from test (m + n) xs ≡ option_map (λ p. m + p) (position_from test n xs)
+  from_shift : (xs : List X) (m n : ℕ) → position_from test (m + n) xs ≡ option_map (λ p. m + p)
+      (position_from test n xs)
   from_shift [] m n = refl
   from_shift (x ∷ xs) m n =
       let next : (m + n) + 1 ≡ m + (n + 1) = omega arith in
-      step (test x) (position_from test ((m + n) + 1) xs) (position_from test (n + 1) xs) (ap (λ (k : ℕ). position_from test k xs) next ∙ from_shift xs m (n + 1))
+      step (test x) (position_from test ((m + n) + 1) xs) (position_from test (n + 1) xs)
+          (ap (λ (k : ℕ). position_from test k xs) next ∙ from_shift xs m (n + 1))
     where
-      step : (t : Bool) (a b : Option ℕ) → a ≡ option_map (λ p. m + p) b → cond t (Some (m + n)) a ≡ option_map (λ p. m + p) (cond t (Some n) b)
+      step : (t : Bool) (a b : Option ℕ) → a ≡ option_map (λ p. m + p) b
+          → cond t (Some (m + n)) a ≡ option_map (λ p. m + p) (cond t (Some n) b)
       step true a b is = refl
       step false a b is = is
 
-  from_skip : (xs : List X) (first n : ℕ) → FailsBefore xs first → first ≤ length xs → position_from test n xs ≡ position_from test (n + first) (drop first xs)
+  from_skip : (xs : List X) (first n : ℕ) → FailsBefore xs first → first ≤ length xs
+      → position_from test n xs ≡ position_from test (n + first) (drop first xs)
   from_skip xs zero n h le = let same : n ≡ n + 0 = omega arith in ap (λ (k : ℕ). position_from test k xs) same
   from_skip [] (suc first) n h le = absurd (let none : ⊥ = omega (arith, le) in none)
   from_skip (x ∷ xs) (suc first) n h le =
@@ -94,8 +99,10 @@ module _ {X : Type 0} (test : X → Bool) where
   from_cut [] zero n h = refl
   from_cut [] (suc end) n h = refl
   from_cut (x ∷ xs) zero n h =
-      from_cut xs zero (n + 1) (all_from x xs h) ∙ ap (λ (t : Bool). cond t (Some n) (position_from test (n + 1) xs)) (sym (h 0 x refl (omega arith)))
-  from_cut (x ∷ xs) (suc end) n h = ap (λ (o : Option ℕ). cond (test x) (Some n) o) (from_cut xs end (n + 1) (later_from x xs end h))
+      from_cut xs zero (n + 1) (all_from x xs h) ∙ ap (λ (t : Bool). cond t (Some n) (position_from test (n + 1) xs))
+          (sym (h 0 x refl (omega arith)))
+  from_cut (x ∷ xs) (suc end) n h = ap (λ (o : Option ℕ). cond (test x) (Some n) o)
+      (from_cut xs end (n + 1) (later_from x xs end h))
 
   pub position-none : (xs : List X) → FailsFrom xs 0 → position test xs ≡ None
   position-none xs h = position_from-zero test xs ∙ sym (from_cut xs zero 0 h)
@@ -105,12 +112,14 @@ module _ {X : Type 0} (test : X → Bool) where
   any_skip : (xs : List X) (first : ℕ) → FailsBefore xs first → list_any test xs ≡ list_any test (drop first xs)
   any_skip xs zero h = refl
   any_skip [] (suc first) h = refl
-  any_skip (x ∷ xs) (suc first) h = ap (λ (t : Bool). t || list_any test xs) (h 0 x refl (omega arith)) ∙ any_skip xs first (later_before x xs first h)
+  any_skip (x ∷ xs) (suc first) h = ap (λ (t : Bool). t || list_any test xs) (h 0 x refl (omega arith))
+      ∙ any_skip xs first (later_before x xs first h)
 
   any_cut : (xs : List X) (end : ℕ) → FailsFrom xs end → list_any test (take end xs) ≡ list_any test xs
   any_cut [] zero h = refl
   any_cut [] (suc end) h = refl
-  any_cut (x ∷ xs) zero h = any_cut xs zero (all_from x xs h) ∙ ap (λ (t : Bool). t || list_any test xs) (sym (h 0 x refl (omega arith)))
+  any_cut (x ∷ xs) zero h = any_cut xs zero (all_from x xs h) ∙ ap (λ (t : Bool). t || list_any test xs)
+      (sym (h 0 x refl (omega arith)))
   any_cut (x ∷ xs) (suc end) h = ap (λ (t : Bool). test x || t) (any_cut xs end (later_from x xs end h))
 
   -- ---- in the range
@@ -118,7 +127,8 @@ module _ {X : Type 0} (test : X → Bool) where
   place_below : (xs : List X) (place : ℕ) → position test xs ≡ Some place → place < length xs
   place_below xs place is = below (ltb (position_or_len test xs) (length xs)) refl is
     where
-      below : (t : Bool) → ltb (position_or_len test xs) (length xs) ≡ t → cond t (Some (position_or_len test xs)) None ≡ Some place → place < length xs
+      below : (t : Bool) → ltb (position_or_len test xs) (length xs) ≡ t
+          → cond t (Some (position_or_len test xs)) None ≡ Some place → place < length xs
       below true at is =
           let same : position_or_len test xs ≡ place = cc in
           omega (arith, same, ltb-true (position_or_len test xs) (length xs) at)
@@ -129,7 +139,8 @@ module _ {X : Type 0} (test : X → Bool) where
     part = slice_range xs first end
 
     before : FailsBefore xs first
-    before = λ place x is lt. false_from_ne_true (test x) (λ pass. let inside = h.within place x is pass in omega (arith, lt, inside.0))
+    before = λ place x is lt. false_from_ne_true (test x) (λ pass. let inside =
+        h.within place x is pass in omega (arith, lt, inside.0))
 
     behind : FailsFrom (drop first xs) (end - first)
     behind = λ place x is le. false_from_ne_true (test x) (λ pass.
@@ -152,7 +163,8 @@ module _ {X : Type 0} (test : X → Bool) where
     pub any-within : list_any test xs ≡ list_any test part
     any-within = any_skip xs first before ∙ sym (any_cut (drop first xs) (end - first) behind)
 
-    found_at : (o : Option ℕ) → position test part ≡ o → option_and_then (slice_get part) o ≡ option_and_then (slice_get xs) (option_map (λ p. first + p) o)
+    found_at : (o : Option ℕ) → position test part ≡ o → option_and_then (slice_get part) o ≡ option_and_then
+        (slice_get xs) (option_map (λ p. first + p) o)
     found_at None is = refl
     found_at (Some place) is =
         let low : place < length part = place_below part place is in
@@ -160,7 +172,8 @@ module _ {X : Type 0} (test : X → Bool) where
         get_take (drop first xs) (end - first) place below ∙ get-drop first xs place
 
     -- what stands at the first place
-    pub found-within : option_and_then (slice_get part) (position test part) ≡ option_and_then (slice_get xs) (position test xs)
+    pub found-within : option_and_then (slice_get part) (position test part) ≡ option_and_then (slice_get xs)
+        (position test xs)
     found-within = found_at (position test part) refl ∙ ap (option_and_then (slice_get xs)) (sym position-within)
 
 -- ---- the range of a slot
@@ -170,7 +183,8 @@ length_map f [] = refl
 length_map f (x ∷ xs) = ap suc (length_map f xs)
 
 -- a test that only lines of the slot pass
-pub passes-of : {X : Type 0} (f : X → ℕ) (test : X → Bool) (slot : ℕ) (range : LineRange) (xs : List X) → IsRangeOf slot (map f xs) range
+pub passes-of : {X : Type 0} (f : X → ℕ) (test : X → Bool) (slot : ℕ) (range : LineRange) (xs : List X)
+    → IsRangeOf slot (map f xs) range
     → ((x : X) → test x ≡ true → f x ≡ slot) → PassesWithin test range.first range.end xs
 passes-of f test slot range xs is of = record {
   ordered = is.ordered;
@@ -178,63 +192,79 @@ passes-of f test slot range xs is of = record {
   within = λ place x there pass. is.covers place (map-get f xs place x there ∙ ap (λ (n : ℕ). Some n) (of x pass));
 }
 
-pub admits-slot : (f : Filter) (window : Opportunity) (channel : Channel) (slot : ℕ) → slot_of window channel ≡ Some slot → admits_window f window channel ≡ true → f.slot ≡ slot
+pub admits-slot : (f : Filter) (window : Opportunity) (channel : Channel) (slot : ℕ)
+    → slot_of window channel ≡ Some slot → admits_window f window channel ≡ true → f.slot ≡ slot
 admits-slot f window channel slot is admits =
     let there = subst (λ (o : Option ℕ). admits_slot f window.cycle channel o ≡ true) is admits in
     eqb-true f.slot slot (and_parts _ _ (and_parts _ _ there).0).0
 
-pub admits-none : (f : Filter) (window : Opportunity) (channel : Channel) → slot_of window channel ≡ None → admits_window f window channel ≡ false
+pub admits-none : (f : Filter) (window : Opportunity) (channel : Channel) → slot_of window channel ≡ None
+    → admits_window f window channel ≡ false
 admits-none f window channel is = ap (λ (o : Option ℕ). admits_slot f window.cycle channel o) is
 
 -- ---- searches among the lines of a slot
 
 module _ (plan : Plan) (window : Opportunity) (channel : Channel) where
-  admitting_slot : (slot : ℕ) → slot_of window channel ≡ Some slot → (b : Buffer) → is_admitting window channel b ≡ true → b.filter.slot ≡ slot
+  admitting_slot : (slot : ℕ) → slot_of window channel ≡ Some slot → (b : Buffer) → is_admitting window channel b ≡ true
+      → b.filter.slot ≡ slot
   admitting_slot slot there b pass = admits-slot b.filter window channel slot there (and_parts _ _ pass).1
 
-  taking_slot : (slot : ℕ) → slot_of window channel ≡ Some slot → (b : Buffer) → takes_window window channel b ≡ true → b.filter.slot ≡ slot
+  taking_slot : (slot : ℕ) → slot_of window channel ≡ Some slot → (b : Buffer) → takes_window window channel b ≡ true
+      → b.filter.slot ≡ slot
   taking_slot slot there b pass = admits-slot b.filter window channel slot there (and_parts _ _ pass).1
 
   pub transmitter-none : slot_of window channel ≡ None → transmitter plan window channel ≡ None
-  transmitter-none none = position-none (is_admitting window channel) plan.buffers (λ place b there le. and_right _ _ (admits-none b.filter window channel none))
+  transmitter-none none = position-none (is_admitting window channel) plan.buffers
+      (λ place b there le. and_right _ _ (admits-none b.filter window channel none))
 
-  module _ (slot : ℕ) (range : LineRange) (there : slot_of window channel ≡ Some slot) (is : IsRangeOf slot (buffer_slots plan.buffers) range) where
-    pub transmitter-in : transmitter plan window channel ≡ option_map (λ p. range.first + p) (position (is_admitting window channel) (slice_range plan.buffers range.first range.end))
+  module _ (slot : ℕ) (range : LineRange) (there : slot_of window channel ≡ Some slot)
+      (is : IsRangeOf slot (buffer_slots plan.buffers) range) where
+    pub transmitter-in : transmitter plan window channel ≡ option_map (λ p. range.first + p)
+        (position (is_admitting window channel) (slice_range plan.buffers range.first range.end))
     transmitter-in = position-within (is_admitting window channel) range.first range.end plan.buffers
-        (passes-of (λ (b : Buffer). b.filter.slot) (is_admitting window channel) slot range plan.buffers is (admitting_slot slot there))
+        (passes-of (λ (b : Buffer). b.filter.slot) (is_admitting window channel) slot range plan.buffers is
+            (admitting_slot slot there))
 
-    pub taken-in : list_any (takes_window window channel) plan.buffers ≡ list_any (takes_window window channel) (slice_range plan.buffers range.first range.end)
+    pub taken-in : list_any (takes_window window channel) plan.buffers ≡ list_any (takes_window window channel)
+        (slice_range plan.buffers range.first range.end)
     taken-in = any-within (takes_window window channel) range.first range.end plan.buffers
-        (passes-of (λ (b : Buffer). b.filter.slot) (takes_window window channel) slot range plan.buffers is (taking_slot slot there))
+        (passes-of (λ (b : Buffer). b.filter.slot) (takes_window window channel) slot range plan.buffers is
+            (taking_slot slot there))
 
-pub ownership-in : (owned : List Own) (slot : ℕ) (channel : Channel) (cycle : ℕ) (range : LineRange) → IsRangeOf slot (own_slots owned) range
+pub ownership-in : (owned : List Own) (slot : ℕ) (channel : Channel) (cycle : ℕ) (range : LineRange)
+    → IsRangeOf slot (own_slots owned) range
     → ownership (slice_range owned range.first range.end) slot channel cycle ≡ ownership owned slot channel cycle
 ownership-in owned slot channel cycle range is =
     found-within (claims slot channel cycle) range.first range.end owned
-    (passes-of (λ (o : Own). o.slot) (claims slot channel cycle) slot range owned is (λ o pass. eqb-true o.slot slot (and_parts _ _ (and_parts _ _ pass).0).0))
+    (passes-of (λ (o : Own). o.slot) (claims slot channel cycle) slot range owned is
+        (λ o pass. eqb-true o.slot slot (and_parts _ _ (and_parts _ _ pass).0).0))
 
 -- ---- a further line
 
 -- a place of a list with one more is one of the list, or the last
-get_more : {X : Type 0} (xs : List X) (x y : X) (place : ℕ) → slice_get (xs ++ x ∷ []) place ≡ Some y → (slice_get xs place ≡ Some y) ⊎ ((place ≡ length xs) × (x ≡ y))
+get_more : {X : Type 0} (xs : List X) (x y : X) (place : ℕ) → slice_get (xs ++ x ∷ []) place ≡ Some y
+    → (slice_get xs place ≡ Some y) ⊎ ((place ≡ length xs) × (x ≡ y))
 get_more [] x y zero is = inr (refl, same_some x y is)
 get_more [] x y (suc place) is = absurd (let none : ⊥ = cc in none)
 get_more (z ∷ xs) x y zero is = inl is
 get_more (z ∷ xs) x y (suc place) is = later (get_more xs x y place is)
   where
-    later : ((slice_get xs place ≡ Some y) ⊎ ((place ≡ length xs) × (x ≡ y))) → (slice_get (z ∷ xs) (suc place) ≡ Some y) ⊎ ((suc place ≡ suc (length xs)) × (x ≡ y))
+    later : ((slice_get xs place ≡ Some y) ⊎ ((place ≡ length xs) × (x ≡ y)))
+        → (slice_get (z ∷ xs) (suc place) ≡ Some y) ⊎ ((suc place ≡ suc (length xs)) × (x ≡ y))
     later (inl h) = inl h
     later (inr h) = inr (ap suc h.0, h.1)
 
 -- what a place holds after a write
-get_written : {X : Type 0} (xs : List X) (at place : ℕ) (x y : X) → slice_get (set xs at x) place ≡ Some y → ((place ≡ at) × (x ≡ y)) ⊎ ((place ≡ at → ⊥) × (slice_get xs place ≡ Some y))
+get_written : {X : Type 0} (xs : List X) (at place : ℕ) (x y : X) → slice_get (set xs at x) place ≡ Some y
+    → ((place ≡ at) × (x ≡ y)) ⊎ ((place ≡ at → ⊥) × (slice_get xs place ≡ Some y))
 get_written [] at place x y is = absurd (let none : ⊥ = cc in none)
 get_written (z ∷ xs) zero zero x y is = inl (refl, same_some x y is)
 get_written (z ∷ xs) zero (suc place) x y is = inr ((λ e. let none : ⊥ = omega (arith, e) in none), is)
 get_written (z ∷ xs) (suc at) zero x y is = inr ((λ e. let none : ⊥ = omega (arith, e) in none), is)
 get_written (z ∷ xs) (suc at) (suc place) x y is = later (get_written xs at place x y is)
   where
-    later : (((place ≡ at) × (x ≡ y)) ⊎ ((place ≡ at → ⊥) × (slice_get xs place ≡ Some y))) → ((suc place ≡ suc at) × (x ≡ y)) ⊎ ((suc place ≡ suc at → ⊥) × (slice_get (z ∷ xs) (suc place) ≡ Some y))
+    later : (((place ≡ at) × (x ≡ y)) ⊎ ((place ≡ at → ⊥) × (slice_get xs place ≡ Some y)))
+        → ((suc place ≡ suc at) × (x ≡ y)) ⊎ ((suc place ≡ suc at → ⊥) × (slice_get (z ∷ xs) (suc place) ≡ Some y))
     later (inl h) = inl (ap suc h.0, h.1)
     later (inr h) = inr ((λ e. h.0 (omega (arith, e))), h.1)
 
@@ -242,17 +272,21 @@ module _ (slots : List ℕ) (range : LineRange) where
   longer : (slot : ℕ) → length (slots ++ slot ∷ []) ≡ length slots + 1
   longer slot = length-append slots (slot ∷ [])
 
-  within_widened : (place : ℕ) (t : Bool) → eqb range.first range.end ≡ t → range.end ≤ length slots → IsWithin place range
+  within_widened : (place : ℕ) (t : Bool) → eqb range.first range.end ≡ t → range.end ≤ length slots
+      → IsWithin place range
       → IsWithin place (record { first = cond t (length slots) range.first; end = length slots + 1 })
-  within_widened place true empty ends inside = absurd (let same = eqb-true range.first range.end empty in let none : ⊥ = omega (arith, same, inside.0, inside.1) in none)
+  within_widened place true empty ends inside = absurd (let same =
+      eqb-true range.first range.end empty in let none : ⊥ = omega (arith, same, inside.0, inside.1) in none)
   within_widened place false empty ends inside = (inside.0, omega (arith, inside.1, ends))
 
-  last_widened : (t : Bool) → range.first ≤ range.end → range.end ≤ length slots → IsWithin (length slots) (record { first = cond t (length slots) range.first; end = length slots + 1 })
+  last_widened : (t : Bool) → range.first ≤ range.end → range.end ≤ length slots
+      → IsWithin (length slots) (record { first = cond t (length slots) range.first; end = length slots + 1 })
   last_widened true ordered ends = (omega arith, omega arith)
   last_widened false ordered ends = (omega (arith, ordered, ends), omega arith)
 
   -- the range of the further line's slot
-  widened-is : (slot : ℕ) → IsRangeOf slot slots range → IsRangeOf slot (slots ++ slot ∷ []) (widened range (length slots))
+  widened-is : (slot : ℕ) → IsRangeOf slot slots range → IsRangeOf slot (slots ++ slot ∷ [])
+      (widened range (length slots))
   widened-is slot is =
       let last = last_widened (eqb range.first range.end) is.ordered is.ends in
       record {
@@ -261,31 +295,38 @@ module _ (slots : List ℕ) (range : LineRange) where
         covers = λ place there. by_place place (get_more slots slot slot place there);
       }
     where
-      by_place : (place : ℕ) → ((slice_get slots place ≡ Some slot) ⊎ ((place ≡ length slots) × (slot ≡ slot))) → IsWithin place (widened range (length slots))
+      by_place : (place : ℕ) → ((slice_get slots place ≡ Some slot) ⊎ ((place ≡ length slots) × (slot ≡ slot)))
+          → IsWithin place (widened range (length slots))
       by_place place (inl h) = within_widened place (eqb range.first range.end) refl is.ends (is.covers place h)
-      by_place place (inr h) = subst (λ (n : ℕ). IsWithin n (widened range (length slots))) (sym h.0) (last_widened (eqb range.first range.end) is.ordered is.ends)
+      by_place place (inr h) = subst (λ (n : ℕ). IsWithin n (widened range (length slots))) (sym h.0)
+          (last_widened (eqb range.first range.end) is.ordered is.ends)
 
   -- the ranges of the others
-  other-is : (slot other : ℕ) → (other ≡ slot → ⊥) → IsRangeOf other slots range → IsRangeOf other (slots ++ slot ∷ []) range
+  other-is : (slot other : ℕ) → (other ≡ slot → ⊥) → IsRangeOf other slots range
+      → IsRangeOf other (slots ++ slot ∷ []) range
   other-is slot other differs is = record {
     ordered = is.ordered;
     ends = omega (arith, is.ends, longer slot);
     covers = λ place there. by_place place (get_more slots slot other place there);
   }
     where
-      by_place : (place : ℕ) → ((slice_get slots place ≡ Some other) ⊎ ((place ≡ length slots) × (slot ≡ other))) → IsWithin place range
+      by_place : (place : ℕ) → ((slice_get slots place ≡ Some other) ⊎ ((place ≡ length slots) × (slot ≡ other)))
+          → IsWithin place range
       by_place place (inl h) = is.covers place h
       by_place place (inr h) = absurd (differs (sym h.1))
 
 module _ (slots : List ℕ) (ranges : List LineRange) (are : AreRanges slots ranges) (slot : ℕ) where
   -- with one line more
-  pub ranges-more : (range : LineRange) → slice_get ranges slot ≡ Some range → AreRanges (slots ++ slot ∷ []) (set ranges slot (widened range (length slots)))
+  pub ranges-more : (range : LineRange) → slice_get ranges slot ≡ Some range
+      → AreRanges (slots ++ slot ∷ []) (set ranges slot (widened range (length slots)))
   ranges-more range at = record {
     all = length-set ranges slot (widened range (length slots)) ∙ are.all;
-    each = λ other found there. by_slot other found (get_written ranges slot other (widened range (length slots)) found there);
+    each = λ other found there. by_slot other found (get_written ranges slot other
+        (widened range (length slots)) found there);
   }
     where
-      by_slot : (other : ℕ) (found : LineRange) → (((other ≡ slot) × (widened range (length slots) ≡ found)) ⊎ ((other ≡ slot → ⊥) × (slice_get ranges other ≡ Some found))) → IsRangeOf other (slots ++ slot ∷ []) found
+      by_slot : (other : ℕ) (found : LineRange) → (((other ≡ slot) × (widened range (length slots) ≡ found)) ⊎
+          ((other ≡ slot → ⊥) × (slice_get ranges other ≡ Some found))) → IsRangeOf other (slots ++ slot ∷ []) found
       by_slot other found (inl h) =
           subst (λ (n : ℕ). IsRangeOf n (slots ++ slot ∷ []) found) (sym h.0)
           (subst (IsRangeOf slot (slots ++ slot ∷ [])) h.1 (widened-is slots range slot (are.each slot range at)))
@@ -298,29 +339,38 @@ get_replicate (suc n) zero x y is = same_some x y is
 get_replicate (suc n) (suc place) x y is = get_replicate n place x y is
 
 empty-is : (slot : ℕ) → IsRangeOf slot [] (record { first = 0; end = 0 })
-empty-is slot = record { ordered = omega arith; ends = omega arith; covers = λ place there. absurd (let none : ⊥ = cc in none) }
+empty-is slot = record { ordered = omega arith; ends = omega arith; covers =
+    λ place there. absurd (let none : ⊥ = cc in none) }
 
-ranges_none : (ranges : List LineRange) (n : ℕ) → n ≡ slot_count → ranges ≡ replicate n (record { first = 0; end = 0 }) → AreRanges [] ranges
+ranges_none : (ranges : List LineRange) (n : ℕ) → n ≡ slot_count → ranges ≡ replicate n (record { first = 0; end = 0 })
+    → AreRanges [] ranges
 ranges_none ranges n all are = record {
   all = ap length are ∙ length-replicate n (record { first = 0; end = 0 }) ∙ all;
-  each = λ slot range there. subst (IsRangeOf slot []) (get_replicate n slot (record { first = 0; end = 0 }) range (ap (λ (l : List LineRange). slice_get l slot) (sym are) ∙ there)) (empty-is slot);
+  each = λ slot range there. subst (IsRangeOf slot []) (get_replicate n slot (record { first = 0; end = 0 }) range
+      (ap (λ (l : List LineRange). slice_get l slot) (sym are) ∙ there)) (empty-is slot);
 }
 
-pub ranges-none : (ranges : List LineRange) → ranges ≡ replicate 2048 (record { first = 0; end = 0 }) → AreRanges [] ranges
+pub ranges-none : (ranges : List LineRange) → ranges ≡ replicate 2048 (record { first = 0; end = 0 })
+    → AreRanges [] ranges
 ranges-none ranges are = ranges_none ranges 2048 refl are
 
 -- the lines before a place, and the one that stands there
-taken_more : {X : Type 0} (f : X → ℕ) (xs : List X) (place : ℕ) (x : X) → place < length xs → x ≡ get_or xs place x → map f (take (place + 1) xs) ≡ map f (take place xs) ++ f x ∷ []
+taken_more : {X : Type 0} (f : X → ℕ) (xs : List X) (place : ℕ) (x : X) → place < length xs → x ≡ get_or xs place x
+    → map f (take (place + 1) xs) ≡ map f (take place xs) ++ f x ∷ []
 taken_more f xs place x lt is = map_more f xs place x lt ∙ ap (λ (y : _). map f (take place xs) ++ f y ∷ []) (sym is)
 
-pub ranges-next : {X : Type 0} (f : X → ℕ) (xs : List X) (place : ℕ) (x : X) (ranges : List LineRange) → place < length xs → x ≡ get_or xs place x
+pub ranges-next : {X : Type 0} (f : X → ℕ) (xs : List X) (place : ℕ) (x : X) (ranges : List LineRange)
+    → place < length xs → x ≡ get_or xs place x
     → AreRanges (map f (take place xs) ++ f x ∷ []) ranges → AreRanges (map f (take (place + 1) xs)) ranges
-ranges-next f xs place x ranges lt is are = subst (λ (l : List ℕ). AreRanges l ranges) (sym (taken_more f xs place x lt is)) are
+ranges-next f xs place x ranges lt is are = subst (λ (l : List ℕ). AreRanges l ranges)
+    (sym (taken_more f xs place x lt is)) are
 
-pub length-before : {X : Type 0} (f : X → ℕ) (xs : List X) (place : ℕ) → place < length xs → length (map f (take place xs)) ≡ place
+pub length-before : {X : Type 0} (f : X → ℕ) (xs : List X) (place : ℕ) → place < length xs
+    → length (map f (take place xs)) ≡ place
 length-before f xs place lt = length_map f (take place xs) ∙ length-take-le place xs (omega (arith, lt))
 
-pub ranges-all : {X : Type 0} (f : X → ℕ) (xs : List X) (place : ℕ) (ranges : List LineRange) → length xs ≤ place → AreRanges (map f (take place xs)) ranges → AreRanges (map f xs) ranges
+pub ranges-all : {X : Type 0} (f : X → ℕ) (xs : List X) (place : ℕ) (ranges : List LineRange) → length xs ≤ place
+    → AreRanges (map f (take place xs)) ranges → AreRanges (map f xs) ranges
 ranges-all f xs place ranges le are = subst (λ (l : List _). AreRanges (map f l) ranges) (take_all place xs le) are
 
 -- ---- two ranges as one
@@ -340,16 +390,19 @@ module _ (n : ℕ) (one other : LineRange) where
 
 module _ (one other : LineRange) (place : ℕ) where
   abbrev Joins : Bool → Bool → Type 0
-  Joins t u = IsWithin place (cond t other (cond u one (record { first = min one.first other.first; end = max one.end other.end })))
+  Joins t u = IsWithin place (cond t other (cond u one
+      (record { first = min one.first other.first; end = max one.end other.end })))
 
   joins_one : (t u : Bool) → eqb one.first one.end ≡ t → IsWithin place one → Joins t u
-  joins_one true u empty inside = absurd (let same = eqb-true one.first one.end empty in let none : ⊥ = omega (arith, same, inside.0, inside.1) in none)
+  joins_one true u empty inside = absurd (let same = eqb-true one.first one.end empty in let none : ⊥ =
+      omega (arith, same, inside.0, inside.1) in none)
   joins_one false true empty inside = inside
   joins_one false false empty inside = (omega (arith, inside.0), omega (arith, inside.1))
 
   joins_other : (t u : Bool) → eqb other.first other.end ≡ u → IsWithin place other → Joins t u
   joins_other true u empty inside = inside
-  joins_other false true empty inside = absurd (let same = eqb-true other.first other.end empty in let none : ⊥ = omega (arith, same, inside.0, inside.1) in none)
+  joins_other false true empty inside = absurd (let same = eqb-true other.first other.end empty in let none : ⊥ =
+      omega (arith, same, inside.0, inside.1) in none)
   joins_other false false empty inside = (omega (arith, inside.0), omega (arith, inside.1))
 
   pub joined-one : IsWithin place one → IsWithin place (joined one other)
@@ -368,7 +421,8 @@ module _ (window : Opportunity) (channel : Channel) where
       by_test true = refl
       by_test false = refl
 
-  frame_admits : (number : ℕ) (frame : Option Fields) (b : Buffer) → is_some (frame_on number window channel frame b) ≡ true → admits_window b.filter window channel ≡ true
+  frame_admits : (number : ℕ) (frame : Option Fields) (b : Buffer)
+      → is_some (frame_on number window channel frame b) ≡ true → admits_window b.filter window channel ≡ true
   frame_admits number frame b some = by_test (admits_window b.filter window channel) some
     where
       by_test : (t : Bool) → is_some (cond t (option_map (arrival_of number channel) frame) None) ≡ true → t ≡ true
@@ -376,28 +430,34 @@ module _ (window : Opportunity) (channel : Channel) where
       by_test false some = absurd (let none : ⊥ = cc in none)
 
   -- where no frame came
-  pub taking-none : (buffers : List Buffer) (frame : Option Fields) → frame ≡ None → IsTakingRange buffers window channel frame (record { first = 0; end = 0 })
+  pub taking-none : (buffers : List Buffer) (frame : Option Fields) → frame ≡ None
+      → IsTakingRange buffers window channel frame (record { first = 0; end = 0 })
   taking-none buffers frame is = record {
     ordered = omega arith;
     ends = omega arith;
-    covers = λ number place b there some. absurd (both_ways _ (ap (λ (f : Option Fields). is_some (frame_on number window channel f b)) is ∙ frame_none number b) some);
+    covers = λ number place b there some. absurd (both_ways _
+        (ap (λ (f : Option Fields). is_some (frame_on number window channel f b)) is ∙ frame_none number b) some);
   }
 
   -- where the channel has no slot
-  pub taking-nowhere : (buffers : List Buffer) (frame : Option Fields) → slot_of window channel ≡ None → IsTakingRange buffers window channel frame (record { first = 0; end = 0 })
+  pub taking-nowhere : (buffers : List Buffer) (frame : Option Fields) → slot_of window channel ≡ None
+      → IsTakingRange buffers window channel frame (record { first = 0; end = 0 })
   taking-nowhere buffers frame is = record {
     ordered = omega arith;
     ends = omega arith;
-    covers = λ number place b there some. absurd (both_ways _ (admits-none b.filter window channel is) (frame_admits number frame b some));
+    covers = λ number place b there some. absurd (both_ways _ (admits-none b.filter window channel is)
+        (frame_admits number frame b some));
   }
 
-  pub taking-of : (buffers : List Buffer) (frame : Option Fields) (slot : ℕ) (range : LineRange) → slot_of window channel ≡ Some slot → IsRangeOf slot (buffer_slots buffers) range
+  pub taking-of : (buffers : List Buffer) (frame : Option Fields) (slot : ℕ) (range : LineRange)
+      → slot_of window channel ≡ Some slot → IsRangeOf slot (buffer_slots buffers) range
       → IsTakingRange buffers window channel frame range
   taking-of buffers frame slot range there is = record {
     ordered = is.ordered;
     ends = omega (arith, is.ends, length_map (λ (b : Buffer). b.filter.slot) buffers);
     covers = λ number place b at some.
-        is.covers place (map-get (λ (b : Buffer). b.filter.slot) buffers place b at ∙ ap (λ (n : ℕ). Some n) (admits-slot b.filter window channel slot there (frame_admits number frame b some)));
+        is.covers place (map-get (λ (b : Buffer). b.filter.slot) buffers place b at ∙ ap (λ (n : ℕ). Some n)
+            (admits-slot b.filter window channel slot there (frame_admits number frame b some)));
   }
 
 module _ (number : ℕ) (window : Opportunity) (a b : Option Fields) where
@@ -405,44 +465,58 @@ module _ (number : ℕ) (window : Opportunity) (a b : Option Fields) where
   abbrev TakesNone : Buffer → Type 0
   TakesNone line = taken_by number window a b line ≡ None
 
-  none_taken : (line : Buffer) → is_some (frame_on number window A a line) ≡ false → is_some (frame_on number window B b line) ≡ false → TakesNone line
-  none_taken line on_a on_b = by_mode (is_receive line.mode) (frame_on number window A a line) (frame_on number window B b line) on_a on_b
+  none_taken : (line : Buffer) → is_some (frame_on number window A a line) ≡ false
+      → is_some (frame_on number window B b line) ≡ false → TakesNone line
+  none_taken line on_a on_b = by_mode (is_receive line.mode) (frame_on number window A a line)
+      (frame_on number window B b line) on_a on_b
     where
-      by_mode : (t : Bool) (x y : Option Arrival) → is_some x ≡ false → is_some y ≡ false → cond t (option_or x y) None ≡ None
+      by_mode : (t : Bool) (x y : Option Arrival) → is_some x ≡ false → is_some y ≡ false
+          → cond t (option_or x y) None ≡ None
       by_mode false x y p q = refl
       by_mode true None None p q = refl
       by_mode true (Some x) y p q = absurd (let none : ⊥ = cc in none)
       by_mode true None (Some y) p q = absurd (let none : ⊥ = cc in none)
 
-  stored_skip : (lines : List Buffer) (held : List (Option Arrival)) (first : ℕ) → ((place : ℕ) (line : Buffer) → slice_get lines place ≡ Some line → place < first → TakesNone line)
+  stored_skip : (lines : List Buffer) (held : List (Option Arrival)) (first : ℕ)
+      → ((place : ℕ) (line : Buffer) → slice_get lines place ≡ Some line → place < first → TakesNone line)
       → stored_all number window a b (take first lines) held ≡ held
   stored_skip lines held zero h = refl
   stored_skip [] held (suc first) h = refl
   stored_skip (line ∷ lines) [] (suc first) h = refl
   stored_skip (line ∷ lines) (x ∷ held) (suc first) h =
-      λ i. option_or (h 0 line refl (omega arith) i) x ∷ stored_skip lines held first (λ place y is lt. h (suc place) y is (omega (arith, lt))) i
+      λ i. option_or (h 0 line refl (omega arith) i) x ∷ stored_skip lines held first
+          (λ place y is lt. h (suc place) y is (omega (arith, lt))) i
 
-  stored_cut : (lines : List Buffer) (held : List (Option Arrival)) (end : ℕ) → ((place : ℕ) (line : Buffer) → slice_get lines place ≡ Some line → end ≤ place → TakesNone line)
+  stored_cut : (lines : List Buffer) (held : List (Option Arrival)) (end : ℕ)
+      → ((place : ℕ) (line : Buffer) → slice_get lines place ≡ Some line → end ≤ place → TakesNone line)
       → stored_all number window a b (take end lines) held ≡ stored_all number window a b lines held
   stored_cut [] held zero h = refl
   stored_cut [] held (suc end) h = refl
   stored_cut (line ∷ lines) [] zero h = refl
   stored_cut (line ∷ lines) [] (suc end) h = refl
   stored_cut (line ∷ lines) (x ∷ held) zero h =
-      λ i. option_or (sym (h 0 line refl (omega arith)) i) x ∷ stored_cut lines held zero (λ place y is le. h (suc place) y is (omega arith)) i
+      λ i. option_or (sym (h 0 line refl (omega arith)) i) x ∷ stored_cut lines held zero
+          (λ place y is le. h (suc place) y is (omega arith)) i
   stored_cut (line ∷ lines) (x ∷ held) (suc end) h =
-      ap (λ (rest : List (Option Arrival)). option_or (taken_by number window a b line) x ∷ rest) (stored_cut lines held end (λ place y is le. h (suc place) y is (omega (arith, le))))
+      ap (λ (rest : List (Option Arrival)). option_or (taken_by number window a b line) x ∷ rest)
+          (stored_cut lines held end (λ place y is le. h (suc place) y is (omega (arith, le))))
 
-  module _ (lines : List Buffer) (one other : LineRange) (of_a : IsTakingRange lines window A a one) (of_b : IsTakingRange lines window B b other) where
-    outside : (place : ℕ) (line : Buffer) → slice_get lines place ≡ Some line → (IsWithin place (joined one other) → ⊥) → TakesNone line
+  module _ (lines : List Buffer) (one other : LineRange) (of_a : IsTakingRange lines window A a one)
+      (of_b : IsTakingRange lines window B b other) where
+    outside : (place : ℕ) (line : Buffer) → slice_get lines place ≡ Some line → (IsWithin place (joined one other) → ⊥)
+        → TakesNone line
     outside place line there out =
         none_taken line
         (false_from_ne_true _ (λ some. out (joined-one one other place (of_a.covers number place line there some))))
         (false_from_ne_true _ (λ some. out (joined-other one other place (of_b.covers number place line there some))))
 
     -- what is stored before the range and behind it
-    pub stored-before : (held : List (Option Arrival)) → stored_all number window a b (take (joined one other).first lines) held ≡ held
-    stored-before held = stored_skip lines held (joined one other).first (λ place line there lt. outside place line there (λ inside. let none : ⊥ = omega (arith, lt, inside.0) in none))
+    pub stored-before : (held : List (Option Arrival)) → stored_all number window a b
+        (take (joined one other).first lines) held ≡ held
+    stored-before held = stored_skip lines held (joined one other).first
+        (λ place line there lt. outside place line there (λ inside. let none : ⊥ = omega (arith, lt, inside.0) in none))
 
-    pub stored-within : (held : List (Option Arrival)) → stored_all number window a b (take (joined one other).end lines) held ≡ stored_all number window a b lines held
-    stored-within held = stored_cut lines held (joined one other).end (λ place line there le. outside place line there (λ inside. let none : ⊥ = omega (arith, le, inside.1) in none))
+    pub stored-within : (held : List (Option Arrival)) → stored_all number window a b
+        (take (joined one other).end lines) held ≡ stored_all number window a b lines held
+    stored-within held = stored_cut lines held (joined one other).end
+        (λ place line there le. outside place line there (λ inside. let none : ⊥ = omega (arith, le, inside.1) in none))

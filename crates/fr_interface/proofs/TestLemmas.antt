@@ -29,7 +29,8 @@ pub record IsFetchable (s : State) (window : Opportunity) : Type 0 where
   pub later : IfSome (last_number s.entries) (λ n. n < window.number)
   pub room : count_by is_slot s.entries + 2 ≤ s.plan.slot_entries
 
-passed : (p q r t : Bool) → cond p (Some NotObserved) (cond (not q) (Some BadWindow) (cond r (Some WindowOrder) (cond t (Some SlotFull) None))) ≡ None
+passed : (p q r t : Bool) → cond p (Some NotObserved) (cond (not q) (Some BadWindow)
+    (cond r (Some WindowOrder) (cond t (Some SlotFull) None))) ≡ None
     → (p ≡ false) × (q ≡ true) × (r ≡ false) × (t ≡ false)
 passed true q r t is = absurd (let none : ⊥ = cc in none)
 passed false false r t is = absurd (let none : ⊥ = cc in none)
@@ -39,7 +40,9 @@ passed false true false false is = (refl, refl, refl, refl)
 
 pub fetchable : (s : State) (window : Opportunity) → fetch_refusal s window ≡ None → IsFetchable s window
 fetchable s window none =
-    let tests = passed (is_some (open_window s.entries)) (window_fits s.params window) (is_not_above window.number (last_number s.entries)) (ltb s.plan.slot_entries (count_by is_slot s.entries + 2)) none in
+    let tests = passed (is_some (open_window s.entries)) (window_fits s.params window)
+        (is_not_above window.number (last_number s.entries))
+        (ltb s.plan.slot_entries (count_by is_slot s.entries + 2)) none in
     record {
       closed = none_from_test (is_some (open_window s.entries)) (open_window s.entries) refl tests.0;
       fits = tests.1;
@@ -49,5 +52,6 @@ fetchable s window none =
 
 -- ---- what the tests of a commit tell
 
-pub words_from_test : (params : Parameters) (b : Buffer) (payload : List ℕ) → has_words params b payload ≡ true → length payload ≡ 2 * words_of params b
+pub words_from_test : (params : Parameters) (b : Buffer) (payload : List ℕ) → has_words params b payload ≡ true
+    → length payload ≡ 2 * words_of params b
 words_from_test params b payload h = eqb-true (length payload) (2 * words_of params b) h

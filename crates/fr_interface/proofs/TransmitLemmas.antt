@@ -48,7 +48,8 @@ transmitters-none plan = each-mapped new_transmitter (transmitter_of []) 0 plan.
 -- ---- a commit on the buffer
 
 abbrev tally_with : Tally → Tally
-tally_with t = record { committed = t.committed + 1; sent = t.sent; overwritten = t.overwritten + t.pending; pending = 1; withdrawn = t.withdrawn }
+tally_with t = record { committed = t.committed + 1; sent = t.sent; overwritten = t.overwritten + t.pending; pending =
+    1; withdrawn = t.withdrawn }
 
 -- the counts of fates with one more
 abbrev one_added : (Fate → Bool) → List Fate → ℕ → Type 0
@@ -57,7 +58,8 @@ one_added p fs n = count_by p (fs ++ Pending ∷ []) ≡ count_by p fs + n
 added : (p : Fate → Bool) (fs : List Fate) → one_added p fs (cond (p Pending) 1 0)
 added p fs = omega (arith, sum_by-append (λ f. cond (p f) 1 0) fs (Pending ∷ []))
 
-tally-commit : (number : ℕ) (xs : List Entry) (e : Entry) → is_commit_on number e ≡ true → ((m : ℕ) → sends m e ≡ false) → ((m : ℕ) → takes_back m e ≡ false)
+tally-commit : (number : ℕ) (xs : List Entry) (e : Entry) → is_commit_on number e ≡ true → ((m : ℕ) → sends m e ≡ false)
+    → ((m : ℕ) → takes_back m e ≡ false)
     → tally_with (tally_of number xs) ≡ tally_of number (xs ++ e ∷ [])
 tally-commit number xs e on unsent untaken =
     let fs : List Fate = fates number xs in
@@ -65,21 +67,29 @@ tally-commit number xs e on unsent untaken =
     let hs : List Fate = map after_commit fs in
     let all : gs ≡ hs ++ Pending ∷ [] = fates_from-commit number 0 xs e on unsent untaken in
     let counts = after_commit-counts fs in
-    let sent : count_by is_sent fs ≡ count_by is_sent gs = omega (arith, counts.sent_is, ap (count_by is_sent) all, added is_sent hs) in
-    let withdrawn : count_by is_withdrawn fs ≡ count_by is_withdrawn gs = omega (arith, counts.withdrawn_is, ap (count_by is_withdrawn) all, added is_withdrawn hs) in
-    let overwritten : count_by is_overwritten fs + count_by is_pending fs ≡ count_by is_overwritten gs = omega (arith, counts.overwritten_is, ap (count_by is_overwritten) all, added is_overwritten hs) in
-    let pending : 1 ≡ count_by is_pending gs = omega (arith, counts.pending_is, ap (count_by is_pending) all, added is_pending hs) in
-    let committed : length fs + 1 ≡ length gs = omega (arith, fates_fill fs, fates_fill gs, sent, overwritten, pending, withdrawn) in
-    λ i. record { committed = committed i; sent = sent i; overwritten = overwritten i; pending = pending i; withdrawn = withdrawn i }
+    let sent : count_by is_sent fs ≡ count_by is_sent gs = omega
+        (arith, counts.sent_is, ap (count_by is_sent) all, added is_sent hs) in
+    let withdrawn : count_by is_withdrawn fs ≡ count_by is_withdrawn gs =
+        omega (arith, counts.withdrawn_is, ap (count_by is_withdrawn) all, added is_withdrawn hs) in
+    let overwritten : count_by is_overwritten fs + count_by is_pending fs ≡ count_by is_overwritten gs =
+        omega (arith, counts.overwritten_is, ap (count_by is_overwritten) all, added is_overwritten hs) in
+    let pending : 1 ≡ count_by is_pending gs = omega (arith, counts.pending_is, ap (count_by is_pending) all,
+        added is_pending hs) in
+    let committed : length fs + 1 ≡ length gs = omega (arith, fates_fill fs, fates_fill gs, sent, overwritten, pending,
+        withdrawn) in
+    λ i. record { committed = committed i; sent = sent i; overwritten = overwritten i; pending = pending i; withdrawn =
+        withdrawn i }
 
 -- ---- any other entry
 
 -- what becomes of a tally where the pending commit is sent, and where it is taken back
 abbrev pub tally_sent : Tally → Tally
-tally_sent x = record { committed = x.committed; sent = x.sent + x.pending; overwritten = x.overwritten; pending = 0; withdrawn = x.withdrawn }
+tally_sent x = record { committed = x.committed; sent = x.sent + x.pending; overwritten = x.overwritten; pending = 0;
+    withdrawn = x.withdrawn }
 
 abbrev pub tally_taken : Tally → Tally
-tally_taken x = record { committed = x.committed; sent = x.sent; overwritten = x.overwritten; pending = 0; withdrawn = x.withdrawn + x.pending }
+tally_taken x = record { committed = x.committed; sent = x.sent; overwritten = x.overwritten; pending = 0; withdrawn =
+    x.withdrawn + x.pending }
 
 abbrev pub tally_after : Bool → Tally → Tally
 tally_after t x = cond t (tally_sent x) x
@@ -92,21 +102,28 @@ pub record IsOther (number : ℕ) (t u : Bool) (xs : List Entry) (e : Entry) : T
   pub stands : LastStands number 0 t xs
 
 module _ (number : ℕ) (xs : List Entry) (e : Entry) where
-  fates_other : (t u : Bool) → IsOther number t u xs e → fates number (xs ++ e ∷ []) ≡ map (after_other t u) (fates number xs)
+  fates_other : (t u : Bool) → IsOther number t u xs e → fates number (xs ++ e ∷ []) ≡ map (after_other t u)
+      (fates number xs)
   fates_other t u h = fates_from-other number 0 t u xs e h.off h.sending h.taking h.stands
 
-  pub tally-sent : (u : Bool) → IsOther number true u xs e → tally_sent (tally_of number xs) ≡ tally_of number (xs ++ e ∷ [])
+  pub tally-sent : (u : Bool) → IsOther number true u xs e → tally_sent (tally_of number xs) ≡ tally_of number
+      (xs ++ e ∷ [])
   tally-sent u h =
       let fs : List Fate = fates number xs in
       let gs : List Fate = fates number (xs ++ e ∷ []) in
       let all : gs ≡ map (after_other true u) fs = fates_other true u h in
       let counts = sending-counts u fs in
-      let sent : count_by is_sent fs + count_by is_pending fs ≡ count_by is_sent gs = omega (arith, counts.sent_is, ap (count_by is_sent) all) in
-      let withdrawn : count_by is_withdrawn fs ≡ count_by is_withdrawn gs = omega (arith, counts.withdrawn_is, ap (count_by is_withdrawn) all) in
-      let overwritten : count_by is_overwritten fs ≡ count_by is_overwritten gs = omega (arith, counts.overwritten_is, ap (count_by is_overwritten) all) in
+      let sent : count_by is_sent fs + count_by is_pending fs ≡ count_by is_sent gs =
+          omega (arith, counts.sent_is, ap (count_by is_sent) all) in
+      let withdrawn : count_by is_withdrawn fs ≡ count_by is_withdrawn gs =
+          omega (arith, counts.withdrawn_is, ap (count_by is_withdrawn) all) in
+      let overwritten : count_by is_overwritten fs ≡ count_by is_overwritten gs =
+          omega (arith, counts.overwritten_is, ap (count_by is_overwritten) all) in
       let pending : 0 ≡ count_by is_pending gs = omega (arith, counts.pending_is, ap (count_by is_pending) all) in
-      let committed : length fs ≡ length gs = omega (arith, fates_fill fs, fates_fill gs, sent, overwritten, pending, withdrawn) in
-      λ i. record { committed = committed i; sent = sent i; overwritten = overwritten i; pending = pending i; withdrawn = withdrawn i }
+      let committed : length fs ≡ length gs = omega (arith, fates_fill fs, fates_fill gs, sent, overwritten, pending,
+          withdrawn) in
+      λ i. record { committed = committed i; sent = sent i; overwritten = overwritten i; pending = pending i;
+          withdrawn = withdrawn i }
 
   pub tally-taken : IsOther number false true xs e → tally_taken (tally_of number xs) ≡ tally_of number (xs ++ e ∷ [])
   tally-taken h =
@@ -115,15 +132,20 @@ module _ (number : ℕ) (xs : List Entry) (e : Entry) where
       let all : gs ≡ map (after_other false true) fs = fates_other false true h in
       let counts = withdrawing-counts fs in
       let sent : count_by is_sent fs ≡ count_by is_sent gs = omega (arith, counts.sent_is, ap (count_by is_sent) all) in
-      let withdrawn : count_by is_withdrawn fs + count_by is_pending fs ≡ count_by is_withdrawn gs = omega (arith, counts.withdrawn_is, ap (count_by is_withdrawn) all) in
-      let overwritten : count_by is_overwritten fs ≡ count_by is_overwritten gs = omega (arith, counts.overwritten_is, ap (count_by is_overwritten) all) in
+      let withdrawn : count_by is_withdrawn fs + count_by is_pending fs ≡ count_by is_withdrawn gs =
+          omega (arith, counts.withdrawn_is, ap (count_by is_withdrawn) all) in
+      let overwritten : count_by is_overwritten fs ≡ count_by is_overwritten gs =
+          omega (arith, counts.overwritten_is, ap (count_by is_overwritten) all) in
       let pending : 0 ≡ count_by is_pending gs = omega (arith, counts.pending_is, ap (count_by is_pending) all) in
-      let committed : length fs ≡ length gs = omega (arith, fates_fill fs, fates_fill gs, sent, overwritten, pending, withdrawn) in
-      λ i. record { committed = committed i; sent = sent i; overwritten = overwritten i; pending = pending i; withdrawn = withdrawn i }
+      let committed : length fs ≡ length gs = omega (arith, fates_fill fs, fates_fill gs, sent, overwritten, pending,
+          withdrawn) in
+      λ i. record { committed = committed i; sent = sent i; overwritten = overwritten i; pending = pending i;
+          withdrawn = withdrawn i }
 
   tally-still : IsOther number false false xs e → tally_of number xs ≡ tally_of number (xs ++ e ∷ [])
   tally-still h =
-      let all : fates number xs ≡ fates number (xs ++ e ∷ []) = sym (fates_other false false h ∙ same_fates (fates number xs)) in
+      let all : fates number xs ≡ fates number (xs ++ e ∷ []) =
+          sym (fates_other false false h ∙ same_fates (fates number xs)) in
       λ i. record {
         committed = length (all i);
         sent = count_by is_sent (all i);
@@ -132,39 +154,51 @@ module _ (number : ℕ) (xs : List Entry) (e : Entry) where
         withdrawn = count_by is_withdrawn (all i);
       }
 
-  pub tally-other : (t : Bool) → IsOther number t false xs e → tally_after t (tally_of number xs) ≡ tally_of number (xs ++ e ∷ [])
+  pub tally-other : (t : Bool) → IsOther number t false xs e
+      → tally_after t (tally_of number xs) ≡ tally_of number (xs ++ e ∷ [])
   tally-other true h = tally-sent false h
   tally-other false h = tally-still h
 
   -- the commit that is held is the same one, with the same payload
   pub same_commit : held_commit number (xs ++ e ∷ []) ≡ held_commit number xs
-      → option_map (commit_of xs) (held_commit number xs) ≡ option_map (commit_of (xs ++ e ∷ [])) (held_commit number (xs ++ e ∷ []))
-  same_commit same = kept (held_commit number xs) (held-below number xs) ∙ ap (option_map (commit_of (xs ++ e ∷ []))) (sym same)
+      → option_map (commit_of xs) (held_commit number xs) ≡ option_map (commit_of (xs ++ e ∷ []))
+          (held_commit number (xs ++ e ∷ []))
+  same_commit same = kept (held_commit number xs) (held-below number xs) ∙ ap (option_map (commit_of (xs ++ e ∷ [])))
+      (sym same)
     where
-      kept : (o : Option ℕ) → IfSome o (λ k. k < length xs) → option_map (commit_of xs) o ≡ option_map (commit_of (xs ++ e ∷ [])) o
+      kept : (o : Option ℕ) → IfSome o (λ k. k < length xs) → option_map (commit_of xs) o ≡ option_map
+          (commit_of (xs ++ e ∷ [])) o
       kept None h = refl
       kept (Some k) h = λ i. Some (record { entry = k; payload = sym (payload_of-front xs e k h) i })
 
 -- an entry that neither is a commit on the buffer, nor sends a commit, nor takes back its last one
-pub transmitter-other : (number : ℕ) (m : Mode) (xs : List Entry) (e : Entry) → is_commit_on number e ≡ false → ((k : ℕ) → sends k e ≡ false)
-    → MarksLast number 0 false (λ k. takes_back k e) xs → ((k : ℕ) → last_commit number xs ≡ Some k → takes_back k e ≡ false)
+pub transmitter-other : (number : ℕ) (m : Mode) (xs : List Entry) (e : Entry) → is_commit_on number e ≡ false
+    → ((k : ℕ) → sends k e ≡ false)
+    → MarksLast number 0 false (λ k. takes_back k e) xs → ((k : ℕ) → last_commit number xs ≡ Some k
+        → takes_back k e ≡ false)
     → transmitter_of xs number m ≡ transmitter_of (xs ++ e ∷ []) number m
 transmitter-other number m xs e off unsent untaken last =
-    let h : IsOther number false false xs e = record { off = off; sending = marks_none number 0 (λ k. sends k e) xs unsent; taking = untaken; stands = stands_unsent number 0 xs } in
-    let held : held_commit number (xs ++ e ∷ []) ≡ held_commit number xs = held-other number xs e off last (λ k _ sent. let never : false ≡ true = sym (unsent k) ∙ sent in absurd cc) in
+    let h : IsOther number false false xs e = record { off = off; sending =
+        marks_none number 0 (λ k. sends k e) xs unsent; taking = untaken; stands = stands_unsent number 0 xs } in
+    let held : held_commit number (xs ++ e ∷ []) ≡ held_commit number xs =
+        held-other number xs e off last (λ k _ sent. let never : false ≡ true = sym (unsent k) ∙ sent in absurd cc) in
     let tally : tally_of number xs ≡ tally_of number (xs ++ e ∷ []) = tally-other number xs e false h in
     λ i. record { mode = m; last = same_commit number xs e held i; tally = tally i }
 
-pub transmitter-still : (number : ℕ) (m : Mode) (xs : List Entry) (e : Entry) → is_commit_on number e ≡ false → ((k : ℕ) → sends k e ≡ false) → ((k : ℕ) → takes_back k e ≡ false)
+pub transmitter-still : (number : ℕ) (m : Mode) (xs : List Entry) (e : Entry) → is_commit_on number e ≡ false
+    → ((k : ℕ) → sends k e ≡ false) → ((k : ℕ) → takes_back k e ≡ false)
     → transmitter_of xs number m ≡ transmitter_of (xs ++ e ∷ []) number m
-transmitter-still number m xs e off unsent untaken = transmitter-other number m xs e off unsent (marks_none number 0 (λ k. takes_back k e) xs untaken) (λ k _. untaken k)
+transmitter-still number m xs e off unsent untaken = transmitter-other number m xs e off unsent
+    (marks_none number 0 (λ k. takes_back k e) xs untaken) (λ k _. untaken k)
 
 -- ---- all buffers
 
-pub transmitters-other : (plan : Plan) (xs : List Entry) (e : Entry) → ((number : ℕ) → is_commit_on number e ≡ false) → ((k : ℕ) → sends k e ≡ false) → ((k : ℕ) → takes_back k e ≡ false)
+pub transmitters-other : (plan : Plan) (xs : List Entry) (e : Entry) → ((number : ℕ) → is_commit_on number e ≡ false)
+    → ((k : ℕ) → sends k e ≡ false) → ((k : ℕ) → takes_back k e ≡ false)
     → transmitters plan (xs ++ e ∷ []) ≡ transmitters plan xs
 transmitters-other plan xs e off unsent untaken =
-    each-same (transmitter_of (xs ++ e ∷ [])) (transmitter_of xs) 0 plan.buffers (λ number m. sym (transmitter-still number m xs e (off number) unsent untaken))
+    each-same (transmitter_of (xs ++ e ∷ [])) (transmitter_of xs) 0 plan.buffers
+        (λ number m. sym (transmitter-still number m xs e (off number) unsent untaken))
 
 abbrev committed_now : ℕ → List ℕ → HeldCommit
 committed_now entry payload = record { entry = entry; payload = payload }
@@ -182,27 +216,36 @@ swapped m n other = by_test (eqb n m) refl
     by_test false e = e
 
 module _ (xs : List Entry) (task buffer : ℕ) (payload : List ℕ) where
-  on_buffer : (number : ℕ) (m : Mode) → number ≡ buffer → with_commit (transmitter_of xs number m) (committed_now (length xs) payload) ≡ transmitter_of (xs ++ Commit task buffer payload ∷ []) number m
+  on_buffer : (number : ℕ) (m : Mode) → number ≡ buffer → with_commit (transmitter_of xs number m)
+      (committed_now (length xs) payload) ≡ transmitter_of (xs ++ Commit task buffer payload ∷ []) number m
   on_buffer number m is =
       let e : Entry = Commit task buffer payload in
       let on : is_commit_on number e ≡ true = ap (λ (n : ℕ). eqb buffer n) is ∙ same_number buffer in
-      let tally : tally_with (tally_of number xs) ≡ tally_of number (xs ++ e ∷ []) = tally-commit number xs e on (λ k. refl) (λ k. refl) in
-      let last : Some (committed_now (length xs) payload) ≡ option_map (commit_of (xs ++ e ∷ [])) (held_commit number (xs ++ e ∷ [])) =
-      (λ i. Some (committed_now (length xs) (sym (payload_of-next xs task buffer payload) i))) ∙ ap (option_map (commit_of (xs ++ e ∷ []))) (sym (held-commit number xs e on)) in
+      let tally : tally_with (tally_of number xs) ≡ tally_of number (xs ++ e ∷ []) =
+          tally-commit number xs e on (λ k. refl) (λ k. refl) in
+      let last : Some (committed_now (length xs) payload) ≡ option_map (commit_of (xs ++ e ∷ []))
+          (held_commit number (xs ++ e ∷ [])) =
+      (λ i. Some (committed_now (length xs) (sym (payload_of-next xs task buffer payload) i))) ∙ ap
+          (option_map (commit_of (xs ++ e ∷ []))) (sym (held-commit number xs e on)) in
       λ i. record { mode = m; last = last i; tally = tally i }
 
-  off_buffer : (number : ℕ) (m : Mode) → eqb number buffer ≡ false → transmitter_of xs number m ≡ transmitter_of (xs ++ Commit task buffer payload ∷ []) number m
-  off_buffer number m other = transmitter-still number m xs (Commit task buffer payload) (swapped number buffer other) (λ k. refl) (λ k. refl)
+  off_buffer : (number : ℕ) (m : Mode) → eqb number buffer ≡ false
+      → transmitter_of xs number m ≡ transmitter_of (xs ++ Commit task buffer payload ∷ []) number m
+  off_buffer number m other = transmitter-still number m xs (Commit task buffer payload) (swapped number buffer other)
+      (λ k. refl) (λ k. refl)
 
   by_number : (number : ℕ) (m : Mode) (t : Bool) → eqb number buffer ≡ t
-      → cond t (with_commit (transmitter_of xs number m) (committed_now (length xs) payload)) (transmitter_of xs number m) ≡ transmitter_of (xs ++ Commit task buffer payload ∷ []) number m
+      → cond t (with_commit (transmitter_of xs number m) (committed_now (length xs) payload))
+          (transmitter_of xs number m) ≡ transmitter_of (xs ++ Commit task buffer payload ∷ []) number m
   by_number number m true e = on_buffer number m (eqb-true number buffer e)
   by_number number m false e = off_buffer number m e
 
-  pub transmitters-commit : (plan : Plan) → change_at (λ b. with_commit b (committed_now (length xs) payload)) (transmitters plan xs) buffer ≡ transmitters plan (xs ++ Commit task buffer payload ∷ [])
+  pub transmitters-commit : (plan : Plan) → change_at (λ b. with_commit b (committed_now (length xs) payload))
+      (transmitters plan xs) buffer ≡ transmitters plan (xs ++ Commit task buffer payload ∷ [])
   transmitters-commit plan =
       change_each (λ b. with_commit b (committed_now (length xs) payload)) (transmitter_of xs) buffer plan.buffers
-      ∙ each-same (changed (λ b. with_commit b (committed_now (length xs) payload)) buffer (transmitter_of xs)) (transmitter_of (xs ++ Commit task buffer payload ∷ [])) 0 plan.buffers
+      ∙ each-same (changed (λ b. with_commit b (committed_now (length xs) payload)) buffer (transmitter_of xs))
+          (transmitter_of (xs ++ Commit task buffer payload ∷ [])) 0 plan.buffers
       (λ number m. by_number number m (eqb number buffer) refl)
 
 -- ---- a withdraw
@@ -217,31 +260,39 @@ module _ (xs : List Entry) (task buffer : ℕ) (of : Option ℕ) (is : of ≡ pe
     where
       found : (o : Option ℕ) → o ≡ pending_commit buffer xs → is_number k o ≡ true → last_commit buffer xs ≡ Some k
       found None is taken = absurd cc
-      found (Some j) is taken = (pending_is buffer xs j (sym is)).0 ∙ ap (λ (n : ℕ). let o : Option ℕ = Some n in o) (eqb-true j k taken)
+      found (Some j) is taken = (pending_is buffer xs j (sym is)).0 ∙ ap (λ (n : ℕ). let o : Option ℕ = Some n in o)
+          (eqb-true j k taken)
 
   -- so it is none of another buffer's commits
-  taken_only : (number : ℕ) (before : List Entry) (x : Entry) (rest : List Entry) → xs ≡ before ++ x ∷ rest → OnlyLast number (λ k. takes_back k withdrawal) (last_commit number xs) before x
+  taken_only : (number : ℕ) (before : List Entry) (x : Entry) (rest : List Entry) → xs ≡ before ++ x ∷ rest
+      → OnlyLast number (λ k. takes_back k withdrawal) (last_commit number xs) before x
   taken_only number before x rest cut on taken =
       let k : ℕ = length before in
       let from : last_commit buffer xs ≡ Some k = taken_last k taken in
       let here : slice_get xs k ≡ Some x = ap (λ (l : List Entry). slice_get l k) cut ∙ slice_get-next before x rest in
-      let on_it : IsCommitAt number xs k = subst (λ (o : Option Entry). IsSomeAnd o (λ e. is_commit_on number e ≡ true)) (sym here) on in
+      let on_it : IsCommitAt number xs k = subst (λ (o : Option Entry). IsSomeAnd o (λ e. is_commit_on number e ≡ true))
+          (sym here) on in
       let one : number ≡ buffer = same_entry number buffer (slice_get xs k) on_it (last_there xs buffer k from) in
       ap (λ (n : ℕ). last_commit n xs) one ∙ from
 
-  all_only : (number : ℕ) (before rest : List Entry) → xs ≡ before ++ rest → AllAfter (OnlyLast number (λ k. takes_back k withdrawal) (last_commit number xs)) before rest
+  all_only : (number : ℕ) (before rest : List Entry) → xs ≡ before ++ rest
+      → AllAfter (OnlyLast number (λ k. takes_back k withdrawal) (last_commit number xs)) before rest
   unfolding AllAfter
   all_only number before [] cut = tt
-  all_only number before (x ∷ rest) cut = (taken_only number before x rest cut, all_only number (before ++ x ∷ []) rest (cut ∙ sym (append_assoc before (x ∷ []) rest)))
+  all_only number before (x ∷ rest) cut = (taken_only number before x rest cut,
+      all_only number (before ++ x ∷ []) rest (cut ∙ sym (append_assoc before (x ∷ []) rest)))
 
-  taking : (number : ℕ) (u : Bool) → ((k : ℕ) → last_commit number xs ≡ Some k → u ≡ takes_back k withdrawal) → MarksLast number 0 u (λ k. takes_back k withdrawal) xs
-  taking number u same = marks_last_from number u (λ k. takes_back k withdrawal) (last_commit number xs) None [] xs (sym (or_none (last_commit number xs))) (all_only number [] xs refl) same
+  taking : (number : ℕ) (u : Bool) → ((k : ℕ) → last_commit number xs ≡ Some k → u ≡ takes_back k withdrawal)
+      → MarksLast number 0 u (λ k. takes_back k withdrawal) xs
+  taking number u same = marks_last_from number u (λ k. takes_back k withdrawal) (last_commit number xs) None [] xs
+      (sym (or_none (last_commit number xs))) (all_only number [] xs refl) same
     where
       or_none : (o : Option ℕ) → option_or o None ≡ o
       or_none None = refl
       or_none (Some k) = refl
 
-  untaken_else : (number : ℕ) → eqb number buffer ≡ false → (k : ℕ) → last_commit number xs ≡ Some k → takes_back k withdrawal ≡ false
+  untaken_else : (number : ℕ) → eqb number buffer ≡ false → (k : ℕ) → last_commit number xs ≡ Some k
+      → takes_back k withdrawal ≡ false
   untaken_else number other k last = by_test (takes_back k withdrawal) refl
     where
       by_test : (t : Bool) → takes_back k withdrawal ≡ t → takes_back k withdrawal ≡ false
@@ -251,23 +302,29 @@ module _ (xs : List Entry) (task buffer : ℕ) (of : Option ℕ) (is : of ≡ pe
           absurd cc
       by_test false untaken = untaken
 
-  else_where : (number : ℕ) (m : Mode) → eqb number buffer ≡ false → transmitter_of xs number m ≡ transmitter_of (xs ++ withdrawal ∷ []) number m
+  else_where : (number : ℕ) (m : Mode) → eqb number buffer ≡ false
+      → transmitter_of xs number m ≡ transmitter_of (xs ++ withdrawal ∷ []) number m
   else_where number m other =
       transmitter-other number m xs withdrawal refl (λ k. refl)
       (taking number false (λ k last. sym (untaken_else number other k last))) (untaken_else number other)
 
 -- on the buffer itself nothing is pending, or the last commit
-on_none : (xs : List Entry) (task buffer : ℕ) (m : Mode) → pending_commit buffer xs ≡ None → after_withdraw (transmitter_of xs buffer m) ≡ transmitter_of (xs ++ Withdraw task buffer None ∷ []) buffer m
+on_none : (xs : List Entry) (task buffer : ℕ) (m : Mode) → pending_commit buffer xs ≡ None
+    → after_withdraw (transmitter_of xs buffer m) ≡ transmitter_of (xs ++ Withdraw task buffer None ∷ []) buffer m
 on_none xs task buffer m none =
-    let count : count_by is_pending (fates buffer xs) ≡ 0 = pending-one buffer xs ∙ ap (λ (o : Option ℕ). cond {A = ℕ} (is_some o) 1 0) none in
+    let count : count_by is_pending (fates buffer xs) ≡ 0 = pending-one buffer xs ∙ ap
+        (λ (o : Option ℕ). cond {A = ℕ} (is_some o) 1 0) none in
     let b : Transmitter = transmitter_of xs buffer m in
-    ap (λ (n : ℕ). cond (eqb n 1) (emptied b) b) count ∙ transmitter-still buffer m xs (Withdraw task buffer None) refl (λ k. refl) (λ k. refl)
+    ap (λ (n : ℕ). cond (eqb n 1) (emptied b) b) count ∙ transmitter-still buffer m xs (Withdraw task buffer None) refl
+        (λ k. refl) (λ k. refl)
 
-on_some : (xs : List Entry) (task buffer k : ℕ) (m : Mode) → pending_commit buffer xs ≡ Some k → after_withdraw (transmitter_of xs buffer m) ≡ transmitter_of (xs ++ Withdraw task buffer (Some k) ∷ []) buffer m
+on_some : (xs : List Entry) (task buffer k : ℕ) (m : Mode) → pending_commit buffer xs ≡ Some k
+    → after_withdraw (transmitter_of xs buffer m) ≡ transmitter_of (xs ++ Withdraw task buffer (Some k) ∷ []) buffer m
 on_some xs task buffer k m some =
     let e : Entry = Withdraw task buffer (Some k) in
     let b : Transmitter = transmitter_of xs buffer m in
-    let count : count_by is_pending (fates buffer xs) ≡ 1 = pending-one buffer xs ∙ ap (λ (o : Option ℕ). cond {A = ℕ} (is_some o) 1 0) some in
+    let count : count_by is_pending (fates buffer xs) ≡ 1 = pending-one buffer xs ∙ ap
+        (λ (o : Option ℕ). cond {A = ℕ} (is_some o) 1 0) some in
     let last = pending_is buffer xs k some in
     let marked : (j : ℕ) → last_commit buffer xs ≡ Some j → true ≡ takes_back j e =
     λ j there.
@@ -280,10 +337,12 @@ on_some xs task buffer k m some =
       taking = taking xs task buffer (Some k) (sym some) buffer true marked;
       stands = stands_unsent buffer 0 xs;
     } in
-    let held : held_commit buffer (xs ++ e ∷ []) ≡ None = held-taken buffer xs e refl (λ j. refl) k some (same_number k) in
+    let held : held_commit buffer (xs ++ e ∷ []) ≡ None = held-taken buffer xs e refl (λ j. refl) k some (same_number k)
+        in
     let tally : tally_taken (tally_of buffer xs) ≡ tally_of buffer (xs ++ e ∷ []) = tally-taken buffer xs e h in
     let test : eqb (count_by is_pending (fates buffer xs)) 1 ≡ true = ap (λ (n : ℕ). eqb n 1) count in
-    let one : count_by is_withdrawn (fates buffer xs) + 1 ≡ (tally_of buffer (xs ++ e ∷ [])).withdrawn = omega (arith, count, ap (λ (t : Tally). t.withdrawn) tally) in
+    let one : count_by is_withdrawn (fates buffer xs) + 1 ≡ (tally_of buffer (xs ++ e ∷ [])).withdrawn =
+        omega (arith, count, ap (λ (t : Tally). t.withdrawn) tally) in
     ap (λ (t : Bool). cond t (emptied b) b) test
     ∙ (λ i. record {
       mode = m;
@@ -301,37 +360,47 @@ module _ (xs : List Entry) (task buffer : ℕ) where
   abbrev with_withdraw : List Entry
   with_withdraw = xs ++ Withdraw task buffer (pending_commit buffer xs) ∷ []
 
-  on_it : (m : Mode) (o : Option ℕ) → pending_commit buffer xs ≡ o → after_withdraw (transmitter_of xs buffer m) ≡ transmitter_of (xs ++ Withdraw task buffer o ∷ []) buffer m
+  on_it : (m : Mode) (o : Option ℕ) → pending_commit buffer xs ≡ o
+      → after_withdraw (transmitter_of xs buffer m) ≡ transmitter_of (xs ++ Withdraw task buffer o ∷ []) buffer m
   on_it m None is = on_none xs task buffer m is
   on_it m (Some k) is = on_some xs task buffer k m is
 
-  by_buffer : (number : ℕ) (m : Mode) (t : Bool) → eqb number buffer ≡ t → cond t (after_withdraw (transmitter_of xs number m)) (transmitter_of xs number m) ≡ transmitter_of with_withdraw number m
+  by_buffer : (number : ℕ) (m : Mode) (t : Bool) → eqb number buffer ≡ t
+      → cond t (after_withdraw (transmitter_of xs number m)) (transmitter_of xs number m)
+      ≡ transmitter_of with_withdraw number m
   by_buffer number m true e =
-      subst (λ (n : ℕ). after_withdraw (transmitter_of xs n m) ≡ transmitter_of with_withdraw n m) (sym (eqb-true number buffer e)) (on_it m (pending_commit buffer xs) refl)
+      subst (λ (n : ℕ). after_withdraw (transmitter_of xs n m) ≡ transmitter_of with_withdraw n m)
+          (sym (eqb-true number buffer e)) (on_it m (pending_commit buffer xs) refl)
   by_buffer number m false e = else_where xs task buffer (pending_commit buffer xs) refl number m e
 
-  pub transmitters-withdraw : (plan : Plan) → change_at after_withdraw (transmitters plan xs) buffer ≡ transmitters plan with_withdraw
+  pub transmitters-withdraw : (plan : Plan) → change_at after_withdraw (transmitters plan xs) buffer ≡ transmitters plan
+      with_withdraw
   transmitters-withdraw plan =
       change_each after_withdraw (transmitter_of xs) buffer plan.buffers
-      ∙ each-same (changed after_withdraw buffer (transmitter_of xs)) (transmitter_of with_withdraw) 0 plan.buffers (λ number m. by_buffer number m (eqb number buffer) refl)
+      ∙ each-same (changed after_withdraw buffer (transmitter_of xs)) (transmitter_of with_withdraw) 0 plan.buffers
+          (λ number m. by_buffer number m (eqb number buffer) refl)
 
 -- ---- offers
 
-pub entry_of-commit : (xs : List Entry) (o : Option ℕ) → option_map (λ (c : HeldCommit). c.entry) (option_map (commit_of xs) o) ≡ o
+pub entry_of-commit : (xs : List Entry) (o : Option ℕ) → option_map (λ (c : HeldCommit). c.entry)
+    (option_map (commit_of xs) o) ≡ o
 entry_of-commit xs None = refl
 entry_of-commit xs (Some k) = refl
 
 -- what a buffer offers is what the journal gives for its mode
 pub offer-ready : (xs : List Entry) (number : ℕ) (m : Mode) → offer_of (transmitter_of xs number m) ≡ ready m number xs
 offer-ready xs number mode.Event =
-    ap (λ (o : Option ℕ). cond (eqb (count_by is_pending (fates number xs)) 1) o None) (entry_of-commit xs (held_commit number xs)) ∙ held_pending-counts number xs
+    ap (λ (o : Option ℕ). cond (eqb (count_by is_pending (fates number xs)) 1) o None)
+        (entry_of-commit xs (held_commit number xs)) ∙ held_pending-counts number xs
 offer-ready xs number mode.State = entry_of-commit xs (held_commit number xs)
 offer-ready xs number mode.Receive = refl
 
 -- what a withdraw takes back is the journal's pending commit
-pub pending-ready : (xs : List Entry) (number : ℕ) (m : Mode) → pending_of (transmitter_of xs number m) ≡ pending_commit number xs
+pub pending-ready : (xs : List Entry) (number : ℕ) (m : Mode)
+    → pending_of (transmitter_of xs number m) ≡ pending_commit number xs
 pending-ready xs number m =
-    ap (λ (o : Option ℕ). cond (eqb (count_by is_pending (fates number xs)) 1) o None) (entry_of-commit xs (held_commit number xs)) ∙ held_pending-counts number xs
+    ap (λ (o : Option ℕ). cond (eqb (count_by is_pending (fates number xs)) 1) o None)
+        (entry_of-commit xs (held_commit number xs)) ∙ held_pending-counts number xs
 
 -- how many commits a buffer took
 few_fates : (number n : ℕ) (xs : List Entry) → length (fates_from number n xs) ≤ length xs
@@ -339,7 +408,8 @@ unfolding fates_from
 few_fates number n [] = omega arith
 few_fates number n (x ∷ xs) =
     let here : List Fate = cond (is_commit_on number x) (fate_of number n xs ∷ []) [] in
-    omega (arith, length-append here (fates_from number (n + 1) xs), one_at_most (is_commit_on number x) (fate_of number n xs), few_fates number (n + 1) xs)
+    omega (arith, length-append here (fates_from number (n + 1) xs),
+        one_at_most (is_commit_on number x) (fate_of number n xs), few_fates number (n + 1) xs)
   where
     one_at_most : (t : Bool) (f : Fate) → length (cond t (f ∷ []) []) ≤ 1
     one_at_most true f = omega arith

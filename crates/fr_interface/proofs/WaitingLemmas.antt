@@ -32,14 +32,16 @@ use Rattle.fr_status.specs.declared.seen.Seen.{Seen}
 -- ---- after some moves and answered pops
 
 abbrev waiting_by : ℕ → ℕ → List Move → Waiting
-waiting_by capacity popped ms = record { capacity = capacity; frames = queue_content capacity ms; lost = length (arrived ms) - popped - queue_length capacity ms }
+waiting_by capacity popped ms = record { capacity = capacity; frames = queue_content capacity ms; lost =
+    length (arrived ms) - popped - queue_length capacity ms }
 
 -- what was popped and what is there had arrived
 abbrev IsBalanced : ℕ → ℕ → List Move → Type 0
 IsBalanced capacity popped ms = popped + queue_length capacity ms ≤ length (arrived ms)
 
 module _ (capacity popped : ℕ) (ms : List Move) where
-  length-arrives : (a : Arrival) → queue_length capacity (ms ++ arrives a ∷ []) ≡ min (queue_length capacity ms + 1) capacity
+  length-arrives : (a : Arrival) → queue_length capacity (ms ++ arrives a ∷ []) ≡ min
+      (queue_length capacity ms + 1) capacity
   length-arrives a = fold-append (length_after capacity) 0 ms (arrives a ∷ [])
 
   arrived-arrives : (a : Arrival) → length (arrived (ms ++ arrives a ∷ [])) ≡ length (arrived ms) + 1
@@ -48,29 +50,40 @@ module _ (capacity popped : ℕ) (ms : List Move) where
   IsBalanced-arrives : (a : Arrival) → IsBalanced capacity popped ms → IsBalanced capacity popped (ms ++ arrives a ∷ [])
   IsBalanced-arrives a h = omega (arith, h, length-arrives a, arrived-arrives a)
 
-  lost_by : (a : Arrival) (t : Bool) → ltb (length (queue_content capacity ms)) capacity ≡ t → IsBalanced capacity popped ms
-      → cond t (length (arrived ms) - popped - queue_length capacity ms) (length (arrived ms) - popped - queue_length capacity ms + 1)
+  lost_by : (a : Arrival) (t : Bool) → ltb (length (queue_content capacity ms)) capacity ≡ t
+      → IsBalanced capacity popped ms
+      → cond t (length (arrived ms) - popped - queue_length capacity ms)
+          (length (arrived ms) - popped - queue_length capacity ms + 1)
       ≡ length (arrived (ms ++ arrives a ∷ [])) - popped - queue_length capacity (ms ++ arrives a ∷ [])
   lost_by a true test h =
-      omega (arith, h, length-arrives a, arrived-arrives a, length-content capacity ms, ltb-true (length (queue_content capacity ms)) capacity test)
+      omega (arith, h, length-arrives a, arrived-arrives a, length-content capacity ms,
+          ltb-true (length (queue_content capacity ms)) capacity test)
   lost_by a false test h =
-      omega (arith, h, length-arrives a, arrived-arrives a, length-content capacity ms, queue_length-capacity capacity ms, ltb-false (length (queue_content capacity ms)) capacity test)
+      omega (arith, h, length-arrives a, arrived-arrives a, length-content capacity ms,
+          queue_length-capacity capacity ms, ltb-false (length (queue_content capacity ms)) capacity test)
 
-  frame-arrives : (a : Arrival) → IsBalanced capacity popped ms → with_frame (waiting_by capacity popped ms) a ≡ waiting_by capacity popped (ms ++ arrives a ∷ [])
+  frame-arrives : (a : Arrival) → IsBalanced capacity popped ms
+      → with_frame (waiting_by capacity popped ms) a ≡ waiting_by capacity popped (ms ++ arrives a ∷ [])
   frame-arrives a h =
-      let lost : cond (ltb (length (queue_content capacity ms)) capacity) (length (arrived ms) - popped - queue_length capacity ms) (length (arrived ms) - popped - queue_length capacity ms + 1)
+      let lost : cond (ltb (length (queue_content capacity ms)) capacity)
+          (length (arrived ms) - popped - queue_length capacity ms)
+          (length (arrived ms) - popped - queue_length capacity ms + 1)
       ≡ length (arrived (ms ++ arrives a ∷ [])) - popped - queue_length capacity (ms ++ arrives a ∷ []) =
       lost_by a (ltb (length (queue_content capacity ms)) capacity) refl h in
       λ i. record { capacity = capacity; frames = sym (content-arrives capacity ms a) i; lost = lost i }
 
 arrival-by : (capacity popped : ℕ) (ms : List Move) (o : Option Arrival) → IsBalanced capacity popped ms
-    → (with_arrival (waiting_by capacity popped ms) o ≡ waiting_by capacity popped (ms ++ arrive_all (option_to_list o))) × IsBalanced capacity popped (ms ++ arrive_all (option_to_list o))
-arrival-by capacity popped ms None h = (ap (waiting_by capacity popped) (sym (append-nil ms)), subst (IsBalanced capacity popped) (sym (append-nil ms)) h)
-arrival-by capacity popped ms (Some a) h = (frame-arrives capacity popped ms a h, IsBalanced-arrives capacity popped ms a h)
+    → (with_arrival (waiting_by capacity popped ms) o ≡ waiting_by capacity popped
+        (ms ++ arrive_all (option_to_list o))) × IsBalanced capacity popped (ms ++ arrive_all (option_to_list o))
+arrival-by capacity popped ms None h = (ap (waiting_by capacity popped) (sym (append-nil ms)),
+    subst (IsBalanced capacity popped) (sym (append-nil ms)) h)
+arrival-by capacity popped ms (Some a) h = (frame-arrives capacity popped ms a h,
+    IsBalanced-arrives capacity popped ms a h)
 
 -- ---- after some entries
 
-popped_more : (xs : List Entry) (e : Entry) → count_by is_answered_pop (xs ++ e ∷ []) ≡ count_by is_answered_pop xs + cond (is_answered_pop e) 1 0
+popped_more : (xs : List Entry) (e : Entry) → count_by is_answered_pop (xs ++ e ∷ []) ≡ count_by is_answered_pop xs +
+    cond (is_answered_pop e) 1 0
 popped_more xs e = omega (arith, sum_by-append (λ x. cond (is_answered_pop x) 1 0) xs (e ∷ []))
 
 module _ (params : Parameters) (plan : Plan) (q : Queue) where
@@ -79,35 +92,47 @@ module _ (params : Parameters) (plan : Plan) (q : Queue) where
   waiting-none = refl
 
   -- the popped ones as before, and these moves more
-  same_popped : (xs : List Entry) (e : Entry) (ms : List Move) → moves_at params plan q xs e ≡ ms → is_answered_pop e ≡ false
-      → waiting_of params plan (xs ++ e ∷ []) q ≡ waiting_by q.capacity (count_by is_answered_pop xs) (moves params plan q xs ++ ms)
+  same_popped : (xs : List Entry) (e : Entry) (ms : List Move) → moves_at params plan q xs e ≡ ms
+      → is_answered_pop e ≡ false
+      → waiting_of params plan (xs ++ e ∷ []) q ≡ waiting_by q.capacity (count_by is_answered_pop xs)
+          (moves params plan q xs ++ ms)
   same_popped xs e ms is unpopped =
-      let all : moves params plan q (xs ++ e ∷ []) ≡ moves params plan q xs ++ ms = moves-snoc params plan q xs e ∙ ap (λ (l : List Move). moves params plan q xs ++ l) is in
+      let all : moves params plan q (xs ++ e ∷ []) ≡ moves params plan q xs ++ ms =
+          moves-snoc params plan q xs e ∙ ap (λ (l : List Move). moves params plan q xs ++ l) is in
       let none : cond {A = ℕ} (is_answered_pop e) 1 0 ≡ 0 = ap (λ (b : Bool). cond {A = ℕ} b 1 0) unpopped in
-      let popped : count_by is_answered_pop (xs ++ e ∷ []) ≡ count_by is_answered_pop xs = omega (arith, popped_more xs e, none) in
+      let popped : count_by is_answered_pop (xs ++ e ∷ []) ≡ count_by is_answered_pop xs =
+          omega (arith, popped_more xs e, none) in
       λ i. waiting_by q.capacity (popped i) (all i)
 
-  pub waiting-other : (xs : List Entry) (e : Entry) → moves_at params plan q xs e ≡ [] → is_answered_pop e ≡ false → waiting_of params plan (xs ++ e ∷ []) q ≡ waiting_of params plan xs q
+  pub waiting-other : (xs : List Entry) (e : Entry) → moves_at params plan q xs e ≡ [] → is_answered_pop e ≡ false
+      → waiting_of params plan (xs ++ e ∷ []) q ≡ waiting_of params plan xs q
   waiting-other xs e still unpopped =
-      same_popped xs e [] still unpopped ∙ ap (waiting_by q.capacity (count_by is_answered_pop xs)) (append-nil (moves params plan q xs))
+      same_popped xs e [] still unpopped ∙ ap (waiting_by q.capacity (count_by is_answered_pop xs))
+          (append-nil (moves params plan q xs))
 
   -- ---- a pop
 
-  answered : (frames : List Arrival) → cond (is_some (option_map origin_of (slice_get frames 0))) 1 0 ≡ min 1 (length frames)
+  answered : (frames : List Arrival) → cond (is_some (option_map origin_of (slice_get frames 0))) 1 0 ≡ min 1
+      (length frames)
   answered [] = refl
   answered (a ∷ frames) = omega arith
 
-  pub waiting-pop : (xs : List Entry) (task : ℕ) (from : Option Origin) → from ≡ option_map origin_of (oldest q.capacity (moves params plan q xs))
+  pub waiting-pop : (xs : List Entry) (task : ℕ) (from : Option Origin)
+      → from ≡ option_map origin_of (oldest q.capacity (moves params plan q xs))
       → without_oldest (waiting_of params plan xs q) ≡ waiting_of params plan (xs ++ Pop task from ∷ []) q
   waiting-pop xs task from is =
       let ms : List Move = moves params plan q xs in
-      let all : moves params plan q (xs ++ Pop task from ∷ []) ≡ ms ++ pops ∷ [] = moves-snoc params plan q xs (Pop task from) in
+      let all : moves params plan q (xs ++ Pop task from ∷ []) ≡ ms ++ pops ∷ [] =
+          moves-snoc params plan q xs (Pop task from) in
       let one : cond {A = ℕ} (is_answered_pop (Pop task from)) 1 0 ≡ min 1 (length (queue_content q.capacity ms)) =
       ap (λ (o : Option Origin). cond {A = ℕ} (is_some o) 1 0) is ∙ answered (queue_content q.capacity ms) in
-      let shorter : queue_length q.capacity (ms ++ pops ∷ []) ≡ queue_length q.capacity ms - 1 = fold-append (length_after q.capacity) 0 ms (pops ∷ []) in
-      let many : length (arrived (ms ++ pops ∷ [])) ≡ length (arrived ms) = ap length (arrived-append ms (pops ∷ []) ∙ append-nil (arrived ms)) in
+      let shorter : queue_length q.capacity (ms ++ pops ∷ []) ≡ queue_length q.capacity ms - 1 =
+          fold-append (length_after q.capacity) 0 ms (pops ∷ []) in
+      let many : length (arrived (ms ++ pops ∷ [])) ≡ length (arrived ms) =
+          ap length (arrived-append ms (pops ∷ []) ∙ append-nil (arrived ms)) in
       let lost : length (arrived ms) - count_by is_answered_pop xs - queue_length q.capacity ms
-      ≡ length (arrived (ms ++ pops ∷ [])) - count_by is_answered_pop (xs ++ Pop task from ∷ []) - queue_length q.capacity (ms ++ pops ∷ []) =
+      ≡ length (arrived (ms ++ pops ∷ [])) - count_by is_answered_pop
+          (xs ++ Pop task from ∷ []) - queue_length q.capacity (ms ++ pops ∷ []) =
       omega (arith, popped_more xs (Pop task from), one, shorter, many, length-content q.capacity ms) in
       (λ i. record { capacity = q.capacity; frames = sym (content-pops q.capacity ms) i; lost = lost i })
       ∙ (λ i. waiting_by q.capacity (count_by is_answered_pop (xs ++ Pop task from ∷ [])) (sym all i))
@@ -115,15 +140,20 @@ module _ (params : Parameters) (plan : Plan) (q : Queue) where
   -- ---- an observed window
 
   one_arrival : (number : ℕ) (window : Opportunity) (channel : Channel) (seen : Seen)
-      → option_to_list (queued_on plan q number window channel (data_frame_seen params window channel seen)) ≡ queue_arrival_on params plan q number window channel seen
-  one_arrival number window channel seen = by_test (is_for_queue plan q window channel) (option_map (arrival_of number channel) (data_frame_seen params window channel seen))
+      → option_to_list (queued_on plan q number window channel (data_frame_seen params window channel seen))
+          ≡ queue_arrival_on params plan q number window channel seen
+  one_arrival number window channel seen = by_test (is_for_queue plan q window channel)
+      (option_map (arrival_of number channel) (data_frame_seen params window channel seen))
     where
       by_test : (t : Bool) (o : Option Arrival) → option_to_list (cond t o None) ≡ cond t (option_to_list o) []
       by_test true o = refl
       by_test false o = refl
 
-  pub waiting-observe : plan.queue ≡ Some q → (xs : List Entry) (n : ℕ) (a b : Seen) (window : Opportunity) → IsLegalJournal params plan xs → open_window xs ≡ Some window
-      → with_arrival (with_arrival (waiting_of params plan xs q) (queued_on plan q (length xs) window A (data_frame_seen params window A a))) (queued_on plan q (length xs) window B (data_frame_seen params window B b))
+  pub waiting-observe : plan.queue ≡ Some q → (xs : List Entry) (n : ℕ) (a b : Seen) (window : Opportunity)
+      → IsLegalJournal params plan xs → open_window xs ≡ Some window
+      → with_arrival (with_arrival (waiting_of params plan xs q)
+          (queued_on plan q (length xs) window A (data_frame_seen params window A a)))
+          (queued_on plan q (length xs) window B (data_frame_seen params window B b))
       ≡ waiting_of params plan (xs ++ Observe n a b ∷ []) q
   waiting-observe there xs n a b window legal opened =
       let ms : List Move = moves params plan q xs in
@@ -132,17 +162,20 @@ module _ (params : Parameters) (plan : Plan) (q : Queue) where
       let from_b : Option Arrival = queued_on plan q (length xs) window B (data_frame_seen params window B b) in
       let first = arrival-by q.capacity popped ms from_a (balanced params plan q there xs legal) in
       let second = arrival-by q.capacity popped (ms ++ arrive_all (option_to_list from_a)) from_b first.1 in
-      let lists : option_to_list from_a ++ option_to_list from_b ≡ queue_arrivals_in params plan q (length xs) a b (open_window xs) =
+      let lists : option_to_list from_a ++ option_to_list from_b ≡ queue_arrivals_in params plan q (length xs) a b
+          (open_window xs) =
       (λ i. one_arrival (length xs) window A a i ++ one_arrival (length xs) window B b i)
       ∙ ap (queue_arrivals_in params plan q (length xs) a b) (sym opened) in
-      let joined : (ms ++ arrive_all (option_to_list from_a)) ++ arrive_all (option_to_list from_b) ≡ ms ++ arrive_all (queue_arrivals_in params plan q (length xs) a b (open_window xs)) =
+      let joined : (ms ++ arrive_all (option_to_list from_a)) ++ arrive_all (option_to_list from_b) ≡ ms ++ arrive_all
+          (queue_arrivals_in params plan q (length xs) a b (open_window xs)) =
       append_assoc ms (arrive_all (option_to_list from_a)) (arrive_all (option_to_list from_b))
       ∙ ap (λ (l : List Move). ms ++ l) (sym (arrive_all-append (option_to_list from_a) (option_to_list from_b)))
       ∙ ap (λ (l : List Arrival). ms ++ arrive_all l) lists in
       ap (λ (w : Waiting). with_arrival w from_b) first.0
       ∙ second.0
       ∙ ap (waiting_by q.capacity popped) joined
-      ∙ sym (same_popped xs (Observe n a b) (arrive_all (queue_arrivals_in params plan q (length xs) a b (open_window xs))) refl refl)
+      ∙ sym (same_popped xs (Observe n a b) (arrive_all
+          (queue_arrivals_in params plan q (length xs) a b (open_window xs))) refl refl)
 
   -- ---- how many arrive
 
@@ -151,14 +184,18 @@ module _ (params : Parameters) (plan : Plan) (q : Queue) where
   one_at_most true (Some a) = omega arith
   one_at_most false o = omega arith
 
-  two_at_most : (number : ℕ) (a b : Seen) (window : Option Opportunity) → length (queue_arrivals_in params plan q number a b window) ≤ 2
+  two_at_most : (number : ℕ) (a b : Seen) (window : Option Opportunity)
+      → length (queue_arrivals_in params plan q number a b window) ≤ 2
   two_at_most number a b None = omega arith
   two_at_most number a b (Some window) =
       omega (
         arith,
-        length-append (queue_arrival_on params plan q number window A a) (queue_arrival_on params plan q number window B b),
-        one_at_most (is_for_queue plan q window A) (option_map (arrival_of number A) (data_frame_seen params window A a)),
-        one_at_most (is_for_queue plan q window B) (option_map (arrival_of number B) (data_frame_seen params window B b)),
+        length-append (queue_arrival_on params plan q number window A a)
+            (queue_arrival_on params plan q number window B b),
+        one_at_most (is_for_queue plan q window A) (option_map (arrival_of number A)
+            (data_frame_seen params window A a)),
+        one_at_most (is_for_queue plan q window B) (option_map (arrival_of number B)
+            (data_frame_seen params window B b)),
       )
 
   few_at : (before : List Entry) (e : Entry) → length (arrived (moves_at params plan q before e)) ≤ 2
@@ -168,7 +205,8 @@ module _ (params : Parameters) (plan : Plan) (q : Queue) where
   few_at before (Pop task from) = omega arith
   few_at before (Fetch window a b) = omega arith
   few_at before (Observe window a b) =
-      omega (arith, ap length (arrived-all (queue_arrivals_in params plan q (length before) a b (open_window before))), two_at_most (length before) a b (open_window before))
+      omega (arith, ap length (arrived-all (queue_arrivals_in params plan q (length before) a b (open_window before))),
+          two_at_most (length before) a b (open_window before))
 
   few_from : (before xs : List Entry) → length (arrived (each_after (moves_at params plan q) before xs)) ≤ 2 * length xs
   unfolding each_after
@@ -176,7 +214,8 @@ module _ (params : Parameters) (plan : Plan) (q : Queue) where
   few_from before (e ∷ xs) =
       let here : List Move = moves_at params plan q before e in
       let rest : List Move = each_after (moves_at params plan q) (before ++ e ∷ []) xs in
-      omega (arith, ap length (arrived-append here rest), length-append (arrived here) (arrived rest), few_at before e, few_from (before ++ e ∷ []) xs)
+      omega (arith, ap length (arrived-append here rest), length-append (arrived here) (arrived rest), few_at before e,
+          few_from (before ++ e ∷ []) xs)
 
   pub lost-most : (xs : List Entry) → queue_lost params plan q xs ≤ 2 * length xs
   lost-most xs = omega (arith, few_from [] xs)

@@ -34,19 +34,23 @@ abbrev pub withdrawn_at : ℕ → List Entry → ℕ → Bool
 withdrawn_at number xs k = is_withdrawn (fate_of number k (drop (k + 1) xs))
 
 module _ (number : ℕ) (xs : List Entry) where
-  pub pending_is : (k : ℕ) → pending_commit number xs ≡ Some k → (last_commit number xs ≡ Some k) × (pending_at number xs k ≡ true)
+  pub pending_is : (k : ℕ) → pending_commit number xs ≡ Some k
+      → (last_commit number xs ≡ Some k) × (pending_at number xs k ≡ true)
   pending_is k e = found (last_commit number xs) e
     where
-      found : (o : Option ℕ) → option_and_then (if_pending number xs) o ≡ Some k → (o ≡ Some k) × (pending_at number xs k ≡ true)
+      found : (o : Option ℕ) → option_and_then (if_pending number xs) o ≡ Some k
+          → (o ≡ Some k) × (pending_at number xs k ≡ true)
       found None e = absurd cc
       found (Some j) e =
           let parts = kept_if (pending_at number xs j) j k e in
           (ap (λ (n : ℕ). let o : Option ℕ = Some n in o) parts.1, ap (pending_at number xs) (sym parts.1) ∙ parts.0)
 
-  pub held_is : (k : ℕ) → held_commit number xs ≡ Some k → (last_commit number xs ≡ Some k) × (withdrawn_at number xs k ≡ false)
+  pub held_is : (k : ℕ) → held_commit number xs ≡ Some k → (last_commit number xs ≡ Some k) ×
+      (withdrawn_at number xs k ≡ false)
   held_is k e = found (last_commit number xs) e
     where
-      found : (o : Option ℕ) → option_and_then (unless_withdrawn number xs) o ≡ Some k → (o ≡ Some k) × (withdrawn_at number xs k ≡ false)
+      found : (o : Option ℕ) → option_and_then (unless_withdrawn number xs) o ≡ Some k
+          → (o ≡ Some k) × (withdrawn_at number xs k ≡ false)
       found None e = absurd cc
       found (Some j) e =
           let parts = kept_unless (withdrawn_at number xs j) j k e in
@@ -56,11 +60,15 @@ module _ (number : ℕ) (xs : List Entry) where
   pub held-none : last_commit number xs ≡ None → held_commit number xs ≡ None
   held-none e = ap (option_and_then (unless_withdrawn number xs)) e
 
-  pub held-some : (k : ℕ) → last_commit number xs ≡ Some k → withdrawn_at number xs k ≡ false → held_commit number xs ≡ Some k
-  held-some k last stands = ap (option_and_then (unless_withdrawn number xs)) last ∙ ap (λ (t : Bool). cond t None (Some k)) stands
+  pub held-some : (k : ℕ) → last_commit number xs ≡ Some k → withdrawn_at number xs k ≡ false
+      → held_commit number xs ≡ Some k
+  held-some k last stands = ap (option_and_then (unless_withdrawn number xs)) last ∙ ap
+      (λ (t : Bool). cond t None (Some k)) stands
 
-  pub held-withdrawn : (k : ℕ) → last_commit number xs ≡ Some k → withdrawn_at number xs k ≡ true → held_commit number xs ≡ None
-  held-withdrawn k last taken = ap (option_and_then (unless_withdrawn number xs)) last ∙ ap (λ (t : Bool). cond t None (Some k)) taken
+  pub held-withdrawn : (k : ℕ) → last_commit number xs ≡ Some k → withdrawn_at number xs k ≡ true
+      → held_commit number xs ≡ None
+  held-withdrawn k last taken = ap (option_and_then (unless_withdrawn number xs)) last ∙ ap
+      (λ (t : Bool). cond t None (Some k)) taken
 
   pub held-below : IfSome (held_commit number xs) (λ k. k < length xs)
   held-below = below (last_commit number xs) (last_commit-below number xs)
@@ -69,7 +77,8 @@ module _ (number : ℕ) (xs : List Entry) where
       by_test true k lt = tt
       by_test false k lt = lt
 
-      below : (o : Option ℕ) → IfSome o (λ k. k < length xs) → IfSome (option_and_then (unless_withdrawn number xs) o) (λ k. k < length xs)
+      below : (o : Option ℕ) → IfSome o (λ k. k < length xs)
+          → IfSome (option_and_then (unless_withdrawn number xs) o) (λ k. k < length xs)
       below None h = tt
       below (Some k) h = by_test (withdrawn_at number xs k) k h
 
@@ -81,20 +90,26 @@ one_of_both false true c e = absurd cc
 one_of_both false false true e = refl
 one_of_both false false false e = refl
 
-pub pending_stands : (number : ℕ) (xs : List Entry) (k : ℕ) → pending_at number xs k ≡ true → withdrawn_at number xs k ≡ false
-pending_stands number xs k = one_of_both (list_any (sends k) (drop (k + 1) xs)) (list_any (takes_back k) (drop (k + 1) xs)) (list_any (is_commit_on number) (drop (k + 1) xs))
+pub pending_stands : (number : ℕ) (xs : List Entry) (k : ℕ) → pending_at number xs k ≡ true
+    → withdrawn_at number xs k ≡ false
+pending_stands number xs k = one_of_both (list_any (sends k) (drop (k + 1) xs))
+    (list_any (takes_back k) (drop (k + 1) xs)) (list_any (is_commit_on number) (drop (k + 1) xs))
 
 -- so of the held commit and the last one it is the same whether it is pending
-pub held_pending-counts : (number : ℕ) (xs : List Entry) → cond (eqb (count_by is_pending (fates number xs)) 1) (held_commit number xs) None ≡ pending_commit number xs
-held_pending-counts number xs = by_count (eqb (count_by is_pending (fates number xs)) 1) (pending_commit-counts number xs)
+pub held_pending-counts : (number : ℕ) (xs : List Entry) → cond (eqb (count_by is_pending (fates number xs)) 1)
+    (held_commit number xs) None ≡ pending_commit number xs
+held_pending-counts number xs = by_count (eqb (count_by is_pending (fates number xs)) 1)
+    (pending_commit-counts number xs)
   where
-    found : (o : Option ℕ) → last_commit number xs ≡ o → o ≡ pending_commit number xs → held_commit number xs ≡ pending_commit number xs
+    found : (o : Option ℕ) → last_commit number xs ≡ o → o ≡ pending_commit number xs
+        → held_commit number xs ≡ pending_commit number xs
     found None last is = held-none number xs last ∙ is
     found (Some k) last is =
         let parts = pending_is number xs k (sym is) in
         held-some number xs k last (pending_stands number xs k parts.1) ∙ is
 
-    by_count : (t : Bool) → cond t (last_commit number xs) None ≡ pending_commit number xs → cond t (held_commit number xs) None ≡ pending_commit number xs
+    by_count : (t : Bool) → cond t (last_commit number xs) None ≡ pending_commit number xs
+        → cond t (held_commit number xs) None ≡ pending_commit number xs
     by_count true is = found (last_commit number xs) refl is
     by_count false is = is
 
@@ -112,19 +127,26 @@ or_none false = refl
 
 module _ (number : ℕ) (xs : List Entry) (e : Entry) where
   -- the fate of a commit, with the entry
-  later : (k : ℕ) → k < length xs → (p : Entry → Bool) → list_any p (drop (k + 1) (xs ++ e ∷ [])) ≡ (list_any p (drop (k + 1) xs) || p e)
+  later : (k : ℕ) → k < length xs → (p : Entry → Bool) → list_any p (drop (k + 1) (xs ++ e ∷ [])) ≡
+      (list_any p (drop (k + 1) xs) || p e)
   later k lt p =
-      ap (list_any p) (drop-front xs (e ∷ []) (k + 1) (omega (arith, lt))) ∙ list_any-append p (drop (k + 1) xs) (e ∷ [])
+      ap (list_any p) (drop-front xs (e ∷ []) (k + 1) (omega (arith, lt))) ∙ list_any-append p (drop (k + 1) xs)
+          (e ∷ [])
       ∙ ap (λ (b : Bool). list_any p (drop (k + 1) xs) || b) (or_none (p e))
 
   withdrawn_then : (k : ℕ) → k < length xs → withdrawn_at number (xs ++ e ∷ []) k
-      ≡ (not (list_any (sends k) (drop (k + 1) xs) || sends k e) && (list_any (takes_back k) (drop (k + 1) xs) || takes_back k e))
+      ≡ (not (list_any (sends k) (drop (k + 1) xs) || sends k e) &&
+          (list_any (takes_back k) (drop (k + 1) xs) || takes_back k e))
   withdrawn_then k lt =
-      withdrawn_by (list_any (sends k) (drop (k + 1) (xs ++ e ∷ []))) (list_any (takes_back k) (drop (k + 1) (xs ++ e ∷ []))) (list_any (is_commit_on number) (drop (k + 1) (xs ++ e ∷ [])))
+      withdrawn_by (list_any (sends k) (drop (k + 1) (xs ++ e ∷ [])))
+          (list_any (takes_back k) (drop (k + 1) (xs ++ e ∷ [])))
+          (list_any (is_commit_on number) (drop (k + 1) (xs ++ e ∷ [])))
       ∙ (λ i. not (later k lt (sends k) i) && later k lt (takes_back k) i)
 
-  withdrawn_now : (k : ℕ) → withdrawn_at number xs k ≡ (not (list_any (sends k) (drop (k + 1) xs)) && list_any (takes_back k) (drop (k + 1) xs))
-  withdrawn_now k = withdrawn_by (list_any (sends k) (drop (k + 1) xs)) (list_any (takes_back k) (drop (k + 1) xs)) (list_any (is_commit_on number) (drop (k + 1) xs))
+  withdrawn_now : (k : ℕ) → withdrawn_at number xs k ≡ (not (list_any (sends k) (drop (k + 1) xs)) && list_any
+      (takes_back k) (drop (k + 1) xs))
+  withdrawn_now k = withdrawn_by (list_any (sends k) (drop (k + 1) xs)) (list_any (takes_back k) (drop (k + 1) xs))
+      (list_any (is_commit_on number) (drop (k + 1) xs))
 
   -- a sent commit isn't withdrawn, and what isn't taken back isn't either
   same_by : (s w t : Bool) → (t ≡ true → (not s && w) ≡ false) → (not (s || t) && (w || false)) ≡ (not s && w)
@@ -132,7 +154,8 @@ module _ (number : ℕ) (xs : List Entry) (e : Entry) where
   same_by false w false h = or_none w
   same_by false w true h = sym (h refl)
 
-  same_withdrawn : (k : ℕ) → k < length xs → takes_back k e ≡ false → (sends k e ≡ true → withdrawn_at number xs k ≡ false)
+  same_withdrawn : (k : ℕ) → k < length xs → takes_back k e ≡ false
+      → (sends k e ≡ true → withdrawn_at number xs k ≡ false)
       → withdrawn_at number (xs ++ e ∷ []) k ≡ withdrawn_at number xs k
   same_withdrawn k lt untaken unsent =
       let s : Bool = list_any (sends k) (drop (k + 1) xs) in
@@ -145,28 +168,36 @@ module _ (number : ℕ) (xs : List Entry) (e : Entry) where
       → ((k : ℕ) → last_commit number xs ≡ Some k → sends k e ≡ true → withdrawn_at number xs k ≡ false)
       → held_commit number (xs ++ e ∷ []) ≡ held_commit number xs
   held-other off untaken unsent =
-      ap (option_and_then (unless_withdrawn number (xs ++ e ∷ []))) (last_commit-other number xs e off) ∙ by_last (last_commit number xs) (last_commit-below number xs) untaken unsent
+      ap (option_and_then (unless_withdrawn number (xs ++ e ∷ []))) (last_commit-other number xs e off) ∙ by_last
+          (last_commit number xs) (last_commit-below number xs) untaken unsent
     where
-      by_last : (o : Option ℕ) → IfSome o (λ k. k < length xs) → ((k : ℕ) → o ≡ Some k → takes_back k e ≡ false) → ((k : ℕ) → o ≡ Some k → sends k e ≡ true → withdrawn_at number xs k ≡ false)
+      by_last : (o : Option ℕ) → IfSome o (λ k. k < length xs) → ((k : ℕ) → o ≡ Some k → takes_back k e ≡ false)
+          → ((k : ℕ) → o ≡ Some k → sends k e ≡ true → withdrawn_at number xs k ≡ false)
           → option_and_then (unless_withdrawn number (xs ++ e ∷ [])) o ≡ option_and_then (unless_withdrawn number xs) o
       by_last None h p q = refl
-      by_last (Some k) h p q = ap (λ (t : Bool). cond {A = Option ℕ} t None (Some k)) (same_withdrawn k h (p k refl) (q k refl))
+      by_last (Some k) h p q = ap (λ (t : Bool). cond {A = Option ℕ} t None (Some k))
+          (same_withdrawn k h (p k refl) (q k refl))
 
   -- one that sends no commit and takes none back
-  pub held-same : is_commit_on number e ≡ false → ((k : ℕ) → takes_back k e ≡ false) → ((k : ℕ) → sends k e ≡ false) → held_commit number (xs ++ e ∷ []) ≡ held_commit number xs
-  held-same off untaken unsent = held-other off (λ k _. untaken k) (λ k _ sent. let never : false ≡ true = sym (unsent k) ∙ sent in absurd cc)
+  pub held-same : is_commit_on number e ≡ false → ((k : ℕ) → takes_back k e ≡ false) → ((k : ℕ) → sends k e ≡ false)
+      → held_commit number (xs ++ e ∷ []) ≡ held_commit number xs
+  held-same off untaken unsent = held-other off (λ k _. untaken k)
+      (λ k _ sent. let never : false ≡ true = sym (unsent k) ∙ sent in absurd cc)
 
   -- a commit is held at once
   pub held-commit : is_commit_on number e ≡ true → held_commit number (xs ++ e ∷ []) ≡ Some (length xs)
   held-commit on =
       let none : drop (length xs + 1) (xs ++ e ∷ []) ≡ [] = drop-next xs e [] in
-      held-some number (xs ++ e ∷ []) (length xs) (last_commit-commit number xs e on) (ap (λ (l : List Entry). is_withdrawn (fate_of number (length xs) l)) none)
+      held-some number (xs ++ e ∷ []) (length xs) (last_commit-commit number xs e on)
+          (ap (λ (l : List Entry). is_withdrawn (fate_of number (length xs) l)) none)
 
   -- a pending commit that is taken back leaves the buffer empty
-  pub held-taken : is_commit_on number e ≡ false → ((k : ℕ) → sends k e ≡ false) → (k : ℕ) → pending_commit number xs ≡ Some k → takes_back k e ≡ true → held_commit number (xs ++ e ∷ []) ≡ None
+  pub held-taken : is_commit_on number e ≡ false → ((k : ℕ) → sends k e ≡ false) → (k : ℕ)
+      → pending_commit number xs ≡ Some k → takes_back k e ≡ true → held_commit number (xs ++ e ∷ []) ≡ None
   held-taken off unsent k pending taken =
       let parts = pending_is number xs k pending in
-      let lt : k < length xs = subst (λ (o : Option ℕ). IfSome o (λ j. j < length xs)) parts.0 (last_commit-below number xs) in
+      let lt : k < length xs = subst (λ (o : Option ℕ). IfSome o (λ j. j < length xs)) parts.0
+          (last_commit-below number xs) in
       let s : Bool = list_any (sends k) (drop (k + 1) xs) in
       let w : Bool = list_any (takes_back k) (drop (k + 1) xs) in
       let c : Bool = list_any (is_commit_on number) (drop (k + 1) xs) in
@@ -184,13 +215,15 @@ on_both : (m n : ℕ) (e : Entry) → is_commit_on m e ≡ true → is_commit_on
 on_both m n (Commit task buffer payload) p q = sym (eqb-true buffer m p) ∙ eqb-true buffer n q
 on_both m n e p q = absurd cc
 
-pub same_entry : (m n : ℕ) (o : Option Entry) → IsSomeAnd o (λ e. is_commit_on m e ≡ true) → IsSomeAnd o (λ e. is_commit_on n e ≡ true) → m ≡ n
+pub same_entry : (m n : ℕ) (o : Option Entry) → IsSomeAnd o (λ e. is_commit_on m e ≡ true)
+    → IsSomeAnd o (λ e. is_commit_on n e ≡ true) → m ≡ n
 same_entry m n None p q = absurd p
 same_entry m n (Some e) p q = on_both m n e p q
 
 module _ (xs : List Entry) where
   pub last_there : (number k : ℕ) → last_commit number xs ≡ Some k → IsCommitAt number xs k
-  last_there number k is = subst (λ (o : Option ℕ). IfSome o (λ j. IsCommitAt number xs j)) is (last_commit-there number xs)
+  last_there number k is = subst (λ (o : Option ℕ). IfSome o (λ j. IsCommitAt number xs j)) is
+      (last_commit-there number xs)
 
   -- two buffers have no commit in common
   pub one_buffer : (m n k : ℕ) → last_commit m xs ≡ Some k → last_commit n xs ≡ Some k → m ≡ n

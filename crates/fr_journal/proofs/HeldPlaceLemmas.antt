@@ -24,25 +24,32 @@ use Rattle.fr_status.specs.declared.seen.Seen.{Seen}
 abbrev IsFrom : ℕ → Arrival → Type 0
 IsFrom number arrival = arrival.origin.entry ≡ number
 
-from_number : (number : ℕ) (channel : Channel) (o : Option Fields) → IfSome (option_map (arrival_of number channel) o) (IsFrom number)
+from_number : (number : ℕ) (channel : Channel) (o : Option Fields)
+    → IfSome (option_map (arrival_of number channel) o) (IsFrom number)
 from_number number channel None = tt
 from_number number channel (Some f) = refl
 
-from_cond : (b : Bool) (o : Option Arrival) (number : ℕ) → IfSome o (IsFrom number) → IfSome (cond b o None) (IsFrom number)
+from_cond : (b : Bool) (o : Option Arrival) (number : ℕ) → IfSome o (IsFrom number)
+    → IfSome (cond b o None) (IsFrom number)
 from_cond true o number h = h
 from_cond false o number h = tt
 
-from_channel : (params : Parameters) (filter : Filter) (number : ℕ) (window : Opportunity) (channel : Channel) (seen : Seen) → IfSome (arrival_on params filter number window channel seen) (IsFrom number)
+from_channel : (params : Parameters) (filter : Filter) (number : ℕ) (window : Opportunity) (channel : Channel)
+    (seen : Seen) → IfSome (arrival_on params filter number window channel seen) (IsFrom number)
 from_channel params filter number window channel seen =
-    from_cond (admits_window filter window channel) (option_map (arrival_of number channel) (data_frame_seen params window channel seen)) number (from_number number channel (data_frame_seen params window channel seen))
+    from_cond (admits_window filter window channel) (option_map (arrival_of number channel)
+        (data_frame_seen params window channel seen)) number
+        (from_number number channel (data_frame_seen params window channel seen))
 
-from_window : (params : Parameters) (filter : Filter) (number : ℕ) (a b : Seen) (window : Option Opportunity) → IfSome (option_and_then (arrival_in params filter number a b) window) (IsFrom number)
+from_window : (params : Parameters) (filter : Filter) (number : ℕ) (a b : Seen) (window : Option Opportunity)
+    → IfSome (option_and_then (arrival_in params filter number a b) window) (IsFrom number)
 from_window params filter number a b None = tt
 from_window params filter number a b (Some window) =
     IfSome-or (IsFrom number) (arrival_on params filter number window A a) (arrival_on params filter number window B b)
     (from_channel params filter number window A a) (from_channel params filter number window B b)
 
-from_entry : (params : Parameters) (filter : Filter) (number : ℕ) (window : Option Opportunity) (e : Entry) → IfSome (arrival_by params filter number window e) (IsFrom number)
+from_entry : (params : Parameters) (filter : Filter) (number : ℕ) (window : Option Opportunity) (e : Entry)
+    → IfSome (arrival_by params filter number window e) (IsFrom number)
 from_entry params filter number window (Commit task buffer payload) = tt
 from_entry params filter number window (Withdraw task buffer of) = tt
 from_entry params filter number window (Read task buffer from) = tt
@@ -61,21 +68,29 @@ below_next : (o : Option Arrival) (number : ℕ) → IfSome o (IsFrom number) �
 below_next None number h = tt
 below_next (Some a) number h = omega arith
 
-held-below_from : (params : Parameters) (filter : Filter) (before xs : List Entry) → IfSome (last_after (arrival_at params filter) before xs) (IsBelow (length before + length xs))
+held-below_from : (params : Parameters) (filter : Filter) (before xs : List Entry)
+    → IfSome (last_after (arrival_at params filter) before xs) (IsBelow (length before + length xs))
 unfolding last_after
 held-below_from params filter before [] = tt
 held-below_from params filter before (e ∷ xs) =
-    IfSome-or (IsBelow (length before + length (e ∷ xs))) (last_after (arrival_at params filter) (before ++ e ∷ []) xs) (arrival_at params filter before e)
-    (weaker _ (length (before ++ e ∷ []) + length xs) (length before + length (e ∷ xs)) (omega (arith, length-append before (e ∷ []))) (held-below_from params filter (before ++ e ∷ []) xs))
-    (weaker _ (length before + 1) (length before + length (e ∷ xs)) (omega arith) (below_next _ (length before) (from_entry params filter (length before) (open_window before) e)))
+    IfSome-or (IsBelow (length before + length (e ∷ xs))) (last_after (arrival_at params filter) (before ++ e ∷ []) xs)
+        (arrival_at params filter before e)
+    (weaker _ (length (before ++ e ∷ []) + length xs) (length before + length (e ∷ xs))
+        (omega (arith, length-append before (e ∷ []))) (held-below_from params filter (before ++ e ∷ []) xs))
+    (weaker _ (length before + 1) (length before + length (e ∷ xs)) (omega arith)
+        (below_next _ (length before) (from_entry params filter (length before) (open_window before) e)))
 
 -- the entry that what is held comes from is one of these
-pub held-below : (params : Parameters) (filter : Filter) (entries : List Entry) → IfSome (held params filter entries) (λ a. a.origin.entry < length entries)
-held-below params filter entries = weaker (held params filter entries) (length {A = Entry} [] + length entries) (length entries) (omega arith) (held-below_from params filter [] entries)
+pub held-below : (params : Parameters) (filter : Filter) (entries : List Entry)
+    → IfSome (held params filter entries) (λ a. a.origin.entry < length entries)
+held-below params filter entries = weaker (held params filter entries) (length {A = Entry} [] + length entries)
+    (length entries) (omega arith) (held-below_from params filter [] entries)
 
 origin_below : (o : Option Arrival) (n : ℕ) → n ≤ 2 ^ 32 → IfSome o (IsBelow n) → IsOrigin (option_map origin_of o)
 origin_below None n few h = tt
 origin_below (Some a) n few h = omega arith
 
-pub origin_fits : (params : Parameters) (filter : Filter) (entries : List Entry) → length entries ≤ 2 ^ 32 → IsOrigin (option_map origin_of (held params filter entries))
-origin_fits params filter entries few = origin_below (held params filter entries) (length entries) few (held-below params filter entries)
+pub origin_fits : (params : Parameters) (filter : Filter) (entries : List Entry) → length entries ≤ 2 ^ 32
+    → IsOrigin (option_map origin_of (held params filter entries))
+origin_fits params filter entries few = origin_below (held params filter entries) (length entries) few
+    (held-below params filter entries)

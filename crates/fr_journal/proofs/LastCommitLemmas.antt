@@ -28,12 +28,14 @@ slice_get-front (x ∷ xs) ys zero lt = refl
 slice_get-front (x ∷ xs) ys (suc n) lt = slice_get-front xs ys n (omega (arith, lt))
 
 -- the element after a front
-pub slice_get-next : {X : Type 0} (front : List X) (x : X) (rest : List X) → slice_get (front ++ x ∷ rest) (length front) ≡ Some x
+pub slice_get-next : {X : Type 0} (front : List X) (x : X) (rest : List X)
+    → slice_get (front ++ x ∷ rest) (length front) ≡ Some x
 slice_get-next [] x rest = refl
 slice_get-next (y ∷ front) x rest = slice_get-next front x rest
 
 -- what follows the element after a front
-pub drop-next : {X : Type 0} (front : List X) (x : X) (rest : List X) → drop (length front + 1) (front ++ x ∷ rest) ≡ rest
+pub drop-next : {X : Type 0} (front : List X) (x : X) (rest : List X)
+    → drop (length front + 1) (front ++ x ∷ rest) ≡ rest
 drop-next {X = X} front x rest =
     let one : length front + 1 ≡ suc (length front) = omega arith in
     ap (λ (n : ℕ). drop n (front ++ x ∷ rest)) one ∙ behind_front front
@@ -60,33 +62,42 @@ further None p m n le h = absurd h
 further (Some k) p m n le h = omega (arith, le, h)
 
 module _ (buffer : ℕ) where
-  pub last-none : (before xs : List Entry) → list_any (is_commit_on buffer) xs ≡ false → last_after (commit_on buffer) before xs ≡ None
+  pub last-none : (before xs : List Entry) → list_any (is_commit_on buffer) xs ≡ false
+      → last_after (commit_on buffer) before xs ≡ None
   unfolding last_after
   last-none before [] h = refl
   last-none before (x ∷ xs) h =
-      let parts : (is_commit_on buffer x ≡ false) × (list_any (is_commit_on buffer) xs ≡ false) = or-false (is_commit_on buffer x) (list_any (is_commit_on buffer) xs) h in
+      let parts : (is_commit_on buffer x ≡ false) × (list_any (is_commit_on buffer) xs ≡ false) =
+          or-false (is_commit_on buffer x) (list_any (is_commit_on buffer) xs) h in
       ap (λ (o : Option ℕ). option_or o (commit_on buffer before x)) (last-none (before ++ x ∷ []) xs parts.1)
       ∙ ap (λ (b : Bool). cond b (Some (length before)) None) parts.0
 
-  pub last-here : (before : List Entry) (x : Entry) (xs : List Entry) → list_any (is_commit_on buffer) xs ≡ false → is_commit_on buffer x ≡ true
+  pub last-here : (before : List Entry) (x : Entry) (xs : List Entry) → list_any (is_commit_on buffer) xs ≡ false
+      → is_commit_on buffer x ≡ true
       → last_after (commit_on buffer) before (x ∷ xs) ≡ Some (length before)
   unfolding last_after
   last-here before x xs none here =
       ap (λ (o : Option ℕ). option_or o (commit_on buffer before x)) (last-none (before ++ x ∷ []) xs none)
       ∙ ap (λ (b : Bool). cond b (Some (length before)) None) here
 
-  pub last-some : (before xs : List Entry) → list_any (is_commit_on buffer) xs ≡ true → IsSomeAnd (last_after (commit_on buffer) before xs) (λ k. length before ≤ k)
+  pub last-some : (before xs : List Entry) → list_any (is_commit_on buffer) xs ≡ true
+      → IsSomeAnd (last_after (commit_on buffer) before xs) (λ k. length before ≤ k)
   unfolding last_after
   last-some before [] h = absurd cc
   last-some before (x ∷ xs) h = by_rest (list_any (is_commit_on buffer) xs) (last-some (before ++ x ∷ []) xs) refl
     where
-      by_rest : (t : Bool) → (list_any (is_commit_on buffer) xs ≡ true → IsSomeAnd (last_after (commit_on buffer) (before ++ x ∷ []) xs) (λ k. length (before ++ x ∷ []) ≤ k))
-          → list_any (is_commit_on buffer) xs ≡ t → IsSomeAnd (last_after (commit_on buffer) before (x ∷ xs)) (λ k. length before ≤ k)
+      by_rest : (t : Bool) → (list_any (is_commit_on buffer) xs ≡ true
+          → IsSomeAnd (last_after (commit_on buffer) (before ++ x ∷ []) xs) (λ k. length (before ++ x ∷ []) ≤ k))
+          → list_any (is_commit_on buffer) xs ≡ t → IsSomeAnd (last_after (commit_on buffer) before (x ∷ xs))
+              (λ k. length before ≤ k)
       by_rest true deeper more =
-          further (last_after (commit_on buffer) (before ++ x ∷ []) xs) (commit_on buffer before x) (length (before ++ x ∷ [])) (length before) (omega (arith, length-append before (x ∷ []))) (deeper more)
+          further (last_after (commit_on buffer) (before ++ x ∷ []) xs) (commit_on buffer before x)
+              (length (before ++ x ∷ [])) (length before) (omega (arith, length-append before (x ∷ []))) (deeper more)
       by_rest false deeper none =
-          let here : is_commit_on buffer x ≡ true = sym (or_none (is_commit_on buffer x)) ∙ ap (λ (b : Bool). is_commit_on buffer x || b) (sym none) ∙ h in
-          subst (λ (o : Option ℕ). IsSomeAnd o (λ k. length before ≤ k)) (sym (last-here before x xs none here)) (omega arith)
+          let here : is_commit_on buffer x ≡ true = sym (or_none (is_commit_on buffer x)) ∙ ap
+              (λ (b : Bool). is_commit_on buffer x || b) (sym none) ∙ h in
+          subst (λ (o : Option ℕ). IsSomeAnd o (λ k. length before ≤ k)) (sym (last-here before x xs none here))
+              (omega arith)
 
   -- ---- where it stands
 
@@ -94,16 +105,21 @@ module _ (buffer : ℕ) where
   abbrev pub IsCommitAt : List Entry → ℕ → Type 0
   IsCommitAt xs k = IsSomeAnd (slice_get xs k) (λ e. is_commit_on buffer e ≡ true)
 
-  commit_here : (before : List Entry) (x : Entry) (xs : List Entry) (t : Bool) → is_commit_on buffer x ≡ t → IfSome (cond t (Some (length before)) None) (λ k. IsCommitAt (before ++ x ∷ xs) k)
-  commit_here before x xs true is = subst (λ (o : Option Entry). IsSomeAnd o (λ e. is_commit_on buffer e ≡ true)) (sym (slice_get-next before x xs)) is
+  commit_here : (before : List Entry) (x : Entry) (xs : List Entry) (t : Bool) → is_commit_on buffer x ≡ t
+      → IfSome (cond t (Some (length before)) None) (λ k. IsCommitAt (before ++ x ∷ xs) k)
+  commit_here before x xs true is = subst (λ (o : Option Entry). IsSomeAnd o (λ e. is_commit_on buffer e ≡ true))
+      (sym (slice_get-next before x xs)) is
   commit_here before x xs false is = tt
 
-  there_from : (before xs : List Entry) → IfSome (last_after (commit_on buffer) before xs) (λ k. IsCommitAt (before ++ xs) k)
+  there_from : (before xs : List Entry) → IfSome (last_after (commit_on buffer) before xs)
+      (λ k. IsCommitAt (before ++ xs) k)
   unfolding last_after
   there_from before [] = tt
   there_from before (x ∷ xs) =
-      IfSome-or (λ k. IsCommitAt (before ++ x ∷ xs) k) (last_after (commit_on buffer) (before ++ x ∷ []) xs) (commit_on buffer before x)
-      (subst (λ (l : List Entry). IfSome (last_after (commit_on buffer) (before ++ x ∷ []) xs) (λ k. IsCommitAt l k)) (append_assoc before (x ∷ []) xs) (there_from (before ++ x ∷ []) xs))
+      IfSome-or (λ k. IsCommitAt (before ++ x ∷ xs) k) (last_after (commit_on buffer) (before ++ x ∷ []) xs)
+          (commit_on buffer before x)
+      (subst (λ (l : List Entry). IfSome (last_after (commit_on buffer) (before ++ x ∷ []) xs) (λ k. IsCommitAt l k))
+          (append_assoc before (x ∷ []) xs) (there_from (before ++ x ∷ []) xs))
       (commit_here before x xs (is_commit_on buffer x) refl)
 
   pub last_commit-there : (xs : List Entry) → IfSome (last_commit buffer xs) (λ k. IsCommitAt xs k)
@@ -118,16 +134,22 @@ module _ (buffer : ℕ) where
 
   -- ---- one entry more
 
-  pub last_commit-commit : (xs : List Entry) (e : Entry) → is_commit_on buffer e ≡ true → last_commit buffer (xs ++ e ∷ []) ≡ Some (length xs)
-  last_commit-commit xs e on = last_after-snoc (commit_on buffer) xs e ∙ ap (λ (b : Bool). option_or (cond b (Some (length xs)) None) (last_commit buffer xs)) on
+  pub last_commit-commit : (xs : List Entry) (e : Entry) → is_commit_on buffer e ≡ true
+      → last_commit buffer (xs ++ e ∷ []) ≡ Some (length xs)
+  last_commit-commit xs e on = last_after-snoc (commit_on buffer) xs e ∙ ap
+      (λ (b : Bool). option_or (cond b (Some (length xs)) None) (last_commit buffer xs)) on
 
-  pub last_commit-other : (xs : List Entry) (e : Entry) → is_commit_on buffer e ≡ false → last_commit buffer (xs ++ e ∷ []) ≡ last_commit buffer xs
-  last_commit-other xs e off = last_after-snoc (commit_on buffer) xs e ∙ ap (λ (b : Bool). option_or (cond b (Some (length xs)) None) (last_commit buffer xs)) off
+  pub last_commit-other : (xs : List Entry) (e : Entry) → is_commit_on buffer e ≡ false
+      → last_commit buffer (xs ++ e ∷ []) ≡ last_commit buffer xs
+  last_commit-other xs e off = last_after-snoc (commit_on buffer) xs e ∙ ap
+      (λ (b : Bool). option_or (cond b (Some (length xs)) None) (last_commit buffer xs)) off
 
 -- ---- its payload
 
-pub payload_of-front : (xs : List Entry) (e : Entry) (k : ℕ) → k < length xs → payload_of (xs ++ e ∷ []) k ≡ payload_of xs k
+pub payload_of-front : (xs : List Entry) (e : Entry) (k : ℕ) → k < length xs
+    → payload_of (xs ++ e ∷ []) k ≡ payload_of xs k
 payload_of-front xs e k lt = ap payload_in (slice_get-front xs (e ∷ []) k lt)
 
-pub payload_of-next : (xs : List Entry) (task buffer : ℕ) (payload : List ℕ) → payload_of (xs ++ Commit task buffer payload ∷ []) (length xs) ≡ payload
+pub payload_of-next : (xs : List Entry) (task buffer : ℕ) (payload : List ℕ)
+    → payload_of (xs ++ Commit task buffer payload ∷ []) (length xs) ≡ payload
 payload_of-next xs task buffer payload = ap payload_in (slice_get-next xs (Commit task buffer payload) [])

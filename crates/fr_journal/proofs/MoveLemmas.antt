@@ -8,7 +8,8 @@ use Rattle.fr_slots.specs.Parameters.{Parameters}
 use Rattle.fr_slots.specs.Plans.{Plan}
 use Rattle.fr_slots.proofs.HistoryLemmas.{each_after-snoc}
 
-pub moves-snoc : (params : Parameters) (plan : Plan) (q : Queue) (xs : List Entry) (e : Entry) → moves params plan q (xs ++ e ∷ []) ≡ moves params plan q xs ++ moves_at params plan q xs e
+pub moves-snoc : (params : Parameters) (plan : Plan) (q : Queue) (xs : List Entry) (e : Entry)
+    → moves params plan q (xs ++ e ∷ []) ≡ moves params plan q xs ++ moves_at params plan q xs e
 moves-snoc params plan q xs e = each_after-snoc (moves_at params plan q) xs e
 
 pub arrived-append : (xs ys : List Move) → arrived (xs ++ ys) ≡ arrived xs ++ arrived ys

@@ -34,7 +34,8 @@ weaker : (xs : List Arrival) (m n : ℕ) → m ≤ n → AreBelow m xs → AreBe
 weaker [] m n le h = tt
 weaker (a ∷ xs) m n le h = (omega (arith, le, h.0), weaker xs m n le h.1)
 
-from_number : (number : ℕ) (channel : Channel) (o : Option Fields) → AreBelow (number + 1) (option_to_list (option_map (arrival_of number channel) o))
+from_number : (number : ℕ) (channel : Channel) (o : Option Fields)
+    → AreBelow (number + 1) (option_to_list (option_map (arrival_of number channel) o))
 from_number number channel None = tt
 from_number number channel (Some f) = (omega arith, tt)
 
@@ -43,26 +44,35 @@ from_cond true xs bound h = h
 from_cond false xs bound h = tt
 
 module _ (params : Parameters) (plan : Plan) (q : Queue) where
-  from_channel : (number : ℕ) (window : Opportunity) (channel : Channel) (seen : Seen) → AreBelow (number + 1) (queue_arrival_on params plan q number window channel seen)
+  from_channel : (number : ℕ) (window : Opportunity) (channel : Channel) (seen : Seen)
+      → AreBelow (number + 1) (queue_arrival_on params plan q number window channel seen)
   from_channel number window channel seen =
-      from_cond (is_for_queue plan q window channel) (option_to_list (option_map (arrival_of number channel) (data_frame_seen params window channel seen))) (number + 1)
+      from_cond (is_for_queue plan q window channel) (option_to_list
+          (option_map (arrival_of number channel) (data_frame_seen params window channel seen))) (number + 1)
       (from_number number channel (data_frame_seen params window channel seen))
 
-  from_window : (number : ℕ) (a b : Seen) (window : Option Opportunity) → AreBelow (number + 1) (queue_arrivals_in params plan q number a b window)
+  from_window : (number : ℕ) (a b : Seen) (window : Option Opportunity)
+      → AreBelow (number + 1) (queue_arrivals_in params plan q number a b window)
   from_window number a b None = tt
   from_window number a b (Some window) =
-      joined (number + 1) (queue_arrival_on params plan q number window A a) (queue_arrival_on params plan q number window B b) (from_channel number window A a) (from_channel number window B b)
+      joined (number + 1) (queue_arrival_on params plan q number window A a)
+          (queue_arrival_on params plan q number window B b) (from_channel number window A a)
+          (from_channel number window B b)
 
-  from_entry : (before : List Entry) (e : Entry) → AreBelow (length before + 1) (arrived (moves_at params plan q before e))
+  from_entry : (before : List Entry) (e : Entry) → AreBelow (length before + 1)
+      (arrived (moves_at params plan q before e))
   from_entry before (Commit task buffer payload) = tt
   from_entry before (Withdraw task buffer of) = tt
   from_entry before (Read task buffer from) = tt
   from_entry before (Pop task from) = tt
   from_entry before (Fetch w a b) = tt
   from_entry before (Observe w a b) =
-      subst (AreBelow (length before + 1)) (sym (arrived-all (queue_arrivals_in params plan q (length before) a b (open_window before)))) (from_window (length before) a b (open_window before))
+      subst (AreBelow (length before + 1)) (sym
+          (arrived-all (queue_arrivals_in params plan q (length before) a b (open_window before))))
+          (from_window (length before) a b (open_window before))
 
-  below_from : (before xs : List Entry) → AreBelow (length before + length xs) (arrived (each_after (moves_at params plan q) before xs))
+  below_from : (before xs : List Entry) → AreBelow (length before + length xs)
+      (arrived (each_after (moves_at params plan q) before xs))
   unfolding each_after
   below_from before [] = tt
   below_from before (e ∷ xs) =
@@ -71,23 +81,31 @@ module _ (params : Parameters) (plan : Plan) (q : Queue) where
       subst (AreBelow (length before + length (e ∷ xs))) (sym (arrived-append here rest))
       (joined (length before + length (e ∷ xs)) (arrived here) (arrived rest)
       (weaker (arrived here) (length before + 1) (length before + length (e ∷ xs)) (omega arith) (from_entry before e))
-      (weaker (arrived rest) (length (before ++ e ∷ []) + length xs) (length before + length (e ∷ xs)) (omega (arith, length-append before (e ∷ []))) (below_from (before ++ e ∷ []) xs)))
+      (weaker (arrived rest) (length (before ++ e ∷ []) + length xs) (length before + length (e ∷ xs))
+          (omega (arith, length-append before (e ∷ []))) (below_from (before ++ e ∷ []) xs)))
 
-  picks : (xs : List Arrival) (n bound : ℕ) → AreBelow bound xs → IfSome (slice_get (drop n xs) 0) (λ a. a.origin.entry < bound)
+  picks : (xs : List Arrival) (n bound : ℕ) → AreBelow bound xs
+      → IfSome (slice_get (drop n xs) 0) (λ a. a.origin.entry < bound)
   picks [] zero bound h = tt
   picks [] (suc n) bound h = tt
   picks (a ∷ xs) zero bound h = h.0
   picks (a ∷ xs) (suc n) bound h = picks xs n bound h.1
 
   -- the entry that the oldest frame comes from is one of these
-  pub oldest-below : (capacity : ℕ) (entries : List Entry) → IfSome (oldest capacity (moves params plan q entries)) (λ a. a.origin.entry < length entries)
+  pub oldest-below : (capacity : ℕ) (entries : List Entry) → IfSome (oldest capacity (moves params plan q entries))
+      (λ a. a.origin.entry < length entries)
   oldest-below capacity entries =
-      picks (arrived (moves params plan q entries)) (length (arrived (moves params plan q entries)) - queue_length capacity (moves params plan q entries)) (length entries)
-      (weaker (arrived (moves params plan q entries)) (length {A = Entry} [] + length entries) (length entries) (omega arith) (below_from [] entries))
+      picks (arrived (moves params plan q entries)) (length (arrived (moves params plan q entries)) - queue_length
+          capacity (moves params plan q entries)) (length entries)
+      (weaker (arrived (moves params plan q entries)) (length {A = Entry} [] + length entries) (length entries)
+          (omega arith) (below_from [] entries))
 
-  pub queue_origin_fits : (entries : List Entry) → length entries ≤ 2 ^ 32 → IsOrigin (option_map origin_of (oldest q.capacity (moves params plan q entries)))
-  queue_origin_fits entries few = fits (oldest q.capacity (moves params plan q entries)) (length entries) few (oldest-below q.capacity entries)
+  pub queue_origin_fits : (entries : List Entry) → length entries ≤ 2 ^ 32
+      → IsOrigin (option_map origin_of (oldest q.capacity (moves params plan q entries)))
+  queue_origin_fits entries few = fits (oldest q.capacity (moves params plan q entries)) (length entries) few
+      (oldest-below q.capacity entries)
     where
-      fits : (o : Option Arrival) (n : ℕ) → n ≤ 2 ^ 32 → IfSome o (λ a. a.origin.entry < n) → IsOrigin (option_map origin_of o)
+      fits : (o : Option Arrival) (n : ℕ) → n ≤ 2 ^ 32 → IfSome o (λ a. a.origin.entry < n)
+          → IsOrigin (option_map origin_of o)
       fits None n few h = tt
       fits (Some a) n few h = omega (arith, few, h)

@@ -25,24 +25,29 @@ abbrev one_if : Bool → ℕ
 one_if b = cond b 1 0
 
 -- none passes from a place on
-count_by-front : {X : Type 0} (p : X → Bool) (xs : List X) (d : X) (k : ℕ) → ((i : ℕ) → k ≤ i → i < length xs → p (get_or xs i d) ≡ false) → count_by p xs ≤ k
+count_by-front : {X : Type 0} (p : X → Bool) (xs : List X) (d : X) (k : ℕ)
+    → ((i : ℕ) → k ≤ i → i < length xs → p (get_or xs i d) ≡ false) → count_by p xs ≤ k
 count_by-front p [] d k none = omega arith
 count_by-front p (x ∷ xs) d zero none =
     let here : one_if (p x) ≡ 0 = ap one_if (none 0 (omega arith) (omega arith)) in
-    omega (arith, here, sum_by-cons (λ y. cond (p y) 1 0) x xs, count_by-front p xs d 0 (λ i from in'. none (suc i) (omega arith) (omega arith)))
+    omega (arith, here, sum_by-cons (λ y. cond (p y) 1 0) x xs,
+        count_by-front p xs d 0 (λ i from in'. none (suc i) (omega arith) (omega arith)))
 count_by-front p (x ∷ xs) d (suc k) none =
     let here : one_if (p x) ≤ 1 = elim (p x) as (λ b. one_if b ≤ 1) [ true ↦ omega arith | false ↦ omega arith ] in
-    omega (arith, here, sum_by-cons (λ y. cond (p y) 1 0) x xs, count_by-front p xs d k (λ i from in'. none (suc i) (omega arith) (omega arith)))
+    omega (arith, here, sum_by-cons (λ y. cond (p y) 1 0) x xs,
+        count_by-front p xs d k (λ i from in'. none (suc i) (omega arith) (omega arith)))
 
 -- all pass up to a place
-count_by-upto : {X : Type 0} (p : X → Bool) (xs : List X) (d : X) (k : ℕ) → k < length xs → ((i : ℕ) → i ≤ k → p (get_or xs i d) ≡ true) → k + 1 ≤ count_by p xs
+count_by-upto : {X : Type 0} (p : X → Bool) (xs : List X) (d : X) (k : ℕ) → k < length xs
+    → ((i : ℕ) → i ≤ k → p (get_or xs i d) ≡ true) → k + 1 ≤ count_by p xs
 count_by-upto p [] d k in' all = absurd (omega arith)
 count_by-upto p (x ∷ xs) d zero in' all =
     let here : one_if (p x) ≡ 1 = ap one_if (all 0 (omega arith)) in
     omega (arith, here, sum_by-cons (λ y. cond (p y) 1 0) x xs)
 count_by-upto p (x ∷ xs) d (suc k) in' all =
     let here : one_if (p x) ≡ 1 = ap one_if (all 0 (omega arith)) in
-    omega (arith, here, sum_by-cons (λ y. cond (p y) 1 0) x xs, count_by-upto p xs d k (omega arith) (λ i upto. all (suc i) (omega arith)))
+    omega (arith, here, sum_by-cons (λ y. cond (p y) 1 0) x xs,
+        count_by-upto p xs d k (omega arith) (λ i upto. all (suc i) (omega arith)))
 
 -- ---- ranks of ascending values
 
@@ -57,19 +62,24 @@ is_lt-int_cmp x y = go (int_lt x y) (int_lt y x)
 not_below : (x y : ℤ) → int_lt y x ≡ false → int_le x y ≡ true
 not_below x y h = grind (arith, ints)
 
-ascends : (ys : List ℤ) → IsSorted int_cmp ys → (i j : ℕ) (d : ℤ) → i ≤ j → j < length ys → int_lt (get_or ys j d) (get_or ys i d) ≡ false
+ascends : (ys : List ℤ) → IsSorted int_cmp ys → (i j : ℕ) (d : ℤ) → i ≤ j → j < length ys
+    → int_lt (get_or ys j d) (get_or ys i d) ≡ false
 ascends ys sorted i j d le in' =
-    sym (is_lt-int_cmp (get_or ys j d) (get_or ys i d)) ∙ sorted_far (λ x y. is_lt (int_cmp x y)) (ranks_by int_cmp_total (λ x. x)) ys sorted i j d le in'
+    sym (is_lt-int_cmp (get_or ys j d) (get_or ys i d)) ∙ sorted_far (λ x y. is_lt (int_cmp x y))
+        (ranks_by int_cmp_total (λ x. x)) ys sorted i j d le in'
 
 rank_at : (ys : List ℤ) → IsSorted int_cmp ys → (k : ℕ) (d : ℤ) → k < length ys → HasRank ys (k + 1) (get_or ys k d)
 rank_at ys sorted k d in' =
     record {
       among = Contains-get_or ys k d in';
-      few_below = omega (arith, count_by-front (λ y. int_lt y (get_or ys k d)) ys d k (λ i from inside. ascends ys sorted k i d from inside));
-      enough = count_by-upto (λ y. int_le y (get_or ys k d)) ys d k in' (λ i upto. not_below (get_or ys i d) (get_or ys k d) (ascends ys sorted i k d upto in'));
+      few_below = omega (arith, count_by-front (λ y. int_lt y (get_or ys k d)) ys d k
+          (λ i from inside. ascends ys sorted k i d from inside));
+      enough = count_by-upto (λ y. int_le y (get_or ys k d)) ys d k in'
+          (λ i upto. not_below (get_or ys i d) (get_or ys k d) (ascends ys sorted i k d upto in'));
     }
 
-rank_of_permutation : (xs ys : List ℤ) → IsPermutation xs ys → (rank : ℕ) (x : ℤ) → HasRank ys rank x → HasRank xs rank x
+rank_of_permutation : (xs ys : List ℤ) → IsPermutation xs ys → (rank : ℕ) (x : ℤ) → HasRank ys rank x
+    → HasRank xs rank x
 rank_of_permutation xs ys moved rank x h =
     record {
       among = Contains-permutation ys xs x (IsPermutation-sym xs ys moved) h.among;
@@ -91,11 +101,13 @@ counted_before x y z less = one_if-le (int_le z x) (int_lt z y) (before_both x y
 
 rank_less : (xs : List ℤ) (rank : ℕ) (x y : ℤ) → HasRank xs rank x → HasRank xs rank y → x <ℤ y → ⊥
 rank_less xs rank x y h k less =
-    omega (arith, h.enough, k.few_below, sum_by-le-sum_by (λ z. cond (int_le z x) 1 0) (λ z. cond (int_lt z y) 1 0) xs (λ z. counted_before x y z less))
+    omega (arith, h.enough, k.few_below, sum_by-le-sum_by (λ z. cond (int_le z x) 1 0) (λ z. cond (int_lt z y) 1 0) xs
+        (λ z. counted_before x y z less))
 
 rank-same : (xs : List ℤ) (rank : ℕ) (x y : ℤ) → HasRank xs rank x → HasRank xs rank y → x ≡ y
 rank-same xs rank x y h k =
-    by_lt_z x y (λ less. absurd (rank_less xs rank x y h k less)) (λ y_first. by_lt_z y x (λ less. absurd (rank_less xs rank y x k h less)) (λ x_first. omega (arith, ints)))
+    by_lt_z x y (λ less. absurd (rank_less xs rank x y h k less))
+        (λ y_first. by_lt_z y x (λ less. absurd (rank_less xs rank y x k h less)) (λ x_first. omega (arith, ints)))
 
 -- ---- halves
 
@@ -126,7 +138,8 @@ middle_some : (ys : List ℤ) → 0 < length ys → middle_of ys ≡ Some (middl
 unfolding middle_record
 middle_some ys some = grind (arith, nat_tests)
 
-middle_is : (xs ys : List ℤ) → IsPermutation xs ys → IsSorted int_cmp ys → 0 < length ys → IsMidpoint xs (middle_record ys)
+middle_is : (xs ys : List ℤ) → IsPermutation xs ys → IsSorted int_cmp ys → 0 < length ys
+    → IsMidpoint xs (middle_record ys)
 unfolding middle_record
 middle_is xs ys moved sorted some =
     let same : length ys ≡ length xs = length_permutation xs ys moved in
@@ -139,7 +152,9 @@ middle_is xs ys moved sorted some =
       low_rank_is = ap (λ n. dropped n + 1) same;
       high_rank_is = ap (λ n. n - dropped n) same;
       low_has = rank_of_permutation xs ys moved (k + 1) _ (rank_at ys sorted k (pos 0) (omega arith));
-      high_has = rank_of_permutation xs ys moved (length ys - k) _ (subst (λ n. HasRank ys n (value_at ys (length ys - 1 - k))) top (rank_at ys sorted (length ys - 1 - k) (pos 0) (omega arith)));
+      high_has = rank_of_permutation xs ys moved (length ys - k) _
+          (subst (λ n. HasRank ys n (value_at ys (length ys - 1 - k))) top
+          (rank_at ys sorted (length ys - 1 - k) (pos 0) (omega arith)));
       value_is = half_is (value_at ys k +ℤ value_at ys (length ys - 1 - k));
     }
 
@@ -153,9 +168,12 @@ midpoint-same : (xs : List ℤ) (m n : Midpoint) → IsMidpoint xs m → IsMidpo
 midpoint-same xs m n h k =
     let low_rank : m.low_rank ≡ n.low_rank = h.low_rank_is ∙ sym k.low_rank_is in
     let high_rank : m.high_rank ≡ n.high_rank = h.high_rank_is ∙ sym k.high_rank_is in
-    let low : h.low ≡ k.low = rank-same xs m.low_rank h.low k.low h.low_has (subst (λ j. HasRank xs j k.low) (sym low_rank) k.low_has) in
-    let high : h.high ≡ k.high = rank-same xs m.high_rank h.high k.high h.high_has (subst (λ j. HasRank xs j k.high) (sym high_rank) k.high_has) in
-    let value : m.value ≡ n.value = half-same (h.low +ℤ h.high) m.value n.value h.value_is (subst (λ s. IsHalf s n.value) (sym (ap (λ x. x +ℤ h.high) low ∙ ap (λ y. k.low +ℤ y) high)) k.value_is) in
+    let low : h.low ≡ k.low = rank-same xs m.low_rank h.low k.low h.low_has
+        (subst (λ j. HasRank xs j k.low) (sym low_rank) k.low_has) in
+    let high : h.high ≡ k.high = rank-same xs m.high_rank h.high k.high h.high_has
+        (subst (λ j. HasRank xs j k.high) (sym high_rank) k.high_has) in
+    let value : m.value ≡ n.value = half-same (h.low +ℤ h.high) m.value n.value h.value_is
+        (subst (λ s. IsHalf s n.value) (sym (ap (λ x. x +ℤ h.high) low ∙ ap (λ y. k.low +ℤ y) high)) k.value_is) in
     midpoint_with-same m.value n.value m.low_rank n.low_rank m.high_rank n.high_rank value low_rank high_rank
 
 -- a value has a rank only where there are values
@@ -164,24 +182,32 @@ midpoint_some xs m h = let inside : h.low_has.among.0 < length xs = h.low_has.am
 
 -- ---- what the call answers
 
-pub middle_found : (xs ys : List ℤ) → IsPermutation xs ys → IsSorted int_cmp ys → (answer : Option Midpoint) → answer ≡ middle_of ys → IfSome answer (λ m. IsMidpoint xs m)
+pub middle_found : (xs ys : List ℤ) → IsPermutation xs ys → IsSorted int_cmp ys → (answer : Option Midpoint)
+    → answer ≡ middle_of ys → IfSome answer (λ m. IsMidpoint xs m)
 middle_found xs ys moved sorted answer is =
     elim (cases_lt 0 (length ys)) [
-      | inl some ↦ subst (λ (o : Option Midpoint). IfSome o (λ m. IsMidpoint xs m)) (sym (is ∙ middle_some ys some)) (middle_is xs ys moved sorted some)
-      | inr none ↦ subst (λ (o : Option Midpoint). IfSome o (λ m. IsMidpoint xs m)) (sym (is ∙ middle_none ys (omega arith))) tt
+      | inl some ↦ subst (λ (o : Option Midpoint). IfSome o (λ m. IsMidpoint xs m)) (sym (is ∙ middle_some ys some))
+          (middle_is xs ys moved sorted some)
+      | inr none ↦ subst (λ (o : Option Midpoint). IfSome o (λ m. IsMidpoint xs m))
+          (sym (is ∙ middle_none ys (omega arith))) tt
     ]
 
-pub middle_only : (xs ys : List ℤ) → IsPermutation xs ys → IsSorted int_cmp ys → (answer : Option Midpoint) → answer ≡ middle_of ys → (m : Midpoint) → IsMidpoint xs m → answer ≡ Some m
+pub middle_only : (xs ys : List ℤ) → IsPermutation xs ys → IsSorted int_cmp ys → (answer : Option Midpoint)
+    → answer ≡ middle_of ys → (m : Midpoint) → IsMidpoint xs m → answer ≡ Some m
 middle_only xs ys moved sorted answer is m h =
     let some : 0 < length ys = omega (arith, midpoint_some xs m h, ap (λ n. n) (length_permutation xs ys moved)) in
-    is ∙ middle_some ys some ∙ ap (λ n. Some n) (midpoint-same xs (middle_record ys) m (middle_is xs ys moved sorted some) h)
+    is ∙ middle_some ys some ∙ ap (λ n. Some n) (midpoint-same xs (middle_record ys) m
+        (middle_is xs ys moved sorted some) h)
 
-pub middle_none_of : (xs ys : List ℤ) → IsPermutation xs ys → (answer : Option Midpoint) → answer ≡ middle_of ys → IsNone answer ↔ (length xs ≡ 0)
+pub middle_none_of : (xs ys : List ℤ) → IsPermutation xs ys → (answer : Option Midpoint) → answer ≡ middle_of ys
+    → IsNone answer ↔ (length xs ≡ 0)
 middle_none_of xs ys moved answer is =
     let same : length ys ≡ length xs = length_permutation xs ys moved in
     elim (cases_lt 0 (length ys)) [
-      | inl some ↦ subst (λ (o : Option Midpoint). IsNone o ↔ (length xs ≡ 0)) (sym (is ∙ middle_some ys some)) (λ e. absurd (cc), λ e. absurd (omega arith))
-      | inr none ↦ subst (λ (o : Option Midpoint). IsNone o ↔ (length xs ≡ 0)) (sym (is ∙ middle_none ys (omega arith))) (λ e. omega arith, λ e. refl)
+      | inl some ↦ subst (λ (o : Option Midpoint). IsNone o ↔ (length xs ≡ 0)) (sym (is ∙ middle_some ys some))
+          (λ e. absurd (cc), λ e. absurd (omega arith))
+      | inr none ↦ subst (λ (o : Option Midpoint). IsNone o ↔ (length xs ≡ 0)) (sym (is ∙ middle_none ys (omega arith)))
+          (λ e. omega arith, λ e. refl)
     ]
 
 not_true : (b : Bool) → (b ≡ true → ⊥) → b ≡ false
@@ -192,5 +218,6 @@ not_true false h = refl
 none_large : (test : ℤ → Bool) (ys : List ℤ) → list_any test ys ≡ false → All (λ y. test y ≡ false) ys
 none_large test ys h = λ k d in'. not_true (test (get_or ys k d)) (λ e. let some = list_any_at test ys k d in' e in cc)
 
-pub none_large_moved : (test : ℤ → Bool) (xs ys : List ℤ) → IsPermutation xs ys → list_any test xs ≡ false → All (λ y. test y ≡ false) ys
+pub none_large_moved : (test : ℤ → Bool) (xs ys : List ℤ) → IsPermutation xs ys → list_any test xs ≡ false
+    → All (λ y. test y ≡ false) ys
 none_large_moved test xs ys moved h = none_large test ys (sym (list_any-IsPermutation test xs ys moved) ∙ h)

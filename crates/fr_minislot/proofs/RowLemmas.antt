@@ -11,23 +11,30 @@ use Rattle.fr_slots.proofs.HistoryLemmas.{AllAfter-snoc}
 use Rattle.fr_slots.specs.History.{AllAfter}
 use Rattle.fr_slots.specs.Parameters.{Parameters}
 
-slot_more : (p : Parameters) (counts : List ℕ) (bytes : ℕ) → slot_after p (counts ++ bytes ∷ []) ≡ slot_after p counts + 1
+slot_more : (p : Parameters) (counts : List ℕ) (bytes : ℕ) → slot_after p (counts ++ bytes ∷ []) ≡ slot_after p counts +
+    1
 slot_more p counts bytes = omega (arith, length-append counts (bytes ∷ []))
 
-minislot_more : (p : Parameters) (counts : List ℕ) (bytes : ℕ) → first_minislot p (counts ++ bytes ∷ []) ≡ first_minislot p counts + row_length p bytes
+minislot_more : (p : Parameters) (counts : List ℕ) (bytes : ℕ)
+    → first_minislot p (counts ++ bytes ∷ []) ≡ first_minislot p counts + row_length p bytes
 minislot_more p counts bytes = omega (arith, sum_by-append (row_length p) counts (bytes ∷ []))
 
 -- a lane that closes a row stands after that row too
-pub closed_more : (p : Parameters) (counts : List ℕ) (bytes : ℕ) → closed (standing_after p counts) bytes ≡ standing_after p (counts ++ bytes ∷ [])
-closed_more p counts bytes = λ i. record { params = p; slot = sym (slot_more p counts bytes) i; begins = sym (minislot_more p counts bytes) i }
+pub closed_more : (p : Parameters) (counts : List ℕ) (bytes : ℕ)
+    → closed (standing_after p counts) bytes ≡ standing_after p (counts ++ bytes ∷ [])
+closed_more p counts bytes = λ i. record { params = p; slot = sym (slot_more p counts bytes) i; begins =
+    sym (minislot_more p counts bytes) i }
 
-pub closed_rows : (s : Standing) (bytes : ℕ) (counts : List ℕ) → s ≡ standing_after s.params counts → closed s bytes ≡ standing_after s.params (counts ++ bytes ∷ [])
+pub closed_rows : (s : Standing) (bytes : ℕ) (counts : List ℕ) → s ≡ standing_after s.params counts
+    → closed s bytes ≡ standing_after s.params (counts ++ bytes ∷ [])
 closed_rows s bytes counts e = ap (λ (t : Standing). closed t bytes) e ∙ closed_more s.params counts bytes
 
 -- and is a lane
-pub closed_stands : (s : Standing) (bytes : ℕ) → is_row s.params s.slot s.begins ≡ true → IsStanding s → IsStanding (closed s bytes)
+pub closed_stands : (s : Standing) (bytes : ℕ) → is_row s.params s.slot s.begins ≡ true → IsStanding s
+    → IsStanding (closed s bytes)
 closed_stands s bytes opened is =
-    let there : has_row_after s.params is.counts ≡ true = ap (λ (t : Standing). is_row s.params t.slot t.begins) (sym is.stands) ∙ opened in
+    let there : has_row_after s.params is.counts ≡ true = ap (λ (t : Standing). is_row s.params t.slot t.begins)
+        (sym is.stands) ∙ opened in
     record {
       counts = is.counts ++ bytes ∷ [];
       are_rows = AllAfter-snoc (λ before count. has_row_after s.params before ≡ true) is.counts bytes is.are_rows there;
@@ -47,5 +54,7 @@ some_times (suc q) n a few some = omega arith
 pub row_has_one : (p : Parameters) (bytes : ℕ) → 1 ≤ p.words_per_minislot → 1 ≤ row_length p bytes
 row_has_one p bytes some = elim (eqb_tells bytes 0) [
   | inl none ↦ rw none.0 (omega arith)
-  | inr other ↦ rw other.0 (omega (arith, some_times (div_ceil bytes (2 * p.words_per_minislot)) (2 * p.words_per_minislot) bytes (div_ceil_times bytes (2 * p.words_per_minislot) (omega (arith, some))).0 (omega (arith, other.1))))
+  | inr other ↦ rw other.0 (omega (arith, some_times (div_ceil bytes (2 * p.words_per_minislot))
+      (2 * p.words_per_minislot) bytes (div_ceil_times bytes (2 * p.words_per_minislot) (omega (arith, some))).0
+      (omega (arith, other.1))))
 ]

@@ -26,7 +26,8 @@ abbrev opened_by_a : ℕ → ℕ → Option ℕ
 opened_by_a closed minislot = opened_after small_cycle (replicate closed 0) minislot
 
 -- A opens slots 4 to 13, one at each minislot
-pub opened_in_silence : (opened_by_a 0 1 ≡ Some 4) × (opened_by_a 1 2 ≡ Some 5) × (opened_by_a 2 3 ≡ Some 6) × (opened_by_a 3 4 ≡ Some 7) × (opened_by_a 9 10 ≡ Some 13)
+pub opened_in_silence : (opened_by_a 0 1 ≡ Some 4) × (opened_by_a 1 2 ≡ Some 5) × (opened_by_a 2 3 ≡ Some 6) ×
+    (opened_by_a 3 4 ≡ Some 7) × (opened_by_a 9 10 ≡ Some 13)
 opened_in_silence = (refl, refl, refl, refl, refl)
 
 pub ended_in_silence : has_row_after small_cycle (replicate 10 0) ≡ false
@@ -36,7 +37,8 @@ abbrev opened_by_b : ℕ → ℕ → Option ℕ
 opened_by_b silent minislot = opened_after small_cycle (16 ∷ replicate silent 0) minislot
 
 -- B opens slot 4 at minislot 1 too, none at 2 and 3, and then slots 5 to 11
-pub opened_after_four_words : (opened_after small_cycle [] 1 ≡ Some 4) × (opened_by_b 0 2 ≡ None) × (opened_by_b 0 3 ≡ None) × (opened_by_b 0 4 ≡ Some 5) × (opened_by_b 6 10 ≡ Some 11)
+pub opened_after_four_words : (opened_after small_cycle [] 1 ≡ Some 4) × (opened_by_b 0 2 ≡ None) ×
+    (opened_by_b 0 3 ≡ None) × (opened_by_b 0 4 ≡ Some 5) × (opened_by_b 6 10 ≡ Some 11)
 opened_after_four_words = (refl, refl, refl, refl, refl)
 
 pub ended_after_four_words : has_row_after small_cycle (16 ∷ replicate 7 0) ≡ false

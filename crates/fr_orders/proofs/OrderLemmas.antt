@@ -42,24 +42,37 @@ one_name : (a b : Text) (o : Option Text) → o ≡ Some a → o ≡ Some b → 
 one_name a b o is_a is_b = ap (λ x. option_map_or first x 0) (sym is_a ∙ is_b)
 
 -- a whole command of a file has its file
-pub check_has_file : (entered : Option (Text × List Row)) → IsNamed (codes "check") entered → IsWhole entered → HasFile entered
-check_has_file entered named (inl (inl e)) = let bad : 99 ≡ 97 = one_name (codes "check") (codes "audit") (name_in entered) named e in absurd (omega (arith, bad))
-check_has_file entered named (inl (inr e)) = let bad : 99 ≡ 109 = one_name (codes "check") (codes "midpoint") (name_in entered) named e in absurd (omega (arith, bad))
+pub check_has_file : (entered : Option (Text × List Row)) → IsNamed (codes "check") entered → IsWhole entered
+    → HasFile entered
+check_has_file entered named (inl (inl e)) = let bad : 99 ≡ 97 =
+    one_name (codes "check") (codes "audit") (name_in entered) named e in absurd (omega (arith, bad))
+check_has_file entered named (inl (inr e)) = let bad : 99 ≡ 109 =
+    one_name (codes "check") (codes "midpoint") (name_in entered) named e in absurd (omega (arith, bad))
 check_has_file entered named (inr (inl h)) = h.1
-check_has_file entered named (inr (inr e)) = let bad : 99 ≡ 114 = one_name (codes "check") (codes "run") (name_in entered) named e.0 in absurd (omega (arith, bad))
+check_has_file entered named (inr (inr e)) = let bad : 99 ≡ 114 =
+    one_name (codes "check") (codes "run") (name_in entered) named e.0 in absurd (omega (arith, bad))
 
-pub plan_has_file : (entered : Option (Text × List Row)) → IsNamed (codes "plan") entered → IsWhole entered → HasFile entered
-plan_has_file entered named (inl (inl e)) = let bad : 112 ≡ 97 = one_name (codes "plan") (codes "audit") (name_in entered) named e in absurd (omega (arith, bad))
-plan_has_file entered named (inl (inr e)) = let bad : 112 ≡ 109 = one_name (codes "plan") (codes "midpoint") (name_in entered) named e in absurd (omega (arith, bad))
+pub plan_has_file : (entered : Option (Text × List Row)) → IsNamed (codes "plan") entered → IsWhole entered
+    → HasFile entered
+plan_has_file entered named (inl (inl e)) = let bad : 112 ≡ 97 =
+    one_name (codes "plan") (codes "audit") (name_in entered) named e in absurd (omega (arith, bad))
+plan_has_file entered named (inl (inr e)) = let bad : 112 ≡ 109 =
+    one_name (codes "plan") (codes "midpoint") (name_in entered) named e in absurd (omega (arith, bad))
 plan_has_file entered named (inr (inl h)) = h.1
-plan_has_file entered named (inr (inr e)) = let bad : 112 ≡ 114 = one_name (codes "plan") (codes "run") (name_in entered) named e.0 in absurd (omega (arith, bad))
+plan_has_file entered named (inr (inr e)) = let bad : 112 ≡ 114 =
+    one_name (codes "plan") (codes "run") (name_in entered) named e.0 in absurd (omega (arith, bad))
 
 -- a whole run has all that it needs
-pub run_has_all : (entered : Option (Text × List Row)) → IsNamed (codes "run") entered → IsWhole entered → has_run_by (word_in entered) ≡ true
-run_has_all entered named (inl (inl e)) = let bad : 114 ≡ 97 = one_name (codes "run") (codes "audit") (name_in entered) named e in absurd (omega (arith, bad))
-run_has_all entered named (inl (inr e)) = let bad : 114 ≡ 109 = one_name (codes "run") (codes "midpoint") (name_in entered) named e in absurd (omega (arith, bad))
-run_has_all entered named (inr (inl (inl e, h))) = let bad : 114 ≡ 99 = one_name (codes "run") (codes "check") (name_in entered) named e in absurd (omega (arith, bad))
-run_has_all entered named (inr (inl (inr e, h))) = let bad : 114 ≡ 112 = one_name (codes "run") (codes "plan") (name_in entered) named e in absurd (omega (arith, bad))
+pub run_has_all : (entered : Option (Text × List Row)) → IsNamed (codes "run") entered → IsWhole entered
+    → has_run_by (word_in entered) ≡ true
+run_has_all entered named (inl (inl e)) = let bad : 114 ≡ 97 =
+    one_name (codes "run") (codes "audit") (name_in entered) named e in absurd (omega (arith, bad))
+run_has_all entered named (inl (inr e)) = let bad : 114 ≡ 109 =
+    one_name (codes "run") (codes "midpoint") (name_in entered) named e in absurd (omega (arith, bad))
+run_has_all entered named (inr (inl (inl e, h))) = let bad : 114 ≡ 99 =
+    one_name (codes "run") (codes "check") (name_in entered) named e in absurd (omega (arith, bad))
+run_has_all entered named (inr (inl (inr e, h))) = let bad : 114 ≡ 112 =
+    one_name (codes "run") (codes "plan") (name_in entered) named e in absurd (omega (arith, bad))
 run_has_all entered named (inr (inr h)) = h.1
 
 -- what is asked for by words is asked for by the same words
@@ -81,7 +94,8 @@ run_by_alike f g same (the_order.Run cluster scenario cycles free) is = (
   is.3 ∙ ap is_true (same (codes "free")),
 )
 
-pub run_told : (entered : Option (Text × List Row)) (look : Text → Option Text) (found : Option Order) → IsNamed (codes "run") entered
+pub run_told : (entered : Option (Text × List Row)) (look : Text → Option Text) (found : Option Order)
+    → IsNamed (codes "run") entered
     → ((id : Text) → look id ≡ word_in entered id) → IfSome found (IsRunBy look) → IfSome found (IsOrder entered)
 run_told entered look None named same told = tt
 run_told entered look (Some o) named same told = by o (run_by_alike look (word_in entered) same o told)
@@ -97,18 +111,21 @@ pub none_has_none : (o : Option Text) → o ≡ None → is_some o ≡ true → 
 none_has_none o none some = true≢false (sym some ∙ ap is_some none)
 
 -- an error for which there is a fault, or none for which there is want of memory
-pub refused_for : (words : List Text) (e : Error) → HasKind (fault_of the_commands words) e → IsAnswer words (Err (order_error_of (kind_of e)))
+pub refused_for : (words : List Text) (e : Error) → HasKind (fault_of the_commands words) e
+    → IsAnswer words (Err (order_error_of (kind_of e)))
 refused_for words e (inl memory) = rw memory tt
 refused_for words e (inr among) = by (order_error_of (kind_of e)) (fault_of the_commands words) refl among
   where
-    by : (given : OrderError) (kinds : Kinds) → fault_of the_commands words ≡ kinds → IsAmong (kind_of e) kinds → IsAnswer words (Err given)
+    by : (given : OrderError) (kinds : Kinds) → fault_of the_commands words ≡ kinds → IsAmong (kind_of e) kinds
+        → IsAnswer words (Err given)
     by refusal.Memory kinds are among = tt
     by refusal.Usage [] are among = absurd among
     by refusal.Usage (k ∷ ks) are among = inl (rw are (omega arith))
 
 -- without a fault the order that was found is the answer
 pub taken_for : (words : List Text) (found : Option Order) → fault_of the_commands words ≡ []
-    → IfSome found (IsOrder (subcommand_of the_commands words)) → (IsWhole (subcommand_of the_commands words) → IsSome found)
+    → IfSome found (IsOrder (subcommand_of the_commands words))
+        → (IsWhole (subcommand_of the_commands words) → IsSome found)
     → IsAnswer words (ok_or found refusal.Usage)
 taken_for words (Some order) none told has = (none, told)
 taken_for words None none told has =

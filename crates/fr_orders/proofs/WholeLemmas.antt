@@ -44,7 +44,8 @@ with_values_valued : (a : Rule) (source : ValueSource) (v : Text) (vs : List Tex
     → AreValued rows → AreValued (with_values a.id (reading_by a) source (v ∷ vs) rows)
 with_values_valued a source v vs [] h = (omega arith, tt)
 with_values_valued a source v vs (r ∷ rs) h =
-    elim (bytes_eq r.id a.id) as (λ b. AreValued (cond b (more_values source (v ∷ vs) r ++ rs) (r ∷ with_values a.id (reading_by a) source (v ∷ vs) rs))) [
+    elim (bytes_eq r.id a.id) as (λ b. AreValued (cond b (more_values source (v ∷ vs) r ++ rs)
+        (r ∷ with_values a.id (reading_by a) source (v ∷ vs) rs))) [
       | true ↦ (let e = length-append r.values (v ∷ vs) in omega (arith, e), h.1)
       | false ↦ (h.0, with_values_valued a source v vs rs h.1)
     ]
@@ -79,7 +80,8 @@ settled_held : (h : Held) → IsHeld h → IsHeld (settled rules h)
 settled_held h is = record { rows = settled_valued h.pending h.rows is.rows is.pending; pending = tt }
 
 pushed_held : (id word : Text) (h : Held) → IsHeld h → IsHeld (pushed id word h)
-pushed_held id word h is = record { rows = is.rows; pending = let e = length-append (started id h.pending).1 (word ∷ []) in omega (arith, e) }
+pushed_held id word h is = record { rows = is.rows; pending = let e =
+    length-append (started id h.pending).1 (word ∷ []) in omega (arith, e) }
 
 -- ---- a word
 
@@ -92,29 +94,36 @@ plain_word_held idle word h is = is
 plain_word_held positional word h is = is
 plain_word_held (option id) word h is = option_word_held (arg_by_id rules id) id word h is
 
-after_flag_held : (o : Outcome) (waiting : Waiting) (word : Text) (h : Held) → IsHeld h → IsHeld (after_flag rules waiting word h o).0
+after_flag_held : (o : Outcome) (waiting : Waiting) (word : Text) (h : Held) → IsHeld h
+    → IsHeld (after_flag rules waiting word h o).0
 after_flag_held done waiting word h is = is
 after_flag_held (waits id) waiting word h is = is
 after_flag_held plain waiting word h is = plain_word_held waiting word h is
 after_flag_held refused waiting word h is = plain_word_held waiting word h is
 
-bundle_held : (k : ℕ) (flags : Text) (skip : ℕ) (so_far : Outcome) (h : Held) → IsHeld h → IsHeld (bundle_met rules k flags skip so_far h).0
+bundle_held : (k : ℕ) (flags : Text) (skip : ℕ) (so_far : Outcome) (h : Held) → IsHeld h
+    → IsHeld (bundle_met rules k flags skip so_far h).0
 unfolding bundle_met
 bundle_held zero flags skip so_far h is = is
-bundle_held (suc k) flags skip so_far h is = step (λ x less. bundle_held k (drop (length (encode_utf8 x)) flags) less so_far h is) (slice_get (chars flags) 0) skip
+bundle_held (suc k) flags skip so_far h is = step (λ x less. bundle_held k (drop (length (encode_utf8 x)) flags) less
+    so_far h is) (slice_get (chars flags) 0) skip
   where
-    step : ((x less : ℕ) → IsHeld (bundle_met rules k (drop (length (encode_utf8 x)) flags) less so_far h).0) → (x : Option ℕ) (skip : ℕ)
+    step : ((x less : ℕ) → IsHeld (bundle_met rules k (drop (length (encode_utf8 x)) flags) less so_far h).0)
+        → (x : Option ℕ) (skip : ℕ)
         → IsHeld (bundle_step rules x flags skip so_far h (bundle_met rules k)).0
     step on None skip = is
     step on (Some x) zero = is
     step on (Some x) (suc skip) = on x skip
 
-short_held : (o : Option Text) (waiting : Waiting) (word : Text) (h : Held) → IsHeld h → IsHeld (short_or_plain rules waiting word o h).0
+short_held : (o : Option Text) (waiting : Waiting) (word : Text) (h : Held) → IsHeld h
+    → IsHeld (short_or_plain rules waiting word o h).0
 short_held None waiting word h is = plain_word_held waiting word h is
 short_held (Some flags) waiting word h is =
-    after_flag_held _ waiting word _ (bundle_held (length flags) flags h.skip plain (record h { skip = 0 }) (record { rows = is.rows; pending = is.pending }))
+    after_flag_held _ waiting word _ (bundle_held (length flags) flags h.skip plain (record h { skip = 0 })
+        (record { rows = is.rows; pending = is.pending }))
 
-long_held : (o : Option (Text × Option Text)) (waiting : Waiting) (word : Text) (h : Held) → IsHeld h → IsHeld (long_or_other rules waiting word o h).0
+long_held : (o : Option (Text × Option Text)) (waiting : Waiting) (word : Text) (h : Held) → IsHeld h
+    → IsHeld (long_or_other rules waiting word o h).0
 long_held None waiting word h is = short_held _ waiting word h is
 long_held (Some p) waiting word h is = plain_word_held waiting word h is
 
@@ -122,7 +131,8 @@ other_held : (o : Option Text) (waiting : Waiting) (position : ℕ) (word : Text
     → IsHeld (subcommand_or_other rules o waiting position word h).0
 other_held (Some name) waiting position word h is = is
 other_held None waiting position word h is =
-    elim (bytes_eq word (45 ∷ 45 ∷ [])) as (λ b. IsHeld (cond b (h, trailing position) (long_or_other rules waiting word (long_of word) h)).0) [
+    elim (bytes_eq word (45 ∷ 45 ∷ [])) as (λ b. IsHeld
+        (cond b (h, trailing position) (long_or_other rules waiting word (long_of word) h)).0) [
       | true ↦ is
       | false ↦ long_held _ waiting word h is
     ]
@@ -139,7 +149,8 @@ positional_is_held a word h is = pushed_held a.id word _ (kept _)
     kept true = is
     kept false = settled_held h is
 
-to_positional_held : (o : Option Rule) (word : Text) (w : Walk) (h : Held) → IsHeld h → IsHeld (to_positional rules o word w h).held
+to_positional_held : (o : Option Rule) (word : Text) (w : Walk) (h : Held) → IsHeld h
+    → IsHeld (to_positional rules o word w h).held
 to_positional_held None word w h is = is
 to_positional_held (Some a) word w h is = positional_is_held a word h is
 
@@ -157,7 +168,8 @@ walked_held names w word is = go w.stopped
     go (Some p) = is
     go None = step_held _ word w _ (word_held names w.is_trailing w.waiting w.position word w.held is)
 
-walk_held : (names : Names) (words : List Text) (w : Walk) → IsHeld w.held → IsHeld (fold (walked rules names) w words).held
+walk_held : (names : Names) (words : List Text) (w : Walk) → IsHeld w.held
+    → IsHeld (fold (walked rules names) w words).held
 walk_held names [] w is = is
 walk_held names (word ∷ words) w is = walk_held names words (walked rules names w word) (walked_held names w word is)
 
@@ -174,13 +186,16 @@ first_valued : (vs : List Text) → 0 < length vs → is_some (slice_get vs 0) �
 first_valued [] some = absurd (omega arith)
 first_valued (v ∷ vs) some = refl
 
-given_valued : (rows : List Row) → AreValued rows → is_given (codes "FILE") rows ≡ true → is_some (first_of (codes "FILE") rows) ≡ true
+given_valued : (rows : List Row) → AreValued rows → is_given (codes "FILE") rows ≡ true
+    → is_some (first_of (codes "FILE") rows) ≡ true
 given_valued [] h given = absurd (true≢false (sym given))
 given_valued (r ∷ rs) h given = here (given_valued rs h.1) (bytes_eq r.id (codes "FILE")) given
   where
     here : (is_given (codes "FILE") rs ≡ true → is_some (first_of (codes "FILE") rs) ≡ true) → (b : Bool)
-        → option_map_or (λ r. explicit_source r.source) (cond b (Some r) (find (λ r. bytes_eq r.id (codes "FILE")) rs)) false ≡ true
-        → is_some (option_and_then (λ r. slice_get r.values 0) (cond b (Some r) (find (λ r. bytes_eq r.id (codes "FILE")) rs))) ≡ true
+        → option_map_or (λ r. explicit_source r.source) (cond b (Some r) (find (λ r. bytes_eq r.id (codes "FILE")) rs))
+            false ≡ true
+        → is_some (option_and_then (λ r. slice_get r.values 0)
+            (cond b (Some r) (find (λ r. bytes_eq r.id (codes "FILE")) rs))) ≡ true
     here later true given = first_valued r.values h.0
     here later false given = later given
 
@@ -191,7 +206,8 @@ no_kinds [] b e = (refl, e)
 no_kinds (k ∷ ks) b e = cc
 
 no_level_fault : (s : Shape) (names : Names) (h : Held) (words : List Text) (has : Bool) (below : Kinds)
-    → level_fault s names h words has below ≡ [] → (below ≡ []) × (check_fault s (finished s.rules (walk s.rules names h words).held) has ≡ [])
+    → level_fault s names h words has below ≡ [] → (below ≡ []) ×
+        (check_fault s (finished s.rules (walk s.rules names h words).held) has ≡ [])
 no_level_fault s names h words has below e =
     let walked = no_kinds _ _ e in
     let entered = no_kinds _ _ walked.1 in
@@ -208,14 +224,17 @@ given_file false e = cc
 -- a command whose only rule is that of its file
 record TakesFile (s : Shape) : Type 0 where
   rules_are : s.rules ≡ rules
-  checks : (rows : List Row) → check_fault s rows false ≡ check_kinds false false (not (is_given (codes "FILE") rows) || false)
+  checks : (rows : List Row) → check_fault s rows false ≡ check_kinds false false
+      (not (is_given (codes "FILE") rows) || false)
 
-has_file : (s : Shape) (words : List Text) → TakesFile s → check_fault s (finished s.rules (walk s.rules [] nothing_held words).held) false ≡ []
+has_file : (s : Shape) (words : List Text) → TakesFile s → check_fault s
+    (finished s.rules (walk s.rules [] nothing_held words).held) false ≡ []
     → is_some (first_of (codes "FILE") (finished s.rules (walk s.rules [] nothing_held words).held)) ≡ true
 has_file s words is e =
     let valued = finished_valued _ (walk_held [] words (walk_from nothing_held) (record { rows = tt; pending = tt })) in
     let given = given_file _ (sym (is.checks (finished s.rules (walk s.rules [] nothing_held words).held)) ∙ e) in
-    given_valued _ (subst (λ c. AreValued (finished c (walk c [] nothing_held words).held)) (sym is.rules_are) valued) given
+    given_valued _ (subst (λ c. AreValued (finished c (walk c [] nothing_held words).held)) (sym is.rules_are) valued)
+        given
 
 check_takes : TakesFile (sub 1)
 check_takes = record { rules_are = refl; checks = λ rows. refl }
@@ -232,20 +251,25 @@ run_or_not entered named = by (has_run_by (word_in entered)) refl
     by false e = inr (named, e)
 
 abbrev met_at : Text × List Text → (a c q m r : Bool) → Option Shape
-met_at p a c q m r = cond a (Some (sub 0)) (cond c (Some (sub 1)) (cond q (Some (sub 2)) (cond m (Some (sub 3)) (cond r (Some (sub 4)) None))))
+met_at p a c q m r = cond a (Some (sub 0)) (cond c (Some (sub 1))
+    (cond q (Some (sub 2)) (cond m (Some (sub 3)) (cond r (Some (sub 4)) None))))
 
 met : (p : Text × List Text) (a c q m r : Bool)
     → is_some (option_map (λ s. rows_at s p.1) (met_at p a c q m r)) ≡ true
     → option_map_or (λ s. level_fault s [] nothing_held p.1 false []) (met_at p a c q m r) [] ≡ []
-    → IsWhole (option_map (λ s. rows_at s p.1) (met_at p a c q m r)) ⊎ LacksRun (option_map (λ s. rows_at s p.1) (met_at p a c q m r))
+    → IsWhole (option_map (λ s. rows_at s p.1) (met_at p a c q m r)) ⊎ LacksRun
+        (option_map (λ s. rows_at s p.1) (met_at p a c q m r))
 met p true c q m r has below = inl (inl (inl refl))
-met p false true q m r has below = inl (inr (inl (inl refl, has_file (sub 1) p.1 check_takes (no_level_fault (sub 1) [] nothing_held p.1 false [] below).1)))
-met p false false true m r has below = inl (inr (inl (inr refl, has_file (sub 2) p.1 plan_takes (no_level_fault (sub 2) [] nothing_held p.1 false [] below).1)))
+met p false true q m r has below = inl (inr (inl
+    (inl refl, has_file (sub 1) p.1 check_takes (no_level_fault (sub 1) [] nothing_held p.1 false [] below).1)))
+met p false false true m r has below = inl (inr
+    (inl (inr refl, has_file (sub 2) p.1 plan_takes (no_level_fault (sub 2) [] nothing_held p.1 false [] below).1)))
 met p false false false true r has below = inl (inl (inr refl))
 met p false false false false true has below = run_or_not (Some (rows_at (sub 4) p.1)) refl
 met p false false false false false has below = cc
 
-whole_at : (stop : Option (Text × List Text)) → is_some (entered (built the_commands) stop) ≡ true → entered_fault (built the_commands) stop ≡ []
+whole_at : (stop : Option (Text × List Text)) → is_some (entered (built the_commands) stop) ≡ true
+    → entered_fault (built the_commands) stop ≡ []
     → IsWhole (entered (built the_commands) stop) ⊎ LacksRun (entered (built the_commands) stop)
 whole_at None has below = cc
 whole_at (Some p) has below = met p _ _ _ _ _ has below
@@ -254,7 +278,9 @@ requires_one : (has : Bool) → check_kinds (not has && (false && false)) (not h
 requires_one true e = refl
 requires_one false e = cc
 
-pub whole : (words : List Text) → fault_of the_commands words ≡ [] → IsWhole (subcommand_of the_commands words) ⊎ LacksRun (subcommand_of the_commands words)
+pub whole : (words : List Text) → fault_of the_commands words ≡ []
+    → IsWhole (subcommand_of the_commands words) ⊎ LacksRun (subcommand_of the_commands words)
 whole words e =
     let parts = no_level_fault (built the_commands).top (names_of (built the_commands)) nothing_held words _ _ e in
-    whole_at (walk (built the_commands).top.rules (names_of (built the_commands)) nothing_held words).stopped (requires_one _ parts.1) parts.0
+    whole_at (walk (built the_commands).top.rules (names_of (built the_commands)) nothing_held words).stopped
+        (requires_one _ parts.1) parts.0

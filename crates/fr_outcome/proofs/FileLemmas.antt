@@ -10,7 +10,8 @@ use Rattle.fr_scenario.specs.declared.error.ScenarioError.{ScenarioError}
 use Rattle.fr_scenario.specs.declared.error.ScenarioError.TheVariants as scenario
 use Rattle.fr_scenario.specs.Reading.{first_fault}
 
-pub refused_as : (text : List ℕ) (e : ScenarioError) → IsUtf8 text → (e ≡ scenario.Memory) ⊎ (first_fault text ≡ Some e) → IsRefused text e
+pub refused_as : (text : List ℕ) (e : ScenarioError) → IsUtf8 text → (e ≡ scenario.Memory) ⊎ (first_fault text ≡ Some e)
+    → IsRefused text e
 refused_as text e utf8 (inl memory) = inl memory
 refused_as text e utf8 (inr first) = inr (inl (utf8, first))
 

@@ -19,7 +19,8 @@ use Rattle.fr_schedule.specs.Descriptions.{Description}
 
 -- ---- the file of the scenario
 
-not_read : (d : Description) (cycles : ℕ) (text : List ℕ) (e : FileError) → IsScenarioOf text (Err e) → IsPlayOf d cycles text (Err (failure_of_file e))
+not_read : (d : Description) (cycles : ℕ) (text : List ℕ) (e : FileError) → IsScenarioOf text (Err e)
+    → IsPlayOf d cycles text (Err (failure_of_file e))
 not_read d cycles text (file.Scenario e) is = is
 not_read d cycles text (file.Text bench.TooLong) is = is
 not_read d cycles text (file.Text bench.Read) is = tt
@@ -29,13 +30,15 @@ not_read d cycles text (file.Text bench.BadNumber) is = absurd is
 not_read d cycles text (file.Text (bench.Config e)) is = absurd is
 not_read d cycles text (file.Text (bench.Midpoint e)) is = absurd is
 
-pub file_refused : (d : Description) (cycles : ℕ) (text : Option (List ℕ)) (e : FileError) → IfSome text (λ t. IsScenarioOf t (Err e))
+pub file_refused : (d : Description) (cycles : ℕ) (text : Option (List ℕ)) (e : FileError)
+    → IfSome text (λ t. IsScenarioOf t (Err e))
     → IfSome text (λ t. IsPlayOf d cycles t (Err (failure_of_file e)))
 file_refused d cycles None e is = tt
 file_refused d cycles (Some t) e is = not_read d cycles t e is
 
 -- ---- the run
-refused_by : (d : Description) (cycles : ℕ) (text : List ℕ) (e : PlayError) → IsOfRun e → RunIsRefused d cycles text (refusal_of e) → IsPlayOf d cycles text (Err e)
+refused_by : (d : Description) (cycles : ℕ) (text : List ℕ) (e : PlayError) → IsOfRun e
+    → RunIsRefused d cycles text (refusal_of e) → IsPlayOf d cycles text (Err e)
 refused_by d cycles text (refusal.Run e) is told = told
 refused_by d cycles text (refusal.Step e) is told = told
 refused_by d cycles text refusal.Unfinished is told = told
@@ -50,8 +53,10 @@ refused_by d cycles text (refusal.Text (bench.Config e)) is told = absurd is
 refused_by d cycles text (refusal.Text (bench.Midpoint e)) is told = absurd is
 
 -- why there is no run with the scenario that was read
-pub unplayed : (d : Description) (cycles : ℕ) (text : Option (List ℕ)) (contents : Contents) (scripts : List Scripted) (faults : List FaultLine) (e : PlayError)
-    → scripts ≡ contents.scripts → faults ≡ contents.faults → IfSome text (λ t. IsScenarioOf t (Ok contents)) → IsOfRun e
+pub unplayed : (d : Description) (cycles : ℕ) (text : Option (List ℕ)) (contents : Contents) (scripts : List Scripted)
+    (faults : List FaultLine) (e : PlayError)
+    → scripts ≡ contents.scripts → faults ≡ contents.faults → IfSome text (λ t. IsScenarioOf t (Ok contents))
+        → IsOfRun e
     → Refuses d scripts faults cycles (refusal_of e) → IfSome text (λ t. IsPlayOf d cycles t (Err e))
 unplayed d cycles None contents scripts faults e same_scripts same_faults read kind refuses = tt
 unplayed d cycles (Some t) contents scripts faults e same_scripts same_faults read kind refuses =
@@ -66,9 +71,12 @@ unplayed d cycles (Some t) contents scripts faults e same_scripts same_faults re
     )
 
 -- the run with the scenario that was read
-pub played_of : (d : Description) (cycles : ℕ) (text : Option (List ℕ)) (contents : Contents) (scripts : List Scripted) (faults : List FaultLine) (played : Played)
-    → scripts ≡ contents.scripts → faults ≡ contents.faults → IfSome text (λ t. IsScenarioOf t (Ok contents)) → Refuses d scripts faults cycles None
-    → IsPlayed d scripts faults cycles played → IfSome text (λ t. IsPlayOf d cycles t (Ok (record { scenario = contents; played = played })))
+pub played_of : (d : Description) (cycles : ℕ) (text : Option (List ℕ)) (contents : Contents) (scripts : List Scripted)
+    (faults : List FaultLine) (played : Played)
+    → scripts ≡ contents.scripts → faults ≡ contents.faults → IfSome text (λ t. IsScenarioOf t (Ok contents))
+        → Refuses d scripts faults cycles None
+    → IsPlayed d scripts faults cycles played → IfSome text (λ t. IsPlayOf d cycles t
+        (Ok (record { scenario = contents; played = played })))
 played_of d cycles None contents scripts faults played same_scripts same_faults read refuses is = tt
 played_of d cycles (Some t) contents scripts faults played same_scripts same_faults read refuses is =
     let refused : Refuses d contents.scripts contents.faults cycles None =

@@ -30,10 +30,12 @@ led_calls old (call ∷ calls) new does =
     led_on old between new (led_step old (event_of call.node call.task call.action) (Ok call.reply) between here.0)
     (led_calls between calls new rest)
 
-led_window : (cycle : ℕ) (faults : List FaultLine) (due : List Event) (old new : WorldState) → PlaysWindow cycle faults due old new → IsLed old new
+led_window : (cycle : ℕ) (faults : List FaultLine) (due : List Event) (old new : WorldState)
+    → PlaysWindow cycle faults due old new → IsLed old new
 led_window cycle faults due old new plays = led_passes old _ new plays.2
 
-led_within : (cycle : ℕ) (faults : List FaultLine) (due : List Event) (count : ℕ) (old new : WorldState) → PlaysWithin cycle faults due count old new
+led_within : (cycle : ℕ) (faults : List FaultLine) (due : List Event) (count : ℕ) (old new : WorldState)
+    → PlaysWithin cycle faults due count old new
     → IsLed old new
 unfolding PlaysWithin
 led_within cycle faults due zero old new plays = led_same old new plays
@@ -41,12 +43,15 @@ led_within cycle faults due (suc count) old new plays =
     let (mid, before, window, within) = plays in
     led_on old mid new (led_within cycle faults due count old mid before) (led_window cycle faults due mid new window)
 
-led_windows : (cycle : ℕ) (faults : List FaultLine) (due : List Event) (old new : WorldState) → PlaysWindows cycle faults due old new → IsLed old new
+led_windows : (cycle : ℕ) (faults : List FaultLine) (due : List Event) (old new : WorldState)
+    → PlaysWindows cycle faults due old new → IsLed old new
 led_windows cycle faults due old new plays =
     let (count, before, within, window, at_cycle) = plays in
-    led_on old before new (led_within cycle faults due count old before within) (led_window cycle faults due before new window)
+    led_on old before new (led_within cycle faults due count old before within)
+        (led_window cycle faults due before new window)
 
-led_cycles : (scripts : List Scripted) (faults : List FaultLine) (due : List Event) (count : ℕ) (old : WorldState) (calls : List Call) (new : WorldState)
+led_cycles : (scripts : List Scripted) (faults : List FaultLine) (due : List Event) (count : ℕ) (old : WorldState)
+    (calls : List Call) (new : WorldState)
     → PlaysCycles scripts faults due count old calls new → IsLed old new
 unfolding PlaysCycles
 led_cycles scripts faults due zero old calls new plays = led_same old new plays.1
@@ -56,7 +61,9 @@ led_cycles scripts faults due (suc count) old calls new plays =
     led_on old mid new (led_cycles scripts faults due count old before mid so_far)
     (led_on mid called new (led_calls mid later called does) (led_windows count faults due called new windows))
 
-pub led_by : (d : Description) (scripts : List Scripted) (faults : List FaultLine) (cycles : ℕ) (played : Played) → IsPlayed d scripts faults cycles played
+pub led_by : (d : Description) (scripts : List Scripted) (faults : List FaultLine) (cycles : ℕ) (played : Played)
+    → IsPlayed d scripts faults cycles played
     → IsLed (opening_world d cycles) played.world
 led_by d scripts faults cycles played is =
-    led_cycles scripts faults (whole_window (length d.plans)) cycles (opening_world d cycles) played.calls.items played.world is.cycles_are
+    led_cycles scripts faults (whole_window (length d.plans)) cycles
+        (opening_world d cycles) played.calls.items played.world is.cycles_are

@@ -39,7 +39,8 @@ cycles_both Every e n p q = refl
 cycles_both (Only a) Every n p q = refl
 cycles_both (Only a) (Only b) n p q = both_equal a b n p q
 
-places_both : (p q : FaultPlace) (w : Opportunity) → names_window p w ≡ true → names_window q w ≡ true → places_meet p q ≡ true
+places_both : (p q : FaultPlace) (w : Opportunity) → names_window p w ≡ true → names_window q w ≡ true
+    → places_meet p q ≡ true
 places_both EverySlot EverySlot w e f = refl
 places_both EverySlot (Slot b) w e f = refl
 places_both EverySlot (Minislot b) w e f = clash (is_static w) e (both_first (not (is_static w)) (w.minislot == b) f)
@@ -52,7 +53,8 @@ places_both (Minislot a) EverySlot w e f = clash (is_static w) f (both_first (no
 places_both (Minislot a) (Slot b) w e f =
     clash (is_static w) (both_first (is_static w) (opens b w.a) f) (both_first (not (is_static w)) (w.minislot == a) e)
 places_both (Minislot a) (Minislot b) w e f =
-    both_are a b w.minislot (both_rest (not (is_static w)) (w.minislot == a) e) (both_rest (not (is_static w)) (w.minislot == b) f)
+    both_are a b w.minislot (both_rest (not (is_static w)) (w.minislot == a) e)
+        (both_rest (not (is_static w)) (w.minislot == b) f)
 
 meet_there : (one later : FaultLine) (cycle : ℕ) (w : Opportunity) → are_alike later.fault one.fault ≡ true
     → strikes one cycle w ≡ true → strikes later cycle w ≡ true → lines_meet later one ≡ true
@@ -66,7 +68,8 @@ meet_there one later cycle w alike hit again =
     (both_rest (names_cycle later.cycles cycle) (names_window later.place w) again)
     (both_rest (names_cycle one.cycles cycle) (names_window one.place w) hit))
 
-pub come_apart : (d : Description) (cycles : ℕ) (faults : List FaultLine) → EachFaultSuits d cycles faults → ComeApart faults
+pub come_apart : (d : Description) (cycles : ℕ) (faults : List FaultLine) → EachFaultSuits d cycles faults
+    → ComeApart faults
 come_apart d cycles faults suits i j one later cycle w below at there alike hit =
     by_test (strikes later cycle w) refl
   where

@@ -1,5 +1,6 @@
 -- One entry further along a journal, beside the record and the scripts.
-use Rattle.std.proofs.Common.{◌≡◌, ◌<◌, ◌≤◌, ℕ, zero, suc, ◌+◌, Bool, true, false, cond, List, [], ◌∷◌, length, set, Option}
+use Rattle.std.proofs.Common.{◌≡◌, ◌<◌, ◌≤◌, ℕ, zero, suc, ◌+◌, Bool, true, false, cond, List, [], ◌∷◌, length, set}
+use Rattle.std.proofs.Common.{Option}
 use Rattle.std.proofs.Common.{Some, None, refl, sym, ap, subst, ◌∙◌, arith, take, get_or, inl, inr, IsTrue, ◌↔◌}
 use Rattle.std.specs.Prelude.{count_by, slice_get, IfSome, replicate, ◌==◌}
 use Rattle.std.proofs.lemmas.Bool.{eq-eqb}
@@ -14,7 +15,8 @@ use Rattle.fr_core.specs.Scripts.{Scripted}
 use Rattle.fr_journal.specs.declared.entry.Entry.{Entry}
 use Rattle.fr_journal.specs.declared.entry.Entry.TheVariants.{Commit, Withdraw, Read, Pop, Fetch, Observe}
 use Rattle.fr_runs.specs.declared.stepping.Progress.{Progress}
-use Rattle.fr_runs.specs.Stepping.{is_fetch, is_observe, task_of, is_task, is_by, is_beginning, lines_given, IsInStep, IsInTurn}
+use Rattle.fr_runs.specs.Stepping.{is_fetch, is_observe, task_of, is_task, is_by, is_beginning, lines_given, IsInStep}
+use Rattle.fr_runs.specs.Stepping.{IsInTurn}
 use Rattle.fr_runs.specs.Steps.{IsCountOf, IsProgress, Stands, StandsFor}
 use Rattle.fr_slots.specs.Numbers.{most_tasks}
 
@@ -26,10 +28,12 @@ module _ {X : Type 0} where
   got xs k x at = some_alike (get_or xs k x) x (sym (slice_get-get_or xs k x (slice_get_within xs k x at)) ∙ at)
 
   -- how many pass a test, with one more
-  pub count_yes : (p : X → Bool) (xs : List X) (k : ℕ) (x : X) → slice_get xs k ≡ Some x → p x ≡ true → count_by p (take (k + 1) xs) ≡ count_by p (take k xs) + 1
+  pub count_yes : (p : X → Bool) (xs : List X) (k : ℕ) (x : X) → slice_get xs k ≡ Some x → p x ≡ true
+      → count_by p (take (k + 1) xs) ≡ count_by p (take k xs) + 1
   count_yes p xs k x at passes = count_by_more_yes p xs k x (slice_get_within xs k x at) (ap p (got xs k x at) ∙ passes)
 
-  pub count_no : (p : X → Bool) (xs : List X) (k : ℕ) (x : X) → slice_get xs k ≡ Some x → p x ≡ false → count_by p (take (k + 1) xs) ≡ count_by p (take k xs)
+  pub count_no : (p : X → Bool) (xs : List X) (k : ℕ) (x : X) → slice_get xs k ≡ Some x → p x ≡ false
+      → count_by p (take (k + 1) xs) ≡ count_by p (take k xs)
   count_no p xs k x at fails = count_by_more_no p xs k x (slice_get_within xs k x at) (ap p (got xs k x at) ∙ fails)
 
   after_last : (xs : List X) (k : ℕ) → slice_get xs k ≡ None → length xs ≤ k
@@ -61,14 +65,18 @@ module _ {X : Type 0} where
 
 -- ---- the cycles that began
 
-begun_more : (rs : List Recorded) (k : ℕ) → is_beginning (slice_get rs k) ≡ true → cycles_begun (take (k + 1) rs) ≡ cycles_begun (take k rs) + 1
+begun_more : (rs : List Recorded) (k : ℕ) → is_beginning (slice_get rs k) ≡ true
+    → cycles_begun (take (k + 1) rs) ≡ cycles_begun (take k rs) + 1
 begun_more rs k begins = by_place (slice_get rs k) refl
   where
-    by_place : (o : Option Recorded) → slice_get rs k ≡ o → cycles_begun (take (k + 1) rs) ≡ cycles_begun (take k rs) + 1
-    by_place None at = absurd (let none : false ≡ true = subst (λ o. is_beginning o ≡ true) at begins in let no : ⊥ = cc in no)
+    by_place : (o : Option Recorded) → slice_get rs k ≡ o → cycles_begun (take (k + 1) rs) ≡ cycles_begun (take k rs) +
+        1
+    by_place None at = absurd (let none : false ≡ true = subst (λ o. is_beginning o ≡ true) at begins in let no : ⊥ =
+        cc in no)
     by_place (Some r) at = count_yes begins_cycle rs k r at (subst (λ o. is_beginning o ≡ true) at begins)
 
-begun_same : (rs : List Recorded) (k : ℕ) → is_beginning (slice_get rs k) ≡ false → cycles_begun (take (k + 1) rs) ≡ cycles_begun (take k rs)
+begun_same : (rs : List Recorded) (k : ℕ) → is_beginning (slice_get rs k) ≡ false
+    → cycles_begun (take (k + 1) rs) ≡ cycles_begun (take k rs)
 begun_same rs k begins = by_place (slice_get rs k) refl
   where
     by_place : (o : Option Recorded) → slice_get rs k ≡ o → cycles_begun (take (k + 1) rs) ≡ cycles_begun (take k rs)
@@ -113,9 +121,12 @@ other_observes (Observe number a b) none is = refl
 
 -- ---- one entry further
 
-module _ (rs : List Recorded) (es : List Entry) (k : ℕ) (x : Progress) (far : IsProgress rs (take k es) x) (e : Entry) (at : slice_get es k ≡ Some e) where
-  calls_on : task_of e ≡ None → (task : ℕ) (count : ℕ) → slice_get x.calls task ≡ Some count → IsCountOf (take (k + 1) es) task count
-  calls_on none task count there = far.calls task count there ∙ sym (count_no (is_by task) es k e at (ap (is_task task) none))
+module _ (rs : List Recorded) (es : List Entry) (k : ℕ) (x : Progress) (far : IsProgress rs (take k es) x) (e : Entry)
+    (at : slice_get es k ≡ Some e) where
+  calls_on : task_of e ≡ None → (task : ℕ) (count : ℕ) → slice_get x.calls task ≡ Some count
+      → IsCountOf (take (k + 1) es) task count
+  calls_on none task count there = far.calls task count there ∙ sym
+      (count_no (is_by task) es k e at (ap (is_task task) none))
 
   pub called : (task : ℕ) → task_of e ≡ Some task → task < most_tasks → (d : ℕ)
       → IsProgress rs (take (k + 1) es) (record x { calls = set x.calls task (get_or x.calls task d + 1) })
@@ -130,14 +141,18 @@ module _ (rs : List Recorded) (es : List Entry) (k : ℕ) (x : Progress) (far : 
       below : task < length x.calls
       below = subst (λ n. task < n) (sym far.as_many) few
 
-      calls : (of : ℕ) (count : ℕ) → slice_get (set x.calls task (get_or x.calls task d + 1)) of ≡ Some count → IsCountOf (take (k + 1) es) of count
+      calls : (of : ℕ) (count : ℕ) → slice_get (set x.calls task (get_or x.calls task d + 1)) of ≡ Some count
+          → IsCountOf (take (k + 1) es) of count
       calls of count there = elim (eqb_tells task of) [
         | inl same ↦
-            let counted : get_or x.calls task d ≡ count_by (is_by task) (take k es) = far.calls task _ (slice_get-get_or x.calls task d below) in
+            let counted : get_or x.calls task d ≡ count_by (is_by task) (take k es) =
+                far.calls task _ (slice_get-get_or x.calls task d below) in
             let alike : get_or x.calls task d + 1 ≡ count =
-            some_alike _ count (sym (get_set_here x.calls task _ below) ∙ ap (slice_get (set x.calls task (get_or x.calls task d + 1))) same.1 ∙ there) in
+            some_alike _ count (sym (get_set_here x.calls task _ below) ∙ ap
+                (slice_get (set x.calls task (get_or x.calls task d + 1))) same.1 ∙ there) in
             subst (λ n. IsCountOf (take (k + 1) es) n count) same.1
-            (sym alike ∙ ap (λ n. n + 1) counted ∙ sym (count_yes (is_by task) es k e at (ap (is_task task) is ∙ eq-eqb task task refl)))
+            (sym alike ∙ ap (λ n. n + 1) counted ∙ sym (count_yes (is_by task) es k e at
+                (ap (is_task task) is ∙ eq-eqb task task refl)))
         | inr other ↦
             far.calls of count (sym (get_set_other x.calls task of _ (λ same. other.1 (sym same))) ∙ there)
             ∙ sym (count_no (is_by of) es k e at (ap (is_task of) is ∙ other.0))
@@ -163,7 +178,8 @@ module _ (rs : List Recorded) (es : List Entry) (k : ℕ) (x : Progress) (far : 
     calls = calls_on none;
   }
 
-  pub observed_more : task_of e ≡ None → is_fetch e ≡ false → IsProgress rs (take (k + 1) es) (record x { observes = x.observes + 1 })
+  pub observed_more : task_of e ≡ None → is_fetch e ≡ false → IsProgress rs (take (k + 1) es)
+      (record x { observes = x.observes + 1 })
   observed_more none is = record {
     fetches = far.fetches ∙ sym (count_no is_fetch es k e at is);
     observes = ap (λ n. n + 1) far.observes ∙ sym (count_yes is_observe es k e at (other_observes e none is));
@@ -211,7 +227,8 @@ module _ (rs : List Recorded) (es : List Entry) (k : ℕ) (x : Progress) (far : 
 
 -- ---- the call that comes next
 
-pub no_progress : (rs : List Recorded) → IsProgress rs [] (record { fetches = 0; observes = 0; begun = 0; calls = replicate most_tasks 0 })
+pub no_progress : (rs : List Recorded) → IsProgress rs []
+    (record { fetches = 0; observes = 0; begun = 0; calls = replicate most_tasks 0 })
 no_progress rs = record {
   fetches = refl;
   observes = refl;
@@ -236,20 +253,26 @@ module _ (rs : List Recorded) (before : List Entry) (x : Progress) (far : IsProg
   }
 
   turn_of : (lines : List Line) (task place : ℕ) → place ≡ count_by (is_by task) before
-      → StandsFor rs lines place x ↔ IfSome (slice_get lines (count_by (is_by task) before)) (λ line. IsInStep rs line.cycle before)
+      → StandsFor rs lines place x ↔ IfSome (slice_get lines (count_by (is_by task) before))
+          (λ line. IsInStep rs line.cycle before)
   turn_of lines task place same =
-      subst (λ n. StandsFor rs lines place x ↔ IfSome (slice_get lines n) (λ line. IsInStep rs line.cycle before)) same (both_ways (slice_get lines place))
+      subst (λ n. StandsFor rs lines place x ↔ IfSome (slice_get lines n) (λ line. IsInStep rs line.cycle before)) same
+          (both_ways (slice_get lines place))
     where
-      both_ways : (o : Option Line) → IfSome o (λ line. Stands rs line.cycle x) ↔ IfSome o (λ line. IsInStep rs line.cycle before)
+      both_ways : (o : Option Line) → IfSome o (λ line. Stands rs line.cycle x) ↔ IfSome o
+          (λ line. IsInStep rs line.cycle before)
       both_ways None = (λ a. a, λ a. a)
       both_ways (Some line) = (in_step line.cycle, stands_then line.cycle)
 
   -- the entry of a task comes in its turn exactly where the walk stands for the task's next line
-  pub in_turn : (scripts : List Scripted) (node : ℕ) (e : Entry) (task d : ℕ) (b : Bool) → task_of e ≡ Some task → task < most_tasks
-      → (IsTrue b ↔ StandsFor rs (lines_given scripts node task) (get_or x.calls task d) x) → IsTrue b ↔ IsInTurn rs scripts node before e
+  pub in_turn : (scripts : List Scripted) (node : ℕ) (e : Entry) (task d : ℕ) (b : Bool) → task_of e ≡ Some task
+      → task < most_tasks
+      → (IsTrue b ↔ StandsFor rs (lines_given scripts node task) (get_or x.calls task d) x)
+          → IsTrue b ↔ IsInTurn rs scripts node before e
   in_turn scripts node e task d b is few tells =
       let below : task < length x.calls = subst (λ n. task < n) (sym far.as_many) few in
       let counted = far.calls task (get_or x.calls task d) (slice_get-get_or x.calls task d below) in
       let turn = turn_of (lines_given scripts node task) task (get_or x.calls task d) counted in
-      subst (λ o. IsTrue b ↔ IfSome o (λ of. IfSome (slice_get (lines_given scripts node of) (count_by (is_by of) before)) (λ line. IsInStep rs line.cycle before))) (sym is)
+      subst (λ o. IsTrue b ↔ IfSome o (λ of. IfSome (slice_get (lines_given scripts node of)
+          (count_by (is_by of) before)) (λ line. IsInStep rs line.cycle before))) (sym is)
       (λ yes. turn.0 (tells.0 yes), λ stands. tells.1 (turn.1 stands))

@@ -25,7 +25,8 @@ split_none (x ∷ xs) h =
     ]
 
 -- at the first line feed
-pub cut_at : (text : List ℕ) (at : ℕ) → position is_feed text ≡ Some at → lines_in text ≡ take at text ∷ lines_in (drop (at + 1) text)
+pub cut_at : (text : List ℕ) (at : ℕ) → position is_feed text ≡ Some at
+    → lines_in text ≡ take at text ∷ lines_in (drop (at + 1) text)
 cut_at text at found =
     let first = position_or_len is_feed text in
     elim (cases_Bool (ltb first (length text))) [
@@ -46,35 +47,43 @@ cut_none text none =
 
 -- ---- the first line feed, by what a search of it says
 
-first_at : (text : List ℕ) (k : ℕ) → k < length text → is_feed (get_or text k 0) ≡ true → ((j : ℕ) → j < k → is_feed (get_or text j 0) ≡ true → ⊥) → position_or_len is_feed text ≡ k
+first_at : (text : List ℕ) (k : ℕ) → k < length text → is_feed (get_or text k 0) ≡ true
+    → ((j : ℕ) → j < k → is_feed (get_or text j 0) ≡ true → ⊥) → position_or_len is_feed text ≡ k
 first_at [] k lt here before = absurd (omega arith)
 first_at (b ∷ text) zero lt here before = rw here refl
 first_at (b ∷ text) (suc k) lt here before =
     elim (cases_Bool (is_feed b)) [
       | inl pass ↦ absurd (before 0 (omega arith) pass)
       | inr fail ↦
-          let rest : position_or_len is_feed text ≡ k = first_at text k (omega arith) here (λ j less. before (suc j) (omega arith)) in
+          let rest : position_or_len is_feed text ≡ k = first_at text k (omega arith) here
+              (λ j less. before (suc j) (omega arith)) in
           rw fail (omega arith)
     ]
 
-first_none : (text : List ℕ) → ((j : ℕ) → j < length text → is_feed (get_or text j 0) ≡ true → ⊥) → length text ≤ position_or_len is_feed text
+first_none : (text : List ℕ) → ((j : ℕ) → j < length text → is_feed (get_or text j 0) ≡ true → ⊥)
+    → length text ≤ position_or_len is_feed text
 first_none [] none = omega arith
 first_none (b ∷ text) none =
     elim (cases_Bool (is_feed b)) [
       | inl pass ↦ absurd (none 0 (omega arith) pass)
       | inr fail ↦
-          let rest : length text ≤ position_or_len is_feed text = first_none text (λ j less. none (suc j) (omega arith)) in
+          let rest : length text ≤ position_or_len is_feed text =
+              first_none text (λ j less. none (suc j) (omega arith)) in
           rw fail (omega arith)
     ]
 
-feed_at : (text : List ℕ) (k : ℕ) → k < length text → is_feed (get_or text k 0) ≡ true → ((j : ℕ) → j < k → is_feed (get_or text j 0) ≡ true → ⊥) → Some k ≡ position is_feed text
+feed_at : (text : List ℕ) (k : ℕ) → k < length text → is_feed (get_or text k 0) ≡ true
+    → ((j : ℕ) → j < k → is_feed (get_or text j 0) ≡ true → ⊥) → Some k ≡ position is_feed text
 feed_at text k lt here before = rw (first_at text k lt here before, lt-ltb k (length text) lt) refl
 
-feed_nowhere : (text : List ℕ) → ((j : ℕ) → j < length text → is_feed (get_or text j 0) ≡ true → ⊥) → None ≡ position is_feed text
+feed_nowhere : (text : List ℕ) → ((j : ℕ) → j < length text → is_feed (get_or text j 0) ≡ true → ⊥)
+    → None ≡ position is_feed text
 feed_nowhere text none = rw (le-ltb (position_or_len is_feed text) (length text) (first_none text none)) refl
 
-pub first_feed : (text : List ℕ) (found : Option ℕ) → IsFirstByte (is_byte 10) text found → found ≡ position is_feed text
-first_feed text (Some k) first = feed_at text k first.0.high first.1 (λ j less is. first.0.before j (omega arith) less is)
+pub first_feed : (text : List ℕ) (found : Option ℕ) → IsFirstByte (is_byte 10) text found
+    → found ≡ position is_feed text
+first_feed text (Some k) first = feed_at text k first.0.high first.1
+    (λ j less is. first.0.before j (omega arith) less is)
 first_feed text None none = feed_nowhere text (λ j less is. none j (omega arith) less is)
 
 -- ---- a text has at least one line
@@ -99,10 +108,12 @@ at_end (b ∷ text) =
     let (first, more, is) = some_line text in
     elim (cases_Bool (is_feed b)) [
       | inl pass ↦
-          let cut : lines_in (b ∷ text) ≡ [] ∷ first ∷ more = slice_split-cons_yes is_feed b text pass ∙ ap (λ lines. [] ∷ lines) is in
+          let cut : lines_in (b ∷ text) ≡ [] ∷ first ∷ more =
+              slice_split-cons_yes is_feed b text pass ∙ ap (λ lines. [] ∷ lines) is in
           some ∙ sym (ap is_at_end cut ∙ at_end_not first more)
       | inr fail ↦
-          let cut : lines_in (b ∷ text) ≡ (b ∷ first) ∷ more = slice_split-cons_no is_feed b text fail ∙ ap (onto_first b) is in
+          let cut : lines_in (b ∷ text) ≡ (b ∷ first) ∷ more =
+              slice_split-cons_no is_feed b text fail ∙ ap (onto_first b) is in
           some ∙ sym (ap is_at_end cut)
     ]
 
@@ -120,22 +131,27 @@ at_within text at found =
     ]
 
 module _ (version : Version) where
-  line_long : (n : ℕ) (line next : List ℕ) (more : List (List ℕ)) → n ≤ 4096 → 1200 < length line → read_from version n (line ∷ next ∷ more) ≡ Err (BadLine n)
+  line_long : (n : ℕ) (line next : List ℕ) (more : List (List ℕ)) → n ≤ 4096 → 1200 < length line
+      → read_from version n (line ∷ next ∷ more) ≡ Err (BadLine n)
   line_long n line next more few long = rw (le-ltb 4096 n few, lt-ltb 1200 (length line) long) refl
 
   line_whole : (n : ℕ) (line next : List ℕ) (more : List (List ℕ)) → n ≤ 4096 → length line ≤ 1200
-      → read_from version n (line ∷ next ∷ more) ≡ whole_line version n line (next ∷ more) (read_from version (n + 1) (next ∷ more))
+      → read_from version n (line ∷ next ∷ more) ≡ whole_line version n line (next ∷ more)
+          (read_from version (n + 1) (next ∷ more))
   line_whole n line next more few short = rw (le-ltb 4096 n few, le-ltb 1200 (length line) short) refl
 
-  pub read_long : (n : ℕ) (text : List ℕ) (at : ℕ) → n ≤ 4096 → position is_feed text ≡ Some at → 1200 < at → read_from version n (lines_in text) ≡ Err (BadLine n)
+  pub read_long : (n : ℕ) (text : List ℕ) (at : ℕ) → n ≤ 4096 → position is_feed text ≡ Some at → 1200 < at
+      → read_from version n (lines_in text) ≡ Err (BadLine n)
   read_long n text at few found long =
       let (next, more, is) = some_line (drop (at + 1) text) in
       let within = at_within text at found in
       let len = length-take at text in
-      ap (read_from version n) (cut_at text at found ∙ ap (λ lines. take at text ∷ lines) is) ∙ line_long n (take at text) next more few (omega arith)
+      ap (read_from version n) (cut_at text at found ∙ ap (λ lines. take at text ∷ lines) is) ∙ line_long n
+          (take at text) next more few (omega arith)
 
   pub read_whole : (n : ℕ) (text : List ℕ) (at : ℕ) → n ≤ 4096 → position is_feed text ≡ Some at → at ≤ 1200
-      → read_from version n (lines_in text) ≡ whole_line version n (take at text) (lines_in (drop (at + 1) text)) (read_from version (n + 1) (lines_in (drop (at + 1) text)))
+      → read_from version n (lines_in text) ≡ whole_line version n (take at text) (lines_in (drop (at + 1) text))
+          (read_from version (n + 1) (lines_in (drop (at + 1) text)))
   read_whole n text at few found short =
       let (next, more, is) = some_line (drop (at + 1) text) in
       let len = length-take at text in
@@ -143,7 +159,8 @@ module _ (version : Version) where
       ∙ line_whole n (take at text) next more few (omega arith)
       ∙ ap (λ lines. whole_line version n (take at text) lines (read_from version (n + 1) lines)) (sym is)
 
-  last_long : (n : ℕ) (text : List ℕ) → n ≤ 4096 → 1200 < length text → read_from version n (text ∷ []) ≡ Err (BadLine n)
+  last_long : (n : ℕ) (text : List ℕ) → n ≤ 4096 → 1200 < length text
+      → read_from version n (text ∷ []) ≡ Err (BadLine n)
   last_long n [] few long = absurd (omega arith)
   last_long n (b ∷ text) few long = rw (le-ltb 4096 n few, lt-ltb 1200 (length (b ∷ text)) long) refl
 
@@ -151,10 +168,12 @@ module _ (version : Version) where
   last_short n [] few short = refl
   last_short n (b ∷ text) few short = rw (le-ltb 4096 n few, le-ltb 1200 (length (b ∷ text)) short) refl
 
-  pub read_last_long : (n : ℕ) (text : List ℕ) → n ≤ 4096 → position is_feed text ≡ None → 1200 < length text → read_from version n (lines_in text) ≡ Err (BadLine n)
+  pub read_last_long : (n : ℕ) (text : List ℕ) → n ≤ 4096 → position is_feed text ≡ None → 1200 < length text
+      → read_from version n (lines_in text) ≡ Err (BadLine n)
   read_last_long n text few none long = ap (read_from version n) (cut_none text none) ∙ last_long n text few long
 
-  pub read_last : (n : ℕ) (text : List ℕ) → n ≤ 4096 → position is_feed text ≡ None → length text ≤ 1200 → read_from version n (lines_in text) ≡ Err Truncated
+  pub read_last : (n : ℕ) (text : List ℕ) → n ≤ 4096 → position is_feed text ≡ None → length text ≤ 1200
+      → read_from version n (lines_in text) ≡ Err Truncated
   read_last n text few none short = ap (read_from version n) (cut_none text none) ∙ last_short n text few short
 
   -- ---- after the last line that there may be
@@ -166,7 +185,8 @@ module _ (version : Version) where
   read_past_end ([] ∷ next ∷ more) h = cc h
   read_past_end ((b ∷ line) ∷ next ∷ more) h = cc h
 
-  pub read_past_more : (lines : List (List ℕ)) → is_at_end lines ≡ false → read_from version 4097 lines ≡ Err TooManyLines
+  pub read_past_more : (lines : List (List ℕ)) → is_at_end lines ≡ false
+      → read_from version 4097 lines ≡ Err TooManyLines
   read_past_more [] h = cc h
   read_past_more ([] ∷ []) h = cc h
   read_past_more ((b ∷ line) ∷ []) h = refl

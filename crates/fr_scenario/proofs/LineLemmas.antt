@@ -46,7 +46,8 @@ use Rattle.fr_text.specs.Spelling.{hex_text}
 
 -- ---- what is read is spelled so
 
-commit_takes : (version : Version) (words : List (List ℕ)) (l : SpelledLine) → commit_in words ≡ Some l → (codes "commit" ∷ words ≡ line_words l) × IsSpelledLine version l
+commit_takes : (version : Version) (words : List (List ℕ)) (l : SpelledLine) → commit_in words ≡ Some l
+    → (codes "commit" ∷ words ≡ line_words l) × IsSpelledLine version l
 unfolding commit_in
 commit_takes version [] l h = cc h
 commit_takes version (a ∷ []) l h = cc h
@@ -66,12 +67,15 @@ commit_takes version (a ∷ b ∷ c ∷ d ∷ e ∷ []) l h =
     let buffer = number_takes 64 d m hm in
     let payload = payload_takes e p hp in
     rw (← is) (
-      cons_same refl (cons_same (sym node.0) (cons_same (sym task.0) (cons_same cycle.0 (cons_same (sym buffer.0) (cons_same payload.0 refl))))),
-      record { node_fits = node.1; task_fits = task.1; cycle_fits = cycle.1; action_fits = (buffer.1, payload.1, payload.2); unanswered = refl },
+      cons_same refl (cons_same (sym node.0) (cons_same (sym task.0)
+          (cons_same cycle.0 (cons_same (sym buffer.0) (cons_same payload.0 refl))))),
+      record { node_fits = node.1; task_fits = task.1; cycle_fits = cycle.1; action_fits =
+          (buffer.1, payload.1, payload.2); unanswered = refl },
     )
 commit_takes version (a ∷ b ∷ c ∷ d ∷ e ∷ f ∷ words) l h = cc h
 
-withdraw_takes : (version : Version) (words : List (List ℕ)) (l : SpelledLine) → withdraw_in version words ≡ Some l → (codes "withdraw" ∷ words ≡ line_words l) × IsSpelledLine version l
+withdraw_takes : (version : Version) (words : List (List ℕ)) (l : SpelledLine) → withdraw_in version words ≡ Some l
+    → (codes "withdraw" ∷ words ≡ line_words l) × IsSpelledLine version l
 unfolding withdraw_in
 withdraw_takes One words l h = cc h
 withdraw_takes Two [] l h = cc h
@@ -89,12 +93,15 @@ withdraw_takes Two (a ∷ b ∷ c ∷ d ∷ []) l h =
     let cycle = run_cycle_takes c y hy in
     let buffer = number_takes 64 d m hm in
     rw (← is) (
-      cons_same refl (cons_same (sym node.0) (cons_same (sym task.0) (cons_same cycle.0 (cons_same (sym buffer.0) refl)))),
-      record { node_fits = node.1; task_fits = task.1; cycle_fits = cycle.1; action_fits = buffer.1; unanswered = refl },
+      cons_same refl (cons_same (sym node.0) (cons_same (sym task.0)
+          (cons_same cycle.0 (cons_same (sym buffer.0) refl)))),
+      record { node_fits = node.1; task_fits = task.1; cycle_fits = cycle.1; action_fits = buffer.1; unanswered =
+          refl },
     )
 withdraw_takes Two (a ∷ b ∷ c ∷ d ∷ e ∷ words) l h = cc h
 
-read_takes : (version : Version) (words : List (List ℕ)) (l : SpelledLine) → read_in words ≡ Some l → (codes "read" ∷ words ≡ line_words l) × IsSpelledLine version l
+read_takes : (version : Version) (words : List (List ℕ)) (l : SpelledLine) → read_in words ≡ Some l
+    → (codes "read" ∷ words ≡ line_words l) × IsSpelledLine version l
 unfolding read_in
 read_takes version [] l h = cc h
 read_takes version (a ∷ []) l h = cc h
@@ -111,12 +118,15 @@ read_takes version (a ∷ b ∷ c ∷ d ∷ []) l h =
     let cycle = run_cycle_takes c y hy in
     let buffer = number_takes 64 d m hm in
     rw (← is) (
-      cons_same refl (cons_same (sym node.0) (cons_same (sym task.0) (cons_same cycle.0 (cons_same (sym buffer.0) refl)))),
-      record { node_fits = node.1; task_fits = task.1; cycle_fits = cycle.1; action_fits = buffer.1; unanswered = refl },
+      cons_same refl (cons_same (sym node.0) (cons_same (sym task.0)
+          (cons_same cycle.0 (cons_same (sym buffer.0) refl)))),
+      record { node_fits = node.1; task_fits = task.1; cycle_fits = cycle.1; action_fits = buffer.1; unanswered =
+          refl },
     )
 read_takes version (a ∷ b ∷ c ∷ d ∷ e ∷ words) l h = cc h
 
-pop_takes : (version : Version) (words : List (List ℕ)) (l : SpelledLine) → pop_in words ≡ Some l → (codes "pop" ∷ words ≡ line_words l) × IsSpelledLine version l
+pop_takes : (version : Version) (words : List (List ℕ)) (l : SpelledLine) → pop_in words ≡ Some l
+    → (codes "pop" ∷ words ≡ line_words l) × IsSpelledLine version l
 unfolding pop_in
 pop_takes version [] l h = cc h
 pop_takes version (a ∷ []) l h = cc h
@@ -135,7 +145,8 @@ pop_takes version (a ∷ b ∷ c ∷ []) l h =
     )
 pop_takes version (a ∷ b ∷ c ∷ d ∷ words) l h = cc h
 
-babble_takes : (version : Version) (words : List (List ℕ)) (l : SpelledLine) → babble_in words ≡ Some l → (codes "babble" ∷ words ≡ line_words l) × IsSpelledLine version l
+babble_takes : (version : Version) (words : List (List ℕ)) (l : SpelledLine) → babble_in words ≡ Some l
+    → (codes "babble" ∷ words ≡ line_words l) × IsSpelledLine version l
 unfolding babble_in
 babble_takes version [] l h = cc h
 babble_takes version (a ∷ []) l h = cc h
@@ -154,12 +165,14 @@ babble_takes version (a ∷ b ∷ c ∷ d ∷ e ∷ []) l h =
     let place = place_takes d p hp in
     let bytes = bytes_takes 262 e bs hb in
     rw (← is) (
-      cons_same refl (cons_same (sym node.0) (cons_same (channel_takes b c1 hc) (cons_same cycles.0 (cons_same place.0 (cons_same bytes.0 refl))))),
+      cons_same refl (cons_same (sym node.0) (cons_same (channel_takes b c1 hc)
+          (cons_same cycles.0 (cons_same place.0 (cons_same bytes.0 refl))))),
       record { fault_fits = (node.1, bytes.1, bytes.2); cycles_fit = cycles.1; place_fits = place.1 },
     )
 babble_takes version (a ∷ b ∷ c ∷ d ∷ e ∷ f ∷ words) l h = cc h
 
-mute_takes : (version : Version) (words : List (List ℕ)) (l : SpelledLine) → mute_in words ≡ Some l → (codes "mute" ∷ words ≡ line_words l) × IsSpelledLine version l
+mute_takes : (version : Version) (words : List (List ℕ)) (l : SpelledLine) → mute_in words ≡ Some l
+    → (codes "mute" ∷ words ≡ line_words l) × IsSpelledLine version l
 unfolding mute_in
 mute_takes version [] l h = cc h
 mute_takes version (a ∷ []) l h = cc h
@@ -175,12 +188,14 @@ mute_takes version (a ∷ b ∷ c ∷ d ∷ []) l h =
     let cycles = cycles_takes c y hy in
     let place = place_takes d p hp in
     rw (← is) (
-      cons_same refl (cons_same (sym node.0) (cons_same (channel_takes b c1 hc) (cons_same cycles.0 (cons_same place.0 refl)))),
+      cons_same refl (cons_same (sym node.0) (cons_same (channel_takes b c1 hc)
+          (cons_same cycles.0 (cons_same place.0 refl)))),
       record { fault_fits = node.1; cycles_fit = cycles.1; place_fits = place.1 },
     )
 mute_takes version (a ∷ b ∷ c ∷ d ∷ e ∷ words) l h = cc h
 
-corrupt_takes : (version : Version) (words : List (List ℕ)) (l : SpelledLine) → corrupt_in words ≡ Some l → (codes "corrupt" ∷ words ≡ line_words l) × IsSpelledLine version l
+corrupt_takes : (version : Version) (words : List (List ℕ)) (l : SpelledLine) → corrupt_in words ≡ Some l
+    → (codes "corrupt" ∷ words ≡ line_words l) × IsSpelledLine version l
 unfolding corrupt_in
 corrupt_takes version [] l h = cc h
 corrupt_takes version (a ∷ []) l h = cc h
@@ -196,13 +211,16 @@ corrupt_takes version (a ∷ b ∷ c ∷ d ∷ []) l h =
     let place = place_takes c p hp in
     let bit = number_takes 65536 d n hn in
     rw (← is) (
-      cons_same refl (cons_same (channel_takes a c1 hc) (cons_same cycles.0 (cons_same place.0 (cons_same (sym bit.0) refl)))),
+      cons_same refl (cons_same (channel_takes a c1 hc) (cons_same cycles.0
+          (cons_same place.0 (cons_same (sym bit.0) refl)))),
       record { fault_fits = bit.1; cycles_fit = cycles.1; place_fits = place.1 },
     )
 corrupt_takes version (a ∷ b ∷ c ∷ d ∷ e ∷ words) l h = cc h
 
-fault_taken : (version : Version) (kind : List ℕ) (words : List (List ℕ)) (l : SpelledLine) → (if bytes_eq kind (codes "babble") then babble_in words
-    else if bytes_eq kind (codes "mute") then mute_in words else if bytes_eq kind (codes "corrupt") then corrupt_in words else None) ≡ Some l
+fault_taken : (version : Version) (kind : List ℕ) (words : List (List ℕ)) (l : SpelledLine)
+    → (if bytes_eq kind (codes "babble") then babble_in words
+    else if bytes_eq kind (codes "mute") then mute_in words else if bytes_eq kind (codes "corrupt") then
+        corrupt_in words else None) ≡ Some l
     → (kind ∷ words ≡ line_words l) × IsSpelledLine version l
 fault_taken version kind words l h =
     elim (word_or kind (codes "babble") (babble_in words) _ l h) [
@@ -212,13 +230,15 @@ fault_taken version kind words l h =
             | inl mute ↦ let t = mute_takes version words l mute.1 in (cons_same mute.0 refl ∙ t.0, t.1)
             | inr h2 ↦
                 elim (word_or kind (codes "corrupt") (corrupt_in words) _ l h2) [
-                  | inl corrupt ↦ let t = corrupt_takes version words l corrupt.1 in (cons_same corrupt.0 refl ∙ t.0, t.1)
+                  | inl corrupt ↦ let t = corrupt_takes version words l corrupt.1
+                      in (cons_same corrupt.0 refl ∙ t.0, t.1)
                   | inr h3 ↦ cc h3
                 ]
           ]
     ]
 
-taken : (version : Version) (words : List (List ℕ)) (l : SpelledLine) → line_in version words ≡ Some l → (words ≡ line_words l) × IsSpelledLine version l
+taken : (version : Version) (words : List (List ℕ)) (l : SpelledLine) → line_in version words ≡ Some l
+    → (words ≡ line_words l) × IsSpelledLine version l
 unfolding line_in
 taken version [] l h = cc h
 taken version (kind ∷ words) l h =
@@ -240,44 +260,59 @@ taken version (kind ∷ words) l h =
     ]
 
 -- what is read of a line is spelled so, and in range
-pub line_takes : (version : Version) (line : List ℕ) (l : SpelledLine) → line_in version (words_of line) ≡ Some l → (line ≡ line_of (line_words l)) × IsSpelledLine version l
+pub line_takes : (version : Version) (line : List ℕ) (l : SpelledLine) → line_in version (words_of line) ≡ Some l
+    → (line ≡ line_of (line_words l)) × IsSpelledLine version l
 line_takes version line l h =
     let t = taken version (words_of line) l h in
     (sym (line_of-words_of line) ∙ ap line_of t.0, t.1)
 
 -- ---- what is spelled so is read
 
-action_again : (version : Version) (node task cycle : ℕ) (action : Action) → node < 16 → task < 8 → IsRunCycle cycle → IsSpelledAction version action
-    → line_in version (action_words (decimal node) (decimal task) (decimal cycle) action) ≡ Some (host_line node task cycle action)
+action_again : (version : Version) (node task cycle : ℕ) (action : Action) → node < 16 → task < 8 → IsRunCycle cycle
+    → IsSpelledAction version action
+    → line_in version (action_words (decimal node) (decimal task) (decimal cycle) action) ≡ Some
+        (host_line node task cycle action)
 unfolding line_in commit_in withdraw_in read_in pop_in
 action_again version node task cycle (Commit buffer payload) n t c bytes =
-    rw (number_again 16 node n (omega arith), number_again 8 task t (omega arith), run_cycle_again cycle c, number_again 64 buffer bytes.0 (omega arith), payload_again payload bytes.1 bytes.2) refl
+    rw (number_again 16 node n (omega arith), number_again 8 task t (omega arith), run_cycle_again cycle c,
+        number_again 64 buffer bytes.0 (omega arith), payload_again payload bytes.1 bytes.2) refl
 action_again One node task cycle (Withdraw buffer) n t c few = absurd few
 action_again Two node task cycle (Withdraw buffer) n t c few =
-    rw (number_again 16 node n (omega arith), number_again 8 task t (omega arith), run_cycle_again cycle c, number_again 64 buffer few (omega arith)) refl
+    rw (number_again 16 node n (omega arith), number_again 8 task t (omega arith), run_cycle_again cycle c,
+        number_again 64 buffer few (omega arith)) refl
 action_again version node task cycle (Read buffer) n t c few =
-    rw (number_again 16 node n (omega arith), number_again 8 task t (omega arith), run_cycle_again cycle c, number_again 64 buffer few (omega arith)) refl
+    rw (number_again 16 node n (omega arith), number_again 8 task t (omega arith), run_cycle_again cycle c,
+        number_again 64 buffer few (omega arith)) refl
 action_again version node task cycle Pop n t c fits =
     rw (number_again 16 node n (omega arith), number_again 8 task t (omega arith), run_cycle_again cycle c) refl
 
-again_fault : (version : Version) (fault : Fault) (cycles : FaultCycles) (place : FaultPlace) → IsSpelledFault fault → AreSpelledCycles cycles → IsSpelledPlace place
+again_fault : (version : Version) (fault : Fault) (cycles : FaultCycles) (place : FaultPlace) → IsSpelledFault fault
+    → AreSpelledCycles cycles → IsSpelledPlace place
     → line_in version (fault_words (cycles_word cycles) (place_word place) fault) ≡ Some (fault_line fault cycles place)
 unfolding line_in babble_in mute_in corrupt_in
 again_fault version (Babble node channel bytes) cycles place fault c p =
-    rw (number_again 16 node fault.0 (omega arith), channel_again channel, cycles_again cycles c, place_again place p, bytes_again 262 bytes.items fault.2 fault.1) refl
+    rw (number_again 16 node fault.0 (omega arith), channel_again channel, cycles_again cycles c, place_again place p,
+        bytes_again 262 bytes.items fault.2 fault.1) refl
 again_fault version (Mute node channel) cycles place fault c p =
-    rw (number_again 16 node fault (omega arith), channel_again channel, cycles_again cycles c, place_again place p) refl
+    rw (number_again 16 node fault (omega arith), channel_again channel, cycles_again cycles c, place_again place p)
+        refl
 again_fault version (Corrupt channel bit) cycles place fault c p =
-    rw (channel_again channel, cycles_again cycles c, place_again place p, number_again 65536 bit fault (omega arith)) refl
+    rw (channel_again channel, cycles_again cycles c, place_again place p, number_again 65536 bit fault (omega arith))
+        refl
 
-host_again : (version : Version) (node task : ℕ) (line : Line) → IsSpelledHost version node task line → line_in version (line_words (Host node task line)) ≡ Some (Host node task line)
+host_again : (version : Version) (node task : ℕ) (line : Line) → IsSpelledHost version node task line
+    → line_in version (line_words (Host node task line)) ≡ Some (Host node task line)
 host_again version node task line fits =
-    let same : host_line node task line.cycle line.action ≡ Host node task line = ap (λ a. Host node task (record { cycle = line.cycle; action = line.action; answer = a })) (sym fits.unanswered) in
-    action_again version node task line.cycle line.action fits.node_fits fits.task_fits fits.cycle_fits fits.action_fits ∙ ap Some same
+    let same : host_line node task line.cycle line.action ≡ Host node task line =
+        ap (λ a. Host node task (record { cycle = line.cycle; action = line.action; answer = a }))
+        (sym fits.unanswered) in
+    action_again version node task line.cycle line.action fits.node_fits fits.task_fits fits.cycle_fits fits.action_fits
+        ∙ ap Some same
 
 again : (version : Version) (l : SpelledLine) → IsSpelledLine version l → line_in version (line_words l) ≡ Some l
 again version (Host node task line) fits = host_again version node task line fits
-again version (FaultOf f) fits = again_fault version f.fault f.cycles f.place fits.fault_fits fits.cycles_fit fits.place_fits
+again version (FaultOf f) fits = again_fault version f.fault f.cycles f.place fits.fault_fits fits.cycles_fit
+    fits.place_fits
 
 -- ---- the words are plain and few
 
@@ -290,10 +325,12 @@ pub record IsSpelledSo (words : List (List ℕ)) : Type 0 where
 bytes_word : (bs : List ℕ) → length bs ≤ 262 → IsWord 525 (hex_text bs)
 bytes_word bs few = let digits = length-hex_text bs in record { plain = IsPlain-hex_text bs; short = omega arith }
 
-spelled_so : (word : List ℕ) (words : List (List ℕ)) → ArePlain (word ∷ words) → length (line_of (word ∷ words)) ≤ 1200 → IsSpelledSo (word ∷ words)
+spelled_so : (word : List ℕ) (words : List (List ℕ)) → ArePlain (word ∷ words) → length (line_of (word ∷ words)) ≤ 1200
+    → IsSpelledSo (word ∷ words)
 spelled_so word words plain short = record { plain = plain; short = short; cut = words_of-line_of word words plain }
 
-action_spelled : (version : Version) (node task cycle : ℕ) (action : Action) → node < 16 → task < 8 → IsRunCycle cycle → IsSpelledAction version action
+action_spelled : (version : Version) (node task cycle : ℕ) (action : Action) → node < 16 → task < 8 → IsRunCycle cycle
+    → IsSpelledAction version action
     → IsSpelledSo (action_words (decimal node) (decimal task) (decimal cycle) action)
 action_spelled version node task cycle (Commit buffer payload) node_fits task_fits cycle_fits bytes =
     let n = number_word 2 node (omega arith) (omega arith) (omega arith) in
@@ -302,16 +339,19 @@ action_spelled version node task cycle (Commit buffer payload) node_fits task_fi
     let few = bytes.0 in
     let b = number_word 2 buffer (omega arith) (omega arith) (omega arith) in
     let p = payload_word payload bytes.1.short in
-    let all = length-line_of-le (codes "commit" ∷ decimal node ∷ decimal task ∷ decimal cycle ∷ decimal buffer ∷ hex_text payload ∷ []) in
+    let all = length-line_of-le (codes "commit" ∷ decimal node ∷ decimal task ∷ decimal cycle ∷ decimal buffer ∷
+        hex_text payload ∷ []) in
     spelled_so (codes "commit") (decimal node ∷ decimal task ∷ decimal cycle ∷ decimal buffer ∷ hex_text payload ∷ [])
-    (refl, (n.plain, (t.plain, (y.plain, (b.plain, (p.plain, tt)))))) (omega (arith, n.short, t.short, y.short, b.short, p.short))
+    (refl, (n.plain, (t.plain, (y.plain, (b.plain, (p.plain, tt))))))
+        (omega (arith, n.short, t.short, y.short, b.short, p.short))
 action_spelled One node task cycle (Withdraw buffer) node_fits task_fits cycle_fits few = absurd few
 action_spelled Two node task cycle (Withdraw buffer) node_fits task_fits cycle_fits few =
     let n = number_word 2 node (omega arith) (omega arith) (omega arith) in
     let t = number_word 1 task (omega arith) (omega arith) (omega arith) in
     let y = run_cycle_plain cycle cycle_fits in
     let b = number_word 2 buffer (omega arith) (omega arith) (omega arith) in
-    let all = length-line_of-le (codes "withdraw" ∷ decimal node ∷ decimal task ∷ decimal cycle ∷ decimal buffer ∷ []) in
+    let all = length-line_of-le (codes "withdraw" ∷ decimal node ∷ decimal task ∷ decimal cycle ∷ decimal buffer ∷ [])
+        in
     spelled_so (codes "withdraw") (decimal node ∷ decimal task ∷ decimal cycle ∷ decimal buffer ∷ [])
     (refl, (n.plain, (t.plain, (y.plain, (b.plain, tt))))) (omega (arith, n.short, t.short, y.short, b.short))
 action_spelled version node task cycle (Read buffer) node_fits task_fits cycle_fits few =
@@ -330,7 +370,8 @@ action_spelled version node task cycle Pop node_fits task_fits cycle_fits fits =
     spelled_so (codes "pop") (decimal node ∷ decimal task ∷ decimal cycle ∷ [])
     (refl, (n.plain, (t.plain, (y.plain, tt)))) (omega (arith, n.short, t.short, y.short))
 
-fault_spelled : (fault : Fault) (cycles : FaultCycles) (place : FaultPlace) → IsSpelledFault fault → AreSpelledCycles cycles → IsSpelledPlace place
+fault_spelled : (fault : Fault) (cycles : FaultCycles) (place : FaultPlace) → IsSpelledFault fault
+    → AreSpelledCycles cycles → IsSpelledPlace place
     → IsSpelledSo (fault_words (cycles_word cycles) (place_word place) fault)
 fault_spelled (Babble node channel bytes) cycles place fault cycles_fit place_fits =
     let small = fault.0 in
@@ -339,15 +380,19 @@ fault_spelled (Babble node channel bytes) cycles place fault cycles_fit place_fi
     let y = cycles_plain cycles cycles_fit in
     let p = place_plain place place_fits in
     let b = bytes_word bytes.items fault.1 in
-    let all = length-line_of-le (codes "babble" ∷ decimal node ∷ channel_word channel ∷ cycles_word cycles ∷ place_word place ∷ hex_text bytes.items ∷ []) in
-    spelled_so (codes "babble") (decimal node ∷ channel_word channel ∷ cycles_word cycles ∷ place_word place ∷ hex_text bytes.items ∷ [])
-    (refl, (n.plain, (c.plain, (y.plain, (p.plain, (b.plain, tt)))))) (omega (arith, n.short, c.short, y.short, p.short, b.short))
+    let all = length-line_of-le (codes "babble" ∷ decimal node ∷ channel_word channel ∷ cycles_word cycles ∷ place_word
+        place ∷ hex_text bytes.items ∷ []) in
+    spelled_so (codes "babble") (decimal node ∷ channel_word channel ∷ cycles_word cycles ∷ place_word place ∷ hex_text
+        bytes.items ∷ [])
+    (refl, (n.plain, (c.plain, (y.plain, (p.plain, (b.plain, tt))))))
+        (omega (arith, n.short, c.short, y.short, p.short, b.short))
 fault_spelled (Mute node channel) cycles place small cycles_fit place_fits =
     let n = number_word 2 node (omega arith) (omega arith) (omega arith) in
     let c = channel_plain channel in
     let y = cycles_plain cycles cycles_fit in
     let p = place_plain place place_fits in
-    let all = length-line_of-le (codes "mute" ∷ decimal node ∷ channel_word channel ∷ cycles_word cycles ∷ place_word place ∷ []) in
+    let all = length-line_of-le (codes "mute" ∷ decimal node ∷ channel_word channel ∷ cycles_word cycles ∷ place_word
+        place ∷ []) in
     spelled_so (codes "mute") (decimal node ∷ channel_word channel ∷ cycles_word cycles ∷ place_word place ∷ [])
     (refl, (n.plain, (c.plain, (y.plain, (p.plain, tt))))) (omega (arith, n.short, c.short, y.short, p.short))
 fault_spelled (Corrupt channel bit) cycles place small cycles_fit place_fits =
@@ -355,34 +400,42 @@ fault_spelled (Corrupt channel bit) cycles place small cycles_fit place_fits =
     let y = cycles_plain cycles cycles_fit in
     let p = place_plain place place_fits in
     let b = number_word 5 bit (omega arith) (omega arith) (omega arith) in
-    let all = length-line_of-le (codes "corrupt" ∷ channel_word channel ∷ cycles_word cycles ∷ place_word place ∷ decimal bit ∷ []) in
+    let all = length-line_of-le (codes "corrupt" ∷ channel_word channel ∷ cycles_word cycles ∷ place_word place ∷
+        decimal bit ∷ []) in
     spelled_so (codes "corrupt") (channel_word channel ∷ cycles_word cycles ∷ place_word place ∷ decimal bit ∷ [])
     (refl, (c.plain, (y.plain, (p.plain, (b.plain, tt))))) (omega (arith, c.short, y.short, p.short, b.short))
 
 spelled : (version : Version) (l : SpelledLine) → IsSpelledLine version l → IsSpelledSo (line_words l)
-spelled version (Host node task line) fits = action_spelled version node task line.cycle line.action fits.node_fits fits.task_fits fits.cycle_fits fits.action_fits
-spelled version (FaultOf f) fits = fault_spelled f.fault f.cycles f.place fits.fault_fits fits.cycles_fit fits.place_fits
+spelled version (Host node task line) fits = action_spelled version node task line.cycle line.action fits.node_fits
+    fits.task_fits fits.cycle_fits fits.action_fits
+spelled version (FaultOf f) fits = fault_spelled f.fault f.cycles f.place fits.fault_fits fits.cycles_fit
+    fits.place_fits
 
 -- ---- what is spelled so is read
 
-pub line_again : (version : Version) (l : SpelledLine) → IsSpelledLine version l → line_in version (words_of (line_of (line_words l))) ≡ Some l
+pub line_again : (version : Version) (l : SpelledLine) → IsSpelledLine version l
+    → line_in version (words_of (line_of (line_words l))) ≡ Some l
 line_again version l fits = ap (line_in version) (spelled version l fits).cut ∙ again version l fits
 
-pub line_short : (version : Version) (l : SpelledLine) → IsSpelledLine version l → length (line_of (line_words l)) ≤ 1200
+pub line_short : (version : Version) (l : SpelledLine) → IsSpelledLine version l
+    → length (line_of (line_words l)) ≤ 1200
 line_short version l fits = (spelled version l fits).short
 
-pub line_no_feed : (version : Version) (l : SpelledLine) → IsSpelledLine version l → has_no_feed (line_of (line_words l)) ≡ true
+pub line_no_feed : (version : Version) (l : SpelledLine) → IsSpelledLine version l
+    → has_no_feed (line_of (line_words l)) ≡ true
 line_no_feed version l fits = has_no_feed-line_of (line_words l) (spelled version l fits).plain
 
 -- ---- no line is `end`
 
-action_not_end : (node task cycle : List ℕ) (action : Action) → bytes_eq (line_of (action_words node task cycle action)) end_line ≡ false
+action_not_end : (node task cycle : List ℕ) (action : Action)
+    → bytes_eq (line_of (action_words node task cycle action)) end_line ≡ false
 action_not_end node task cycle (Commit buffer payload) = refl
 action_not_end node task cycle (Withdraw buffer) = refl
 action_not_end node task cycle (Read buffer) = refl
 action_not_end node task cycle Pop = refl
 
-fault_not_end : (cycles place : List ℕ) (fault : Fault) → bytes_eq (line_of (fault_words cycles place fault)) end_line ≡ false
+fault_not_end : (cycles place : List ℕ) (fault : Fault) → bytes_eq (line_of (fault_words cycles place fault)) end_line ≡
+    false
 fault_not_end cycles place (Babble node channel bytes) = refl
 fault_not_end cycles place (Mute node channel) = refl
 fault_not_end cycles place (Corrupt channel bit) = refl

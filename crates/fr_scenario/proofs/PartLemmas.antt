@@ -63,7 +63,8 @@ run_cycle_again n fits = rw (number_again 1024 n fits (omega arith)) refl
 pub run_cycle_plain : (n : ℕ) → IsRunCycle n → IsWord 4 (decimal n)
 run_cycle_plain n fits = number_word 4 n (omega arith) (omega arith) (omega arith)
 
-pub cycles_takes : (word : List ℕ) (c : FaultCycles) → cycles_in word ≡ Some c → (word ≡ cycles_word c) × AreSpelledCycles c
+pub cycles_takes : (word : List ℕ) (c : FaultCycles) → cycles_in word ≡ Some c
+    → (word ≡ cycles_word c) × AreSpelledCycles c
 unfolding cycles_in
 cycles_takes word c h =
     elim (word_or word star (Some Every) _ c h) [
@@ -127,7 +128,8 @@ slots_takes word p h =
           rw (← is) (ap (λ w. 115 ∷ w) taken.0, taken.1)
     ]
 
-minislot_takes : (word : List ℕ) (p : FaultPlace) → minislot_in word ≡ Some p → (109 ∷ word ≡ place_word p) × IsSpelledPlace p
+minislot_takes : (word : List ℕ) (p : FaultPlace) → minislot_in word ≡ Some p
+    → (109 ∷ word ≡ place_word p) × IsSpelledPlace p
 unfolding minislot_in
 minislot_takes word p h =
     let (n, hn, h1) = bind_some (counted_in word) _ p h in

@@ -27,9 +27,11 @@ script_none ss place [] rest none = refl
 script_none ss place (l ∷ ls) rest none = absurd (omega arith)
 
 pub script_some : (ss : List Scripted) (place : ℕ) (ls : List Line) (rest : List (List Line)) → 0 < length ls
-    → (ss ++ record { node = node_at place; task = task_at place; lines = ls } ∷ []) ++ scripts_from (place + 1) rest ≡ ss ++ scripts_from place (ls ∷ rest)
+    → (ss ++ record { node = node_at place; task = task_at place; lines = ls } ∷ []) ++ scripts_from (place + 1) rest
+        ≡ ss ++ scripts_from place (ls ∷ rest)
 script_some ss place [] rest some = absurd (omega arith)
-script_some ss place (l ∷ ls) rest some = append_assoc ss (record { node = node_at place; task = task_at place; lines = l ∷ ls } ∷ []) (scripts_from (place + 1) rest)
+script_some ss place (l ∷ ls) rest some = append_assoc ss
+    (record { node = node_at place; task = task_at place; lines = l ∷ ls } ∷ []) (scripts_from (place + 1) rest)
 
 pub replicate-more : {X : Type 0} (n : ℕ) (x : X) → replicate n x ++ x ∷ [] ≡ replicate (n + 1) x
 replicate-more n x = replicate-append-replicate n 1 x
@@ -58,8 +60,10 @@ elsewhere node task k other =
     ]
 
 -- one line more at its task
-step : (version : Version) (n : ℕ) (g : Kept) (l : SpelledLine) (lines : List SpelledLine) (k : ℕ) → IsSpelledLine version l → length g.tasks ≡ 128 → k < 128
-    → get_or (with_line n g l).tasks k [] ++ task_lines (node_at k) (task_at k) lines ≡ get_or g.tasks k [] ++ task_lines (node_at k) (task_at k) (l ∷ lines)
+step : (version : Version) (n : ℕ) (g : Kept) (l : SpelledLine) (lines : List SpelledLine) (k : ℕ)
+    → IsSpelledLine version l → length g.tasks ≡ 128 → k < 128
+    → get_or (with_line n g l).tasks k [] ++ task_lines (node_at k) (task_at k) lines
+        ≡ get_or g.tasks k [] ++ task_lines (node_at k) (task_at k) (l ∷ lines)
 step version n g (Host node task line) lines k fits len within =
     let low = fits.task_fits in
     let high = fits.node_fits in
@@ -69,18 +73,23 @@ step version n g (Host node task line) lines k fits len within =
       | inl same ↦
           let inside : place < length g.tasks = omega arith in
           let now : get_or (set g.tasks place (old ++ line ∷ [])) k [] ≡ get_or g.tasks k [] ++ line ∷ [] =
-          ap (λ j. get_or (set g.tasks place (old ++ line ∷ [])) j []) (sym same) ∙ get_or-set_same g.tasks place (old ++ line ∷ []) [] inside ∙ ap (λ j. get_or g.tasks j [] ++ line ∷ []) same in
-          rw (here node task k low same) (ap (λ xs. xs ++ task_lines (node_at k) (task_at k) lines) now ∙ append_assoc (get_or g.tasks k []) (line ∷ []) (task_lines (node_at k) (task_at k) lines))
+          ap (λ j. get_or (set g.tasks place (old ++ line ∷ [])) j []) (sym same) ∙ get_or-set_same g.tasks place
+              (old ++ line ∷ []) [] inside ∙ ap (λ j. get_or g.tasks j [] ++ line ∷ []) same in
+          rw (here node task k low same) (ap (λ xs. xs ++ task_lines (node_at k) (task_at k) lines) now ∙ append_assoc
+              (get_or g.tasks k []) (line ∷ []) (task_lines (node_at k) (task_at k) lines))
       | inr other ↦
-          rw (elsewhere node task k other) (ap (λ xs. xs ++ task_lines (node_at k) (task_at k) lines) (get_or-set_other g.tasks place k (old ++ line ∷ []) [] (λ e. other (sym e))))
+          rw (elsewhere node task k other) (ap (λ xs. xs ++ task_lines (node_at k) (task_at k) lines)
+              (get_or-set_other g.tasks place k (old ++ line ∷ []) [] (λ e. other (sym e))))
     ]
 step version n g (FaultOf f) lines k fits len within = refl
 
-kept_lines : (version : Version) (n : ℕ) (lines : List SpelledLine) (g : Kept) (k : ℕ) → Each (IsSpelledLine version) lines → length g.tasks ≡ 128 → k < 128
+kept_lines : (version : Version) (n : ℕ) (lines : List SpelledLine) (g : Kept) (k : ℕ)
+    → Each (IsSpelledLine version) lines → length g.tasks ≡ 128 → k < 128
     → get_or (with_lines n g lines).tasks k [] ≡ get_or g.tasks k [] ++ task_lines (node_at k) (task_at k) lines
 kept_lines version n [] g k fit len within = sym (append-nil (get_or g.tasks k []))
 kept_lines version n (l ∷ lines) g k fit len within =
-    kept_lines version (n + 1) lines (with_line n g l) k fit.1 (length-with_line n g l ∙ len) within ∙ step version n g l lines k fit.0 len within
+    kept_lines version (n + 1) lines (with_line n g l) k fit.1 (length-with_line n g l ∙ len) within
+        ∙ step version n g l lines k fit.0 len within
 
 nothing_yet : (n k : ℕ) → get_or (replicate {A = List Line} n []) k [] ≡ []
 nothing_yet zero k = refl
@@ -89,31 +98,39 @@ nothing_yet (suc n) (suc k) = nothing_yet n k
 
 -- ---- the scripts
 
-scripts_by : (f : ℕ → List Line) (n place : ℕ) → scripts_from place (map f (range_with_len place n)) ≡ flat_map (λ k. script_of (node_at k) (task_at k) (f k)) (range_with_len place n)
+scripts_by : (f : ℕ → List Line) (n place : ℕ) → scripts_from place (map f (range_with_len place n)) ≡ flat_map
+    (λ k. script_of (node_at k) (task_at k) (f k)) (range_with_len place n)
 scripts_by f zero place = refl
-scripts_by f (suc n) place = ap (λ ss. script_of (node_at place) (task_at place) (f place) ++ ss) (scripts_by f n (place + 1))
+scripts_by f (suc n) place = ap (λ ss. script_of (node_at place) (task_at place) (f place) ++ ss)
+    (scripts_by f n (place + 1))
 
-pub scripts_kept : (version : Version) (lines : List SpelledLine) → Each (IsSpelledLine version) lines → scripts_from 0 (with_lines 2 none_yet lines).tasks ≡ scripts_of lines
+pub scripts_kept : (version : Version) (lines : List SpelledLine) → Each (IsSpelledLine version) lines
+    → scripts_from 0 (with_lines 2 none_yet lines).tasks ≡ scripts_of lines
 scripts_kept version lines fit =
     let tasks = (with_lines 2 none_yet lines).tasks in
     let f = λ (k : ℕ). task_lines (node_at k) (task_at k) lines in
     let len : length none_yet.tasks ≡ 128 = length-replicate {A = List Line} 128 [] in
     let all : length tasks ≡ 128 = length-kept 2 lines none_yet ∙ len in
-    let each = λ (k : ℕ) (within : k < 128). kept_lines version 2 lines none_yet k fit len within ∙ ap (λ xs. xs ++ f k) (nothing_yet 128 k) in
+    let each = λ (k : ℕ) (within : k < 128). kept_lines version 2 lines none_yet k fit len within ∙ ap (λ xs. xs ++ f k)
+        (nothing_yet 128 k) in
     ap (scripts_from 0) (fill_by_all f tasks 128 [] all each) ∙ scripts_by f 128 0
 
-faults_more : (n : ℕ) (lines : List SpelledLine) (g : Kept) → (with_lines n g lines).faults ≡ g.faults ++ fault_lines lines
+faults_more : (n : ℕ) (lines : List SpelledLine) (g : Kept) → (with_lines n g lines).faults ≡ g.faults ++ fault_lines
+    lines
 faults_more n [] g = sym (append-nil g.faults)
 faults_more n (Host node task line ∷ lines) g = faults_more (n + 1) lines (with_line n g (Host node task line))
-faults_more n (FaultOf f ∷ lines) g = faults_more (n + 1) lines (with_line n g (FaultOf f)) ∙ append_assoc g.faults (f ∷ []) (fault_lines lines)
+faults_more n (FaultOf f ∷ lines) g = faults_more (n + 1) lines (with_line n g (FaultOf f)) ∙ append_assoc g.faults
+    (f ∷ []) (fault_lines lines)
 
 pub faults_kept : (lines : List SpelledLine) → (with_lines 2 none_yet lines).faults ≡ fault_lines lines
 faults_kept lines = faults_more 2 lines none_yet
 
-numbers_more : (n : ℕ) (lines : List SpelledLine) (g : Kept) → (with_lines n g lines).numbers ≡ g.numbers ++ fault_numbers n lines
+numbers_more : (n : ℕ) (lines : List SpelledLine) (g : Kept)
+    → (with_lines n g lines).numbers ≡ g.numbers ++ fault_numbers n lines
 numbers_more n [] g = sym (append-nil g.numbers)
 numbers_more n (Host node task line ∷ lines) g = numbers_more (n + 1) lines (with_line n g (Host node task line))
-numbers_more n (FaultOf f ∷ lines) g = numbers_more (n + 1) lines (with_line n g (FaultOf f)) ∙ append_assoc g.numbers (n ∷ []) (fault_numbers (n + 1) lines)
+numbers_more n (FaultOf f ∷ lines) g = numbers_more (n + 1) lines (with_line n g (FaultOf f)) ∙ append_assoc g.numbers
+    (n ∷ []) (fault_numbers (n + 1) lines)
 
 pub numbers_kept : (lines : List SpelledLine) → (with_lines 2 none_yet lines).numbers ≡ fault_numbers 2 lines
 numbers_kept lines = numbers_more 2 lines none_yet

@@ -57,26 +57,31 @@ module _ (version : Version) where
         | inl late ↦ cc (rw late at h)
         | inr early ↦
             let h1 = rw early at h in
-            elim (cases_Bool (ltb 1200 (length (b ∷ line)))) [ inl long ↦ cc (rw long at h1) | inr short ↦ cc (rw short at h1) ]
+            elim (cases_Bool (ltb 1200 (length (b ∷ line))))
+                [ inl long ↦ cc (rw long at h1) | inr short ↦ cc (rw short at h1) ]
       ]
 
-  end_text : (line next : List ℕ) (more : List (List ℕ)) → line ≡ end_line → is_at_end (next ∷ more) ≡ true → join_with_byte 10 (line ∷ next ∷ more) ≡ end_line ++ line_feed
+  end_text : (line next : List ℕ) (more : List (List ℕ)) → line ≡ end_line → is_at_end (next ∷ more) ≡ true
+      → join_with_byte 10 (line ∷ next ∷ more) ≡ end_line ++ line_feed
   end_text line [] [] is empty = ap (λ l. l ++ 10 ∷ []) is
   end_text line [] (other ∷ more) is empty = cc empty
   end_text line (b ∷ next) [] is empty = cc empty
   end_text line (b ∷ next) (other ∷ more) is empty = cc empty
 
-  ended : (n : ℕ) (line next : List ℕ) (more : List (List ℕ)) (ls : List SpelledLine) → n ≤ 4096 → line ≡ end_line → after_end (n + 1) (next ∷ more) ≡ Ok ls
+  ended : (n : ℕ) (line next : List ℕ) (more : List (List ℕ)) (ls : List SpelledLine) → n ≤ 4096 → line ≡ end_line
+      → after_end (n + 1) (next ∷ more) ≡ Ok ls
       → AreLines n (line ∷ next ∷ more) ls
   ended n line next more ls few is h =
       elim (cases_Bool (is_at_end (next ∷ more))) [
         | inl empty ↦
             let none : [] ≡ ls = cc (rw empty at h) in
-            subst (AreLines n (line ∷ next ∷ more)) none (record { spelled = end_text line next more is empty; fit = tt; few = omega arith })
+            subst (AreLines n (line ∷ next ∷ more)) none
+                (record { spelled = end_text line next more is empty; fit = tt; few = omega arith })
         | inr some ↦ cc (rw some at h)
       ]
 
-  before_some : (l : SpelledLine) (r : Read) (ls : List SpelledLine) → put_before l r ≡ Ok ls → (rest : List SpelledLine) × (r ≡ Ok rest) × (l ∷ rest ≡ ls)
+  before_some : (l : SpelledLine) (r : Read) (ls : List SpelledLine) → put_before l r ≡ Ok ls
+      → (rest : List SpelledLine) × (r ≡ Ok rest) × (l ∷ rest ≡ ls)
   before_some l (Err e) ls h = cc h
   before_some l (Ok rest) ls h = (rest, refl, cc h)
 
@@ -87,7 +92,8 @@ module _ (version : Version) where
       let (rest, is, same) = before_some l r ls h in
       (l, rest, refl, is, same)
 
-  line_more : (n : ℕ) (line next : List ℕ) (more : List (List ℕ)) (l : SpelledLine) (rest : List SpelledLine) → n ≤ 4096 → line_in version (words_of line) ≡ Some l
+  line_more : (n : ℕ) (line next : List ℕ) (more : List (List ℕ)) (l : SpelledLine) (rest : List SpelledLine) → n ≤ 4096
+      → line_in version (words_of line) ≡ Some l
       → AreLines (n + 1) (next ∷ more) rest → AreLines n (line ∷ next ∷ more) (l ∷ rest)
   line_more n line next more l rest few is after =
       let taken = line_takes version line l is in
@@ -102,7 +108,8 @@ module _ (version : Version) where
       }
 
   whole : (n : ℕ) (line next : List ℕ) (more : List (List ℕ)) (r : Read) (ls : List SpelledLine) → n ≤ 4096
-      → ((rest : List SpelledLine) → r ≡ Ok rest → AreLines (n + 1) (next ∷ more) rest) → whole_line version n line (next ∷ more) r ≡ Ok ls → AreLines n (line ∷ next ∷ more) ls
+      → ((rest : List SpelledLine) → r ≡ Ok rest → AreLines (n + 1) (next ∷ more) rest)
+          → whole_line version n line (next ∷ more) r ≡ Ok ls → AreLines n (line ∷ next ∷ more) ls
   whole n line next more r ls few after h =
       elim (cases_Bool (bytes_eq line end_line)) [
         | inl pass ↦ ended n line next more ls few ((bytes_eq-Decides line end_line).0 pass) (rw pass at h)
@@ -111,7 +118,8 @@ module _ (version : Version) where
             subst (AreLines n (line ∷ next ∷ more)) same (line_more n line next more l rest few is (after rest read))
       ]
 
-  lines_found : (n : ℕ) (lines : List (List ℕ)) (ls : List SpelledLine) → read_from version n lines ≡ Ok ls → AreLines n lines ls
+  lines_found : (n : ℕ) (lines : List (List ℕ)) (ls : List SpelledLine) → read_from version n lines ≡ Ok ls
+      → AreLines n lines ls
   lines_found n [] ls h = cc h
   lines_found n (line ∷ []) ls h = absurd (unfinished_none n line ls h)
   lines_found n (line ∷ next ∷ more) ls h =
@@ -128,7 +136,8 @@ module _ (version : Version) where
       ]
 
   -- the lines after the first one, as they are read of a text
-  pub body_found : (text : List ℕ) (ls : List SpelledLine) → read_from version 2 (lines_in text) ≡ Ok ls → (text ≡ body_text ls) × Each (IsSpelledLine version) ls × (2 + length ls ≤ 4096)
+  pub body_found : (text : List ℕ) (ls : List SpelledLine) → read_from version 2 (lines_in text) ≡ Ok ls
+      → (text ≡ body_text ls) × Each (IsSpelledLine version) ls × (2 + length ls ≤ 4096)
   body_found text ls h =
       let are = lines_found 2 (lines_in text) ls h in
       (sym (join_with_byte-slice_split 10 text) ∙ are.spelled, are.fit, are.few)
@@ -141,19 +150,26 @@ not_feed (b ∷ bytes) h =
     let parts = and_parts (not (is_feed b)) (has_no_feed bytes) h in
     All-cons (λ x. is_feed x ≡ false) b bytes (grind (arith, nat_tests)) (not_feed bytes parts.1)
 
-cut_line : (line rest : List ℕ) → has_no_feed line ≡ true → lines_in ((line ++ line_feed) ++ rest) ≡ line ∷ lines_in rest
-cut_line line rest plain = ap lines_in (append_assoc line line_feed rest) ∙ slice_split_at is_feed line 10 rest (not_feed line plain) refl
+cut_line : (line rest : List ℕ) → has_no_feed line ≡ true → lines_in ((line ++ line_feed) ++ rest) ≡ line ∷ lines_in
+    rest
+cut_line line rest plain = ap lines_in (append_assoc line line_feed rest) ∙ slice_split_at is_feed line 10 rest
+    (not_feed line plain) refl
 
 module _ (version : Version) where
-  lines_again : (ls : List SpelledLine) (n : ℕ) → Each (IsSpelledLine version) ls → n + length ls ≤ 4096 → read_from version n (lines_in (body_text ls)) ≡ Ok ls
+  lines_again : (ls : List SpelledLine) (n : ℕ) → Each (IsSpelledLine version) ls → n + length ls ≤ 4096
+      → read_from version n (lines_in (body_text ls)) ≡ Ok ls
   lines_again [] n fit few = rw (le-ltb 4096 n (omega arith)) refl
   lines_again (l ∷ ls) n fit few =
       let line = line_of (line_words l) in
       let (next, more, is) = some_line (body_text ls) in
       let cut : lines_in (body_text (l ∷ ls)) ≡ line ∷ next ∷ more =
-      ap lines_in (append_assoc (spelled_line l) (flat_map spelled_line ls) (end_line ++ line_feed)) ∙ cut_line line (body_text ls) (line_no_feed version l fit.0) ∙ ap (λ lines. line ∷ lines) is in
-      let after : read_from version (n + 1) (next ∷ more) ≡ Ok ls = ap (read_from version (n + 1)) (sym is) ∙ lines_again ls (n + 1) fit.1 (omega arith) in
-      ap (read_from version n) cut ∙ rw (le-ltb 4096 n (omega arith), le-ltb 1200 (length line) (line_short version l fit.0), line_not_end l, line_again version l fit.0, after) refl
+      ap lines_in (append_assoc (spelled_line l) (flat_map spelled_line ls) (end_line ++ line_feed)) ∙ cut_line line
+          (body_text ls) (line_no_feed version l fit.0) ∙ ap (λ lines. line ∷ lines) is in
+      let after : read_from version (n + 1) (next ∷ more) ≡ Ok ls =
+          ap (read_from version (n + 1)) (sym is) ∙ lines_again ls (n + 1) fit.1 (omega arith) in
+      ap (read_from version n) cut ∙ rw (le-ltb 4096 n (omega arith),
+          le-ltb 1200 (length line) (line_short version l fit.0), line_not_end l, line_again version l fit.0, after)
+          refl
 
 -- ---- the whole text
 
@@ -166,21 +182,28 @@ first_again : (version : Version) → version_in (first_line version) ≡ Some v
 first_again One = refl
 first_again Two = refl
 
-pub read_scenario : (version : Version) (ls : List SpelledLine) → Each (IsSpelledLine version) ls → length ls + 2 ≤ 4096 → read_text (scenario_text version ls) ≡ Ok ls
+pub read_scenario : (version : Version) (ls : List SpelledLine) → Each (IsSpelledLine version) ls → length ls + 2 ≤ 4096
+    → read_text (scenario_text version ls) ≡ Ok ls
 read_scenario version ls fit few =
     let (next, more, is) = some_line (body_text ls) in
-    let cut : lines_in (scenario_text version ls) ≡ first_line version ∷ next ∷ more = cut_line (first_line version) (body_text ls) (plain_first version) ∙ ap (λ lines. first_line version ∷ lines) is in
-    ap read_lines cut ∙ ap (λ v. read_after v (next ∷ more)) (first_again version) ∙ ap (read_from version 2) (sym is) ∙ lines_again version ls 2 fit (omega arith)
+    let cut : lines_in (scenario_text version ls) ≡ first_line version ∷ next ∷ more =
+        cut_line (first_line version) (body_text ls) (plain_first version) ∙ ap
+        (λ lines. first_line version ∷ lines) is in
+    ap read_lines cut ∙ ap (λ v. read_after v (next ∷ more)) (first_again version) ∙ ap (read_from version 2) (sym is)
+        ∙ lines_again version ls 2 fit (omega arith)
 
 pub scenario_again : (text : List ℕ) (s : Contents) → IsScenarioText text s → scenario_in text ≡ Ok s
 scenario_again text s is =
-    ap scenario_in is.spelled ∙ ap with_contents (read_scenario is.version is.lines is.fit is.few) ∙ ap Ok (sym is.contents_are)
+    ap scenario_in is.spelled ∙ ap with_contents (read_scenario is.version is.lines is.fit is.few) ∙ ap Ok
+        (sym is.contents_are)
 
 -- a text that begins with a first line says what stands after that
-pub after_first : (version : Version) (rest : List ℕ) → read_text ((first_line version ++ line_feed) ++ rest) ≡ read_from version 2 (lines_in rest)
+pub after_first : (version : Version) (rest : List ℕ) → read_text ((first_line version ++ line_feed) ++ rest) ≡
+    read_from version 2 (lines_in rest)
 after_first version rest =
     let (next, more, is) = some_line rest in
-    ap read_lines (cut_line (first_line version) rest (plain_first version) ∙ ap (λ lines. first_line version ∷ lines) is)
+    ap read_lines (cut_line (first_line version) rest (plain_first version) ∙ ap
+        (λ lines. first_line version ∷ lines) is)
     ∙ ap (λ v. read_after v (next ∷ more)) (first_again version) ∙ ap (read_from version 2) (sym is)
 
 -- a text that is read, as its version and its lines
@@ -191,7 +214,8 @@ record IsTextOf (text : List ℕ) (ls : List SpelledLine) : Type 0 where
   few : length ls + 2 ≤ 4096
 
 -- the first line is that of the version that it names
-named : (first : List ℕ) → (version_in first ≡ None) ⊎ ((version : Version) × (version_in first ≡ Some version) × (first ≡ first_line version))
+named : (first : List ℕ) → (version_in first ≡ None) ⊎ ((version : Version) × (version_in first ≡ Some version) ×
+    (first ≡ first_line version))
 named first =
     elim (cases_Bool (bytes_eq first (first_line One))) [
       | inl one ↦ inr (One, rw one refl, (bytes_eq-Decides first (first_line One)).0 one)
@@ -202,7 +226,8 @@ named first =
           ]
     ]
 
-version_found : (version : Version) (first next : List ℕ) (rest : List (List ℕ)) (ls : List SpelledLine) → first ≡ first_line version → read_from version 2 (next ∷ rest) ≡ Ok ls
+version_found : (version : Version) (first next : List ℕ) (rest : List (List ℕ)) (ls : List SpelledLine)
+    → first ≡ first_line version → read_from version 2 (next ∷ rest) ≡ Ok ls
     → IsTextOf (join_with_byte 10 (first ∷ next ∷ rest)) ls
 version_found version first next rest ls is h =
     let are = lines_found version 2 (next ∷ rest) ls h in
@@ -216,19 +241,23 @@ version_found version first next rest ls is h =
       few = omega arith;
     }
 
-whole_found : (lines : List (List ℕ)) (ls : List SpelledLine) → read_lines lines ≡ Ok ls → IsTextOf (join_with_byte 10 lines) ls
+whole_found : (lines : List (List ℕ)) (ls : List SpelledLine) → read_lines lines ≡ Ok ls
+    → IsTextOf (join_with_byte 10 lines) ls
 whole_found [] ls h = cc h
 whole_found (first ∷ []) ls h = cc h
 whole_found (first ∷ next ∷ rest) ls h =
     elim (named first) [
       | inl none ↦ let bad : Err BadMagic ≡ Ok ls = ap (λ v. read_after v (next ∷ rest)) (sym none) ∙ h in cc bad
-      | inr (version, some, is) ↦ version_found version first next rest ls is (ap (λ v. read_after v (next ∷ rest)) (sym some) ∙ h)
+      | inr (version, some, is) ↦ version_found version first next rest ls is
+          (ap (λ v. read_after v (next ∷ rest)) (sym some) ∙ h)
     ]
 
 text_found : (text : List ℕ) (ls : List SpelledLine) → read_text text ≡ Ok ls → IsTextOf text ls
-text_found text ls h = subst (λ t. IsTextOf t ls) (join_with_byte-slice_split 10 text) (whole_found (lines_in text) ls h)
+text_found text ls h = subst (λ t. IsTextOf t ls) (join_with_byte-slice_split 10 text)
+    (whole_found (lines_in text) ls h)
 
-contents_found : (text : List ℕ) (s : Contents) (r : Read) → read_text text ≡ r → with_contents r ≡ Ok s → IsScenarioText text s
+contents_found : (text : List ℕ) (s : Contents) (r : Read) → read_text text ≡ r → with_contents r ≡ Ok s
+    → IsScenarioText text s
 contents_found text s (Err e) is h = cc h
 contents_found text s (Ok ls) is h =
     let of = text_found text ls is in
@@ -239,7 +268,8 @@ scenario_found text s h = contents_found text s (read_text text) refl h
 
 -- ---- another first line
 
-has_first : (lines : List (List ℕ)) → (read_lines lines ≡ Err BadMagic) ⊎ ((version : Version) × (next : List ℕ) × (rest : List (List ℕ)) × (lines ≡ first_line version ∷ next ∷ rest))
+has_first : (lines : List (List ℕ)) → (read_lines lines ≡ Err BadMagic) ⊎
+    ((version : Version) × (next : List ℕ) × (rest : List (List ℕ)) × (lines ≡ first_line version ∷ next ∷ rest))
 has_first [] = inl refl
 has_first (first ∷ []) = inl refl
 has_first (first ∷ next ∷ rest) =
@@ -248,16 +278,20 @@ has_first (first ∷ next ∷ rest) =
       | inr (version, some, is) ↦ inr (version, next, rest, ap (λ line. line ∷ next ∷ rest) is)
     ]
 
-begins : (version : Version) (text next : List ℕ) (rest : List (List ℕ)) → lines_in text ≡ first_line version ∷ next ∷ rest
+begins : (version : Version) (text next : List ℕ) (rest : List (List ℕ))
+    → lines_in text ≡ first_line version ∷ next ∷ rest
     → bytes_eq (take 13 text) (first_line version ++ line_feed) ≡ true
 begins One text next rest is =
-    let whole : text ≡ first_line One ++ 10 ∷ join_with_byte 10 (next ∷ rest) = sym (join_with_byte-slice_split 10 text) ∙ ap (join_with_byte 10) is in
+    let whole : text ≡ first_line One ++ 10 ∷ join_with_byte 10 (next ∷ rest) =
+        sym (join_with_byte-slice_split 10 text) ∙ ap (join_with_byte 10) is in
     ap (λ t. bytes_eq (take 13 t) (first_line One ++ line_feed)) whole
 begins Two text next rest is =
-    let whole : text ≡ first_line Two ++ 10 ∷ join_with_byte 10 (next ∷ rest) = sym (join_with_byte-slice_split 10 text) ∙ ap (join_with_byte 10) is in
+    let whole : text ≡ first_line Two ++ 10 ∷ join_with_byte 10 (next ∷ rest) =
+        sym (join_with_byte-slice_split 10 text) ∙ ap (join_with_byte 10) is in
     ap (λ t. bytes_eq (take 13 t) (first_line Two ++ line_feed)) whole
 
-pub not_first : (text : List ℕ) → bytes_eq (take 13 text) (first_line One ++ line_feed) ≡ false → bytes_eq (take 13 text) (first_line Two ++ line_feed) ≡ false
+pub not_first : (text : List ℕ) → bytes_eq (take 13 text) (first_line One ++ line_feed) ≡ false
+    → bytes_eq (take 13 text) (first_line Two ++ line_feed) ≡ false
     → read_text text ≡ Err BadMagic
 not_first text one two =
     elim (has_first (lines_in text)) [
@@ -270,10 +304,12 @@ not_first text one two =
     neither Two same = cc (sym two ∙ same)
 
 -- a prefix that isn't there
-pub not_there : (text prefix first : List ℕ) → prefix ≡ first → bytes_eq (take (length prefix) text) prefix ≡ false → bytes_eq (take (length first) text) first ≡ false
+pub not_there : (text prefix first : List ℕ) → prefix ≡ first → bytes_eq (take (length prefix) text) prefix ≡ false
+    → bytes_eq (take (length first) text) first ≡ false
 not_there text prefix first is other = ap (λ p. bytes_eq (take (length p) text) p) (sym is) ∙ other
 
-pub begun_first : (version : Version) (text bytes rest : List ℕ) → bytes ≡ text → bytes ≡ (first_line version ++ line_feed) ++ rest → text ≡ (first_line version ++ line_feed) ++ rest
+pub begun_first : (version : Version) (text bytes rest : List ℕ) → bytes ≡ text
+    → bytes ≡ (first_line version ++ line_feed) ++ rest → text ≡ (first_line version ++ line_feed) ++ rest
 begun_first version text bytes rest is first = sym is ∙ first
 
 pub no_first : (text bytes : List ℕ) → bytes ≡ text → read_text bytes ≡ Err BadMagic → Err BadMagic ≡ scenario_in text
@@ -281,7 +317,8 @@ no_first text bytes is bad = sym (ap with_contents (ap read_text (sym is) ∙ ba
 
 -- ---- what is kept of a text
 
-kept_ok : (n : ℕ) (g k : Kept) (r : Read) → kept_from n g r ≡ Ok k → (ls : List SpelledLine) × (r ≡ Ok ls) × (with_lines n g ls ≡ k)
+kept_ok : (n : ℕ) (g k : Kept) (r : Read) → kept_from n g r ≡ Ok k
+    → (ls : List SpelledLine) × (r ≡ Ok ls) × (with_lines n g ls ≡ k)
 kept_ok n g k (Err e) h = cc h
 kept_ok n g k (Ok ls) h = (ls, refl, cc h)
 
@@ -289,19 +326,26 @@ pub kept_refused : (n : ℕ) (g : Kept) (r : Read) (e : ScenarioError) → kept_
 kept_refused n g (Ok ls) e h = cc h
 kept_refused n g (Err f) e h = cc h
 
-pub made : (version : Version) (text rest : List ℕ) (k : Kept) (scripts : List Scripted) (faults : List FaultLine) (numbers : List ℕ)
-    → text ≡ (first_line version ++ line_feed) ++ rest → kept_from 2 none_yet (read_from version 2 (lines_in rest)) ≡ Ok k → scripts ≡ scripts_from 0 k.tasks
-    → faults ≡ k.faults → numbers ≡ k.numbers → Ok (record { scripts = scripts; faults = faults; numbers = numbers }) ≡ scenario_in text
+pub made : (version : Version) (text rest : List ℕ) (k : Kept) (scripts : List Scripted) (faults : List FaultLine)
+    (numbers : List ℕ)
+    → text ≡ (first_line version ++ line_feed) ++ rest → kept_from 2 none_yet (read_from version 2 (lines_in rest)) ≡ Ok
+        k → scripts ≡ scripts_from 0 k.tasks
+    → faults ≡ k.faults → numbers ≡ k.numbers → Ok (record { scripts = scripts; faults = faults; numbers = numbers }) ≡
+        scenario_in text
 made version text rest k scripts faults numbers is kept ss fs ns =
     let (ls, read, same) = kept_ok 2 none_yet k (read_from version 2 (lines_in rest)) kept in
     let are = lines_found version 2 (lines_in rest) ls read in
-    let scripts_are : scripts ≡ scripts_of ls = ss ∙ ap (λ (g : Kept). scripts_from 0 g.tasks) (sym same) ∙ scripts_kept version ls are.fit in
+    let scripts_are : scripts ≡ scripts_of ls = ss ∙ ap (λ (g : Kept). scripts_from 0 g.tasks) (sym same) ∙ scripts_kept
+        version ls are.fit in
     let faults_are : faults ≡ fault_lines ls = fs ∙ ap (λ (g : Kept). g.faults) (sym same) ∙ faults_kept ls in
     let numbers_are : numbers ≡ fault_numbers 2 ls = ns ∙ ap (λ (g : Kept). g.numbers) (sym same) ∙ numbers_kept ls in
-    let value : contents_of ls ≡ record { scripts = scripts; faults = faults; numbers = numbers } = rw (scripts_are, faults_are, numbers_are) refl in
+    let value : contents_of ls ≡ record { scripts = scripts; faults = faults; numbers = numbers } =
+        rw (scripts_are, faults_are, numbers_are) refl in
     sym (ap scenario_in is ∙ ap with_contents (after_first version rest ∙ read) ∙ ap Ok value)
 
-pub refused : (version : Version) (text rest : List ℕ) (e : ScenarioError) → text ≡ (first_line version ++ line_feed) ++ rest → read_from version 2 (lines_in rest) ≡ Err e → Err e ≡ scenario_in text
+pub refused : (version : Version) (text rest : List ℕ) (e : ScenarioError)
+    → text ≡ (first_line version ++ line_feed) ++ rest → read_from version 2 (lines_in rest) ≡ Err e
+    → Err e ≡ scenario_in text
 refused version text rest e is read = sym (ap scenario_in is ∙ ap with_contents (after_first version rest ∙ read))
 
 -- ---- no line has an answer
@@ -310,7 +354,8 @@ Each-append : {X : Type 0} (P : X → Type 0) (xs ys : List X) → Each P xs →
 Each-append P [] ys hx hy = hy
 Each-append P (x ∷ xs) ys hx hy = (hx.0, Each-append P xs ys hx.1 hy)
 
-lines_unanswered : (version : Version) (n t : ℕ) (ls : List SpelledLine) → Each (IsSpelledLine version) ls → Each IsUnanswered (task_lines n t ls)
+lines_unanswered : (version : Version) (n t : ℕ) (ls : List SpelledLine) → Each (IsSpelledLine version) ls
+    → Each IsUnanswered (task_lines n t ls)
 lines_unanswered version n t [] fit = tt
 lines_unanswered version n t (Host node task line ∷ ls) fit =
     let rest = lines_unanswered version n t ls fit.1 in
@@ -328,15 +373,19 @@ scripts_unanswered : (version : Version) (ls : List SpelledLine) (places : List 
     → AreUnanswered (flat_map (λ k. script_of (node_at k) (task_at k) (task_lines (node_at k) (task_at k) ls)) places)
 scripts_unanswered version ls [] fit = tt
 scripts_unanswered version ls (k ∷ places) fit =
-    Each-append (λ script. Each IsUnanswered script.lines) (script_of (node_at k) (task_at k) (task_lines (node_at k) (task_at k) ls)) _
-    (script_unanswered (node_at k) (task_at k) _ (lines_unanswered version (node_at k) (task_at k) ls fit)) (scripts_unanswered version ls places fit)
+    Each-append (λ script. Each IsUnanswered script.lines) (script_of (node_at k) (task_at k)
+        (task_lines (node_at k) (task_at k) ls)) _
+    (script_unanswered (node_at k) (task_at k) _ (lines_unanswered version (node_at k) (task_at k) ls fit))
+        (scripts_unanswered version ls places fit)
 
-pub made_unanswered : (version : Version) (rest : List ℕ) (k : Kept) (scripts : List Scripted) → kept_from 2 none_yet (read_from version 2 (lines_in rest)) ≡ Ok k
+pub made_unanswered : (version : Version) (rest : List ℕ) (k : Kept) (scripts : List Scripted)
+    → kept_from 2 none_yet (read_from version 2 (lines_in rest)) ≡ Ok k
     → scripts ≡ scripts_from 0 k.tasks → AreUnanswered scripts
 made_unanswered version rest k scripts kept ss =
     let (ls, read, same) = kept_ok 2 none_yet k (read_from version 2 (lines_in rest)) kept in
     let are = lines_found version 2 (lines_in rest) ls read in
-    let scripts_are : scripts ≡ scripts_of ls = ss ∙ ap (λ (g : Kept). scripts_from 0 g.tasks) (sym same) ∙ scripts_kept version ls are.fit in
+    let scripts_are : scripts ≡ scripts_of ls = ss ∙ ap (λ (g : Kept). scripts_from 0 g.tasks) (sym same) ∙ scripts_kept
+        version ls are.fit in
     subst AreUnanswered (sym scripts_are) (scripts_unanswered version ls (range_with_len 0 128) are.fit)
 
 -- ---- what an answer tells
@@ -348,11 +397,13 @@ memory_or_not TooManyLines = inr (λ h. cc h)
 memory_or_not Truncated = inr (λ h. cc h)
 memory_or_not Memory = inl refl
 
-pub told_found : (text : List ℕ) (r : Result Contents ScenarioError) → ((r ≡ Err Memory → ⊥) → r ≡ scenario_in text) → IfOk r (IsScenarioText text)
+pub told_found : (text : List ℕ) (r : Result Contents ScenarioError) → ((r ≡ Err Memory → ⊥) → r ≡ scenario_in text)
+    → IfOk r (IsScenarioText text)
 told_found text (Err e) told = tt
 told_found text (Ok s) told = scenario_found text s (sym (told (λ e. cc e)))
 
-pub told_only : (text : List ℕ) (r : Result Contents ScenarioError) (s : Contents) → ((r ≡ Err Memory → ⊥) → r ≡ scenario_in text) → IsScenarioText text s
+pub told_only : (text : List ℕ) (r : Result Contents ScenarioError) (s : Contents)
+    → ((r ≡ Err Memory → ⊥) → r ≡ scenario_in text) → IsScenarioText text s
     → (r ≡ Ok s) ⊎ (r ≡ Err Memory)
 told_only text (Ok found) s told is = inl (told (λ e. cc e) ∙ scenario_again text s is)
 told_only text (Err e) s told is =
@@ -361,11 +412,13 @@ told_only text (Err e) s told is =
       | inr other ↦ inl (told (λ same. other (cc same)) ∙ scenario_again text s is)
     ]
 
-first_of_fault : (text : List ℕ) (e : ScenarioError) (r : Read) → read_text text ≡ r → with_contents r ≡ Err e → first_fault text ≡ Some e
+first_of_fault : (text : List ℕ) (e : ScenarioError) (r : Read) → read_text text ≡ r → with_contents r ≡ Err e
+    → first_fault text ≡ Some e
 first_of_fault text e (Ok ls) is h = cc h
 first_of_fault text e (Err f) is h = let same : f ≡ e = cc h in ap result_err is ∙ ap Some same
 
-pub told_refused : (text : List ℕ) (r : Result Contents ScenarioError) → ((r ≡ Err Memory → ⊥) → r ≡ scenario_in text) → IfErr r (λ e. (e ≡ Memory) ⊎ (first_fault text ≡ Some e))
+pub told_refused : (text : List ℕ) (r : Result Contents ScenarioError) → ((r ≡ Err Memory → ⊥) → r ≡ scenario_in text)
+    → IfErr r (λ e. (e ≡ Memory) ⊎ (first_fault text ≡ Some e))
 told_refused text (Ok s) told = tt
 told_refused text (Err e) told =
     elim (memory_or_not e) [

@@ -13,12 +13,14 @@ use Rattle.toml.specs.declared.value.Value.{Value}
 abbrev pub buffers_left : Parameters → ℕ → Plan → ℕ → List Buffer → List Value → Result Plan ConfigError
 buffers_left p node plan n so_far values = with_rest (buffer_read p node) (with_buffers plan) n so_far (map view values)
 
-pub left_refused : (p : Parameters) (node : ℕ) (plan : Plan) (n : ℕ) (so_far : List Buffer) (value : Value) (values : List Value) (e : ConfigError)
+pub left_refused : (p : Parameters) (node : ℕ) (plan : Plan) (n : ℕ) (so_far : List Buffer) (value : Value)
+    (values : List Value) (e : ConfigError)
     → buffer_read p node n (view value) ≡ Err e → buffers_left p node plan n so_far (value ∷ values) ≡ Err e
 left_refused p node plan n so_far value values e is =
     rest_refused (buffer_read p node) (with_buffers plan) n so_far (view value) (map view values) e is
 
-pub left_taken : (p : Parameters) (node : ℕ) (plan : Plan) (n : ℕ) (so_far : List Buffer) (value : Value) (values : List Value) (b : Buffer)
+pub left_taken : (p : Parameters) (node : ℕ) (plan : Plan) (n : ℕ) (so_far : List Buffer) (value : Value)
+    (values : List Value) (b : Buffer)
     → buffer_read p node n (view value) ≡ Ok b
     → buffers_left p node plan n so_far (value ∷ values) ≡ buffers_left p node plan (n + 1) (so_far ++ b ∷ []) values
 left_taken p node plan n so_far value values b is =
@@ -34,5 +36,6 @@ unfolding with_buffers_of
 left_start p node plan none values is = rw is refl
 
 -- one buffer more
-pub kept_more : (plan new : Plan) (b : Buffer) → new ≡ with_buffers plan new.buffers → with_buffer new b ≡ with_buffers plan (new.buffers ++ b ∷ [])
+pub kept_more : (plan new : Plan) (b : Buffer) → new ≡ with_buffers plan new.buffers
+    → with_buffer new b ≡ with_buffers plan (new.buffers ++ b ∷ [])
 kept_more plan new b kept = ap (λ (q : Plan). with_buffers q (new.buffers ++ b ∷ [])) kept

@@ -62,7 +62,8 @@ module _ {X A : Type 0} (f g : X → Option A) (so : (x : X) → f x ≡ None �
       let (here, later) = or_none (f x) (first_of f xs) none in
       ap (λ o. option_or o (first_of g xs)) (so x here) ∙ none_so xs later
 
-none_if : {A : Type 0} (b c : Bool) (x : A) → (c ≡ true → b ≡ true) → (if b then Some x else None) ≡ None → (if c then Some x else None) ≡ None
+none_if : {A : Type 0} (b c : Bool) (x : A) → (c ≡ true → b ≡ true) → (if b then Some x else None) ≡ None
+    → (if c then Some x else None) ≡ None
 none_if b false x so none = refl
 none_if true true x so none = none
 none_if false true x so none = cc (so refl)
@@ -75,7 +76,8 @@ either_so a b c d left right any =
     ]
 
 overlap_so : (xs ys : List Own) (bs cs : List Buffer) → ((t : Own → Bool) → two_pass t ys ≡ true → two_pass t xs ≡ true)
-    → ((t : Buffer → Bool) → two_pass t cs ≡ true → two_pass t bs ≡ true) → plan.first_overlap xs bs ≡ None → plan.first_overlap ys cs ≡ None
+    → ((t : Buffer → Bool) → two_pass t cs ≡ true → two_pass t bs ≡ true) → plan.first_overlap xs bs ≡ None
+        → plan.first_overlap ys cs ≡ None
 overlap_so xs ys bs cs owns sends =
     none_so (plan.overlap_in xs bs) (plan.overlap_in ys cs)
     (λ slot.
@@ -83,7 +85,8 @@ overlap_so xs ys bs cs owns sends =
     (λ channel.
     none_so (plan.overlap_at xs bs slot channel) (plan.overlap_at ys cs slot channel)
     (λ cycle.
-    none_if (is_overlap xs bs slot channel cycle) (is_overlap ys cs slot channel cycle) (fault.Overlap slot channel cycle)
+    none_if (is_overlap xs bs slot channel cycle) (is_overlap ys cs slot channel cycle)
+        (fault.Overlap slot channel cycle)
     (either_so (two_pass (claims slot channel cycle) xs) (two_pass (sends_at slot channel cycle) bs)
     (two_pass (claims slot channel cycle) ys) (two_pass (sends_at slot channel cycle) cs)
     (owns (claims slot channel cycle)) (sends (sends_at slot channel cycle))))
@@ -113,7 +116,8 @@ none_in_nodes : (made : ℕ → ℕ → ConfigError) (test : Plan → Buffer →
 unfolding first_in_nodes
 none_in_nodes made test n [] none = tt
 none_in_nodes made test n (q ∷ plans) none =
-    let (here, later) = or_none (buffer_fault made test n q) (first_in_nodes (buffer_fault made test) (n + 1) plans) none in
+    let (here, later) = or_none (buffer_fault made test n q)
+        (first_in_nodes (buffer_fault made test) (n + 1) plans) none in
     (map_none (made n) (position (test q) q.buffers) here, none_in_nodes made test (n + 1) plans later)
 
 -- ---- a node without fault
@@ -138,7 +142,8 @@ no_fault p q is_for free =
     or_of_none (ownership_fault p q) (sending_fault p q)
     (or_of_none (out_of_params p q) _ (cond-false (is_out_of_params p q) (Some fault.OutOfParams) None is_for)
     (ap (option_map fault.NotOwned) free.owned))
-    (or_of_none (plan.first_buffer fault.DynamicBoth (dynamic_both p) q.buffers) _ (ap (option_map fault.DynamicBoth) free.one_channel)
+    (or_of_none (plan.first_buffer fault.DynamicBoth (dynamic_both p) q.buffers) _
+        (ap (option_map fault.DynamicBoth) free.one_channel)
     (or_of_none (plan.first_overlap q.owned q.buffers) _ free.apart (ap (option_map fault.TooLong) free.in_time)))
 
 -- the four parts of a file without fault
@@ -152,7 +157,8 @@ parts : (p : Parameters) (plans : List Plan) → file_fault p plans ≡ None →
 unfolding file_fault
 parts p plans none =
     let last = option_or (first_overlap plans) (first_by (too_long_in p) plans) in
-    let (owned, after) = or_none (first_by (not_owned_in p) plans) (option_or (first_by (dynamic_both_in p) plans) last) none in
+    let (owned, after) = or_none (first_by (not_owned_in p) plans)
+        (option_or (first_by (dynamic_both_in p) plans) last) none in
     let (one_channel, later) = or_none (first_by (dynamic_both_in p) plans) last after in
     let (apart, in_time) = or_none (first_overlap plans) (first_by (too_long_in p) plans) later in
     record { owned = owned; one_channel = one_channel; apart = apart; in_time = in_time }
@@ -165,7 +171,8 @@ each_free p plans none =
     (each_both _ _ plans (none_overlap plans (no_overlap_plans plans none.apart))
     (none_in_nodes error.TooLong (too_long p) 0 plans none.in_time))))
 
-nodes_are : (p : Parameters) (plans : List Plan) → Each IsPlan plans → Each (IsFor p) plans → HasNoFault p plans → Each (IsNode p) plans
+nodes_are : (p : Parameters) (plans : List Plan) → Each IsPlan plans → Each (IsFor p) plans → HasNoFault p plans
+    → Each (IsNode p) plans
 nodes_are p plans lawful fit none =
     each_so _ (IsNode p) (λ q h. (h.0, no_fault p q h.1.0 h.1.1)) plans
     (each_both IsPlan _ plans lawful (each_both (IsFor p) (IsFree p) plans fit (each_free p plans none)))
@@ -178,7 +185,8 @@ claimed_slot [] slot channel cycle each any = cc any
 claimed_slot (own ∷ owned) slot channel cycle each any =
     elim (or_cases (claims slot channel cycle own) (is_owned owned slot channel cycle) any) [
       | inl here ↦
-          (let (front, in_cycle) = and_parts (own.slot == slot && includes own.channels channel) (cycle_admitted own.cycles cycle) here in
+          (let (front, in_cycle) = and_parts (own.slot == slot && includes own.channels channel)
+              (cycle_admitted own.cycles cycle) here in
           let (same, includes_it) = and_parts (own.slot == slot) (includes own.channels channel) front in
           subst IsSlot (eqb-true own.slot slot same) each.0.slot_is)
       | inr later ↦ claimed_slot owned slot channel cycle each.1 later
@@ -191,32 +199,39 @@ sent_slot (b ∷ buffers) slot channel cycle each any =
     elim (or_cases (sends_at slot channel cycle b) (list_any (sends_at slot channel cycle) buffers) any) [
       | inl here ↦
           (let (sends, admits) = and_parts (transmits b) (filter_admits b.filter cycle slot channel) here in
-          let (front, in_cycle) = and_parts (b.filter.slot == slot && includes b.filter.channels channel) (cycle_admitted b.filter.cycles cycle) admits in
+          let (front, in_cycle) = and_parts (b.filter.slot == slot && includes b.filter.channels channel)
+              (cycle_admitted b.filter.cycles cycle) admits in
           let (same, includes_it) = and_parts (b.filter.slot == slot) (includes b.filter.channels channel) front in
           subst IsSlot (eqb-true b.filter.slot slot same) each.0.slot_is)
       | inr later ↦ sent_slot buffers slot channel cycle each.1 later
     ]
 
-no_two : (plans : List Plan) (slot : ℕ) (channel : Channel) (cycle : ℕ) → IsSlot slot → cycle < 64 → first_overlap plans ≡ None
+no_two : (plans : List Plan) (slot : ℕ) (channel : Channel) (cycle : ℕ) → IsSlot slot → cycle < 64
+    → first_overlap plans ≡ None
     → is_overlap (all_owned plans) (all_buffers plans) slot channel cycle ≡ false
 no_two plans slot channel cycle is few none =
     let owned = all_owned plans in
     let buffers = all_buffers plans in
     cond_none (is_overlap owned buffers slot channel cycle) (fault.Overlap slot channel cycle)
     (first-none (plan.overlap_at owned buffers slot channel) 0 64
-    (on_channels (plan.overlap_on owned buffers slot) channel (in_slots (plan.overlap_in owned buffers) slot is (no_overlap_plans plans none))) cycle
+    (on_channels (plan.overlap_on owned buffers slot) channel
+        (in_slots (plan.overlap_in owned buffers) slot is (no_overlap_plans plans none))) cycle
     (omega arith) (omega (arith, few)))
 
-two_owners : (plans : List Plan) (slot : ℕ) (channel : Channel) (cycle : ℕ) → IsSlot slot → cycle < 64 → first_overlap plans ≡ None
+two_owners : (plans : List Plan) (slot : ℕ) (channel : Channel) (cycle : ℕ) → IsSlot slot → cycle < 64
+    → first_overlap plans ≡ None
     → two_pass (claims slot channel cycle) (all_owned plans) ≡ false
 two_owners plans slot channel cycle is few none =
-    (or_parts (two_pass (claims slot channel cycle) (all_owned plans)) (two_pass (sends_at slot channel cycle) (all_buffers plans))
+    (or_parts (two_pass (claims slot channel cycle) (all_owned plans))
+        (two_pass (sends_at slot channel cycle) (all_buffers plans))
     (no_two plans slot channel cycle is few none)).0
 
-two_senders : (plans : List Plan) (slot : ℕ) (channel : Channel) (cycle : ℕ) → IsSlot slot → cycle < 64 → first_overlap plans ≡ None
+two_senders : (plans : List Plan) (slot : ℕ) (channel : Channel) (cycle : ℕ) → IsSlot slot → cycle < 64
+    → first_overlap plans ≡ None
     → two_pass (sends_at slot channel cycle) (all_buffers plans) ≡ false
 two_senders plans slot channel cycle is few none =
-    (or_parts (two_pass (claims slot channel cycle) (all_owned plans)) (two_pass (sends_at slot channel cycle) (all_buffers plans))
+    (or_parts (two_pass (claims slot channel cycle) (all_owned plans))
+        (two_pass (sends_at slot channel cycle) (all_buffers plans))
     (no_two plans slot channel cycle is few none)).1
 
 one_sender : (d : Description) → Each IsPlan d.plans → HasNoFault d.params d.plans → HasOneSender d
@@ -226,25 +241,36 @@ one_sender d lawful none cycle slot channel m n few at_m at_n =
       | inr differ ↦
           elim (cases_Bool (is_static_slot d.params slot)) [
             | inl static ↦
-                (let by_line : (q : Plan) → may_send d.params cycle slot channel q ≡ true → is_owned q.owned slot channel cycle ≡ true =
-                λ q sends. sym (cond-true (is_static_slot d.params slot) (is_owned q.owned slot channel cycle) (list_any (sends_at slot channel cycle) q.buffers) static) ∙ sends in
+                (let by_line : (q : Plan) → may_send d.params cycle slot channel q ≡ true
+                    → is_owned q.owned slot channel cycle ≡ true =
+                λ q sends. sym (cond-true (is_static_slot d.params slot) (is_owned q.owned slot channel cycle)
+                    (list_any (sends_at slot channel cycle) q.buffers) static) ∙ sends in
                 let owner = by_line at_m.plan at_m.sends in
-                let is = claimed_slot at_m.plan.owned slot channel cycle (each_at IsPlan d.plans m at_m.plan lawful at_m.at).owned_are owner in
-                absurd (both_ways (two_pass (claims slot channel cycle) (all_owned d.plans)) (two_owners d.plans slot channel cycle is few none.apart)
-                (two_at (claims slot channel cycle) (λ q. q.owned) d.plans m n at_m.plan at_n.plan differ at_m.at at_n.at owner (by_line at_n.plan at_n.sends))))
+                let is = claimed_slot at_m.plan.owned slot channel cycle
+                    (each_at IsPlan d.plans m at_m.plan lawful at_m.at).owned_are owner in
+                absurd (both_ways (two_pass (claims slot channel cycle) (all_owned d.plans))
+                    (two_owners d.plans slot channel cycle is few none.apart)
+                (two_at (claims slot channel cycle) (λ q. q.owned) d.plans m n at_m.plan at_n.plan differ at_m.at
+                    at_n.at owner (by_line at_n.plan at_n.sends))))
             | inr dynamic ↦
-                (let by_buffer : (q : Plan) → may_send d.params cycle slot channel q ≡ true → list_any (sends_at slot channel cycle) q.buffers ≡ true =
-                λ q sends. sym (cond-false (is_static_slot d.params slot) (is_owned q.owned slot channel cycle) (list_any (sends_at slot channel cycle) q.buffers) dynamic) ∙ sends in
+                (let by_buffer : (q : Plan) → may_send d.params cycle slot channel q ≡ true
+                    → list_any (sends_at slot channel cycle) q.buffers ≡ true =
+                λ q sends. sym (cond-false (is_static_slot d.params slot) (is_owned q.owned slot channel cycle)
+                    (list_any (sends_at slot channel cycle) q.buffers) dynamic) ∙ sends in
                 let sender = by_buffer at_m.plan at_m.sends in
-                let is = sent_slot at_m.plan.buffers slot channel cycle (each_at IsPlan d.plans m at_m.plan lawful at_m.at).buffers_are sender in
-                absurd (both_ways (two_pass (sends_at slot channel cycle) (all_buffers d.plans)) (two_senders d.plans slot channel cycle is few none.apart)
-                (two_at (sends_at slot channel cycle) (λ q. q.buffers) d.plans m n at_m.plan at_n.plan differ at_m.at at_n.at sender (by_buffer at_n.plan at_n.sends))))
+                let is = sent_slot at_m.plan.buffers slot channel cycle
+                    (each_at IsPlan d.plans m at_m.plan lawful at_m.at).buffers_are sender in
+                absurd (both_ways (two_pass (sends_at slot channel cycle) (all_buffers d.plans))
+                    (two_senders d.plans slot channel cycle is few none.apart)
+                (two_at (sends_at slot channel cycle) (λ q. q.buffers) d.plans m n at_m.plan at_n.plan differ at_m.at
+                    at_n.at sender (by_buffer at_n.plan at_n.sends))))
           ]
     ]
 
 -- ---- a cluster
 
-pub cluster_is : (d : Description) → IsParameters d.params → 1 ≤ length d.plans → length d.plans ≤ 16 → Each IsPlan d.plans → Each (IsFor d.params) d.plans
+pub cluster_is : (d : Description) → IsParameters d.params → 1 ≤ length d.plans → length d.plans ≤ 16
+    → Each IsPlan d.plans → Each (IsFor d.params) d.plans
     → file_fault d.params d.plans ≡ None → IsCluster d
 cluster_is d params some few lawful fit free =
     let none = parts d.params d.plans free in
@@ -257,5 +283,6 @@ cluster_is d params some few lawful fit free =
     }
 
 -- the plan of each of its nodes is without fault
-pub node_faultless : (d : Description) → IsCluster d → (n : ℕ) (plan : Plan) → slice_get d.plans n ≡ Some plan → plan_fault d.params plan ≡ None
+pub node_faultless : (d : Description) → IsCluster d → (n : ℕ) (plan : Plan) → slice_get d.plans n ≡ Some plan
+    → plan_fault d.params plan ≡ None
 node_faultless d lawful n plan at = (each_at (IsNode d.params) d.plans n plan lawful.nodes_are at).1

@@ -1,6 +1,8 @@
 -- The cycles of a class, one repetition after another.
-use Rattle.std.proofs.Common.{◌≡◌, ℕ, zero, suc, ◌+◌, ◌-◌, ◌*◌, ◌/◌, ◌%◌, ◌<◌, ◌≤◌, ◌==◌, Bool, true, false, not, cond, ◌&&◌, ◌||◌}
-use Rattle.std.proofs.Common.{List, [], ◌∷◌, get_or, take, drop, replicate, Option, Some, None, refl, sym, ap, subst, ◌∙◌, inl, inr, arith}
+use Rattle.std.proofs.Common.{◌≡◌, ℕ, zero, suc, ◌+◌, ◌-◌, ◌*◌, ◌/◌, ◌%◌, ◌<◌, ◌≤◌, ◌==◌, Bool, true, false, not, cond}
+use Rattle.std.proofs.Common.{◌&&◌, ◌||◌}
+use Rattle.std.proofs.Common.{List, [], ◌∷◌, get_or, take, drop, replicate, Option, Some, None, refl, sym, ap, subst}
+use Rattle.std.proofs.Common.{◌∙◌, inl, inr, arith}
 use Rattle.std.proofs.lemmas.Bool.{and_parts, cases_Bool, cases_lt, eqb-true, eq-eqb, false_from_ne_true}
 use Rattle.std.proofs.lemmas.List.{get_or-drop, get_or-replicate, get_or-take}
 use Rattle.std.proofs.lemmas.Nat.{mod-mul-add}
@@ -32,7 +34,8 @@ first_passed f n end (suc k) o within none first =
     (first-goes_on f n end o (omega arith) (ap f (sym here) ∙ none 0 (omega arith)) first))
 
 -- of the cycles of a turn one is admitted
-not_admitted : (c : CycleClass) (turn j : ℕ) → j < c.repetition → (j ≡ c.base → ⊥) → cycle_admitted c (turn * c.repetition + j) ≡ false
+not_admitted : (c : CycleClass) (turn j : ℕ) → j < c.repetition → (j ≡ c.base → ⊥)
+    → cycle_admitted c (turn * c.repetition + j) ≡ false
 not_admitted c turn j below other =
     false_from_ne_true _ (λ is. other (sym (mod-mul-add turn c.repetition j below) ∙ eqb-true _ _ is))
 
@@ -40,14 +43,16 @@ passed_at : (nodes : List ℕ) (start : ℕ) (c : CycleClass) (turn j : ℕ) →
     → taken_in nodes start c (turn * c.repetition + j) ≡ None
 passed_at nodes start c turn j below other =
     let cycle = turn * c.repetition + j in
-    ap (λ (b : Bool). let r : Option ℕ = cond (b && not (at_place nodes (start + cycle) == nobody)) (Some cycle) None in r) (not_admitted c turn j below other)
+    ap (λ (b : Bool). let r : Option ℕ = cond (b && not (at_place nodes (start + cycle) == nobody)) (Some cycle) None
+        in r) (not_admitted c turn j below other)
 
 admitted_at : (nodes : List ℕ) (start : ℕ) (c : CycleClass) (turn : ℕ) (taken : Bool) → c.base < c.repetition
     → not (at_place nodes (start + (turn * c.repetition + c.base)) == nobody) ≡ taken
     → taken_in nodes start c (turn * c.repetition + c.base) ≡ cond taken (Some (turn * c.repetition + c.base)) None
 admitted_at nodes start c turn taken below is =
     let cycle = turn * c.repetition + c.base in
-    ap (λ (b : Bool). let r : Option ℕ = cond (b && not (at_place nodes (start + cycle) == nobody)) (Some cycle) None in r)
+    ap (λ (b : Bool). let r : Option ℕ = cond (b && not (at_place nodes (start + cycle) == nobody)) (Some cycle) None
+        in r)
     (eq-eqb (cycle % c.repetition) c.base (mod-mul-add turn c.repetition c.base below))
     ∙ ap (λ (b : Bool). let r : Option ℕ = cond b (Some cycle) None in r) is
 
@@ -55,7 +60,8 @@ admitted_at nodes start c turn taken below is =
 up_to_base : (nodes : List ℕ) (start : ℕ) (c : CycleClass) (turn : ℕ) (o : Option ℕ) → c.base < c.repetition
     → turn * c.repetition + c.repetition ≤ 64
     → first_of (taken_in nodes start c) (numbers_from (turn * c.repetition) (64 - turn * c.repetition)) ≡ o
-    → first_of (taken_in nodes start c) (numbers_from (turn * c.repetition + c.base) (64 - (turn * c.repetition + c.base))) ≡ o
+    → first_of (taken_in nodes start c) (numbers_from (turn * c.repetition + c.base)
+        (64 - (turn * c.repetition + c.base))) ≡ o
 up_to_base nodes start c turn o below within =
     first_passed (taken_in nodes start c) (turn * c.repetition) 64 c.base o (omega (arith, below, within))
     (λ j lt. passed_at nodes start c turn j (omega (arith, below, lt)) (λ same. omega (arith, lt, same)))
@@ -66,7 +72,8 @@ pub turn_finds : (nodes : List ℕ) (start : ℕ) (c : CycleClass) (turn : ℕ) 
     → first_of (taken_in nodes start c) (numbers_from (turn * c.repetition) (64 - turn * c.repetition)) ≡ o
     → Some (turn * c.repetition + c.base) ≡ o
 turn_finds nodes start c turn o below within taken first =
-    first-found (taken_in nodes start c) (turn * c.repetition + c.base) 64 o (turn * c.repetition + c.base) (omega (arith, below, within))
+    first-found (taken_in nodes start c) (turn * c.repetition + c.base) 64 o (turn * c.repetition + c.base)
+        (omega (arith, below, within))
     (admitted_at nodes start c turn true below taken) (up_to_base nodes start c turn o below within first)
 
 pub turn_passes : (nodes : List ℕ) (start : ℕ) (c : CycleClass) (turn : ℕ) (o : Option ℕ) → c.base < c.repetition
@@ -88,7 +95,8 @@ turn_passes nodes start c turn o below within free first =
                 | inl greater ↦ passed_at nodes start c turn j lt (λ same. omega (arith, greater, same))
                 | inr least ↦
                     (let same : c.base ≡ j = omega (arith, more, least) in
-                    subst (λ (k : ℕ). taken_in nodes start c (turn * c.repetition + k) ≡ None) same (admitted_at nodes start c turn false below free))
+                    subst (λ (k : ℕ). taken_in nodes start c (turn * c.repetition + k) ≡ None) same
+                        (admitted_at nodes start c turn false below free))
               ])
         ]
 
@@ -116,14 +124,16 @@ turn_ended f turn r o is all first =
 -- ---- a row in which no node stands
 
 -- of a row that is all free no place is taken
-pub row_is_free : (nodes : List ℕ) (start : ℕ) → take 64 (drop start nodes) ≡ replicate 64 nobody → IsRowFree start nodes
+pub row_is_free : (nodes : List ℕ) (start : ℕ) → take 64 (drop start nodes) ≡ replicate 64 nobody
+    → IsRowFree start nodes
 row_is_free nodes start same cycle below =
     sym (get_or-drop start nodes cycle nobody)
     ∙ sym (get_or-take 64 (drop start nodes) cycle nobody below)
     ∙ ap (λ (row : List ℕ). get_or row cycle nobody) same
     ∙ get_or-replicate 64 cycle nobody nobody below
 
-not_taken : (nodes : List ℕ) (start : ℕ) (c : CycleClass) (cycle : ℕ) → at_place nodes (start + cycle) ≡ nobody → taken_in nodes start c cycle ≡ None
+not_taken : (nodes : List ℕ) (start : ℕ) (c : CycleClass) (cycle : ℕ) → at_place nodes (start + cycle) ≡ nobody
+    → taken_in nodes start c cycle ≡ None
 not_taken nodes start c cycle free =
     ap (λ (n : ℕ). let r : Option ℕ = cond (cycle_admitted c cycle && not (n == nobody)) (Some cycle) None in r) free
     ∙ either (cycle_admitted c cycle)
@@ -132,7 +142,8 @@ not_taken nodes start c cycle free =
     either true = refl
     either false = refl
 
-pub free_row_gives_none : (nodes : List ℕ) (start : ℕ) (c : CycleClass) → IsRowFree start nodes → None ≡ first_taken_in nodes start c
+pub free_row_gives_none : (nodes : List ℕ) (start : ℕ) (c : CycleClass) → IsRowFree start nodes
+    → None ≡ first_taken_in nodes start c
 free_row_gives_none nodes start c free =
     let f : ℕ → Option ℕ = taken_in nodes start c in
     first-ended f 64 64 (first_of f (numbers_from 0 64)) (omega arith)

@@ -9,15 +9,18 @@ module _ {X A B : Type 0} (read : ℕ → X → Result A ConfigError) (made : Li
   abbrev pub with_rest : ℕ → List A → List X → Result B ConfigError
   with_rest n so_far left = each_of read n left >>= (λ more. Ok (made (so_far ++ more)))
 
-  pub rest_refused : (n : ℕ) (so_far : List A) (x : X) (left : List X) (e : ConfigError) → read n x ≡ Err e → with_rest n so_far (x ∷ left) ≡ Err e
+  pub rest_refused : (n : ℕ) (so_far : List A) (x : X) (left : List X) (e : ConfigError) → read n x ≡ Err e
+      → with_rest n so_far (x ∷ left) ≡ Err e
   unfolding each_of
   rest_refused n so_far x left e is = rw is refl
 
   one_more : (so_far : List A) (one : A) (more : Result (List A) ConfigError)
-      → ((more >>= (λ rest. Ok (one ∷ rest))) >>= (λ all. Ok (made (so_far ++ all)))) ≡ (more >>= (λ rest. Ok (made ((so_far ++ one ∷ []) ++ rest))))
+      → ((more >>= (λ rest. Ok (one ∷ rest))) >>= (λ all. Ok (made (so_far ++ all)))) ≡
+          (more >>= (λ rest. Ok (made ((so_far ++ one ∷ []) ++ rest))))
   one_more so_far one (Err e) = refl
   one_more so_far one (Ok rest) =
-      ap (λ (all : List A). let r : Result B ConfigError = Ok (made all) in r) (sym (append_assoc so_far (one ∷ []) rest))
+      ap (λ (all : List A). let r : Result B ConfigError = Ok (made all) in r)
+          (sym (append_assoc so_far (one ∷ []) rest))
 
   pub rest_taken : (n : ℕ) (so_far : List A) (x : X) (left : List X) (one : A) → read n x ≡ Ok one
       → with_rest n so_far (x ∷ left) ≡ with_rest (n + 1) (so_far ++ one ∷ []) left

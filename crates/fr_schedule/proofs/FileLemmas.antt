@@ -35,12 +35,14 @@ module _ (root : Members) where
         plans_refused e is = rw (params_are, guard_is, values_are, is) refl
 
         pub plans_read : (plans : List Plan) → each_of (plan_of p) 0 values ≡ Ok plans
-            → description_of root ≡ unless_fault (file_fault p plans) (record { params = p; guard = guard; plans = plans })
+            → description_of root ≡ unless_fault (file_fault p plans)
+                (record { params = p; guard = guard; plans = plans })
         unfolding description_of
         plans_read plans is = rw (params_are, guard_is, values_are, is) refl
 
 -- as many are read as there are
-pub each_of-length : {X A : Type 0} (read : ℕ → X → Result A ConfigError) (n : ℕ) (xs : List X) (all : List A) → each_of read n xs ≡ Ok all → length all ≡ length xs
+pub each_of-length : {X A : Type 0} (read : ℕ → X → Result A ConfigError) (n : ℕ) (xs : List X) (all : List A)
+    → each_of read n xs ≡ Ok all → length all ≡ length xs
 unfolding each_of
 each_of-length read n [] all is = ap length (sym (same_Ok [] all is))
 each_of-length read n (x ∷ xs) all is =
@@ -49,10 +51,13 @@ each_of-length read n (x ∷ xs) all is =
     ap length (sym (same_Ok (one ∷ more) all made)) ∙ ap suc (each_of-length read (n + 1) xs more is_more)
 
 -- what is read from the nodes of a file, and has no fault, is a cluster
-pub read_cluster : (p kept : Parameters) (guard : Option Channels) (values : List Data) (plans : List Plan) → kept ≡ p → IsParameters p → 1 ≤ length values → length values ≤ 16
-    → each_of (plan_of p) 0 values ≡ Ok plans → Each IsPlan plans → file_fault p plans ≡ None → IsCluster (record { params = kept; guard = guard; plans = plans })
+pub read_cluster : (p kept : Parameters) (guard : Option Channels) (values : List Data) (plans : List Plan) → kept ≡ p
+    → IsParameters p → 1 ≤ length values → length values ≤ 16
+    → each_of (plan_of p) 0 values ≡ Ok plans → Each IsPlan plans → file_fault p plans ≡ None
+        → IsCluster (record { params = kept; guard = guard; plans = plans })
 read_cluster p kept guard values plans same lawful some few read are free =
     let as_many = each_of-length (plan_of p) 0 values plans read in
     subst (λ (q : Parameters). IsCluster (record { params = q; guard = guard; plans = plans })) (sym same)
-    (cluster_is (record { params = p; guard = guard; plans = plans }) lawful (subst (λ n. 1 ≤ n) (sym as_many) some) (subst (λ n. n ≤ 16) (sym as_many) few) are
+    (cluster_is (record { params = p; guard = guard; plans = plans }) lawful (subst (λ n. 1 ≤ n) (sym as_many) some)
+        (subst (λ n. n ≤ 16) (sym as_many) few) are
     (plans-fit p values plans read) free)

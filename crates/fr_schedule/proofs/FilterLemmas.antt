@@ -21,11 +21,13 @@ use Rattle.fr_slots.specs.Sharing.{IsFirst}
 -- ---- nodes
 
 module _ (fault : ℕ → Plan → Option ConfigError) where
-  pub nodes_some : (n : ℕ) (plan : Plan) (plans : List Plan) (e : ConfigError) → fault n plan ≡ Some e → first_in_nodes fault n (plan ∷ plans) ≡ Some e
+  pub nodes_some : (n : ℕ) (plan : Plan) (plans : List Plan) (e : ConfigError) → fault n plan ≡ Some e
+      → first_in_nodes fault n (plan ∷ plans) ≡ Some e
   unfolding first_in_nodes
   nodes_some n plan plans e is = rw is refl
 
-  pub nodes_none : (n : ℕ) (plan : Plan) (plans : List Plan) → fault n plan ≡ None → first_in_nodes fault n (plan ∷ plans) ≡ first_in_nodes fault (n + 1) plans
+  pub nodes_none : (n : ℕ) (plan : Plan) (plans : List Plan) → fault n plan ≡ None
+      → first_in_nodes fault n (plan ∷ plans) ≡ first_in_nodes fault (n + 1) plans
   unfolding first_in_nodes
   nodes_none n plan plans is = rw is refl
 
@@ -39,7 +41,8 @@ abbrev of_file : PlanFault → ConfigError
 of_file (fault.Overlap slot channel cycle) = error.Overlap slot channel cycle
 of_file other = error.Toml
 
-or_map : {A B : Type 0} (h : A → B) (o p : Option A) → option_or (option_map h o) (option_map h p) ≡ option_map h (option_or o p)
+or_map : {A B : Type 0} (h : A → B) (o p : Option A) → option_or (option_map h o) (option_map h p) ≡ option_map h
+    (option_or o p)
 or_map h None p = refl
 or_map h (Some x) p = refl
 
@@ -53,11 +56,13 @@ first_of-map h f g same (x ∷ xs) =
     ∙ or_map h (f x) (first_of f xs)
 
 overlap_here : (b : Bool) (slot : ℕ) (channel : Channel) (cycle : ℕ)
-    → (if b then Some (error.Overlap slot channel cycle) else None) ≡ option_map of_file (if b then Some (fault.Overlap slot channel cycle) else None)
+    → (if b then Some (error.Overlap slot channel cycle) else None) ≡ option_map of_file
+        (if b then Some (fault.Overlap slot channel cycle) else None)
 overlap_here true slot channel cycle = refl
 overlap_here false slot channel cycle = refl
 
-overlap_same : (plans : List Plan) → first_overlap plans ≡ option_map of_file (plan.first_overlap (all_owned plans) (all_buffers plans))
+overlap_same : (plans : List Plan) → first_overlap plans ≡ option_map of_file
+    (plan.first_overlap (all_owned plans) (all_buffers plans))
 overlap_same plans =
     let owned = all_owned plans in
     let buffers = all_buffers plans in
@@ -72,7 +77,8 @@ overlap_same plans =
 
 -- ---- what lines or buffers share
 
-pub overlap_is : (plans : List Plan) (o : Option Occasion) → IsFirst (is_overlap (all_owned plans) (all_buffers plans)) o
+pub overlap_is : (plans : List Plan) (o : Option Occasion) → IsFirst (is_overlap (all_owned plans) (all_buffers plans))
+    o
     → option_map overlap_fault o ≡ first_overlap plans
 overlap_is plans None is =
     sym (overlap_same plans ∙ ap (option_map of_file) (overlap-none (all_owned plans) (all_buffers plans) is))
@@ -80,6 +86,7 @@ overlap_is plans (Some o) is =
     sym (overlap_same plans ∙ ap (option_map of_file) (overlap-some (all_owned plans) (all_buffers plans) o is))
 
 -- nothing of a file is nothing of the plan that all its lines would make
-pub no_overlap_plans : (plans : List Plan) → first_overlap plans ≡ None → plan.first_overlap (all_owned plans) (all_buffers plans) ≡ None
+pub no_overlap_plans : (plans : List Plan) → first_overlap plans ≡ None
+    → plan.first_overlap (all_owned plans) (all_buffers plans) ≡ None
 no_overlap_plans plans none =
     map_none of_file (plan.first_overlap (all_owned plans) (all_buffers plans)) (sym (overlap_same plans) ∙ none)

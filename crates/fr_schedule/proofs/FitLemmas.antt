@@ -29,7 +29,8 @@ use Rattle.toml.specs.Data.{Data, Members, get_member, as_integer, as_table}
 
 -- ---- numbers in their ranges
 
-not_above : (least greatest : ℕ) (z : ℤ) → le_z (pos least) z ≡ true → le_z z (pos greatest) ≡ true → unsigned z ≤ greatest
+not_above : (least greatest : ℕ) (z : ℤ) → le_z (pos least) z ≡ true → le_z z (pos greatest) ≡ true
+    → unsigned z ≤ greatest
 not_above least greatest (pos n) low high = leb-true n greatest high
 not_above least greatest z low high = cc low
 
@@ -41,18 +42,23 @@ number_in-fits least greatest value n is =
     let (low, high) = and_parts (le_z (pos least) z) (le_z z (pos greatest)) both in
     subst (λ m. m ≤ greatest) same (not_above least greatest z low high)
 
-number_at-fits : (key : List ℕ) (least greatest : ℕ) (table : Members) (n : ℕ) → number_at key least greatest table ≡ Some n → n ≤ greatest
+number_at-fits : (key : List ℕ) (least greatest : ℕ) (table : Members) (n : ℕ)
+    → number_at key least greatest table ≡ Some n → n ≤ greatest
 unfolding number_at
 number_at-fits key least greatest table n is =
-    let (value, at, rest) = then_some (get_member key table) (number_in least greatest) n is in number_in-fits least greatest value n rest
+    let (value, at, rest) = then_some (get_member key table)
+        (number_in least greatest) n is in number_in-fits least greatest value n rest
 
-default-fits : (least greatest usual : ℕ) (o : Option Data) (n : ℕ) → usual ≤ greatest → or_default usual (number_in least greatest) o ≡ Some n → n ≤ greatest
+default-fits : (least greatest usual : ℕ) (o : Option Data) (n : ℕ) → usual ≤ greatest
+    → or_default usual (number_in least greatest) o ≡ Some n → n ≤ greatest
 default-fits least greatest usual None n fits is = subst (λ m. m ≤ greatest) (same_Some usual n is) fits
 default-fits least greatest usual (Some value) n fits is = number_in-fits least greatest value n is
 
-number_or-fits : (key : List ℕ) (least greatest usual : ℕ) (table : Members) (n : ℕ) → usual ≤ greatest → number_or key least greatest usual table ≡ Some n → n ≤ greatest
+number_or-fits : (key : List ℕ) (least greatest usual : ℕ) (table : Members) (n : ℕ) → usual ≤ greatest
+    → number_or key least greatest usual table ≡ Some n → n ≤ greatest
 unfolding number_or
-number_or-fits key least greatest usual table n fits is = default-fits least greatest usual (get_member key table) n fits is
+number_or-fits key least greatest usual table n fits is = default-fits least greatest usual (get_member key table) n
+    fits is
 
 -- ---- lists that are read
 
@@ -61,15 +67,18 @@ none_of test [] each = refl
 none_of test (x ∷ xs) each = ap (λ b. b || list_any test xs) each.0 ∙ none_of test xs each.1
 
 module _ {X A : Type 0} (P : A → Type 0) where
-  all_of-each : (read : X → Option A) → ((x : X) (a : A) → read x ≡ Some a → P a) → (xs : List X) (all : List A) → all_of read xs ≡ Some all → Each P all
+  all_of-each : (read : X → Option A) → ((x : X) (a : A) → read x ≡ Some a → P a) → (xs : List X) (all : List A)
+      → all_of read xs ≡ Some all → Each P all
   unfolding all_of
   all_of-each read so [] all is = subst (Each P) (same_Some [] all is) tt
   all_of-each read so (x ∷ xs) all is =
-      let (a, is_a, rest) = then_some (read x) (λ one. option_and_then (λ more. Some (one ∷ more)) (all_of read xs)) all is in
+      let (a, is_a, rest) = then_some (read x) (λ one. option_and_then (λ more. Some (one ∷ more)) (all_of read xs)) all
+          is in
       let (more, is_more, made) = then_some (all_of read xs) (λ more. Some (a ∷ more)) all rest in
       subst (Each P) (same_Some (a ∷ more) all made) (so x a is_a, all_of-each read so xs more is_more)
 
-  pub each_of-each : (read : ℕ → X → Result A ConfigError) → ((n : ℕ) (x : X) (a : A) → read n x ≡ Ok a → P a) → (n : ℕ) (xs : List X) (all : List A)
+  pub each_of-each : (read : ℕ → X → Result A ConfigError) → ((n : ℕ) (x : X) (a : A) → read n x ≡ Ok a → P a)
+      → (n : ℕ) (xs : List X) (all : List A)
       → each_of read n xs ≡ Ok all → Each P all
   unfolding each_of
   each_of-each read so n [] all is = subst (Each P) (same_Ok [] all is) tt
@@ -81,7 +90,8 @@ module _ {X A : Type 0} (P : A → Type 0) where
 
 -- ---- ownership lines
 
-own_in-static : (p : Parameters) (table : Members) (own : Own) → own_in p table ≡ Some own → is_owned_beyond p own ≡ false
+own_in-static : (p : Parameters) (table : Members) (own : Own) → own_in p table ≡ Some own
+    → is_owned_beyond p own ≡ false
 unfolding own_in
 own_in-static p table own is =
     let (slot, at, rest) = then_some (number_at (codes "slot") 1 p.static_slots table) _ own is in
@@ -89,16 +99,20 @@ own_in-static p table own is =
     let (cycles, at_y, rest_y) = then_some (cycles_in table) _ own rest_c in
     let (sync, at_s, rest_s) = then_some (flag_at (codes "sync") table) _ own rest_y in
     let (startup, at_u, rest_u) = then_some (flag_at (codes "startup") table) _ own rest_s in
-    let (fits, same) = cond_some (own_fits (record { slot = slot; channels = channels; cycles = cycles; sync = sync; startup = startup })) _ own rest_u in
-    subst (λ (o : Own). is_owned_beyond p o ≡ false) same (ap not (le-leb slot p.static_slots (number_at-fits (codes "slot") 1 p.static_slots table slot at)))
+    let (fits, same) = cond_some (own_fits
+        (record { slot = slot; channels = channels; cycles = cycles; sync = sync; startup = startup })) _ own rest_u in
+    subst (λ (o : Own). is_owned_beyond p o ≡ false) same (ap not
+        (le-leb slot p.static_slots (number_at-fits (codes "slot") 1 p.static_slots table slot at)))
 
 own_of-static : (p : Parameters) (value : Data) (own : Own) → own_of p value ≡ Some own → is_owned_beyond p own ≡ false
 unfolding own_of
-own_of-static p value own is = let (table, at, rest) = then_some (as_table value) (own_in p) own is in own_in-static p table own rest
+own_of-static p value own is = let (table, at, rest) = then_some (as_table value) (own_in p) own is in own_in-static p
+    table own rest
 
 -- ---- buffers
 
-right_words : (t s : Bool) (w : Option ℕ) → (s ≡ true → w ≡ None) → (s ≡ false → is_some w ≡ true) → ((t && s) && is_some w || (t && not s) && not (is_some w)) ≡ false
+right_words : (t s : Bool) (w : Option ℕ) → (s ≡ true → w ≡ None) → (s ≡ false → is_some w ≡ true)
+    → ((t && s) && is_some w || (t && not s) && not (is_some w)) ≡ false
 right_words false s w none some = refl
 right_words true true w none some = rw (none refl) refl
 right_words true false w none some = rw (some refl) refl
@@ -108,7 +122,8 @@ record Fits (s : Bool) (w : Option ℕ) : Type 0 where
   pub static : s ≡ true → w ≡ None
   pub dynamic : s ≡ false → is_some w ≡ true
 
-words_by : (s : Bool) (read : Option (Option ℕ)) (w : Option ℕ) → ((v : Option ℕ) → read ≡ Some v → is_some v ≡ true) → (if s then Some None else read) ≡ Some w → Fits s w
+words_by : (s : Bool) (read : Option (Option ℕ)) (w : Option ℕ) → ((v : Option ℕ) → read ≡ Some v → is_some v ≡ true)
+    → (if s then Some None else read) ≡ Some w → Fits s w
 words_by true read w some is = record { static = λ t. sym (same_Some None w is); dynamic = λ f. cc f }
 words_by false read w some is = record { static = λ t. cc t; dynamic = λ f. some w is }
 
@@ -116,35 +131,43 @@ own_words : (o : Option ℕ) (w : Option ℕ) → option_and_then (λ n. Some (S
 own_words None w is = cc is
 own_words (Some n) w is = subst (λ (v : Option ℕ). is_some v ≡ true) (same_Some (Some n) w is) refl
 
-words_in-fit : (p : Parameters) (slot : ℕ) (table : Members) (w : Option ℕ) → words_in p slot table ≡ Some w → Fits (is_static_slot p slot) w
+words_in-fit : (p : Parameters) (slot : ℕ) (table : Members) (w : Option ℕ) → words_in p slot table ≡ Some w
+    → Fits (is_static_slot p slot) w
 unfolding words_in
 words_in-fit p slot table w is =
     words_by (is_static_slot p slot) _ w (λ v read. own_words (number_at (codes "words") 0 127 table) v read) is
 
-transmit-right : (p : Parameters) (mode : Mode) (f : Filter) (table : Members) (b : Buffer) → transmit_buffer_in p mode f table ≡ Some b → has_wrong_words p b ≡ false
+transmit-right : (p : Parameters) (mode : Mode) (f : Filter) (table : Members) (b : Buffer)
+    → transmit_buffer_in p mode f table ≡ Some b → has_wrong_words p b ≡ false
 unfolding transmit_buffer_in
 transmit-right p mode f table b is =
     let (preamble, at, rest) = then_some (flag_at (codes "preamble") table) _ b is in
     let (words, at_w, rest_w) = then_some (words_in p f.slot table) _ b rest in
-    let (fits, same) = cond_some (buffer_fits (record { mode = mode; filter = f; words = words; preamble = preamble })) _ b rest_w in
+    let (fits, same) = cond_some (buffer_fits (record { mode = mode; filter = f; words = words; preamble = preamble }))
+        _ b rest_w in
     let fit = words_in-fit p f.slot table words at_w in
-    subst (λ (c : Buffer). has_wrong_words p c ≡ false) same (right_words (not (is_receive mode)) (is_static_slot p f.slot) words fit.static fit.dynamic)
+    subst (λ (c : Buffer). has_wrong_words p c ≡ false) same
+        (right_words (not (is_receive mode)) (is_static_slot p f.slot) words fit.static fit.dynamic)
 
-buffer_by-right : (p : Parameters) (mode : Mode) (f : Filter) (table : Members) (b : Buffer) → buffer_by p mode f table ≡ Some b → has_wrong_words p b ≡ false
+buffer_by-right : (p : Parameters) (mode : Mode) (f : Filter) (table : Members) (b : Buffer)
+    → buffer_by p mode f table ≡ Some b → has_wrong_words p b ≡ false
 unfolding buffer_by
 buffer_by-right p mode f table b is =
     elim (cases_Bool (is_receive mode)) [
       | inl receive ↦
           subst (λ (c : Buffer). has_wrong_words p c ≡ false)
           (same_Some (record { mode = mode; filter = f; words = None; preamble = false }) b
-          (sym (cond-true (is_receive mode) (Some (record { mode = mode; filter = f; words = None; preamble = false })) (transmit_buffer_in p mode f table) receive) ∙ is))
+          (sym (cond-true (is_receive mode) (Some (record { mode = mode; filter = f; words = None; preamble = false }))
+              (transmit_buffer_in p mode f table) receive) ∙ is))
           (rw receive refl)
       | inr transmits_it ↦
           transmit-right p mode f table b
-          (sym (cond-false (is_receive mode) (Some (record { mode = mode; filter = f; words = None; preamble = false })) (transmit_buffer_in p mode f table) transmits_it) ∙ is)
+          (sym (cond-false (is_receive mode) (Some (record { mode = mode; filter = f; words = None; preamble = false }))
+              (transmit_buffer_in p mode f table) transmits_it) ∙ is)
     ]
 
-buffer_of-right : (p : Parameters) (value : Data) (b : Buffer) → buffer_of p value ≡ Some b → has_wrong_words p b ≡ false
+buffer_of-right : (p : Parameters) (value : Data) (b : Buffer) → buffer_of p value ≡ Some b
+    → has_wrong_words p b ≡ false
 unfolding buffer_of buffer_in
 buffer_of-right p value b is =
     let (table, at, rest) = then_some (as_table value) (buffer_in p) b is in
@@ -152,12 +175,15 @@ buffer_of-right p value b is =
     let (f, at_f, rest_f) = then_some (filter_in table) _ b rest_m in
     buffer_by-right p mode f table b rest_f
 
-buffer_read-right : (p : Parameters) (node n : ℕ) (value : Data) (b : Buffer) → buffer_read p node n value ≡ Ok b → has_wrong_words p b ≡ false
-buffer_read-right p node n value b is = buffer_of-right p value b (or_ok (buffer_of p value) (error.BadBuffer node n) b is)
+buffer_read-right : (p : Parameters) (node n : ℕ) (value : Data) (b : Buffer) → buffer_read p node n value ≡ Ok b
+    → has_wrong_words p b ≡ false
+buffer_read-right p node n value b is = buffer_of-right p value b
+    (or_ok (buffer_of p value) (error.BadBuffer node n) b is)
 
 -- ---- nodes
 
-limited : (b : Bool) (made plan : Plan) (e : PlanError) → result_ok (if b then Ok made else Err e) ≡ Some plan → made ≡ plan
+limited : (b : Bool) (made plan : Plan) (e : PlanError) → result_ok (if b then Ok made else Err e) ≡ Some plan
+    → made ≡ plan
 limited true made plan e is = same_Some made plan is
 limited false made plan e is = cc is
 
@@ -195,10 +221,12 @@ head-fits p table plan is =
     let limit = limits-fit p table limits at_l in
     let of_owning : IsHead p owning = subst (IsHead p) o.is
     (record {
-      owned = none_of (is_owned_beyond p) o.owned (all_of-each (λ own. is_owned_beyond p own ≡ false) (own_of p) (own_of-static p) o.lines o.owned o.read);
+      owned = none_of (is_owned_beyond p) o.owned (all_of-each (λ own. is_owned_beyond p own ≡ false) (own_of p)
+          (own_of-static p) o.lines o.owned o.read);
       latest = record { a = limit.a; b = limit.b };
     }) in
-    subst (IsHead p) made (record { owned = of_owning.owned; latest = record { a = of_owning.latest.a; b = of_owning.latest.b } })
+    subst (IsHead p) made (record { owned = of_owning.owned; latest =
+        record { a = of_owning.latest.a; b = of_owning.latest.b } })
 
 not_late : (least n : ℕ) → n ≤ least → nat_lt least n ≡ false
 not_late least n le = grind (arith, le)
@@ -206,21 +234,27 @@ not_late least n le = grind (arith, le)
 three_false : (a b c d : Bool) → a ≡ false → b ≡ false → c ≡ false → d ≡ false → (a || (b || c) || d) ≡ false
 three_false a b c d na nb nc nd = rw (na, nb, nc, nd) refl
 
-pub plan-fits : (p : Parameters) (node : ℕ) (value : Data) (plan : Plan) → plan_of p node value ≡ Ok plan → is_out_of_params p plan ≡ false
+pub plan-fits : (p : Parameters) (node : ℕ) (value : Data) (plan : Plan) → plan_of p node value ≡ Ok plan
+    → is_out_of_params p plan ≡ false
 unfolding plan_of with_buffers_of
 plan-fits p node value plan is =
     let (table, at, rest) = then_ok (ok_or (as_table value) (error.BadNode node)) _ plan is in
     let (bare, at_h, rest_h) = then_ok (ok_or (head_in p table) (error.BadNode node)) _ plan rest in
-    let (values, at_v, rest_v) = then_ok (ok_or (tables_at (codes "buffer") table) (error.BadNode node)) _ plan rest_h in
+    let (values, at_v, rest_v) = then_ok (ok_or (tables_at (codes "buffer") table) (error.BadNode node)) _ plan rest_h
+        in
     let (buffers, at_b, made) = then_ok (each_of (buffer_read p node) 0 values) _ plan rest_v in
     let is_head = head-fits p table bare (or_ok (head_in p table) (error.BadNode node) bare at_h) in
     let same : with_buffers bare buffers ≡ plan = cc made in
     subst (λ (q : Plan). is_out_of_params p q ≡ false) same
-    (three_false (list_any (is_owned_beyond p) bare.owned) (nat_lt p.minislots bare.latest_a) (nat_lt p.minislots bare.latest_b)
+    (three_false (list_any (is_owned_beyond p) bare.owned) (nat_lt p.minislots bare.latest_a)
+        (nat_lt p.minislots bare.latest_b)
     (list_any (has_wrong_words p) buffers) is_head.owned (not_late p.minislots bare.latest_a is_head.latest.a)
     (not_late p.minislots bare.latest_b is_head.latest.b)
     (none_of (has_wrong_words p) buffers
-    (each_of-each (λ b. has_wrong_words p b ≡ false) (buffer_read p node) (λ n v b h. buffer_read-right p node n v b h) 0 values buffers at_b)))
+    (each_of-each (λ b. has_wrong_words p b ≡ false) (buffer_read p node)
+        (λ n v b h. buffer_read-right p node n v b h) 0 values buffers at_b)))
 
-pub plans-fit : (p : Parameters) (values : List Data) (plans : List Plan) → each_of (plan_of p) 0 values ≡ Ok plans → Each (λ q. is_out_of_params p q ≡ false) plans
-plans-fit p values plans is = each_of-each (λ q. is_out_of_params p q ≡ false) (plan_of p) (plan-fits p) 0 values plans is
+pub plans-fit : (p : Parameters) (values : List Data) (plans : List Plan) → each_of (plan_of p) 0 values ≡ Ok plans
+    → Each (λ q. is_out_of_params p q ≡ false) plans
+plans-fit p values plans is = each_of-each (λ q. is_out_of_params p q ≡ false) (plan_of p)
+    (plan-fits p) 0 values plans is

@@ -20,7 +20,8 @@ pub plan_refused : (p : Parameters) (n : ℕ) (so_far : List Plan) (value : Valu
 plan_refused p n so_far value values e is = rest_refused (plan_of p) made n so_far (view value) (map view values) e is
 
 pub plan_taken : (p : Parameters) (n : ℕ) (so_far : List Plan) (value : Value) (values : List Value) (plan : Plan)
-    → plan_of p n (view value) ≡ Ok plan → plans_left p n so_far (value ∷ values) ≡ plans_left p (n + 1) (so_far ++ plan ∷ []) values
+    → plan_of p n (view value) ≡ Ok plan → plans_left p n so_far (value ∷ values) ≡ plans_left p (n + 1)
+        (so_far ++ plan ∷ []) values
 plan_taken p n so_far value values plan is = rest_taken (plan_of p) made n so_far (view value) (map view values) plan is
 
 pub plans_end : (p : Parameters) (n : ℕ) (so_far : List Plan) → plans_left p n so_far [] ≡ Ok so_far
@@ -30,5 +31,6 @@ all_made : (r : Result (List Plan) ConfigError) → (r >>= (λ more. Ok (made ([
 all_made (Err e) = refl
 all_made (Ok plans) = refl
 
-pub plans_start : (p : Parameters) (none : List Plan) (values : List Value) → none ≡ [] → plans_left p 0 none values ≡ each_of (plan_of p) 0 (map view values)
+pub plans_start : (p : Parameters) (none : List Plan) (values : List Value) → none ≡ []
+    → plans_left p 0 none values ≡ each_of (plan_of p) 0 (map view values)
 plans_start p none values is = rw is (all_made (each_of (plan_of p) 0 (map view values)))

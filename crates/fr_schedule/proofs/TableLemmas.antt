@@ -14,7 +14,11 @@ pub values_of-items : (values : List Data) → values_of (items_of values) ≡ v
 values_of-items [] = refl
 values_of-items (value ∷ values) = ap (λ (vs : List Data). value ∷ vs) (values_of-items values)
 
-pub few_tables_seen : (values : List Value) → few_tables (map view values) ≡ cond (nat_le (length values) most_lines && list_all (λ value. is_table (view value)) values) (Some (map view values)) None
+pub few_tables_seen : (values : List Value) → few_tables (map view values) ≡ cond
+    (nat_le (length values) most_lines && list_all (λ value. is_table (view value)) values)
+    (Some (map view values)) None
 few_tables_seen values =
-    ap (λ (n : ℕ). cond (nat_le n most_lines && are_tables (map view values)) (Some (map view values)) None) (length-map values view)
-    ∙ ap (λ b. cond (nat_le (length values) most_lines && b) (Some (map view values)) None) (list_all-map is_table view values)
+    ap (λ (n : ℕ). cond (nat_le n most_lines && are_tables (map view values)) (Some (map view values)) None)
+        (length-map values view)
+    ∙ ap (λ b. cond (nat_le (length values) most_lines && b) (Some (map view values)) None)
+        (list_all-map is_table view values)

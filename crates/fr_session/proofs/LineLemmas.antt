@@ -1,6 +1,8 @@
 -- Lines, as they come from a reader piece by piece.
-use Rattle.std.proofs.Common.{◌≡◌, ℕ, zero, suc, ◌+◌, ◌<◌, ◌≤◌, ltb, true, false, List, [], ◌∷◌, ◌++◌, length, take, get_or}
-use Rattle.std.proofs.Common.{Option, Some, None, IfSome, inl, inr, refl, sym, ap, subst, ◌∙◌, append_assoc, arith, length-take}
+use Rattle.std.proofs.Common.{◌≡◌, ℕ, zero, suc, ◌+◌, ◌<◌, ◌≤◌, ltb, true, false, List, [], ◌∷◌, ◌++◌, length, take}
+use Rattle.std.proofs.Common.{get_or}
+use Rattle.std.proofs.Common.{Option, Some, None, IfSome, inl, inr, refl, sym, ap, subst, ◌∙◌, append_assoc, arith}
+use Rattle.std.proofs.Common.{length-take}
 use Rattle.std.proofs.lemmas.Bool.{cases_Bool, eqb-true, ltb-true, ltb-false, lt-ltb}
 use Rattle.std.proofs.lemmas.List.{append-nil, take_more}
 use Rattle.std.proofs.BufReadLemmas.{Consumes_shown}
@@ -26,13 +28,16 @@ take_fits (suc n) (suc k) [] le all = refl
 take_fits (suc n) (suc k) (y ∷ ys) le all =
     ap (λ l. y ∷ l) (take_fits n k ys (omega arith) (λ less. let more = all (omega arith) in omega (arith, more)))
 
-front_fits : (n : ℕ) (xs ys : List ℕ) (k : ℕ) → length xs + k ≤ n → (length xs + k < n → length ys ≤ k) → xs ++ take k ys ≡ take n (xs ++ ys)
+front_fits : (n : ℕ) (xs ys : List ℕ) (k : ℕ) → length xs + k ≤ n → (length xs + k < n → length ys ≤ k)
+    → xs ++ take k ys ≡ take n (xs ++ ys)
 front_fits n [] ys k le all = take_fits n k ys (omega arith) (λ less. all (omega arith))
 front_fits zero (x ∷ xs) ys k le all = absurd (omega arith)
-front_fits (suc n) (x ∷ xs) ys k le all = ap (λ l. x ∷ l) (front_fits n xs ys k (omega arith) (λ less. all (omega arith)))
+front_fits (suc n) (x ∷ xs) ys k le all = ap (λ l. x ∷ l) (front_fits n xs ys k (omega arith)
+    (λ less. all (omega arith)))
 
 -- what there is room for
-pub kept_front : (line more : List ℕ) (k : ℕ) → length line + k ≤ 1201 → (length line + k < 1201 → length more ≤ k) → line ++ take k more ≡ line_front (line ++ more)
+pub kept_front : (line more : List ℕ) (k : ℕ) → length line + k ≤ 1201 → (length line + k < 1201 → length more ≤ k)
+    → line ++ take k more ≡ line_front (line ++ more)
 kept_front line more k = front_fits 1201 line more k
 
 front_of : (n : ℕ) (xs ys : List ℕ) → take n (take n xs ++ ys) ≡ take n (xs ++ ys)
@@ -57,7 +62,8 @@ front_asks line =
       | inl long ↦
           let many = ltb-true 1200 (length line) long in
           let len = length-take 1201 line in
-          let there : ltb 1200 (length (line_front line)) ≡ true = lt-ltb 1200 (length (line_front line)) (omega (arith, len, many)) in
+          let there : ltb 1200 (length (line_front line)) ≡ true =
+              lt-ltb 1200 (length (line_front line)) (omega (arith, len, many)) in
           rw (there, long) refl
       | inr short ↦ ap asked_in (take_whole 1201 line (omega (arith, ltb-false 1200 (length line) short)))
     ]
@@ -82,7 +88,8 @@ before_plain (b ∷ text) (suc k) before =
     ]
 
 -- what stands before the first line feed, and what is taken with it
-pub line_found : (text : List ℕ) (at : ℕ) → IsFirstByte (is_byte 10) text (Some at) → IsLine (take at text) × (take (at + 1) text ≡ take at text ++ 10 ∷ [])
+pub line_found : (text : List ℕ) (at : ℕ) → IsFirstByte (is_byte 10) text (Some at)
+    → IsLine (take at text) × (take (at + 1) text ≡ take at text ++ 10 ∷ [])
 line_found text at first = (
   before_plain text at (λ j less is. first.0.before j (omega arith) less is),
   take_more text at 0 first.0.high ∙ ap (λ b. take at text ++ b ∷ []) (eqb-true (get_or text at 0) 10 first.1),
@@ -93,7 +100,8 @@ line_not_found text none = none_plain text (λ j less is. none j (omega arith) l
 
 -- ---- one piece
 
-pub none_shown : (text : Option (List ℕ)) (count : ℕ) → IfSome text (λ xs. count ≡ 0 → xs ≡ []) → count ≡ 0 → IsAtEnd text
+pub none_shown : (text : Option (List ℕ)) (count : ℕ) → IfSome text (λ xs. count ≡ 0 → xs ≡ []) → count ≡ 0
+    → IsAtEnd text
 none_shown None count end none = tt
 none_shown (Some xs) count end none = end none
 
@@ -112,7 +120,8 @@ module _ (text mid left : Option (List ℕ)) (limit : Option ℕ) (shown front f
       → front' ≡ line_front (front ++ shown) → TakesPiece Part text left front front'
   took_part none drops is =
       let moved = Consumes_shown text mid left limit shown (length shown) (omega arith) starts end kept fits drops in
-      (shown, line_not_found shown none, subst (Consumes text left) (take_whole (length shown) shown (omega arith)) moved.0, is)
+      (shown, line_not_found shown none, subst (Consumes text left) (take_whole (length shown) shown (omega arith))
+          moved.0, is)
 
 -- ---- a line that is read so far
 
@@ -124,12 +133,14 @@ pub front_none : (text : Option (List ℕ)) (front : List ℕ) → front ≡ [] 
 front_none text front none = ([], refl, Consumes-nil text, none)
 
 -- an interruption takes nothing
-pub front_kept : (text left left' : Option (List ℕ)) (front front' : List ℕ) → FrontSoFar text left front → Keeps left left' → front' ≡ front → FrontSoFar text left' front'
+pub front_kept : (text left left' : Option (List ℕ)) (front front' : List ℕ) → FrontSoFar text left front
+    → Keeps left left' → front' ≡ front → FrontSoFar text left' front'
 front_kept text left left' front front' so_far kept same =
     let (bytes, plain, taken, is) = so_far in
     (bytes, plain, Consumes-kept text left left' bytes taken kept, same ∙ is)
 
-pub front_part : (text left left' : Option (List ℕ)) (front front' : List ℕ) → FrontSoFar text left front → TakesPiece Part left left' front front' → FrontSoFar text left' front'
+pub front_part : (text left left' : Option (List ℕ)) (front front' : List ℕ) → FrontSoFar text left front
+    → TakesPiece Part left left' front front' → FrontSoFar text left' front'
 front_part text left left' front front' so_far takes =
     let (bytes, plain, taken, is) = so_far in
     let (more, plain', taken', is') = takes in (
@@ -139,22 +150,26 @@ front_part text left left' front front' so_far takes =
       is' ∙ ap (λ l. line_front (l ++ more)) is ∙ front_more bytes more,
     )
 
-comes_true : (text left : Option (List ℕ)) (line : List ℕ) → IsLine line → Consumes text left (line ++ 10 ∷ []) → Comes true text left line
+comes_true : (text left : Option (List ℕ)) (line : List ℕ) → IsLine line → Consumes text left (line ++ 10 ∷ [])
+    → Comes true text left line
 comes_true None left line plain taken = tt
 comes_true (Some text) None line plain taken = absurd taken
 comes_true (Some text) (Some left) line plain taken = (taken ∙ append_assoc line (10 ∷ []) left, plain)
 
-pub front_last : (text left left' : Option (List ℕ)) (front front' : List ℕ) → FrontSoFar text left front → TakesPiece Last left left' front front' → ComesFront true text left' front'
+pub front_last : (text left left' : Option (List ℕ)) (front front' : List ℕ) → FrontSoFar text left front
+    → TakesPiece Last left left' front front' → ComesFront true text left' front'
 front_last text left left' front front' so_far takes =
     let (bytes, plain, taken, is) = so_far in
     let (more, plain', taken', is') = takes in
     let all = Consumes-trans text left left' bytes (more ++ 10 ∷ []) taken taken' in (
       bytes ++ more,
-      comes_true text left' (bytes ++ more) (has_no_feed-append bytes more plain plain') (subst (Consumes text left') (sym (append_assoc bytes more (10 ∷ []))) all),
+      comes_true text left' (bytes ++ more) (has_no_feed-append bytes more plain plain')
+          (subst (Consumes text left') (sym (append_assoc bytes more (10 ∷ []))) all),
       is' ∙ ap (λ l. line_front (l ++ more)) is ∙ front_more bytes more,
     )
 
-pub front_over : (text left left' : Option (List ℕ)) (front front' : List ℕ) → FrontSoFar text left front → TakesPiece Nothing left left' front front' → ComesFront false text left' front'
+pub front_over : (text left left' : Option (List ℕ)) (front front' : List ℕ) → FrontSoFar text left front
+    → TakesPiece Nothing left left' front front' → ComesFront false text left' front'
 front_over None left left' front front' so_far takes = tt
 front_over (Some text) None left' front front' so_far takes = absurd so_far.2
 front_over (Some text) (Some left) left' front front' so_far takes =

@@ -47,23 +47,28 @@ pub mark_same : (a b : Mark) → derived.eq-value.it a b ≡ mark_eq a b
 mark_same a b = both _ _ _ _ (target_same a.target b.target) (both _ _ _ _ (flag_same a.in_static b.in_static)
     (both _ _ _ _ (reach_same a.cycles b.cycles) (reach_same a.places b.places)))
 
-pub list_any_same : {X : Type 0} (f g : X → Bool) → ((x : X) → f x ≡ g x) → (xs : List X) → list_any f xs ≡ list_any g xs
+pub list_any_same : {X : Type 0} (f g : X → Bool) → ((x : X) → f x ≡ g x) → (xs : List X)
+    → list_any f xs ≡ list_any g xs
 list_any_same f g same [] = refl
-list_any_same f g same (x ∷ xs) = let here = same x in let later = list_any_same f g same xs in grind (arith, here, later)
+list_any_same f g same (x ∷ xs) = let here = same x in let later =
+    list_any_same f g same xs in grind (arith, here, later)
 
-pub has_same : {S : Type 0} (set : HashSet Mark S) (m : Mark) → contains_by (derived.eq-value.it m) set ≡ contains mark_eq set m
+pub has_same : {S : Type 0} (set : HashSet Mark S) (m : Mark)
+    → contains_by (derived.eq-value.it m) set ≡ contains mark_eq set m
 has_same set m = list_any_same _ _ (mark_same m) set.keys
 
 pub same_or : (a b c d : Bool) → a ≡ b → c ≡ d → cond a true c ≡ (b || d)
 same_or a b c d one other = grind (arith, one, other)
 
 pub added : {S : Type 0} (old new : HashSet Mark S) (k : Mark)
-    → ((q : Mark) → contains derived.eq-value.it new q ≡ cond (derived.eq-value.it k q) true (contains derived.eq-value.it old q))
+    → ((q : Mark) → contains derived.eq-value.it new q ≡ cond (derived.eq-value.it k q) true
+        (contains derived.eq-value.it old q))
     → (m : Mark) → contains mark_eq new m ≡ (mark_eq k m || contains mark_eq old m)
 added old new k updates m = sym (has_same new m) ∙ updates m ∙ same_or _ _ _ _ (mark_same k m) (has_same old m)
 
 table : (t f ca c pa p had : Bool)
-    → ((t && (f && (ca && pa))) || ((t && (f && (c && pa))) || ((t && (f && (ca && p))) || ((t && (f && (c && p))) || had))))
+    → ((t && (f && (ca && pa))) || ((t && (f && (c && pa))) ||
+        ((t && (f && (ca && p))) || ((t && (f && (c && p))) || had))))
     ≡ ((t && (f && ((ca || c) && (pa || p)))) || had)
 table false f ca c pa p had = refl
 table true false ca c pa p had = refl

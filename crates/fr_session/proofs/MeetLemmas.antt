@@ -16,7 +16,8 @@ use Rattle.fr_session.specs.declared.marks.Mark.{Mark}
 use Rattle.fr_runs.specs.Suiting.{are_alike, cycles_meet, places_meet, lines_meet, line_fits, IsFaultAfter}
 use Rattle.fr_schedule.specs.Descriptions.{Description}
 use Rattle.fr_slots.specs.Admission.{is_channel}
-use Rattle.fr_session.specs.Marks.{mark_eq, is_same, target_eq, is_b, target_of, cycles_of, places_of, in_static, mark_of, at}
+use Rattle.fr_session.specs.Marks.{mark_eq, is_same, target_eq, is_b, target_of, cycles_of, places_of, in_static}
+use Rattle.fr_session.specs.Marks.{mark_of, at}
 use Rattle.fr_session.specs.Marks.{leaves_on, first_by, other_by, finds, is_left_by, AreMarksOf, AddsMarks}
 
 -- ---- on each axis
@@ -46,7 +47,8 @@ on_cycles (cycles.Only cycle) cycles.Every = refl
 on_cycles (cycles.Only cycle) (cycles.Only other) = grind arith
 
 on_places : (one other : FaultPlace) → (is_same (in_static other) (in_static one)
-    && (leaves_on (places_of other) (first_by (places_of one)) || leaves_on (places_of other) (other_by (places_of one))))
+    && (leaves_on (places_of other) (first_by (places_of one)) || leaves_on (places_of other)
+        (other_by (places_of one))))
     ≡ places_meet one other
 on_places EverySlot EverySlot = refl
 on_places EverySlot (Slot other) = refl
@@ -69,14 +71,16 @@ meeting line other =
     let kinds = targets line.fault other.fault in
     let in_time = on_cycles line.cycles other.cycles in
     let in_place = on_places line.place other.place in
-    let all = four (target_eq (target_of other.fault) (target_of line.fault)) (is_same (in_static other.place) (in_static line.place))
+    let all = four (target_eq (target_of other.fault) (target_of line.fault))
+        (is_same (in_static other.place) (in_static line.place))
     (leaves_on (cycles_of other.cycles) (first_by (cycles_of line.cycles)))
     (leaves_on (cycles_of other.cycles) (other_by (cycles_of line.cycles)))
     (leaves_on (places_of other.place) (first_by (places_of line.place)))
     (leaves_on (places_of other.place) (other_by (places_of line.place))) in
     grind (arith, all, kinds, in_time, in_place)
 
-shuffle : (a b c d e f g h : Bool) → ((a || e) || (b || f) || (c || g) || (d || h)) ≡ ((a || b || c || d) || (e || f || g || h))
+shuffle : (a b c d e f g h : Bool) → ((a || e) || (b || f) || (c || g) || (d || h)) ≡
+    ((a || b || c || d) || (e || f || g || h))
 shuffle a b c d e f g h = grind arith
 
 spread : (f g : Mark → Bool) (own : Mark) → finds (λ m. f m || g m) own ≡ (finds f own || finds g own)
@@ -126,7 +130,8 @@ marked_by old new own lines line is marked adds =
 -- a line that fits suits exactly where the marks don't find it
 pub suits_by : (d : Description) (cycles : ℕ) (lines : List FaultLine) (line : FaultLine) (is_found : Bool)
     → is_found ≡ list_any (lines_meet line) lines → line_fits d cycles line ≡ true
-    → (IsTrue (not is_found) → IsFaultAfter d cycles lines line) × (IsFaultAfter d cycles lines line → IsTrue (not is_found))
+    → (IsTrue (not is_found) → IsFaultAfter d cycles lines line) ×
+        (IsFaultAfter d cycles lines line → IsTrue (not is_found))
 suits_by d cycles lines line true is fits =
     ((λ none. cc none), λ suits. cc (is ∙ suits.only))
 suits_by d cycles lines line false is fits = ((λ none. record { fits = fits; only = sym is }), λ suits. refl)

@@ -1,5 +1,6 @@
 -- Blocks, as they are written.
-use Rattle.std.proofs.Common.{◌≡◌, ◌<◌, ℕ, true, List, length, Option, Result, Ok, Err, refl, sym, subst, ◌∙◌, get_or, inl}
+use Rattle.std.proofs.Common.{◌≡◌, ◌<◌, ℕ, true, List, length, Option, Result, Ok, Err, refl, sym, subst, ◌∙◌, get_or}
+use Rattle.std.proofs.Common.{inl}
 use Rattle.std.proofs.lemmas.Bool.{lt-ltb}
 use Rattle.std.proofs.lemmas.List.{get_or_default}
 use Rattle.std.specs.Io.KnownBytes.{Appends}
@@ -9,13 +10,16 @@ use Rattle.fr_session.specs.Queries.{block_text, IsBlock, IsBlockIf, IsBlockOf, 
 use Rattle.fr_text.specs.Writing.{Writes}
 
 -- a block of these lines
-pub block_told : {W A E : Type 0} (contents : W → Option (List ℕ)) (old new : W) (result : Result A E) (lines items : List ℕ) → items ≡ lines → Writes contents old new result (block_text items)
+pub block_told : {W A E : Type 0} (contents : W → Option (List ℕ)) (old new : W) (result : Result A E)
+    (lines items : List ℕ) → items ≡ lines → Writes contents old new result (block_text items)
     → Replies contents old new result (IsBlock lines)
-block_told contents old new (Ok x) lines items is told = (block_text lines, inl refl, subst (λ (l : List ℕ). Appends (contents old) (contents new) (block_text l)) is told)
+block_told contents old new (Ok x) lines items is told = (block_text lines, inl refl,
+    subst (λ (l : List ℕ). Appends (contents old) (contents new) (block_text l)) is told)
 block_told contents old new (Err e) lines items is told = tt
 
 -- of a node that is there
-pub node_told : {W A E : Type 0} (contents : W → Option (List ℕ)) (old new : W) (result : Result A E) (text : State → List ℕ) (w : WorldState) (n : ℕ) (s : State) → n < length w.interfaces → s ≡ get_or w.interfaces n s
+pub node_told : {W A E : Type 0} (contents : W → Option (List ℕ)) (old new : W) (result : Result A E)
+    (text : State → List ℕ) (w : WorldState) (n : ℕ) (s : State) → n < length w.interfaces → s ≡ get_or w.interfaces n s
     → Replies contents old new result (IsBlock (text s)) → Replies contents old new result (IsBlockOf text w n)
 node_told contents old new result text w n s within is told =
     let has : has_node w n ≡ true = lt-ltb n (length w.interfaces) within in

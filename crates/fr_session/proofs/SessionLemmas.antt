@@ -1,5 +1,6 @@
 -- A session goes on by one line.
-use Rattle.std.proofs.Common.{◌≡◌, ℕ, ◌+◌, true, false, List, [], ◌∷◌, ◌++◌, length, Option, Some, None, refl, sym, ap, subst, ◌∙◌, append_assoc, arith, length-append}
+use Rattle.std.proofs.Common.{◌≡◌, ℕ, ◌+◌, true, false, List, [], ◌∷◌, ◌++◌, length, Option, Some, None, refl, sym, ap}
+use Rattle.std.proofs.Common.{subst, ◌∙◌, append_assoc, arith, length-append}
 use Rattle.std.proofs.lemmas.List.{append-nil}
 use Rattle.std.specs.List.{flat_map}
 use Rattle.std.specs.Io.KnownBytes.{Appends, Keeps}
@@ -13,17 +14,20 @@ serves_none : (terms : Terms) (w : SessionState) (number : ℕ) → Serves terms
 unfolding Serves
 serves_none terms w number = (refl, refl)
 
-serves_more : (terms : Terms) (old : SessionState) (number : ℕ) (lines : List (List ℕ)) (replies : List ℕ) (between : SessionState) (line reply : List ℕ) (new : SessionState)
+serves_more : (terms : Terms) (old : SessionState) (number : ℕ) (lines : List (List ℕ)) (replies : List ℕ)
+    (between : SessionState) (line reply : List ℕ) (new : SessionState)
     → Serves terms old number lines replies between → Does terms between (number + length lines) line reply new
     → Serves terms old number (lines ++ line ∷ []) (replies ++ reply) new
 unfolding Serves
 serves_more terms old number [] replies between line reply new so_far does =
-    let here : Does terms old number line reply new = subst (λ (w : SessionState). Does terms w number line reply new) so_far.1
+    let here : Does terms old number line reply new = subst (λ (w : SessionState). Does terms w number line reply new)
+        so_far.1
     (subst (λ k. Does terms between k line reply new) (omega arith) does) in
     (new, reply, [], here, ap (λ r. r ++ reply) so_far.0 ∙ sym (append-nil reply), (refl, refl))
 serves_more terms old number (first ∷ lines) replies between line reply new so_far does =
     let (mid, answer, later, did, is, rest) = so_far in
-    let there : Does terms between (number + 1 + length lines) line reply new = subst (λ k. Does terms between k line reply new) (omega arith) does in (
+    let there : Does terms between (number + 1 + length lines) line reply new =
+        subst (λ k. Does terms between k line reply new) (omega arith) does in (
       mid,
       answer,
       later ++ reply,
@@ -36,7 +40,8 @@ are_lines_more : (lines : List (List ℕ)) (line : List ℕ) → AreLines lines 
 are_lines_more [] line all is = (is, tt)
 are_lines_more (first ∷ lines) line all is = (all.0, are_lines_more lines line all.1 is)
 
-feeds_more : (lines : List (List ℕ)) (line left : List ℕ) → flat_map with_feed (lines ++ line ∷ []) ++ left ≡ flat_map with_feed lines ++ (line ++ 10 ∷ left)
+feeds_more : (lines : List (List ℕ)) (line left : List ℕ) → flat_map with_feed (lines ++ line ∷ []) ++ left ≡ flat_map
+    with_feed lines ++ (line ++ 10 ∷ left)
 feeds_more [] line left =
     ap (λ l. l ++ left) (append-nil (with_feed line)) ∙ append_assoc line (10 ∷ []) left
 feeds_more (first ∷ lines) line left =
@@ -45,7 +50,8 @@ feeds_more (first ∷ lines) line left =
     ∙ sym (append_assoc (with_feed first) (flat_map with_feed lines) (line ++ 10 ∷ left))
 
 -- the lines that were read so far are answered
-abbrev pub SoFar : Terms → Option (List ℕ) → Option (List ℕ) → Option (List ℕ) → Option (List ℕ) → ℕ → SessionState → SessionState → Type 0
+abbrev pub SoFar : Terms → Option (List ℕ) → Option (List ℕ) → Option (List ℕ) → Option (List ℕ) → ℕ → SessionState
+    → SessionState → Type 0
 SoFar terms None left before after number old new = Unit {0}
 SoFar terms (Some text) None before after number old new = ⊥
 SoFar terms (Some text) (Some left) before after number old new =
@@ -64,11 +70,13 @@ appends_kept (Some x) None c xs first second = absurd first
 appends_kept (Some x) (Some y) None xs first second = absurd second
 appends_kept (Some x) (Some y) (Some z) xs first second = second ∙ first
 
-pub so_far_none : (terms : Terms) (text before after : Option (List ℕ)) (w : SessionState) → Appends before after greeting → SoFar terms text text before after 1 w w
+pub so_far_none : (terms : Terms) (text before after : Option (List ℕ)) (w : SessionState)
+    → Appends before after greeting → SoFar terms text text before after 1 w w
 so_far_none terms None before after w told = tt
 so_far_none terms (Some text) before after w told = ([], [], refl, tt, refl, serves_none terms w 1, told)
 
-pub so_far_more : (terms : Terms) (text left left' before after after' : Option (List ℕ)) (number : ℕ) (old mid new : SessionState)
+pub so_far_more : (terms : Terms) (text left left' before after after' : Option (List ℕ)) (number : ℕ)
+    (old mid new : SessionState)
     → SoFar terms text left before after number old mid → AnswersNext terms true left left' after after' number mid new
     → SoFar terms text left' before after' (number + 1) old new
 so_far_more terms None left left' before after after' number old mid new so_far next = tt
@@ -77,17 +85,20 @@ so_far_more terms (Some text) (Some left) None before after after' number old mi
 so_far_more terms (Some text) (Some left) (Some left') before after after' number old mid new so_far next =
     let (lines, replies, is, all, count, serves, told) = so_far in
     let (line, reply, comes, does, tells) = next in
-    let here : Does terms mid (1 + length lines) line reply new = subst (λ k. Does terms mid k line reply new) count does in (
+    let here : Does terms mid (1 + length lines) line reply new =
+        subst (λ k. Does terms mid k line reply new) count does in (
       lines ++ line ∷ [],
       replies ++ reply,
       is ∙ ap (λ l. flat_map with_feed lines ++ l) comes.0 ∙ sym (feeds_more lines line left'),
       are_lines_more lines line all comes.1,
       omega (arith, count, length-append lines (line ∷ [])),
       serves_more terms old 1 lines replies mid line reply new serves here,
-      subst (Appends before after') (append_assoc greeting replies reply) (appends_more before after after' (greeting ++ replies) reply told tells),
+      subst (Appends before after') (append_assoc greeting replies reply)
+          (appends_more before after after' (greeting ++ replies) reply told tells),
     )
 
-pub so_far_over : (terms : Terms) (text left left' before after after' : Option (List ℕ)) (number : ℕ) (old mid new : SessionState)
+pub so_far_over : (terms : Terms) (text left left' before after after' : Option (List ℕ)) (number : ℕ)
+    (old mid new : SessionState)
     → SoFar terms text left before after number old mid → AnswersNext terms false left left' after after' number mid new
     → Served terms text before after' old new
 so_far_over terms None left left' before after after' number old mid new so_far next = tt
@@ -103,8 +114,10 @@ so_far_over terms (Some text) (Some left) left' before after after' number old m
     )
 
 -- a line of which the front was kept is answered by that
-pub answered_front : (terms : Terms) (text left before after : Option (List ℕ)) (number : ℕ) (front : List ℕ) (old new : SessionState)
-    → ComesFront true text left front → (reply : List ℕ) × DoesIf terms old number (asked_in front) reply new × Appends before after reply
+pub answered_front : (terms : Terms) (text left before after : Option (List ℕ)) (number : ℕ) (front : List ℕ)
+    (old new : SessionState)
+    → ComesFront true text left front → (reply : List ℕ) × DoesIf terms old number (asked_in front) reply new
+        × Appends before after reply
     → AnswersNext terms true text left before after number old new
 answered_front terms text left before after number front old new comes answered =
     let (line, whole, is) = comes in

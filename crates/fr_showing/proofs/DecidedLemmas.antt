@@ -1,6 +1,7 @@
 -- The first entry that does something to a commit decides what became of it: in a legal journal no entry after it sends
 -- the commit or takes it back, unless it was sent.
-use Rattle.std.proofs.Common.{◌≡◌, ◌⊎◌, inl, inr, ℕ, ◌+◌, ◌<◌, Bool, true, false, cond, not, ◌||◌, ◌&&◌, List, [], ◌∷◌, ◌++◌}
+use Rattle.std.proofs.Common.{◌≡◌, ◌⊎◌, inl, inr, ℕ, ◌+◌, ◌<◌, Bool, true, false, cond, not, ◌||◌, ◌&&◌, List, [], ◌∷◌}
+use Rattle.std.proofs.Common.{◌++◌}
 use Rattle.std.proofs.Common.{drop, length, length-append, Option, Some, None, refl, sym, ap, subst, ◌∙◌, arith}
 use Rattle.std.specs.Prelude.{slice_get, IsSomeAnd}
 use Rattle.std.specs.List.{list_any}
@@ -58,12 +59,14 @@ pub record Awaits (xs : List Entry) (k : ℕ) : Type 0 where
   pub number : ℕ
   pub pending : pending_commit number xs ≡ Some k
 
-pending_held : (number : ℕ) (xs : List Entry) (k : ℕ) → pending_commit number xs ≡ Some k → held_commit number xs ≡ Some k
+pending_held : (number : ℕ) (xs : List Entry) (k : ℕ) → pending_commit number xs ≡ Some k
+    → held_commit number xs ≡ Some k
 pending_held number xs k is =
     let parts = pending_is number xs k is in
     held-some number xs k parts.0 (pending_stands number xs k parts.1)
 
-ready_held : (m : Mode) (number : ℕ) (xs : List Entry) (k : ℕ) → ready m number xs ≡ Some k → held_commit number xs ≡ Some k
+ready_held : (m : Mode) (number : ℕ) (xs : List Entry) (k : ℕ) → ready m number xs ≡ Some k
+    → held_commit number xs ≡ Some k
 ready_held mode.Event number xs k is = pending_held number xs k is
 ready_held mode.State number xs k is = is
 ready_held mode.Receive number xs k is = absurd cc
@@ -89,18 +92,21 @@ module _ (params : Parameters) (plan : Plan) where
       by_line None is = absurd cc
       by_line (Some b) is = record { number = number; held = ready_held b.mode number xs k is }
 
-  of_offer : (xs : List Entry) (k : ℕ) (t : Bool) (o : Option ℕ) → cond t (option_and_then (ready_in plan xs) o) None ≡ Some k → Holds xs k
+  of_offer : (xs : List Entry) (k : ℕ) (t : Bool) (o : Option ℕ)
+      → cond t (option_and_then (ready_in plan xs) o) None ≡ Some k → Holds xs k
   of_offer xs k true o is = of_buffer xs k o is
   of_offer xs k false o is = absurd cc
 
-  data_held : (xs : List Entry) (w : Opportunity) (channel : Channel) (k : ℕ) → is_data_of k (offered plan xs w channel) ≡ true → Holds xs k
+  data_held : (xs : List Entry) (w : Opportunity) (channel : Channel) (k : ℕ)
+      → is_data_of k (offered plan xs w channel) ≡ true → Holds xs k
   data_held xs w channel k is = by_slot (slot_of w channel) is
     where
       by_slot : (slot : Option ℕ) → is_data_of k (offered_at plan xs w channel slot) ≡ true → Holds xs k
       by_slot None is = absurd cc
       by_slot (Some slot) is =
           of_offer xs k (may_begin plan w channel) (transmitter plan w channel)
-          (named k (cond (owns plan w channel slot) Null Nothing) (commit_offered plan xs w channel) (no_data (owns plan w channel slot) k) is)
+          (named k (cond (owns plan w channel slot) Null Nothing) (commit_offered plan xs w channel)
+              (no_data (owns plan w channel slot) k) is)
 
   sent_held : (xs : List Entry) (e : Entry) (k : ℕ) → IsLegal params plan xs e → sends k e ≡ true → Holds xs k
   sent_held xs (Commit task buffer payload) k legal is = absurd cc
@@ -139,7 +145,8 @@ still_withdrawn false false t u is unsent = absurd cc
 module _ (buffer : ℕ) (xs : List Entry) (e : Entry) (k : ℕ) (lt : k < length xs) where
   any_then : (p : Entry → Bool) → list_any p (drop (k + 1) (xs ++ e ∷ [])) ≡ (list_any p (drop (k + 1) xs) || p e)
   any_then p =
-      ap (list_any p) (drop-front xs (e ∷ []) (k + 1) (omega (arith, lt))) ∙ list_any-append p (drop (k + 1) xs) (e ∷ [])
+      ap (list_any p) (drop-front xs (e ∷ []) (k + 1) (omega (arith, lt))) ∙ list_any-append p (drop (k + 1) xs)
+          (e ∷ [])
       ∙ ap (λ (b : Bool). list_any p (drop (k + 1) xs) || b) (or_none (p e))
 
   -- a withdrawn commit stays one, where the entry doesn't send it
@@ -148,7 +155,8 @@ module _ (buffer : ℕ) (xs : List Entry) (e : Entry) (k : ℕ) (lt : k < length
       let s : Bool = list_any (sends k) (drop (k + 1) xs) in
       let w : Bool = list_any (takes_back k) (drop (k + 1) xs) in
       let c : Bool = list_any (is_commit_on buffer) (drop (k + 1) xs) in
-      withdrawn_by (list_any (sends k) (drop (k + 1) (xs ++ e ∷ []))) (list_any (takes_back k) (drop (k + 1) (xs ++ e ∷ [])))
+      withdrawn_by (list_any (sends k) (drop (k + 1) (xs ++ e ∷ [])))
+          (list_any (takes_back k) (drop (k + 1) (xs ++ e ∷ [])))
       (list_any (is_commit_on buffer) (drop (k + 1) (xs ++ e ∷ [])))
       ∙ (λ i. not (any_then (sends k) i) && any_then (takes_back k) i)
       ∙ still_withdrawn s w (sends k e) (takes_back k e) (sym (withdrawn_by s w c) ∙ is) unsent
@@ -164,16 +172,21 @@ module _ (params : Parameters) (plan : Plan) (buffer k : ℕ) where
       same_entry h.number buffer (slice_get xs k) (last_there xs h.number k (held_is h.number xs k h.held).0) there in
       subst (λ (n : ℕ). held_commit n xs ≡ Some k) same h.held
 
-  unsent : (xs : List Entry) (e : Entry) → IsLegal params plan xs e → IsCommitAt buffer xs k → IsGone xs → sends k e ≡ false
-  unsent xs e legal there gone = is_false (sends k e) (λ is. gone (on_buffer xs there (sent_held params plan xs e k legal is)))
+  unsent : (xs : List Entry) (e : Entry) → IsLegal params plan xs e → IsCommitAt buffer xs k → IsGone xs
+      → sends k e ≡ false
+  unsent xs e legal there gone = is_false (sends k e) (λ is. gone
+      (on_buffer xs there (sent_held params plan xs e k legal is)))
 
-  untaken : (xs : List Entry) (e : Entry) → IsLegal params plan xs e → IsCommitAt buffer xs k → IsGone xs → takes_back k e ≡ false
+  untaken : (xs : List Entry) (e : Entry) → IsLegal params plan xs e → IsCommitAt buffer xs k → IsGone xs
+      → takes_back k e ≡ false
   untaken xs e legal there gone =
       is_false (takes_back k e) (λ is.
       let awaits = taken_pending params plan xs e k legal is in
-      gone (on_buffer xs there (record { number = awaits.number; held = pending_held awaits.number xs k awaits.pending })))
+      gone (on_buffer xs there (record { number = awaits.number; held =
+          pending_held awaits.number xs k awaits.pending })))
 
-  stays_gone : (xs : List Entry) (e : Entry) → IsLegal params plan xs e → k < length xs → IsCommitAt buffer xs k → IsGone xs → IsGone (xs ++ e ∷ [])
+  stays_gone : (xs : List Entry) (e : Entry) → IsLegal params plan xs e → k < length xs → IsCommitAt buffer xs k
+      → IsGone xs → IsGone (xs ++ e ∷ [])
   stays_gone xs e legal lt there gone held = by_commit (is_commit_on buffer e) refl
     where
       last : last_commit buffer (xs ++ e ∷ []) ≡ Some k
@@ -184,7 +197,8 @@ module _ (params : Parameters) (plan : Plan) (buffer k : ℕ) where
 
       by_withdrawn : (t : Bool) → last_commit buffer xs ≡ Some k → withdrawn_at buffer xs k ≡ t → ⊥
       by_withdrawn true before is =
-          let never : true ≡ false = sym (stays_withdrawn buffer xs e k lt is (unsent xs e legal there gone)) ∙ stands in absurd cc
+          let never : true ≡ false = sym (stays_withdrawn buffer xs e k lt is (unsent xs e legal there gone))
+              ∙ stands in absurd cc
       by_withdrawn false before is = gone (held-some buffer xs k before is)
 
       by_commit : (t : Bool) → is_commit_on buffer e ≡ t → ⊥
@@ -192,26 +206,34 @@ module _ (params : Parameters) (plan : Plan) (buffer k : ℕ) where
           let same : Some (length xs) ≡ Some k = sym (last_commit-commit buffer xs e on) ∙ last in
           let number : length xs ≡ k = cc in
           omega (arith, number, lt)
-      by_commit false off = by_withdrawn (withdrawn_at buffer xs k) (sym (last_commit-other buffer xs e off) ∙ last) refl
+      by_commit false off = by_withdrawn (withdrawn_at buffer xs k)
+          (sym (last_commit-other buffer xs e off) ∙ last) refl
 
-  stays_there : (xs : List Entry) (e : Entry) → k < length xs → IsCommitAt buffer xs k → IsCommitAt buffer (xs ++ e ∷ []) k
-  stays_there xs e lt there = subst (λ (o : Option Entry). IsSomeAnd o (λ e. is_commit_on buffer e ≡ true)) (sym (slice_get-front xs (e ∷ []) k lt)) there
+  stays_there : (xs : List Entry) (e : Entry) → k < length xs → IsCommitAt buffer xs k
+      → IsCommitAt buffer (xs ++ e ∷ []) k
+  stays_there xs e lt there = subst (λ (o : Option Entry). IsSomeAnd o (λ e. is_commit_on buffer e ≡ true))
+      (sym (slice_get-front xs (e ∷ []) k lt)) there
 
-  any_none : (p : Entry → Bool) (e : Entry) (rest : List Entry) → p e ≡ false → list_any p rest ≡ false → list_any p (e ∷ rest) ≡ false
+  any_none : (p : Entry → Bool) (e : Entry) (rest : List Entry) → p e ≡ false → list_any p rest ≡ false
+      → list_any p (e ∷ rest) ≡ false
   any_none p e rest here later = λ i. here i || later i
 
   -- after that no entry sends it, and none takes it back
-  pub undone : (xs rest : List Entry) → AllAfter (IsLegal params plan) xs rest → k < length xs → IsCommitAt buffer xs k → IsGone xs
+  pub undone : (xs rest : List Entry) → AllAfter (IsLegal params plan) xs rest → k < length xs → IsCommitAt buffer xs k
+      → IsGone xs
       → (list_any (sends k) rest ≡ false) × (list_any (takes_back k) rest ≡ false)
   unfolding AllAfter
   undone xs [] legal lt there gone = (refl, refl)
   undone xs (e ∷ rest) legal lt there gone =
-      let later = undone (xs ++ e ∷ []) rest legal.1 (omega (arith, lt, length-append xs (e ∷ []))) (stays_there xs e lt there) (stays_gone xs e legal.0 lt there gone) in
-      (any_none (sends k) e rest (unsent xs e legal.0 there gone) later.0, any_none (takes_back k) e rest (untaken xs e legal.0 there gone) later.1)
+      let later = undone (xs ++ e ∷ []) rest legal.1 (omega (arith, lt, length-append xs (e ∷ [])))
+          (stays_there xs e lt there) (stays_gone xs e legal.0 lt there gone) in
+      (any_none (sends k) e rest (unsent xs e legal.0 there gone) later.0,
+          any_none (takes_back k) e rest (untaken xs e legal.0 there gone) later.1)
 
   -- ---- what ends it
 
-  pub gone_by_commit : (xs : List Entry) (e : Entry) → k < length xs → is_commit_on buffer e ≡ true → IsGone (xs ++ e ∷ [])
+  pub gone_by_commit : (xs : List Entry) (e : Entry) → k < length xs → is_commit_on buffer e ≡ true
+      → IsGone (xs ++ e ∷ [])
   gone_by_commit xs e lt on held =
       let same : Some (length xs) ≡ Some k = sym (held-commit buffer xs e on) ∙ held in
       let number : length xs ≡ k = cc in
@@ -225,12 +247,15 @@ module _ (params : Parameters) (plan : Plan) (buffer k : ℕ) where
   taking (Fetch w a b) is = absurd cc
   taking (Observe number a b) is = absurd cc
 
-  pub gone_by_withdraw : (xs : List Entry) (e : Entry) → IsLegal params plan xs e → IsCommitAt buffer xs k → takes_back k e ≡ true → IsGone (xs ++ e ∷ [])
+  pub gone_by_withdraw : (xs : List Entry) (e : Entry) → IsLegal params plan xs e → IsCommitAt buffer xs k
+      → takes_back k e ≡ true → IsGone (xs ++ e ∷ [])
   gone_by_withdraw xs e legal there is held =
       let awaits = taken_pending params plan xs e k legal is in
       let same : awaits.number ≡ buffer =
-      same_entry awaits.number buffer (slice_get xs k) (last_there xs awaits.number k (pending_is awaits.number xs k awaits.pending).0) there in
+      same_entry awaits.number buffer (slice_get xs k) (last_there xs awaits.number k
+          (pending_is awaits.number xs k awaits.pending).0) there in
       let parts = taking e is in
       let none : held_commit buffer (xs ++ e ∷ []) ≡ None =
-      held-taken buffer xs e parts.0 parts.1 k (subst (λ (n : ℕ). pending_commit n xs ≡ Some k) same awaits.pending) is in
+      held-taken buffer xs e parts.0 parts.1 k (subst (λ (n : ℕ). pending_commit n xs ≡ Some k) same awaits.pending) is
+          in
       let never : None ≡ Some k = sym none ∙ held in absurd cc

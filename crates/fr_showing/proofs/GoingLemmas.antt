@@ -33,7 +33,8 @@ there (y ∷ xs) zero x is =
 there (y ∷ xs) (suc n) x is =
     let h = there xs n x is in
     let lt : n < length xs = h.within in
-    record { within = omega (arith, lt); passed = ap (λ (l : List _). y ∷ l) h.passed; left = h.left; place = ap suc h.place }
+    record { within = omega (arith, lt); passed = ap (λ (l : List _). y ∷ l) h.passed; left = h.left; place =
+        ap suc h.place }
 
 pub here : {X : Type 0} (xs : List X) (n : ℕ) (x : X) → slice_get xs n ≡ Some x → IsHere xs n x
 here xs n x is =
@@ -64,13 +65,16 @@ length_passed [] (suc n) le = absurd (omega (arith, le))
 length_passed (x ∷ xs) (suc n) le = ap suc (length_passed xs n (omega (arith, le)))
 
 -- what is so of each one after those before it is so of those that are left
-pub AllAfter-rest : {X : Type 0} (P : List X → X → Type 0) (before xs ys : List X) → AllAfter P before (xs ++ ys) → AllAfter P (before ++ xs) ys
+pub AllAfter-rest : {X : Type 0} (P : List X → X → Type 0) (before xs ys : List X) → AllAfter P before (xs ++ ys)
+    → AllAfter P (before ++ xs) ys
 unfolding AllAfter
 AllAfter-rest P before [] ys all = subst (λ (b : List _). AllAfter P b ys) (sym (append-nil before)) all
 AllAfter-rest P before (x ∷ xs) ys all =
-    subst (λ (b : List _). AllAfter P b ys) (append_assoc before (x ∷ []) xs) (AllAfter-rest P (before ++ x ∷ []) xs ys all.1)
+    subst (λ (b : List _). AllAfter P b ys) (append_assoc before (x ∷ []) xs)
+        (AllAfter-rest P (before ++ x ∷ []) xs ys all.1)
 
-pub left_after : {X : Type 0} (P : List X → X → Type 0) (xs : List X) (n : ℕ) → AllAfter P [] xs → AllAfter P (take n xs) (drop n xs)
+pub left_after : {X : Type 0} (P : List X → X → Type 0) (xs : List X) (n : ℕ) → AllAfter P [] xs
+    → AllAfter P (take n xs) (drop n xs)
 left_after P xs n all = AllAfter-rest P [] (take n xs) (drop n xs) (subst (AllAfter P []) (sym (both xs n)) all)
 
 -- ---- what is left to be written
@@ -84,18 +88,21 @@ module _ {X A : Type 0} (f : List X → X → List A) (text : A → List ℕ) (x
     -- where the text of those that are left is written too, all is
     pub then_all : (new : Option (List ℕ)) → Appends now new (text_left n) → Appends old new all
 
-  text_here : (n : ℕ) (x : X) → slice_get xs n ≡ Some x → text_left n ≡ flat_map text (f (take n xs) x) ++ text_left (n + 1)
+  text_here : (n : ℕ) (x : X) → slice_get xs n ≡ Some x → text_left n ≡ flat_map text (f (take n xs) x) ++ text_left
+      (n + 1)
   unfolding each_after
   text_here n x is =
       let h = here xs n x is in
       ap (λ (l : List X). flat_map text (each_after f (take n xs) l)) h.left
       ∙ flat_map-append text (f (take n xs) x) (each_after f (take n xs ++ x ∷ []) (drop (n + 1) xs))
-      ∙ ap (λ (l : List X). flat_map text (f (take n xs) x) ++ flat_map text (each_after f l (drop (n + 1) xs))) (sym h.passed)
+      ∙ ap (λ (l : List X). flat_map text (f (take n xs) x) ++ flat_map text (each_after f l (drop (n + 1) xs)))
+          (sym h.passed)
 
   pub starts : (all : List ℕ) (old : Option (List ℕ)) (n : ℕ) → text_left n ≡ all → IsWritten all old old n
   starts all old n is = record { then_all = λ new more. subst (λ (t : List ℕ). Appends old new t) is more }
 
-  pub goes_on : (all : List ℕ) (old now mid : Option (List ℕ)) (n : ℕ) (x : X) → slice_get xs n ≡ Some x → IsWritten all old now n
+  pub goes_on : (all : List ℕ) (old now mid : Option (List ℕ)) (n : ℕ) (x : X) → slice_get xs n ≡ Some x
+      → IsWritten all old now n
       → Appends now mid (flat_map text (f (take n xs) x)) → IsWritten all old mid (n + 1)
   goes_on all old now mid n x is so_far one = record {
     then_all = λ new more.
@@ -105,10 +112,13 @@ module _ {X A : Type 0} (f : List X → X → List A) (text : A → List ℕ) (x
   }
 
   -- where nothing is left to be written, all is written
-  pub ends : (all : List ℕ) (old now : Option (List ℕ)) (n : ℕ) → text_left n ≡ [] → IsWritten all old now n → Appends old now all
-  ends all old now n none so_far = so_far.then_all now (subst (λ (t : List ℕ). Appends now now t) (sym none) (Appends-nil now))
+  pub ends : (all : List ℕ) (old now : Option (List ℕ)) (n : ℕ) → text_left n ≡ [] → IsWritten all old now n
+      → Appends old now all
+  ends all old now n none so_far = so_far.then_all now (subst (λ (t : List ℕ). Appends now now t) (sym none)
+      (Appends-nil now))
 
-  pub ends_behind : (all : List ℕ) (old now : Option (List ℕ)) (n : ℕ) → length xs ≤ n → IsWritten all old now n → Appends old now all
+  pub ends_behind : (all : List ℕ) (old now : Option (List ℕ)) (n : ℕ) → length xs ≤ n → IsWritten all old now n
+      → Appends old now all
   unfolding each_after
   ends_behind all old now n le so_far =
       ends all old now n (ap (λ (l : List X). flat_map text (each_after f (take n xs) l)) (nothing_left xs n le)) so_far
@@ -121,20 +131,24 @@ range_more first (suc count) =
     let next : suc count + 1 ≡ suc (count + 1) = omega arith in
     let place : first + 1 + count ≡ first + suc count = omega arith in
     ap (λ (n : ℕ). range_with_len first n) next
-    ∙ ap (λ (xs : List ℕ). first ∷ xs) (range_more (first + 1) count ∙ ap (λ (n : ℕ). range_with_len (first + 1) count ++ n ∷ []) place)
+    ∙ ap (λ (xs : List ℕ). first ∷ xs) (range_more (first + 1) count ∙ ap
+        (λ (n : ℕ). range_with_len (first + 1) count ++ n ∷ []) place)
 
 -- the texts of one number's list more
-pub one_list_more : {A : Type 0} (text : A → List ℕ) (f : ℕ → List A) (n : ℕ) (old mid new : Option (List ℕ)) → Appends old mid (flat_map text (flat_map f (range_with_len 0 n)))
+pub one_list_more : {A : Type 0} (text : A → List ℕ) (f : ℕ → List A) (n : ℕ) (old mid new : Option (List ℕ))
+    → Appends old mid (flat_map text (flat_map f (range_with_len 0 n)))
     → Appends mid new (flat_map text (f n)) → Appends old new (flat_map text (flat_map f (range_with_len 0 (n + 1))))
 one_list_more text f n old mid new before more =
     let place : 0 + n ≡ n = omega arith in
     let all : flat_map f (range_with_len 0 (n + 1)) ≡ flat_map f (range_with_len 0 n) ++ f n =
     ap (flat_map f) (range_more 0 n) ∙ flat_map-append f (range_with_len 0 n) ((0 + n) ∷ [])
     ∙ ap (λ (l : List _). flat_map f (range_with_len 0 n) ++ l) (append-nil (f (0 + n)) ∙ ap f place) in
-    subst (λ (t : List ℕ). Appends old new t) (sym (ap (flat_map text) all ∙ flat_map-append text (flat_map f (range_with_len 0 n)) (f n)))
+    subst (λ (t : List ℕ). Appends old new t) (sym
+        (ap (flat_map text) all ∙ flat_map-append text (flat_map f (range_with_len 0 n)) (f n)))
     (Appends-trans old mid new (flat_map text (flat_map f (range_with_len 0 n))) (flat_map text (f n)) before more)
 
 -- ---- an element that a loop has
 
-pub left_here : {X : Type 0} (xs : List X) (n : ℕ) (x : X) → n < length xs → x ≡ get_or xs n x → drop n xs ≡ x ∷ drop (n + 1) xs
+pub left_here : {X : Type 0} (xs : List X) (n : ℕ) (x : X) → n < length xs → x ≡ get_or xs n x
+    → drop n xs ≡ x ∷ drop (n + 1) xs
 left_here xs n x lt is = (here xs n x (slice_get_read xs (length xs) n x refl lt is)).left

@@ -1,5 +1,6 @@
 -- Whether a line struck something, one window more, and the lines that struck nothing, one line more.
-use Rattle.std.proofs.Common.{◌≡◌, ℕ, ◌+◌, ◌-◌, ◌≤◌, ◌<◌, ◌||◌, Bool, cond, true, false, List, [], ◌∷◌, ◌++◌, length, take, drop, get_or, refl, sym, ap}
+use Rattle.std.proofs.Common.{◌≡◌, ℕ, ◌+◌, ◌-◌, ◌≤◌, ◌<◌, ◌||◌, Bool, cond, true, false, List, [], ◌∷◌, ◌++◌, length}
+use Rattle.std.proofs.Common.{take, drop, get_or, refl, sym, ap}
 use Rattle.std.proofs.Common.{◌∙◌, ◌⊎◌, inl, inr, append_assoc}
 use Rattle.std.proofs.lemmas.List.{append-nil, drop_all, drop_more}
 use Rattle.fr_bus.specs.Record.{Recorded}
@@ -11,24 +12,30 @@ use Rattle.fr_slots.specs.Parameters.{Parameters}
 
 -- ---- one window more
 
-module _ (rs : List Recorded) (n : ℕ) (r : Recorded) (lt : n < length rs) (is : r ≡ get_or rs n r) (p : Parameters) (line : FaultLine) where
+module _ (rs : List Recorded) (n : ℕ) (r : Recorded) (lt : n < length rs) (is : r ≡ get_or rs n r) (p : Parameters)
+    (line : FaultLine) where
   next_left : drop n rs ≡ r ∷ drop (n + 1) rs
   next_left = drop_more rs n r lt ∙ ap (λ (x : Recorded). x ∷ drop (n + 1) rs) (sym is)
 
   by_front : (front : List Recorded) → take n rs ++ r ∷ [] ≡ front
-      → has_struck_after p line (take n rs) (r ∷ drop (n + 1) rs) ≡ (has_struck_in p line (cycles_begun front - 1) r || has_struck_after p line front (drop (n + 1) rs))
+      → has_struck_after p line (take n rs) (r ∷ drop (n + 1) rs) ≡
+          (has_struck_in p line (cycles_begun front - 1) r || has_struck_after p line front (drop (n + 1) rs))
   unfolding has_struck_after
-  by_front front same = ap (λ (f : List Recorded). has_struck_in p line (cycles_begun f - 1) r || has_struck_after p line f (drop (n + 1) rs)) same
+  by_front front same = ap (λ (f : List Recorded). has_struck_in p line (cycles_begun f - 1) r
+      || has_struck_after p line f (drop (n + 1) rs)) same
 
   -- the windows that are left, by the first of them
   pub struck_by_next : (begun : ℕ) → begun ≡ cycles_begun (take (n + 1) rs)
-      → has_struck_after p line (take n rs) (drop n rs) ≡ (has_struck_in p line (begun - 1) r || has_struck_after p line (take (n + 1) rs) (drop (n + 1) rs))
+      → has_struck_after p line (take n rs) (drop n rs) ≡ (has_struck_in p line (begun - 1) r || has_struck_after p line
+          (take (n + 1) rs) (drop (n + 1) rs))
   struck_by_next begun begun_is =
       ap (has_struck_after p line (take n rs)) next_left
       ∙ by_front (take (n + 1) rs) (sym (passed rs n r lt is))
-      ∙ ap (λ (b : ℕ). has_struck_in p line (b - 1) r || has_struck_after p line (take (n + 1) rs) (drop (n + 1) rs)) (sym begun_is)
+      ∙ ap (λ (b : ℕ). has_struck_in p line (b - 1) r || has_struck_after p line (take (n + 1) rs) (drop (n + 1) rs))
+          (sym begun_is)
 
-pub struck_in_none : (p : Parameters) (line : FaultLine) (rs : List Recorded) (n : ℕ) → length rs ≤ n → has_struck_after p line (take n rs) (drop n rs) ≡ false
+pub struck_in_none : (p : Parameters) (line : FaultLine) (rs : List Recorded) (n : ℕ) → length rs ≤ n
+    → has_struck_after p line (take n rs) (drop n rs) ≡ false
 unfolding has_struck_after
 struck_in_none p line rs n all = ap (has_struck_after p line (take n rs)) (drop_all n rs all)
 
@@ -46,22 +53,29 @@ module _ (p : Parameters) (rs : List Recorded) where
 
   module _ (line : FaultLine) (lines : List FaultLine) (number : ℕ) (numbers idle all : List ℕ)
       (so_far : idle ++ idle_numbers p rs (line ∷ lines) (number ∷ numbers) ≡ all) where
-    by_first : idle_numbers p rs (line ∷ lines) (number ∷ numbers) ≡ cond (has_struck p rs line) (idle_numbers p rs lines numbers) (number ∷ idle_numbers p rs lines numbers)
+    by_first : idle_numbers p rs (line ∷ lines) (number ∷ numbers) ≡ cond (has_struck p rs line)
+        (idle_numbers p rs lines numbers) (number ∷ idle_numbers p rs lines numbers)
     unfolding idle_numbers
     by_first = refl
 
     -- a line that struck something
     pub line_struck : has_struck p rs line ≡ true → idle ++ idle_numbers p rs lines numbers ≡ all
-    line_struck struck = sym (ap (λ (xs : List ℕ). idle ++ xs) (by_first ∙ ap (λ (b : Bool). cond b (idle_numbers p rs lines numbers) (number ∷ idle_numbers p rs lines numbers)) struck)) ∙ so_far
+    line_struck struck = sym (ap (λ (xs : List ℕ). idle ++ xs)
+        (by_first ∙ ap (λ (b : Bool). cond b (idle_numbers p rs lines numbers)
+        (number ∷ idle_numbers p rs lines numbers)) struck)) ∙ so_far
 
     -- a line that struck nothing
     pub line_idle : has_struck p rs line ≡ false → (idle ++ number ∷ []) ++ idle_numbers p rs lines numbers ≡ all
     line_idle none =
         append_assoc idle (number ∷ []) (idle_numbers p rs lines numbers)
-        ∙ sym (ap (λ (xs : List ℕ). idle ++ xs) (by_first ∙ ap (λ (b : Bool). cond b (idle_numbers p rs lines numbers) (number ∷ idle_numbers p rs lines numbers)) none)) ∙ so_far
+        ∙ sym (ap (λ (xs : List ℕ). idle ++ xs) (by_first ∙ ap
+            (λ (b : Bool). cond b (idle_numbers p rs lines numbers) (number ∷ idle_numbers p rs lines numbers)) none))
+            ∙ so_far
 
-  none_left : (lines : List FaultLine) (numbers : List ℕ) → (lines ≡ []) ⊎ (numbers ≡ []) → idle_numbers p rs lines numbers ≡ []
-  none_left lines numbers (inl none) = ap (λ (xs : List FaultLine). idle_numbers p rs xs numbers) none ∙ no_lines numbers
+  none_left : (lines : List FaultLine) (numbers : List ℕ) → (lines ≡ []) ⊎ (numbers ≡ [])
+      → idle_numbers p rs lines numbers ≡ []
+  none_left lines numbers (inl none) = ap (λ (xs : List FaultLine). idle_numbers p rs xs numbers) none
+      ∙ no_lines numbers
   none_left lines numbers (inr none) = ap (idle_numbers p rs lines) none ∙ none_numbered lines
 
   -- no line is left, or no number

@@ -19,7 +19,8 @@ module _ (w : WorldState) (h : Headline w) where
   pub some_nodes : 0 < length w.interfaces
   some_nodes = omega (arith, one_each, h.run.lawful.some_nodes)
 
-params_in : (p : Parameters) (ss : List State) (plans : List Plan) (s : State) → map without_entries ss ≡ map (new_interface p) plans → 0 < length ss → s ≡ get_or ss 0 s
+params_in : (p : Parameters) (ss : List State) (plans : List Plan) (s : State)
+    → map without_entries ss ≡ map (new_interface p) plans → 0 < length ss → s ≡ get_or ss 0 s
     → s.params ≡ p
 params_in p [] plans s same some is = absurd (omega arith)
 params_in p (x ∷ ss) [] s same some is = absurd cc
@@ -27,5 +28,7 @@ params_in p (x ∷ ss) (plan ∷ plans) s same some is =
     let first : without_entries x ≡ new_interface p plan = cc in
     ap (λ (s : State). s.params) is ∙ ap (λ (s : State). s.params) first
 
-pub params_are : (w : WorldState) → Headline w → (s : State) → s ≡ get_or w.interfaces 0 s → s.params ≡ w.bus.cluster.params
-params_are w h s is = params_in w.bus.cluster.params w.interfaces w.bus.cluster.plans s h.agrees.configured (some_nodes w h) is
+pub params_are : (w : WorldState) → Headline w → (s : State) → s ≡ get_or w.interfaces 0 s
+    → s.params ≡ w.bus.cluster.params
+params_are w h s is = params_in w.bus.cluster.params w.interfaces w.bus.cluster.plans s h.agrees.configured
+    (some_nodes w h) is

@@ -14,7 +14,8 @@ use Rattle.fr_showing.specs.Idle.{idle_lines}
 use Rattle.fr_showing.specs.Shows.{Adds, IsShown, LacksNode, Prints, Tells}
 
 -- a run that wasn't played isn't shown
-unshown : (d : Description) (cycles : ℕ) (shown : Shown) (text : List ℕ) (e : PlayError) → IsPlayOf d cycles text (Err e) → Tells d cycles shown text (Err e)
+unshown : (d : Description) (cycles : ℕ) (shown : Shown) (text : List ℕ) (e : PlayError)
+    → IsPlayOf d cycles text (Err e) → Tells d cycles shown text (Err e)
 unshown d cycles shown text (refusal.Run e) is = is
 unshown d cycles shown text (refusal.Step e) is = is
 unshown d cycles shown text refusal.Unfinished is = is
@@ -28,13 +29,15 @@ unshown d cycles shown text (refusal.Text bench.BadNumber) is = is
 unshown d cycles shown text (refusal.Text (bench.Config e)) is = is
 unshown d cycles shown text (refusal.Text (bench.Midpoint e)) is = is
 
-pub unshown_of : (d : Description) (cycles : ℕ) (shown : Shown) (text : Option (List ℕ)) (e : PlayError) → IfSome text (λ t. IsPlayOf d cycles t (Err e))
+pub unshown_of : (d : Description) (cycles : ℕ) (shown : Shown) (text : Option (List ℕ)) (e : PlayError)
+    → IfSome text (λ t. IsPlayOf d cycles t (Err e))
     → IfSome text (λ t. Tells d cycles shown t (Err e))
 unshown_of d cycles shown None e is = tt
 unshown_of d cycles shown (Some t) e is = unshown d cycles shown t e is
 
 -- what leaves the writer as it was
-pub unwritten : (d : Description) (cycles : ℕ) (shown : Shown) (text old new : Option (List ℕ)) (e : PlayError) → new ≡ old → Prints d cycles shown text old new (Err e)
+pub unwritten : (d : Description) (cycles : ℕ) (shown : Shown) (text old new : Option (List ℕ)) (e : PlayError)
+    → new ≡ old → Prints d cycles shown text old new (Err e)
 unwritten d cycles shown text old new (refusal.Run e) same = same
 unwritten d cycles shown text old new (refusal.Step e) same = same
 unwritten d cycles shown text old new refusal.Unfinished same = same
@@ -49,22 +52,29 @@ unwritten d cycles shown text old new (refusal.Text (bench.Config e)) same = sam
 unwritten d cycles shown text old new (refusal.Text (bench.Midpoint e)) same = same
 
 -- a node that isn't there, or want of memory
-pub node_missing : (d : Description) (cycles : ℕ) (shown : Shown) (text : Option (List ℕ)) (file : PlayedFile) (e : PlayError) → IfSome text (λ t. IsPlayOf d cycles t (Ok file))
-    → (e ≡ refusal.Text bench.Memory) ⊎ ((e ≡ refusal.UnknownNode) × LacksNode shown file) → IfSome text (λ t. Tells d cycles shown t (Err e))
+pub node_missing : (d : Description) (cycles : ℕ) (shown : Shown) (text : Option (List ℕ)) (file : PlayedFile)
+    (e : PlayError) → IfSome text (λ t. IsPlayOf d cycles t (Ok file))
+    → (e ≡ refusal.Text bench.Memory) ⊎ ((e ≡ refusal.UnknownNode) × LacksNode shown file)
+        → IfSome text (λ t. Tells d cycles shown t (Err e))
 node_missing d cycles shown None file e is why = tt
-node_missing d cycles shown (Some t) file e is (inl memory) = subst (λ (x : PlayError). Tells d cycles shown t (Err x)) (sym memory) tt
+node_missing d cycles shown (Some t) file e is (inl memory) =
+    subst (λ (x : PlayError). Tells d cycles shown t (Err x)) (sym memory) tt
 node_missing d cycles shown (Some t) file e is (inr (unknown, none)) =
     subst (λ (x : PlayError). Tells d cycles shown t (Err x)) (sym unknown) (file, is.1, none)
 
 -- the text of the run was written
-pub shown_of : (d : Description) (cycles : ℕ) (shown : Shown) (text old new : Option (List ℕ)) (file : PlayedFile) (written idle : List ℕ)
-    → IfSome text (λ t. IsPlayOf d cycles t (Ok file)) → IsShown shown file written → Appends old new written → idle ≡ idle_lines file
+pub shown_of : (d : Description) (cycles : ℕ) (shown : Shown) (text old new : Option (List ℕ)) (file : PlayedFile)
+    (written idle : List ℕ)
+    → IfSome text (λ t. IsPlayOf d cycles t (Ok file)) → IsShown shown file written → Appends old new written
+        → idle ≡ idle_lines file
     → IfSome text (Adds d cycles shown old new idle)
 shown_of d cycles shown None old new file written idle is of_run added told = tt
-shown_of d cycles shown (Some t) old new file written idle is of_run added told = (file, written, is.1, of_run, added, told)
+shown_of d cycles shown (Some t) old new file written idle is of_run added told =
+    (file, written, is.1, of_run, added, told)
 
 -- it was to be written
-pub can_be_had : (d : Description) (cycles : ℕ) (text : Option (List ℕ)) (file : PlayedFile) → IfSome text (λ t. IsPlayOf d cycles t (Ok file))
+pub can_be_had : (d : Description) (cycles : ℕ) (text : Option (List ℕ)) (file : PlayedFile)
+    → IfSome text (λ t. IsPlayOf d cycles t (Ok file))
     → IfSome text (λ t. RunIsRefused d cycles t None)
 can_be_had d cycles None file is = tt
 can_be_had d cycles (Some t) file is = is.0

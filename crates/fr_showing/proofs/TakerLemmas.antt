@@ -25,7 +25,8 @@ use Rattle.fr_slots.specs.Windows.{Opportunity}
 
 -- ---- commas
 
-pub commas-append : (any : Bool) (xs ys : List Taker) → after_commas any (xs ++ ys) ≡ after_commas any xs ++ after_commas (any || is_any xs) ys
+pub commas-append : (any : Bool) (xs ys : List Taker) → after_commas any (xs ++ ys) ≡ after_commas any xs ++
+    after_commas (any || is_any xs) ys
 unfolding after_commas
 commas-append true [] ys = refl
 commas-append false [] ys = refl
@@ -52,15 +53,19 @@ any-append [] ys = refl
 any-append (x ∷ xs) ys = refl
 
 -- where those that are left are written too, all are
-pub record IsGoing (first : Bool) (all : List Taker) (old now : Option (List ℕ)) (any : Bool) (left : List Taker) : Type 0 where
-  pub then_all : (new : Option (List ℕ)) → Appends now new (after_commas any left) → Appends old new (after_commas first all)
+pub record IsGoing (first : Bool) (all : List Taker) (old now : Option (List ℕ)) (any : Bool)
+    (left : List Taker) : Type 0 where
+  pub then_all : (new : Option (List ℕ)) → Appends now new (after_commas any left)
+      → Appends old new (after_commas first all)
   pub same_any : (any || is_any left) ≡ (first || is_any all)
 
 pub starts : (first : Bool) (all : List Taker) (old : Option (List ℕ)) → IsGoing first all old old first all
 starts first all old = record { then_all = λ new more. more; same_any = refl }
 
-pub goes_on : (first : Bool) (all : List Taker) (old now mid : Option (List ℕ)) (any then : Bool) (left part rest : List Taker) → left ≡ part ++ rest
-    → Appends now mid (after_commas any part) → then ≡ (any || is_any part) → IsGoing first all old now any left → IsGoing first all old mid then rest
+pub goes_on : (first : Bool) (all : List Taker) (old now mid : Option (List ℕ)) (any then : Bool)
+    (left part rest : List Taker) → left ≡ part ++ rest
+    → Appends now mid (after_commas any part) → then ≡ (any || is_any part) → IsGoing first all old now any left
+        → IsGoing first all old mid then rest
 goes_on first all old now mid any then left part rest cut one then_is so_far = record {
   then_all = λ new more.
       so_far.then_all new (
@@ -68,33 +73,41 @@ goes_on first all old now mid any then left part rest cut one then_is so_far = r
       (Appends-trans now mid new (after_commas any part) (after_commas (any || is_any part) rest) one
       (subst (λ (b : Bool). Appends mid new (after_commas b rest)) then_is more)));
   same_any =
-      ap (λ (b : Bool). b || is_any rest) then_is ∙ sym (or_assoc any (is_any part) (is_any rest)) ∙ ap (λ (b : Bool). any || b) (sym (ap is_any cut ∙ any-append part rest))
+      ap (λ (b : Bool). b || is_any rest) then_is ∙ sym (or_assoc any (is_any part) (is_any rest)) ∙ ap
+          (λ (b : Bool). any || b) (sym (ap is_any cut ∙ any-append part rest))
       ∙ so_far.same_any;
 }
 
-pub ends_text : (first : Bool) (all : List Taker) (old now : Option (List ℕ)) (any : Bool) (left : List Taker) → left ≡ [] → IsGoing first all old now any left
+pub ends_text : (first : Bool) (all : List Taker) (old now : Option (List ℕ)) (any : Bool) (left : List Taker)
+    → left ≡ [] → IsGoing first all old now any left
     → Appends old now (after_commas first all)
 unfolding after_commas
 ends_text first all old now any left none so_far =
     so_far.then_all now (subst (λ (l : List Taker). Appends now now (after_commas any l)) (sym none) (Appends-nil now))
 
-pub ends_any : (first : Bool) (all : List Taker) (old now : Option (List ℕ)) (any : Bool) (left : List Taker) → left ≡ [] → IsGoing first all old now any left
+pub ends_any : (first : Bool) (all : List Taker) (old now : Option (List ℕ)) (any : Bool) (left : List Taker)
+    → left ≡ [] → IsGoing first all old now any left
     → any ≡ (first || is_any all)
 ends_any first all old now any left none so_far =
     sym (or_none any) ∙ ap (λ (l : List Taker). any || is_any l) (sym none) ∙ so_far.same_any
 
 -- ---- two parts
 
-pub after_both : {E : Type 0} (r : Result Bool E) (any then : Bool) (old mid new : Option (List ℕ)) (xs ys : List Taker) → Appends old mid (after_commas any xs)
-    → then ≡ (any || is_any xs) → OnOk r (Appends mid new (after_commas then ys)) → OnOk r (Appends old new (after_commas any (xs ++ ys)))
+pub after_both : {E : Type 0} (r : Result Bool E) (any then : Bool) (old mid new : Option (List ℕ)) (xs ys : List Taker)
+    → Appends old mid (after_commas any xs)
+    → then ≡ (any || is_any xs) → OnOk r (Appends mid new (after_commas then ys))
+        → OnOk r (Appends old new (after_commas any (xs ++ ys)))
 after_both (Ok x) any then old mid new xs ys one then_is two =
     subst (λ (t : List ℕ). Appends old new t) (sym (commas-append any xs ys))
-    (Appends-trans old mid new (after_commas any xs) (after_commas (any || is_any xs) ys) one (subst (λ (b : Bool). Appends mid new (after_commas b ys)) then_is two))
+    (Appends-trans old mid new (after_commas any xs) (after_commas (any || is_any xs) ys) one
+        (subst (λ (b : Bool). Appends mid new (after_commas b ys)) then_is two))
 after_both (Err e) any then old mid new xs ys one then_is two = tt
 
-any_both : (any then : Bool) (xs ys : List Taker) → then ≡ (any || is_any xs) → (then || is_any ys) ≡ (any || is_any (xs ++ ys))
+any_both : (any then : Bool) (xs ys : List Taker) → then ≡ (any || is_any xs)
+    → (then || is_any ys) ≡ (any || is_any (xs ++ ys))
 any_both any then xs ys then_is =
-    ap (λ (b : Bool). b || is_any ys) then_is ∙ sym (or_assoc any (is_any xs) (is_any ys)) ∙ ap (λ (b : Bool). any || b) (sym (any-append xs ys))
+    ap (λ (b : Bool). b || is_any ys) then_is ∙ sym (or_assoc any (is_any xs) (is_any ys)) ∙ ap (λ (b : Bool). any || b)
+        (sym (any-append xs ys))
 
 -- ---- the words of all
 
@@ -117,33 +130,44 @@ module _ (p : Parameters) (r : Recorded) (node : ℕ) where
   on_b = data_frame_seen p r.window B (seen_by p r B node)
 
   buffers_then : (channel : Channel) (number : ℕ) (lines : List Buffer)
-      → buffers_by r.window (is_some on_a) (is_some on_b) channel node number lines ≡ buffers_from p r channel node number lines
+      → buffers_by r.window (is_some on_a) (is_some on_b) channel node number lines
+          ≡ buffers_from p r channel node number lines
   buffers_then channel number [] = refl
   buffers_then channel number (line ∷ lines) =
-      λ i. taker_if (takes_is p r.window (seen_by p r A node) (seen_by p r B node) channel line i) node (Some number) ++ buffers_then channel (number + 1) lines i
+      λ i. taker_if (takes_is p r.window (seen_by p r A node) (seen_by p r B node) channel line i) node
+          (Some number) ++ buffers_then channel (number + 1) lines i
 
   pub buffers_is : (a b : Bool) → a ≡ is_some on_a → b ≡ is_some on_b → (channel : Channel) (lines : List Buffer)
       → buffers_by r.window a b channel node 0 lines ≡ buffers_from p r channel node 0 lines
-  buffers_is a b a_is b_is channel lines = (λ i. buffers_by r.window (a_is i) (b_is i) channel node 0 lines) ∙ buffers_then channel 0 lines
+  buffers_is a b a_is b_is channel lines = (λ i. buffers_by r.window (a_is i) (b_is i) channel node 0 lines) ∙
+      buffers_then channel 0 lines
 
-  pub queue_is : (a b : Bool) → a ≡ is_some on_a → b ≡ is_some on_b → (plan : Plan) (channel : Channel) (q : Option Queue)
+  pub queue_is : (a b : Bool) → a ≡ is_some on_a → b ≡ is_some on_b
+      → (plan : Plan) (channel : Channel) (q : Option Queue)
       → queue_takes_by plan r.window a b channel q ≡ queue_takes p plan r.window channel (seen_by p r channel node) q
   queue_is a b a_is b_is plan channel None = refl
   queue_is a b a_is b_is plan A (Some q) = ap (λ (t : Bool). is_for_queue plan q r.window A && t) a_is
   queue_is a b a_is b_is plan B (Some q) = ap (λ (t : Bool). is_for_queue plan q r.window B && t) b_is
 
   -- the takers of the node
-  pub takers_is : (w : Opportunity) (a b : Bool) → w ≡ r.window → a ≡ is_some (data_frame_seen p r.window A (seen_by p r A node)) → b ≡ is_some (data_frame_seen p r.window B (seen_by p r B node))
-      → (plan : Plan) (channel : Channel) (lines : List Buffer) (takes : Bool) → lines ≡ plan.buffers → takes ≡ queue_takes_by plan w a b channel plan.queue
+  pub takers_is : (w : Opportunity) (a b : Bool) → w ≡ r.window
+      → a ≡ is_some (data_frame_seen p r.window A (seen_by p r A node))
+      → b ≡ is_some (data_frame_seen p r.window B (seen_by p r B node))
+      → (plan : Plan) (channel : Channel) (lines : List Buffer) (takes : Bool) → lines ≡ plan.buffers
+          → takes ≡ queue_takes_by plan w a b channel plan.queue
       → (buffers_by w a b channel node 0 lines ++ taker_if takes node None) ≡ takers_of p plan r channel node
   takers_is w a b w_is a_is b_is plan channel lines takes lines_is takes_is_so =
       (λ i. buffers_by (w_is i) a b channel node 0 (lines_is i) ++ taker_if (takes_is_so i) node None)
-      ∙ (λ i. buffers_is a b a_is b_is channel plan.buffers i ++ taker_if (queue_takes_by plan (w_is i) a b channel plan.queue) node None)
-      ∙ (λ i. buffers_from p r channel node 0 plan.buffers ++ taker_if (queue_is a b a_is b_is plan channel plan.queue i) node None)
+      ∙ (λ i. buffers_is a b a_is b_is channel plan.buffers i ++ taker_if
+          (queue_takes_by plan (w_is i) a b channel plan.queue) node None)
+      ∙ (λ i. buffers_from p r channel node 0 plan.buffers ++ taker_if
+          (queue_is a b a_is b_is plan channel plan.queue i) node None)
 
 -- ---- what is answered
 
-pub any_answered : {E : Type 0} (r : Result Bool E) (any then : Bool) (xs ys ts : List Taker) → then ≡ (any || is_any xs) → (xs ++ ys) ≡ ts
+pub any_answered : {E : Type 0} (r : Result Bool E) (any then : Bool) (xs ys ts : List Taker) →
+    then ≡ (any || is_any xs) → (xs ++ ys) ≡ ts
     → IfOk r (λ now. now ≡ (then || is_any ys)) → IfOk r (λ now. now ≡ (any || is_any ts))
-any_answered (Ok x) any then xs ys ts then_is all is = is ∙ any_both any then xs ys then_is ∙ ap (λ (l : List Taker). any || is_any l) all
+any_answered (Ok x) any then xs ys ts then_is all is = is ∙ any_both any then
+    xs ys then_is ∙ ap (λ (l : List Taker). any || is_any l) all
 any_answered (Err e) any then xs ys ts then_is all is = tt

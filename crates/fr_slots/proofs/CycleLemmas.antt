@@ -1,11 +1,13 @@
 -- The rest of a division by a repetition stands in the bits below it.
-use Rattle.std.proofs.Common.{◌≡◌, ℕ, ◌-◌, ◌%◌, ◌^◌, ◌==◌, ◌||◌, true, List, [], ◌∷◌, map, bit_and, inl, inr, sym, ap, subst, ◌∙◌}
+use Rattle.std.proofs.Common.{◌≡◌, ℕ, ◌-◌, ◌%◌, ◌^◌, ◌==◌, ◌||◌, true, List, [], ◌∷◌, map, bit_and, inl, inr, sym, ap}
+use Rattle.std.proofs.Common.{subst, ◌∙◌}
 use Rattle.std.proofs.lemmas.Bool.{cases_Bool, eqb-true}
 use Rattle.std.proofs.lemmas.Nat.{and_mask}
 use Rattle.std.specs.List.{list_any}
 use Rattle.fr_slots.specs.Admission.{is_repetition}
 
-power_of : (r : ℕ) (exponents : List ℕ) (n : ℕ) → list_any (λ q. r == q) (map (λ k. 2 ^ k) exponents) ≡ true → bit_and n (r - 1) ≡ n % r
+power_of : (r : ℕ) (exponents : List ℕ) (n : ℕ) → list_any (λ q. r == q) (map (λ k. 2 ^ k) exponents) ≡ true
+    → bit_and n (r - 1) ≡ n % r
 power_of r [] n is = cc is
 power_of r (k ∷ ks) n is =
     elim (cases_Bool (r == 2 ^ k)) [

@@ -30,7 +30,8 @@ module _ {A : Type 0} (f : ℕ → Option A) where
       ∙ sym (ap (first_of f) (numbers-from_first n end below)) ∙ first
 
   -- one that gives something is the first
-  pub first-found : (n end : ℕ) (o : Option A) (x : A) → n < end → f n ≡ Some x → first_of f (numbers_from n (end - n)) ≡ o → Some x ≡ o
+  pub first-found : (n end : ℕ) (o : Option A) (x : A) → n < end → f n ≡ Some x
+      → first_of f (numbers_from n (end - n)) ≡ o → Some x ≡ o
   unfolding first_of
   first-found n end o x below found first =
       sym (ap (λ r. option_or r (first_of f (numbers_from (n + 1) (end - (n + 1))))) found)
@@ -39,7 +40,8 @@ module _ {A : Type 0} (f : ℕ → Option A) where
   -- where none is left, none gives something
   pub first-ended : (n end : ℕ) (o : Option A) → end ≤ n → first_of f (numbers_from n (end - n)) ≡ o → None ≡ o
   unfolding first_of numbers_from
-  first-ended n end o all first = let none : end - n ≡ 0 = omega arith in sym (ap (λ m. first_of f (numbers_from n m)) none) ∙ first
+  first-ended n end o all first = let none : end - n ≡ 0 = omega arith in sym
+      (ap (λ m. first_of f (numbers_from n m)) none) ∙ first
 
 -- ---- the first of numbers in a row
 
@@ -48,7 +50,8 @@ option_cases None = inl refl
 option_cases (Some x) = inr (x, refl)
 
 module _ {A : Type 0} (f : ℕ → Option A) where
-  pub first-is : (least more n : ℕ) (x : A) → least ≤ n → n < least + more → f n ≡ Some x → ((k : ℕ) → least ≤ k → k < n → f k ≡ None)
+  pub first-is : (least more n : ℕ) (x : A) → least ≤ n → n < least + more → f n ≡ Some x
+      → ((k : ℕ) → least ≤ k → k < n → f k ≡ None)
       → first_of f (numbers_from least more) ≡ Some x
   unfolding first_of numbers_from
   first-is least zero n x from below found before = absurd (omega arith)
@@ -56,18 +59,22 @@ module _ {A : Type 0} (f : ℕ → Option A) where
       elim (cases_eq least n) [
         | inl same ↦ ap (λ o. option_or o (first_of f (numbers_from (least + 1) more))) (ap f same ∙ found)
         | inr other ↦
-            ap (λ o. option_or o (first_of f (numbers_from (least + 1) more))) (before least (omega arith) (omega arith))
-            ∙ first-is (least + 1) more n x (omega arith) (omega arith) found (λ k low high. before k (omega arith) high)
+            ap (λ o. option_or o (first_of f (numbers_from (least + 1) more)))
+                (before least (omega arith) (omega arith))
+            ∙ first-is (least + 1) more n x (omega arith) (omega arith) found
+                (λ k low high. before k (omega arith) high)
       ]
 
-  pub first-is_none : (least more : ℕ) → ((k : ℕ) → least ≤ k → k < least + more → f k ≡ None) → first_of f (numbers_from least more) ≡ None
+  pub first-is_none : (least more : ℕ) → ((k : ℕ) → least ≤ k → k < least + more → f k ≡ None)
+      → first_of f (numbers_from least more) ≡ None
   unfolding first_of numbers_from
   first-is_none least zero none = refl
   first-is_none least (suc more) none =
       ap (λ o. option_or o (first_of f (numbers_from (least + 1) more))) (none least (omega arith) (omega arith))
       ∙ first-is_none (least + 1) more (λ k low high. none k (omega arith) (omega arith))
 
-  pub first-none : (least more : ℕ) → first_of f (numbers_from least more) ≡ None → (k : ℕ) → least ≤ k → k < least + more → f k ≡ None
+  pub first-none : (least more : ℕ) → first_of f (numbers_from least more) ≡ None → (k : ℕ) → least ≤ k
+      → k < least + more → f k ≡ None
   unfolding first_of numbers_from
   first-none least zero first k low high = absurd (omega arith)
   first-none least (suc more) first k low high =
@@ -76,7 +83,8 @@ module _ {A : Type 0} (f : ℕ → Option A) where
             elim (cases_eq k least) [
               | inl same ↦ ap f same ∙ none
               | inr other ↦
-                  first-none (least + 1) more (ap (λ o. option_or o (first_of f (numbers_from (least + 1) more))) (sym none) ∙ first) k
+                  first-none (least + 1) more (ap (λ o. option_or o (first_of f (numbers_from (least + 1) more)))
+                      (sym none) ∙ first) k
                   (omega arith) (omega arith)
             ]
         | inr some ↦ cc (ap (λ o. option_or o (first_of f (numbers_from (least + 1) more))) some.1, first)
@@ -89,7 +97,8 @@ module _ {A : Type 0} (f : ℕ → Option A) where
     pub found : f n ≡ Some x
     pub before : (k : ℕ) → least ≤ k → k < n → f k ≡ None
 
-  pub first-some : (least more : ℕ) (x : A) → first_of f (numbers_from least more) ≡ Some x → (n : ℕ) × IsFirstNumber least more x n
+  pub first-some : (least more : ℕ) (x : A) → first_of f (numbers_from least more) ≡ Some x
+      → (n : ℕ) × IsFirstNumber least more x n
   unfolding first_of numbers_from
   first-some least zero x first = cc first
   first-some least (suc more) x first =
@@ -115,7 +124,8 @@ module _ {A : Type 0} (f : ℕ → Option A) where
             from = omega arith;
             below = omega arith;
             found = some.1 ∙
-                (let e : Some some.0 ≡ Some x = sym (ap (λ o. option_or o (first_of f (numbers_from (least + 1) more))) some.1) ∙ first in e);
+                (let e : Some some.0 ≡ Some x = sym (ap (λ o. option_or o (first_of f (numbers_from (least + 1) more)))
+                    some.1) ∙ first in e);
             before = λ k low high. absurd (omega arith);
           },
         )
@@ -132,7 +142,8 @@ module _ (test : ℕ → Bool) where
       ∙ sym (ap (list_any test) (numbers-from_first n end below)) ∙ any
 
   -- one that passes is enough
-  pub any-found : (n end : ℕ) (b : Bool) → n < end → test n ≡ true → list_any test (numbers_from n (end - n)) ≡ b → true ≡ b
+  pub any-found : (n end : ℕ) (b : Bool) → n < end → test n ≡ true → list_any test (numbers_from n (end - n)) ≡ b
+      → true ≡ b
   any-found n end b below passes any =
       sym (ap (λ r. r || list_any test (numbers_from (n + 1) (end - (n + 1)))) passes)
       ∙ sym (ap (list_any test) (numbers-from_first n end below)) ∙ any
@@ -140,10 +151,12 @@ module _ (test : ℕ → Bool) where
   -- where none is left, none passes
   pub any-ended : (n end : ℕ) (b : Bool) → end ≤ n → list_any test (numbers_from n (end - n)) ≡ b → false ≡ b
   unfolding numbers_from
-  any-ended n end b all any = let none : end - n ≡ 0 = omega arith in sym (ap (λ m. list_any test (numbers_from n m)) none) ∙ any
+  any-ended n end b all any = let none : end - n ≡ 0 = omega arith in sym
+      (ap (λ m. list_any test (numbers_from n m)) none) ∙ any
 
   -- where none is found, each fails
-  pub any-none : (least more : ℕ) → list_any test (numbers_from least more) ≡ false → (k : ℕ) → least ≤ k → k < least + more → test k ≡ false
+  pub any-none : (least more : ℕ) → list_any test (numbers_from least more) ≡ false → (k : ℕ) → least ≤ k
+      → k < least + more → test k ≡ false
   unfolding numbers_from
   any-none least zero none k low high = absurd (omega arith)
   any-none least (suc more) none k low high =
@@ -165,13 +178,16 @@ module _ (test : ℕ → Bool) where
 module _ (slot : ℕ) (channel : Channel) where
   one_pass : (cycle : ℕ) (own : Own) → is_undivided slot channel own ≡ true → claims slot channel cycle own ≡ true
   one_pass cycle own undivided =
-      let (front, every) = and_parts (own.slot == slot && includes own.channels channel) (is_every_cycle own.cycles) undivided in
+      let (front, every) = and_parts (own.slot == slot && includes own.channels channel)
+          (is_every_cycle own.cycles) undivided in
       let (zero_is, one_is) = and_parts (own.cycles.base == 0) (own.cycles.repetition == 1) every in
       and_from (own.slot == slot && includes own.channels channel) (cycle_admitted own.cycles cycle) front
       (eq-eqb (cycle % own.cycles.repetition) own.cycles.base
-      (ap (λ r. cycle % r) (eqb-true own.cycles.repetition 1 one_is) ∙ mod-one cycle ∙ sym (eqb-true own.cycles.base 0 zero_is)))
+      (ap (λ r. cycle % r) (eqb-true own.cycles.repetition 1 one_is) ∙ mod-one cycle ∙ sym
+          (eqb-true own.cycles.base 0 zero_is)))
 
-  owned_always : (owned : List Own) (cycle : ℕ) → is_owned_always owned slot channel ≡ true → is_owned owned slot channel cycle ≡ true
+  owned_always : (owned : List Own) (cycle : ℕ) → is_owned_always owned slot channel ≡ true
+      → is_owned owned slot channel cycle ≡ true
   owned_always [] cycle always = cc always
   owned_always (own ∷ owned) cycle always =
       elim (or_cases (is_undivided slot channel own) (is_owned_always owned slot channel) always) [
@@ -184,7 +200,8 @@ pub none_unowned : (owned : List Own) (f : Filter) (channel : Channel) → is_ow
     → any_unowned owned f channel ≡ false
 none_unowned owned f channel always =
     any-is_none (is_unowned_in owned f channel) 0 64
-    (λ cycle. ap (λ b. cycle_admitted f.cycles cycle && not b) (owned_always f.slot channel owned cycle always) ∙ never (cycle_admitted f.cycles cycle))
+    (λ cycle. ap (λ b. cycle_admitted f.cycles cycle && not b) (owned_always f.slot channel owned cycle always) ∙ never
+        (cycle_admitted f.cycles cycle))
   where
     never : (b : Bool) → (b && false) ≡ false
     never true = refl

@@ -39,22 +39,27 @@ pub cond_none : {X : Type 0} (b : Bool) (x : X) → cond b (Some x) None ≡ Non
 cond_none true x none = cc none
 cond_none false x none = refl
 
-any_none : {X : Type 0} (test : X → Bool) (xs : List X) (n : ℕ) (x : X) → list_any test xs ≡ false → slice_get xs n ≡ Some x → test x ≡ false
+any_none : {X : Type 0} (test : X → Bool) (xs : List X) (n : ℕ) (x : X) → list_any test xs ≡ false
+    → slice_get xs n ≡ Some x → test x ≡ false
 any_none test [] n x none at = cc at
 any_none test (y ∷ xs) zero x none at = ap test (sym (same_Some y x at)) ∙ (or_parts (test y) (list_any test xs) none).0
 any_none test (y ∷ xs) (suc n) x none at = any_none test xs n x (or_parts (test y) (list_any test xs) none).1 at
 
-pub position_from-none : {X : Type 0} (test : X → Bool) (i : ℕ) (xs : List X) (n : ℕ) (x : X) → position_from test i xs ≡ None
+pub position_from-none : {X : Type 0} (test : X → Bool) (i : ℕ) (xs : List X) (n : ℕ) (x : X)
+    → position_from test i xs ≡ None
     → slice_get xs n ≡ Some x → test x ≡ false
 position_from-none test i [] n x none at = cc at
 position_from-none test i (y ∷ xs) zero x none at =
     ap test (sym (same_Some y x at))
     ∙ false_from_ne_true (test y)
-    (λ pass. let found : Some i ≡ None = sym (cond-true (test y) (Some i) (position_from test (i + 1) xs) pass) ∙ none in cc found)
+    (λ pass. let found : Some i ≡ None = sym (cond-true (test y) (Some i) (position_from test (i + 1) xs) pass) ∙ none
+        in cc found)
 position_from-none test i (y ∷ xs) (suc n) x none at =
     elim (cases_Bool (test y)) [
-      | inl pass ↦ (let found : Some i ≡ None = sym (cond-true (test y) (Some i) (position_from test (i + 1) xs) pass) ∙ none in cc found)
-      | inr fail ↦ position_from-none test (i + 1) xs n x (sym (cond-false (test y) (Some i) (position_from test (i + 1) xs) fail) ∙ none) at
+      | inl pass ↦ (let found : Some i ≡ None = sym (cond-true (test y) (Some i) (position_from test (i + 1) xs) pass) ∙
+          none in cc found)
+      | inr fail ↦ position_from-none test (i + 1) xs n x (sym
+          (cond-false (test y) (Some i) (position_from test (i + 1) xs) fail) ∙ none) at
     ]
 
 pub map_none : {X Y : Type 0} (f : X → Y) (o : Option X) → option_map f o ≡ None → o ≡ None
@@ -64,7 +69,8 @@ map_none f (Some x) none = cc none
 buffer_none : (fault : ℕ → PlanFault) (test : Buffer → Bool) (buffers : List Buffer) (n : ℕ) (b : Buffer)
     → first_buffer fault test buffers ≡ None → slice_get buffers n ≡ Some b → test b ≡ false
 buffer_none fault test buffers n b none at =
-    position_from-none test 0 buffers n b (sym (position_from-zero test buffers) ∙ map_none fault (position test buffers) none) at
+    position_from-none test 0 buffers n b (sym (position_from-zero test buffers) ∙ map_none fault
+        (position test buffers) none) at
 
 -- ---- two of a list
 
@@ -82,11 +88,13 @@ two_pass-once test (z ∷ xs) (suc m) zero x y none at_m at_n pass_x pass_y =
     (and_from (test z) (list_any test xs) (ap test (same_Some z y at_n) ∙ pass_y)
     (true_from_ne_false (list_any test xs) (λ fail. both_ways (test x) (any_none test xs m x fail at_m) pass_x))))
 two_pass-once test (z ∷ xs) (suc m) (suc n) x y none at_m at_n pass_x pass_y =
-    ap suc (two_pass-once test xs m n x y (or_parts (test z && list_any test xs) (two_pass test xs) none).1 at_m at_n pass_x pass_y)
+    ap suc (two_pass-once test xs m n x y (or_parts (test z && list_any test xs) (two_pass test xs) none).1 at_m at_n
+        pass_x pass_y)
 
 -- ---- slots and channels
 
-pub on_channels : {X : Type 0} (f : Channel → Option X) (channel : Channel) → first_of f channels ≡ None → f channel ≡ None
+pub on_channels : {X : Type 0} (f : Channel → Option X) (channel : Channel) → first_of f channels ≡ None
+    → f channel ≡ None
 unfolding first_of
 on_channels f A none = (or_none (f A) (option_or (f B) None) none).0
 on_channels f B none = (or_none (f B) None (or_none (f A) (option_or (f B) None) none).1).0
@@ -102,12 +110,14 @@ any_channel test B none = (or_parts (test B) false (or_parts (test A) (test B ||
 any_cycle : (test : ℕ → Bool) (cycle : ℕ) → cycle < 64 → list_any test cycles ≡ false → test cycle ≡ false
 any_cycle test cycle below none = any-none test 0 64 none cycle (omega arith) (omega arith)
 
-no_overlap : (owned : List Own) (buffers : List Buffer) (slot : ℕ) (channel : Channel) (cycle : ℕ) → first_overlap owned buffers ≡ None
+no_overlap : (owned : List Own) (buffers : List Buffer) (slot : ℕ) (channel : Channel) (cycle : ℕ)
+    → first_overlap owned buffers ≡ None
     → cycle < 64 → IsSlot slot → is_overlap owned buffers slot channel cycle ≡ false
 no_overlap owned buffers slot channel cycle none in_cycles is_slot =
     let free : overlap_on owned buffers slot channel ≡ None = on_channels (overlap_on owned buffers slot) channel
     (in_slots (overlap_in owned buffers) slot is_slot none) in
-    let no : overlap_at owned buffers slot channel cycle ≡ None = first-none (overlap_at owned buffers slot channel) 0 64 free cycle
+    let no : overlap_at owned buffers slot channel cycle ≡ None =
+        first-none (overlap_at owned buffers slot channel) 0 64 free cycle
     (omega arith) (omega arith) in
     cond_none (is_overlap owned buffers slot channel cycle) (Overlap slot channel cycle) no
 
@@ -148,7 +158,8 @@ fits_static p plan b is right owned = record {
       (any_cycle (is_unowned_in plan.owned b.filter channel) cycle in_cycles
       (and_second (includes b.filter.channels channel) (any_unowned plan.owned b.filter channel)
       (any_channel (is_unowned_on plan.owned b.filter) channel
-      (and_second (transmits_static p b) (list_any (is_unowned_on plan.owned b.filter) channels) owned is)) includes_it))
+      (and_second (transmits_static p b) (list_any (is_unowned_on plan.owned b.filter) channels) owned is))
+          includes_it))
       admits_it);
 }
 
@@ -173,7 +184,8 @@ fits_dynamic p plan b is right one short = record {
 
 -- ---- the plan
 
-latest_fit : (p : Parameters) (plan : Plan) (channel : Channel) → has_late_latest p plan ≡ false → latest_on plan channel ≤ p.minislots
+latest_fit : (p : Parameters) (plan : Plan) (channel : Channel) → has_late_latest p plan ≡ false
+    → latest_on plan channel ≤ p.minislots
 latest_fit p plan A none = ltb-false p.minislots plan.latest_a
     (or_parts (nat_lt p.minislots plan.latest_a) (nat_lt p.minislots plan.latest_b) none).0
 latest_fit p plan B none = ltb-false p.minislots plan.latest_b
@@ -209,6 +221,7 @@ faultless p plan none =
           (buffer_none TooLong (too_long p plan) plan.buffers number b short at);
     }
 
-pub faultless_if : (p : Parameters) (plan : Plan) (o : Option PlanFault) → o ≡ plan_fault p plan → IfNone o (IsFaultless p plan)
+pub faultless_if : (p : Parameters) (plan : Plan) (o : Option PlanFault) → o ≡ plan_fault p plan
+    → IfNone o (IsFaultless p plan)
 faultless_if p plan None is = faultless p plan (sym is)
 faultless_if p plan (Some fault) is = tt

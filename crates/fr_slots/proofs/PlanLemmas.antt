@@ -4,7 +4,8 @@ use Rattle.std.proofs.Common.{◌∙◌}
 use Rattle.std.proofs.lemmas.List.{take_more}
 use Rattle.fr_slots.specs.Plans.{AllFit, Each}
 
-pub AllFit-snoc : {X : Type 0} (fits : X → Bool) (xs : List X) (x : X) → AllFit fits xs → fits x ≡ true → AllFit fits (xs ++ x ∷ [])
+pub AllFit-snoc : {X : Type 0} (fits : X → Bool) (xs : List X) (x : X) → AllFit fits xs → fits x ≡ true
+    → AllFit fits (xs ++ x ∷ [])
 AllFit-snoc fits [] x all here = (here, tt)
 AllFit-snoc fits (y ∷ xs) x all here = (all.0, AllFit-snoc fits xs x all.1 here)
 

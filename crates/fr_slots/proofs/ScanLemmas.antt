@@ -34,7 +34,8 @@ module _ {X : Type 0} (g : ℕ → Channel → Option X) where
 
   some-slot_b : (slot : ℕ) (x : X) → g slot A ≡ None → g slot B ≡ Some x → in_slot slot ≡ Some x
   unfolding first_of
-  some-slot_b slot x on_a on_b = ap (λ o. option_or o (option_or (g slot B) None)) on_a ∙ ap (λ o. option_or o None) on_b
+  some-slot_b slot x on_a on_b = ap (λ o. option_or o (option_or (g slot B) None)) on_a ∙ ap
+      (λ o. option_or o None) on_b
 
   pub slots-none : ((slot : ℕ) (channel : Channel) → g slot channel ≡ None) → first_of in_slot slots ≡ None
   slots-none none = first-is_none in_slot 1 2047 (λ slot low high. no-slot slot (none slot A) (none slot B))
@@ -43,7 +44,8 @@ module _ {X : Type 0} (g : ℕ → Channel → Option X) where
   abbrev pub IsNoneBefore : ℕ → Channel → Type 0
   IsNoneBefore slot channel = (s : ℕ) (c : Channel) → place_of s c 0 < place_of slot channel 0 → g s c ≡ None
 
-  some-slot : (slot : ℕ) (channel : Channel) (x : X) → g slot channel ≡ Some x → IsNoneBefore slot channel → in_slot slot ≡ Some x
+  some-slot : (slot : ℕ) (channel : Channel) (x : X) → g slot channel ≡ Some x → IsNoneBefore slot channel
+      → in_slot slot ≡ Some x
   some-slot slot A x found before = some-slot_a slot x found
   some-slot slot B x found before = some-slot_b slot x (before slot A (omega arith)) found
 
@@ -51,15 +53,18 @@ module _ {X : Type 0} (g : ℕ → Channel → Option X) where
   none-before slot s A less before = no-slot s (before s A (omega arith)) (before s B (omega arith))
   none-before slot s B less before = no-slot s (before s A (omega arith)) (before s B (omega arith))
 
-  pub slots-some : (slot : ℕ) (channel : Channel) (x : X) → IsSlot slot → g slot channel ≡ Some x → IsNoneBefore slot channel
+  pub slots-some : (slot : ℕ) (channel : Channel) (x : X) → IsSlot slot → g slot channel ≡ Some x
+      → IsNoneBefore slot channel
       → first_of in_slot slots ≡ Some x
   slots-some slot channel x is_slot found before =
-      first-is in_slot 1 2047 slot x is_slot.from_one (omega (arith, is_slot.at_most)) (some-slot slot channel x found before)
+      first-is in_slot 1 2047 slot x is_slot.from_one (omega (arith, is_slot.at_most))
+          (some-slot slot channel x found before)
       (λ s low less. none-before slot s channel less before)
 
 -- ---- places in the order of slots, channels and cycles
 
-before-all : (s : ℕ) (c : Channel) (m : ℕ) (slot : ℕ) (channel : Channel) (n : ℕ) → m < 64 → place_of s c 0 < place_of slot channel 0
+before-all : (s : ℕ) (c : Channel) (m : ℕ) (slot : ℕ) (channel : Channel) (n : ℕ) → m < 64
+    → place_of s c 0 < place_of slot channel 0
     → place_of s c m < place_of slot channel n
 before-all s A m slot A n few less = omega arith
 before-all s A m slot B n few less = omega arith
@@ -71,10 +76,12 @@ same-channel slot A m n less = omega arith
 same-channel slot B m n less = omega arith
 
 -- a test passes at no place before the first one
-fails-before : (test : ℕ → Channel → ℕ → Bool) (o : Occasion) → IsFirstAt test o → (slot : ℕ) (channel : Channel) (cycle : ℕ) → cycle < 64
+fails-before : (test : ℕ → Channel → ℕ → Bool) (o : Occasion) → IsFirstAt test o
+    → (slot : ℕ) (channel : Channel) (cycle : ℕ) → cycle < 64
     → place_of slot channel cycle < place_of o.slot o.channel o.cycle → test slot channel cycle ≡ false
 fails-before test o is slot channel cycle few less =
-    false_from_ne_true _ (λ pass. let le = is.first slot channel cycle few pass in let no : ⊥ = omega (arith, le, less) in no)
+    false_from_ne_true _ (λ pass. let le = is.first slot channel cycle few pass in let no : ⊥ =
+        omega (arith, le, less) in no)
 
 -- ---- lists of filters
 
@@ -99,7 +106,8 @@ module _ {X : Type 0} (p t : X → Bool) where
   list_any-filter [] = refl
   list_any-filter (x ∷ xs) = list_any-filter_at (p x) x (filter p xs) ∙ ap (λ b. p x && t x || b) (list_any-filter xs)
 
-  two_pass-filter_at : (b : Bool) (x : X) (xs : List X) → two_pass t (cond b (x ∷ xs) xs) ≡ (b && t x && list_any t xs || two_pass t xs)
+  two_pass-filter_at : (b : Bool) (x : X) (xs : List X) → two_pass t (cond b (x ∷ xs) xs) ≡
+      (b && t x && list_any t xs || two_pass t xs)
   unfolding two_pass
   two_pass-filter_at true x xs = refl
   two_pass-filter_at false x xs = refl
@@ -143,10 +151,12 @@ sent-shared buffers slot channel cycle =
 pub overlap-shared : (owned : List Own) (buffers : List Buffer)
     → IsEither (is_shared (own_filters owned)) (is_shared (transmit_filters buffers)) (is_overlap owned buffers)
 overlap-shared owned buffers slot channel cycle =
-    sym (ap (λ b. b || is_shared (transmit_filters buffers) slot channel cycle) (claimed-shared owned slot channel cycle)
+    sym (ap (λ b. b || is_shared (transmit_filters buffers) slot channel cycle)
+        (claimed-shared owned slot channel cycle)
     ∙ ap (λ b. two_pass (claims slot channel cycle) owned || b) (sent-shared buffers slot channel cycle))
 
-pub overlap-none : (owned : List Own) (buffers : List Buffer) → IsFirst (is_overlap owned buffers) None → first_overlap owned buffers ≡ None
+pub overlap-none : (owned : List Own) (buffers : List Buffer) → IsFirst (is_overlap owned buffers) None
+    → first_overlap owned buffers ≡ None
 overlap-none owned buffers none =
     slots-none (overlap_on owned buffers) (λ slot channel.
     first-is_none (overlap_at owned buffers slot channel) 0 64 (λ cycle low high.
@@ -159,12 +169,16 @@ overlap-some owned buffers o is =
     (first-is (overlap_at owned buffers o.slot o.channel) 0 64 o.cycle (Overlap o.slot o.channel o.cycle) (omega arith)
     (omega (arith, is.in_cycles))
     (cond-true _ (Some (Overlap o.slot o.channel o.cycle)) None is.passes)
-    (λ cycle low less. not-at o.slot o.channel cycle (omega (arith, is.in_cycles)) (same-channel o.slot o.channel cycle o.cycle less)))
+    (λ cycle low less. not-at o.slot o.channel cycle (omega (arith, is.in_cycles))
+        (same-channel o.slot o.channel cycle o.cycle less)))
     (λ slot channel before.
     first-is_none (overlap_at owned buffers slot channel) 0 64
-    (λ cycle low high. not-at slot channel cycle (omega arith) (before-all slot channel cycle o.slot o.channel o.cycle (omega arith) before)))
+    (λ cycle low high. not-at slot channel cycle (omega arith)
+        (before-all slot channel cycle o.slot o.channel o.cycle (omega arith) before)))
   where
-    not-at : (slot : ℕ) (channel : Channel) (cycle : ℕ) → cycle < 64 → place_of slot channel cycle < place_of o.slot o.channel o.cycle
+    not-at : (slot : ℕ) (channel : Channel) (cycle : ℕ) → cycle < 64
+        → place_of slot channel cycle < place_of o.slot o.channel o.cycle
         → overlap_at owned buffers slot channel cycle ≡ None
     not-at slot channel cycle few less =
-        cond-false _ (Some (Overlap slot channel cycle)) None (fails-before (is_overlap owned buffers) o is slot channel cycle few less)
+        cond-false _ (Some (Overlap slot channel cycle)) None
+            (fails-before (is_overlap owned buffers) o is slot channel cycle few less)

@@ -57,7 +57,8 @@ regroup false false y false = refl
 
 -- the last test passes where one of the others does
 abbrev pub IsEither : Test → Test → Test → Type 0
-IsEither s t u = (slot : ℕ) (channel : Channel) (cycle : ℕ) → u slot channel cycle ≡ (s slot channel cycle || t slot channel cycle)
+IsEither s t u = (slot : ℕ) (channel : Channel) (cycle : ℕ) → u slot channel cycle ≡
+    (s slot channel cycle || t slot channel cycle)
 
 IsFirst-left : (s t u : Test) (o : Occasion) → IsEither s t u → IsFirstAt s o
     → ((slot : ℕ) (channel : Channel) (cycle : ℕ) → cycle < 64 → t slot channel cycle ≡ true
@@ -89,23 +90,29 @@ IsFirst-right s t u o either is others = record {
       ];
 }
 
-pub IsFirst-earlier : (s t u : Test) (p q : Option Occasion) → IsEither s t u → IsFirst s p → IsFirst t q → IsFirst u (earlier p q)
+pub IsFirst-earlier : (s t u : Test) (p q : Option Occasion) → IsEither s t u → IsFirst s p → IsFirst t q
+    → IsFirst u (earlier p q)
 IsFirst-earlier s t u None None either is_p is_q = λ slot channel cycle in_cycles.
-    either slot channel cycle ∙ ap (λ b. b || t slot channel cycle) (is_p slot channel cycle in_cycles) ∙ is_q slot channel cycle in_cycles
+    either slot channel cycle ∙ ap (λ b. b || t slot channel cycle) (is_p slot channel cycle in_cycles)
+        ∙ is_q slot channel cycle in_cycles
 IsFirst-earlier s t u None (Some q) either is_p is_q =
-    IsFirst-right s t u q either is_q (λ slot channel cycle in_cycles pass. absurd (both_ways _ (is_p slot channel cycle in_cycles) pass))
+    IsFirst-right s t u q either is_q (λ slot channel cycle in_cycles pass. absurd
+        (both_ways _ (is_p slot channel cycle in_cycles) pass))
 IsFirst-earlier s t u (Some p) None either is_p is_q =
-    IsFirst-left s t u p either is_p (λ slot channel cycle in_cycles pass. absurd (both_ways _ (is_q slot channel cycle in_cycles) pass))
+    IsFirst-left s t u p either is_p (λ slot channel cycle in_cycles pass. absurd
+        (both_ways _ (is_q slot channel cycle in_cycles) pass))
 IsFirst-earlier s t u (Some p) (Some q) either is_p is_q =
     elim (cases_Bool (is_before q p)) [
       | inl before ↦
           rw before
           (IsFirst-right s t u q either is_q
-          (λ slot channel cycle in_cycles pass. omega (arith, ltb-true _ _ before, is_p.first slot channel cycle in_cycles pass)))
+          (λ slot channel cycle in_cycles pass. omega (arith, ltb-true _ _ before,
+              is_p.first slot channel cycle in_cycles pass)))
       | inr after ↦
           rw after
           (IsFirst-left s t u p either is_p
-          (λ slot channel cycle in_cycles pass. omega (arith, ltb-false _ _ after, is_q.first slot channel cycle in_cycles pass)))
+          (λ slot channel cycle in_cycles pass. omega (arith, ltb-false _ _ after,
+              is_q.first slot channel cycle in_cycles pass)))
     ]
 
 -- ---- one more in a list
@@ -114,7 +121,8 @@ list_any-snoc : {X : Type 0} (t : X → Bool) (xs : List X) (y : X) → list_any
 list_any-snoc t [] y = or-false (t y)
 list_any-snoc t (x ∷ xs) y = ap (λ b. t x || b) (list_any-snoc t xs y) ∙ or_assoc (t x) (list_any t xs) (t y)
 
-two_pass-snoc : {X : Type 0} (t : X → Bool) (xs : List X) (y : X) → two_pass t (xs ++ y ∷ []) ≡ (two_pass t xs || list_any t xs && t y)
+two_pass-snoc : {X : Type 0} (t : X → Bool) (xs : List X) (y : X)
+    → two_pass t (xs ++ y ∷ []) ≡ (two_pass t xs || list_any t xs && t y)
 unfolding two_pass
 two_pass-snoc t [] y = and-false (t y)
 two_pass-snoc t (x ∷ xs) y =
@@ -151,9 +159,11 @@ both_parts : (f g : Filter) (slot : ℕ) (channel : Channel) (cycle : ℕ) → i
     → AreBoth f g slot channel cycle
 both_parts f g slot channel cycle pass =
     let (in_g, in_f) = and_parts (admits_at slot channel cycle g) (admits_at slot channel cycle f) pass in
-    let (front_g, cycle_g) = and_parts (g.slot == slot && includes g.channels channel) (cycle_admitted g.cycles cycle) in_g in
+    let (front_g, cycle_g) = and_parts (g.slot == slot && includes g.channels channel)
+        (cycle_admitted g.cycles cycle) in_g in
     let (slot_g, channel_g) = and_parts (g.slot == slot) (includes g.channels channel) front_g in
-    let (front_f, cycle_f) = and_parts (f.slot == slot && includes f.channels channel) (cycle_admitted f.cycles cycle) in_f in
+    let (front_f, cycle_f) = and_parts (f.slot == slot && includes f.channels channel)
+        (cycle_admitted f.cycles cycle) in_f in
     let (slot_f, channel_f) = and_parts (f.slot == slot) (includes f.channels channel) front_f in
     record {
       slot_is = eqb-true f.slot slot slot_f;
@@ -171,11 +181,13 @@ abbrev picked_by : Bool → Bool → Channel → Bool
 picked_by a b A = a
 picked_by a b B = b
 
-both_at : (c d : Channels) (channel : Channel) → picked_by (both_include c d A) (both_include c d B) channel ≡ both_include c d channel
+both_at : (c d : Channels) (channel : Channel) → picked_by (both_include c d A) (both_include c d B) channel ≡
+    both_include c d channel
 both_at c d A = refl
 both_at c d B = refl
 
-no_channel_at : (a b : Bool) (channel : Channel) → cond a (Some A) (cond b (Some B) None) ≡ None → picked_by a b channel ≡ true → ⊥
+no_channel_at : (a b : Bool) (channel : Channel) → cond a (Some A) (cond b (Some B) None) ≡ None
+    → picked_by a b channel ≡ true → ⊥
 no_channel_at true b channel none pass = cc none
 no_channel_at false true channel none pass = cc none
 no_channel_at false false A none pass = cc pass
@@ -196,12 +208,15 @@ no_cycle f g none slot channel cycle in_cycles =
 -- the first channel that both include, and no other one comes before it
 record IsFirstChannel (a b : Bool) (channel : Channel) : Type 0 where
   pub passes : picked_by a b channel ≡ true
-  pub first : (other : Channel) (slot m n : ℕ) → picked_by a b other ≡ true → m < 64 → m ≤ n → place_of slot channel m ≤ place_of slot other n
+  pub first : (other : Channel) (slot m n : ℕ) → picked_by a b other ≡ true → m < 64 → m ≤ n
+      → place_of slot channel m ≤ place_of slot other n
 
-first_channel : (a b : Bool) (channel : Channel) → cond a (Some A) (cond b (Some B) None) ≡ Some channel → IsFirstChannel a b channel
+first_channel : (a b : Bool) (channel : Channel) → cond a (Some A) (cond b (Some B) None) ≡ Some channel
+    → IsFirstChannel a b channel
 first_channel true b A is = record { passes = refl; first = first_a }
   where
-    first_a : (other : Channel) (slot m n : ℕ) → picked_by true b other ≡ true → m < 64 → m ≤ n → place_of slot A m ≤ place_of slot other n
+    first_a : (other : Channel) (slot m n : ℕ) → picked_by true b other ≡ true → m < 64 → m ≤ n
+        → place_of slot A m ≤ place_of slot other n
     first_a A slot m n pass few le = omega arith
     first_a B slot m n pass few le = omega arith
 first_channel true b B is = cc is
@@ -214,8 +229,10 @@ first_channel false true B is = record { passes = refl; first = first_b }
     first_b B slot m n pass few le = omega arith
 first_channel false false channel is = cc is
 
-both_pass : (f g : Filter) (channel : Channel) (cycle : ℕ) → f.slot ≡ g.slot → both_include f.channels g.channels channel ≡ true
-    → (cycle_admitted f.cycles cycle && cycle_admitted g.cycles cycle) ≡ true → is_shared_by f g f.slot channel cycle ≡ true
+both_pass : (f g : Filter) (channel : Channel) (cycle : ℕ) → f.slot ≡ g.slot
+    → both_include f.channels g.channels channel ≡ true
+    → (cycle_admitted f.cycles cycle && cycle_admitted g.cycles cycle) ≡ true
+        → is_shared_by f g f.slot channel cycle ≡ true
 both_pass f g channel cycle same channel_is cycle_is =
     let (channel_f, channel_g) = and_parts (includes f.channels channel) (includes g.channels channel) channel_is in
     let (cycle_f, cycle_g) = and_parts (cycle_admitted f.cycles cycle) (cycle_admitted g.cycles cycle) cycle_is in
@@ -225,9 +242,11 @@ both_pass f g channel cycle same channel_is cycle_is =
 
 pub some_shared : (f g : Filter) (channel : Channel) (cycle : ℕ) → IsSlot f.slot → f.slot ≡ g.slot
     → common_channel f.channels g.channels ≡ Some channel
-    → first_common f.cycles g.cycles ≡ Some cycle → IsFirstAt (is_shared_by f g) (record { slot = f.slot; channel = channel; cycle = cycle })
+    → first_common f.cycles g.cycles ≡ Some cycle → IsFirstAt (is_shared_by f g)
+        (record { slot = f.slot; channel = channel; cycle = cycle })
 some_shared f g channel cycle is_slot same channel_is cycle_is =
-    let picked = first_channel (both_include f.channels g.channels A) (both_include f.channels g.channels B) channel channel_is in
+    let picked = first_channel (both_include f.channels g.channels A)
+        (both_include f.channels g.channels B) channel channel_is in
     let (n, number) = first-some (common_in f.cycles g.cycles) 0 64 cycle cycle_is in
     let (common, n_is) = cond_some (cycle_admitted f.cycles n && cycle_admitted g.cycles n) n cycle number.found in
     record {

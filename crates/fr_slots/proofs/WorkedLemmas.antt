@@ -25,7 +25,8 @@ abbrev both_admit : CycleClass → CycleClass → ℕ → Bool
 both_admit c d cycle = cycle_admitted c cycle && cycle_admitted d cycle
 
 -- base 1 of every 2 and base 3 of every 4 have no common cycle before 3
-pub filters_meet_first_in_cycle_three : (list_any (both_admit (cycles 1 2) (cycles 3 4)) (below 3) ≡ false) × (both_admit (cycles 1 2) (cycles 3 4) 3 ≡ true)
+pub filters_meet_first_in_cycle_three : (list_any (both_admit (cycles 1 2) (cycles 3 4)) (below 3) ≡ false) ×
+    (both_admit (cycles 1 2) (cycles 3 4) 3 ≡ true)
 filters_meet_first_in_cycle_three = (refl, refl)
 
 -- even cycles, and base 3 of every 4
@@ -33,7 +34,8 @@ pub filters_never_meet : list_any (both_admit (cycles 0 2) (cycles 3 4)) (below 
 filters_never_meet = refl
 
 -- so the least common cycle is 3, and there is none
-pub first_common_cycles : (first_common (cycles 1 2) (cycles 3 4) ≡ Some 3) × (first_common (cycles 0 2) (cycles 3 4) ≡ None)
+pub first_common_cycles : (first_common (cycles 1 2) (cycles 3 4) ≡ Some 3) ×
+    (first_common (cycles 0 2) (cycles 3 4) ≡ None)
 unfolding first_of numbers_from
 first_common_cycles = (refl, refl)
 
@@ -79,7 +81,8 @@ each_channel_has_its_latest = (refl, refl, refl)
 -- ---- the ranges of the parameters, in the order of a cluster file
 
 abbrev keys : List Key
-keys = StaticSlots ∷ Minislots ∷ StaticWords ∷ StaticMt ∷ MinislotMt ∷ SymbolMt ∷ NitMt ∷ CycleMt ∷ Idle ∷ WordsPerMinislot ∷ []
+keys = StaticSlots ∷ Minislots ∷ StaticWords ∷ StaticMt ∷ MinislotMt ∷ SymbolMt ∷ NitMt ∷ CycleMt ∷ Idle ∷
+    WordsPerMinislot ∷ []
 
 abbrev lowest : List ℕ
 lowest = 2 ∷ 0 ∷ 0 ∷ 1 ∷ 1 ∷ 0 ∷ 1 ∷ 4 ∷ 0 ∷ 1 ∷ []
@@ -91,7 +94,8 @@ highest = 1023 ∷ 8000 ∷ 127 ∷ 1000 ∷ 100 ∷ 1000 ∷ 1000 ∷ 20000 ∷
 pub twenty_bounds : (map least_of keys ≡ lowest) × (map greatest_of keys ≡ highest)
     × (list_all (λ key. admits key (pos (least_of key)) && admits key (pos (greatest_of key))) keys ≡ true)
     × (list_any (λ key. admits key (pos (greatest_of key + 1))) keys ≡ false)
-    × (list_any (λ key. admits key (pos (least_of key - 1))) (StaticSlots ∷ StaticMt ∷ MinislotMt ∷ NitMt ∷ CycleMt ∷ WordsPerMinislot ∷ []) ≡ false)
+    × (list_any (λ key. admits key (pos (least_of key - 1)))
+        (StaticSlots ∷ StaticMt ∷ MinislotMt ∷ NitMt ∷ CycleMt ∷ WordsPerMinislot ∷ []) ≡ false)
     × (list_any (λ key. admits key (negsuc 0)) keys ≡ false)
 twenty_bounds = (refl, refl, refl, refl, refl, refl)
 
@@ -101,7 +105,8 @@ abbrev at_minislot : ℕ → ℕ → Option ℕ → Opportunity
 at_minislot minislot a b = record { number = 0; cycle = 0; minislot = minislot; a = Some a; b = b }
 
 -- the last static slot is one, the next slot is not
-pub static_windows_end_at_the_last_slot : (window_fits small_cycle (static_window 0 0 3) ≡ true) × (window_fits small_cycle (static_window 0 0 4) ≡ false)
+pub static_windows_end_at_the_last_slot : (window_fits small_cycle (static_window 0 0 3) ≡ true) ×
+    (window_fits small_cycle (static_window 0 0 4) ≡ false)
 static_windows_end_at_the_last_slot = (refl, refl)
 
 -- minislots are numbered from 1, so there is the tenth and no eleventh

@@ -10,14 +10,17 @@ use Rattle.fr_status.specs.Status.{status_in, frame_in, valid_frame, content_err
 use Rattle.std.specs.Prelude.{Some}
 
 abbrev one_word : Parameters
-one_word = record { static_slots = 3; minislots = 4; static_words = 1; static_mt = 20; minislot_mt = 5; symbol_mt = 0; nit_mt = 10; cycle_mt = 90; idle = 0; words_per_minislot = 5 }
+one_word = record { static_slots = 3; minislots = 4; static_words = 1; static_mt = 20; minislot_mt = 5; symbol_mt = 0;
+    nit_mt = 10; cycle_mt = 90; idle = 0; words_per_minislot = 5 }
 
 -- these bytes on channel A, in this slot of cycle 0
 abbrev IsContentError : ℕ → List ℕ → Type 0
-IsContentError slot bytes = (status_in one_word 0 slot A (Bytes (record { items = bytes })) ≡ content_error) × (frame_in one_word 0 slot A (Bytes (record { items = bytes })) ≡ None)
+IsContentError slot bytes = (status_in one_word 0 slot A (Bytes (record { items = bytes })) ≡ content_error) ×
+    (frame_in one_word 0 slot A (Bytes (record { items = bytes })) ≡ None)
 
 abbrev IsValidFrame : ℕ → List ℕ → Type 0
-IsValidFrame slot bytes = (status_in one_word 0 slot A (Bytes (record { items = bytes })) ≡ valid_frame) × (frame_in one_word 0 slot A (Bytes (record { items = bytes })) ≡ Some (fields_of bytes))
+IsValidFrame slot bytes = (status_in one_word 0 slot A (Bytes (record { items = bytes })) ≡ valid_frame) ×
+    (frame_in one_word 0 slot A (Bytes (record { items = bytes })) ≡ Some (fields_of bytes))
 
 abbrev two_words : List ℕ
 two_words = 0x20 ∷ 0x02 ∷ 0x04 ∷ 0xe2 ∷ 0x80 ∷ 0x0a ∷ 0x0b ∷ 0x0c ∷ 0x0d ∷ 0x11 ∷ 0xee ∷ 0xd6 ∷ []
@@ -38,7 +41,8 @@ abbrev null_in_slot_two : List ℕ
 null_in_slot_two = 0x00 ∷ 0x02 ∷ 0x03 ∷ 0xc1 ∷ 0x40 ∷ 0x00 ∷ 0x00 ∷ 0xd8 ∷ 0x20 ∷ 0x38 ∷ []
 
 -- two words where one is due, the ID of another slot, the count of another cycle, and startup without sync
-pub content_errors_in_a_static_slot : IsContentError 2 two_words × IsContentError 2 of_slot_three × IsContentError 2 of_cycle_one × IsContentError 2 startup_without_sync
+pub content_errors_in_a_static_slot : IsContentError 2 two_words × IsContentError 2 of_slot_three
+    × IsContentError 2 of_cycle_one × IsContentError 2 startup_without_sync
 unfolding status_in frame_in decoded bits_of number_of xor_front divide_once divide
 content_errors_in_a_static_slot = ((refl, refl), (refl, refl), (refl, refl), (refl, refl))
 

@@ -17,7 +17,8 @@ use Rattle.fr_threads.specs.declared.run.Run.{Run}
 use Rattle.fr_threads.specs.Running.{IsRunOf}
 
 -- a file that is refused is refused by the command
-not_read : (d : Description) (cycles : ℕ) (text : List ℕ) (e : FileError) → IsScenarioOf text (Err e) → Answers d cycles text (Err (file_failure e))
+not_read : (d : Description) (cycles : ℕ) (text : List ℕ) (e : FileError) → IsScenarioOf text (Err e)
+    → Answers d cycles text (Err (file_failure e))
 not_read d cycles text (file.Scenario e) is = is
 not_read d cycles text (file.Text bench.TooLong) is = is
 not_read d cycles text (file.Text bench.Read) is = tt
@@ -27,12 +28,14 @@ not_read d cycles text (file.Text bench.BadNumber) is = absurd is
 not_read d cycles text (file.Text (bench.Config e)) is = absurd is
 not_read d cycles text (file.Text (bench.Midpoint e)) is = absurd is
 
-pub not_read_of : (d : Description) (cycles : ℕ) (text : Option (List ℕ)) (e : FileError) → IfSome text (λ t. IsScenarioOf t (Err e))
+pub not_read_of : (d : Description) (cycles : ℕ) (text : Option (List ℕ)) (e : FileError)
+    → IfSome text (λ t. IsScenarioOf t (Err e))
     → IfSome text (λ t. Answers d cycles t (Err (file_failure e)))
 not_read_of d cycles None e is = tt
 not_read_of d cycles (Some t) e is = not_read d cycles t e is
 
-pub unwritten : (d : Description) (cycles : ℕ) (free : Bool) (text old new : Option (List ℕ)) (e : FileError) → new ≡ old
+pub unwritten : (d : Description) (cycles : ℕ) (free : Bool) (text old new : Option (List ℕ)) (e : FileError)
+    → new ≡ old
     → Prints d cycles free text old new (Err (file_failure e))
 unwritten d cycles free text old new (file.Scenario e) same = same
 unwritten d cycles free text old new (file.Text bench.TooLong) same = same
@@ -44,7 +47,8 @@ unwritten d cycles free text old new (file.Text (bench.Config e)) same = same
 unwritten d cycles free text old new (file.Text (bench.Midpoint e)) same = same
 
 -- what was written is the outcome of a run with the scenario that the text is
-pub printed : (d : Description) (cycles : ℕ) (free : Bool) (text old new : Option (List ℕ)) (contents : Contents) (run : Run)
+pub printed : (d : Description) (cycles : ℕ) (free : Bool) (text old new : Option (List ℕ)) (contents : Contents)
+    (run : Run)
     → IfSome text (λ t. IsScenarioOf t (Ok contents)) → IsRunOf d contents.scripts contents.faults cycles (not free) run
     → Appends old new (outcome_text run.interfaces.items run.settled.windows) → IfSome text (Adds d cycles free old new)
 printed d cycles free None old new contents run of_text is_run written = tt
@@ -55,7 +59,8 @@ printed d cycles free (Some t) old new contents run of_text is_run written = (
 )
 
 -- the run with the scenario that the text is, is refused as the run with its contents
-pub run_refused : (d : Description) (cycles : ℕ) (text : Option (List ℕ)) (contents : Contents) (told : Option RunRefusal)
+pub run_refused : (d : Description) (cycles : ℕ) (text : Option (List ℕ)) (contents : Contents)
+    (told : Option RunRefusal)
     → IfSome text (λ t. IsScenarioOf t (Ok contents)) → Refuses d contents.scripts contents.faults cycles told
     → IfSome text (λ t. RunIsRefused d cycles t told)
 run_refused d cycles None contents told of_text refuses = tt

@@ -34,13 +34,17 @@ abbrev total : List Stretch → ℕ
 total [] = 0
 total (s ∷ rest) = s.length + total rest
 
-laid_from-append : (start : ℕ) (xs ys : List Stretch) → laid_from start (xs ++ ys) ≡ laid_from start xs ++ laid_from (start + total xs) ys
+laid_from-append : (start : ℕ) (xs ys : List Stretch) → laid_from start (xs ++ ys) ≡ laid_from start xs ++ laid_from
+    (start + total xs) ys
 unfolding laid_from
 laid_from-append start [] ys = ap (λ n. laid_from n ys) (omega arith)
 laid_from-append start (x ∷ xs) ys =
-    ap (λ (rest : List Interval). record { part = x.part; start = start; end = start + x.length } ∷ rest) (laid_from-append (start + x.length) xs ys ∙ ap (λ n. laid_from (start + x.length) xs ++ laid_from n ys) (omega arith))
+    ap (λ (rest : List Interval). record { part = x.part; start = start; end = start + x.length } ∷ rest)
+        (laid_from-append (start + x.length) xs ys ∙ ap (λ n. laid_from (start + x.length) xs ++ laid_from n ys)
+        (omega arith))
 
-total-numbered : (part : ℕ → Part) (size first count : ℕ) → total (numbered part size (range_with_len first count)) ≡ count * size
+total-numbered : (part : ℕ → Part) (size first count : ℕ) → total (numbered part size (range_with_len first count)) ≡
+    count * size
 total-numbered part size first zero = omega arith
 total-numbered part size first (suc count) =
     omega (arith, total-numbered part size (first + 1) count)
@@ -54,24 +58,29 @@ Interval-of part number start end = record { part = part number; start = start; 
 abbrev row_interval : (ℕ → Part) → ℕ → ℕ → ℕ → ℕ → Interval
 row_interval part size first start k = Interval-of part (first + k) (start + k * size) (start + k * size + size)
 
-same_interval : (part : ℕ → Part) (a b s t e f : ℕ) → a ≡ b → s ≡ t → e ≡ f → Interval-of part a s e ≡ Interval-of part b t f
+same_interval : (part : ℕ → Part) (a b s t e f : ℕ) → a ≡ b → s ≡ t → e ≡ f
+    → Interval-of part a s e ≡ Interval-of part b t f
 same_interval part a b s t e f p q r = cc
 
 Contains-tail : {X : Type 0} (x y : X) (xs : List X) → Contains xs y → Contains (x ∷ xs) y
 Contains-tail x y xs h = Contains-append_right (x ∷ []) xs y h
 
-in_row : (part : ℕ → Part) (size first count start k : ℕ) → k < count → Contains (laid_from start (numbered part size (range_with_len first count))) (row_interval part size first start k)
+in_row : (part : ℕ → Part) (size first count start k : ℕ) → k < count
+    → Contains (laid_from start (numbered part size (range_with_len first count)))
+    (row_interval part size first start k)
 unfolding laid_from
 in_row part size first zero start k below = absurd (omega arith)
 in_row part size first (suc count) start zero below =
     let rest = laid_from (start + size) (numbered part size (range_with_len (first + 1) count)) in
     subst (λ (i : Interval). Contains (Interval-of part first start (start + size) ∷ rest) i)
-    (same_interval part first (first + 0) start (start + 0 * size) (start + size) (start + 0 * size + size) (omega arith) (omega arith) (omega arith))
+    (same_interval part first (first + 0) start (start + 0 * size) (start + size) (start + 0 * size + size)
+        (omega arith) (omega arith) (omega arith))
     (Contains-head _ rest)
 in_row part size first (suc count) start (suc k) below =
     let rest = laid_from (start + size) (numbered part size (range_with_len (first + 1) count)) in
     subst (λ (i : Interval). Contains (Interval-of part first start (start + size) ∷ rest) i)
-    (same_interval part (first + 1 + k) (first + suc k) (start + size + k * size) (start + suc k * size) (start + size + k * size + size) (start + suc k * size + size) (omega arith) (omega arith) (omega arith))
+    (same_interval part (first + 1 + k) (first + suc k) (start + size + k * size) (start + suc k * size)
+        (start + size + k * size + size) (start + suc k * size + size) (omega arith) (omega arith) (omega arith))
     (Contains-tail _ _ rest (in_row part size (first + 1) count (start + size) k (omega arith)))
 
 -- each interval of a row is one of these
@@ -82,7 +91,9 @@ record IsInRow (part : ℕ → Part) (size first start count : ℕ) (i : Interva
   start_is : i.start ≡ start + k * size
   end_is : i.end ≡ start + k * size + size
 
-of_row : (part : ℕ → Part) (size first count start : ℕ) (i : Interval) → Contains (laid_from start (numbered part size (range_with_len first count))) i → IsInRow part size first start count i
+of_row : (part : ℕ → Part) (size first count start : ℕ) (i : Interval)
+    → Contains (laid_from start (numbered part size (range_with_len first count))) i
+    → IsInRow part size first start count i
 unfolding laid_from
 of_row part size first zero start i h = absurd (omega arith)
 of_row part size first (suc count) start i h =
@@ -90,10 +101,13 @@ of_row part size first (suc count) start i h =
     elim (Contains-append_cases (Interval-of part first start (start + size) ∷ []) rest i h) [
       | inl here ↦
           let same = Contains-one (Interval-of part first start (start + size)) i here in
-          record { k = 0; below = omega arith; part_is = sym (ap (λ (x : Interval). x.part) same) ∙ ap part (omega arith); start_is = sym (ap (λ (x : Interval). x.start) same) ∙ omega arith; end_is = sym (ap (λ (x : Interval). x.end) same) ∙ omega arith }
+          record { k = 0; below = omega arith; part_is = sym (ap (λ (x : Interval). x.part) same) ∙ ap part
+              (omega arith); start_is = sym (ap (λ (x : Interval). x.start) same) ∙ omega arith; end_is =
+              sym (ap (λ (x : Interval). x.end) same) ∙ omega arith }
       | inr later ↦
           let w = of_row part size (first + 1) count (start + size) i later in
-          record { k = suc w.k; below = omega arith; part_is = w.part_is ∙ ap part (omega arith); start_is = omega arith; end_is = omega arith }
+          record { k = suc w.k; below = omega arith; part_is = w.part_is ∙ ap part (omega arith); start_is =
+              omega arith; end_is = omega arith }
     ]
 
 -- ---- the whole layout
@@ -122,9 +136,13 @@ unfolding layout laid_from
 layout-parts p =
     let a = numbered static_slot p.static_mt (range_with_len 1 p.static_slots) in
     let b = numbered minislot p.minislot_mt (range_with_len 1 p.minislots) in
-    let c : List Stretch = record { part = symbol_window; length = p.symbol_mt } ∷ record { part = idle_time; length = p.nit_mt } ∷ [] in
-    let after_a : 0 + total a ≡ dynamic_start p = omega (arith, total-numbered static_slot p.static_mt 1 p.static_slots) in
-    let after_b : 0 + total (a ++ b) ≡ symbol_start p = omega (arith, total-append a b, total-numbered static_slot p.static_mt 1 p.static_slots, total-numbered minislot p.minislot_mt 1 p.minislots) in
+    let c : List Stretch = record { part = symbol_window; length = p.symbol_mt } ∷
+        record { part = idle_time; length = p.nit_mt } ∷ [] in
+    let after_a : 0 + total a ≡ dynamic_start p = omega (arith, total-numbered static_slot p.static_mt 1 p.static_slots)
+        in
+    let after_b : 0 + total (a ++ b) ≡ symbol_start p = omega
+        (arith, total-append a b, total-numbered static_slot p.static_mt 1 p.static_slots,
+        total-numbered minislot p.minislot_mt 1 p.minislots) in
     laid_from-append 0 (a ++ b) c
     ∙ ap (λ (xs : List Interval). xs ++ laid_from (0 + total (a ++ b)) c) (laid_from-append 0 a b)
     ∙ ap (λ n. laid_from 0 a ++ laid_from n b ++ laid_from (0 + total (a ++ b)) c) after_a
@@ -160,7 +178,8 @@ data Kind (p : Parameters) (i : Interval) : Type 0 where
 
 kind_of : (p : Parameters) (i : Interval) → Contains (layout p) i → Kind p i
 kind_of p i h =
-    let parts : Contains (static_row p ++ dynamic_row p ++ last_two p) i = subst (λ (xs : List Interval). Contains xs i) (layout-parts p) h in
+    let parts : Contains (static_row p ++ dynamic_row p ++ last_two p) i =
+        subst (λ (xs : List Interval). Contains xs i) (layout-parts p) h in
     elim (Contains-append_cases (static_row p ++ dynamic_row p) (last_two p) i parts) [
       | inl segments ↦
           elim (Contains-append_cases (static_row p) (dynamic_row p) i segments) [
@@ -174,19 +193,24 @@ kind_of p i h =
           ]
     ]
 
-names_in_row : (part : ℕ → Part) (same : (a b : ℕ) → part a ≡ part b → a ≡ b) (size start count number offset m : ℕ) (i : Interval)
-    → IsInRow part size 1 start count i → i.part ≡ part number → i.start + offset ≡ m → m < i.end → IsNamed start count size number offset m
+names_in_row : (part : ℕ → Part) (same : (a b : ℕ) → part a ≡ part b → a ≡ b) (size start count number offset m : ℕ)
+    (i : Interval)
+    → IsInRow part size 1 start count i → i.part ≡ part number → i.start + offset ≡ m → m < i.end
+        → IsNamed start count size number offset m
 names_in_row part same size start count number offset m i w is from before =
     let at : number ≡ 1 + w.k = same number (1 + w.k) (sym is ∙ w.part_is) in
     let less : number - 1 ≡ w.k = omega arith in
     let k_is : start + (number - 1) * size ≡ start + w.k * size = ap (λ n. start + n * size) less in
-    record { from_one = omega arith; at_most = omega (arith, w.below); short = omega (arith, w.start_is, w.end_is); sum_is = omega (arith, w.start_is, k_is) }
+    record { from_one = omega arith; at_most = omega (arith, w.below); short = omega (arith, w.start_is, w.end_is);
+        sum_is = omega (arith, w.start_is, k_is) }
 
-names_alone : (size start end offset m : ℕ) → end ≡ start + size → start + offset ≡ m → m < end → IsNamed start 1 size 1 offset m
+names_alone : (size start end offset m : ℕ) → end ≡ start + size → start + offset ≡ m → m < end
+    → IsNamed start 1 size 1 offset m
 names_alone size start end offset m until from before =
     record { from_one = omega arith; at_most = omega arith; short = omega arith; sum_is = omega arith }
 
-names_by_kind : (p : Parameters) (m : ℕ) (x : Place) (i : Interval) → Kind p i → i.part ≡ part_of x → i.start + offset_of x ≡ m → m < i.end → Names p x m
+names_by_kind : (p : Parameters) (m : ℕ) (x : Place) (i : Interval) → Kind p i → i.part ≡ part_of x
+    → i.start + offset_of x ≡ m → m < i.end → Names p x m
 names_by_kind p m (Static slot offset) i (of_static w) is from before =
     names_in_row static_slot static_slot-same p.static_mt 0 p.static_slots slot offset m i w is from before
 names_by_kind p m (Static slot offset) i (of_dynamic w) is from before =
@@ -222,9 +246,11 @@ names_by_kind p m (Idle offset) i (of_idle e) is from before =
 
 -- a place of the layout, as its numbers
 names_from_layout : (p : Parameters) (m : ℕ) (x : Place) → IsAt p m x → Names p x m
-names_from_layout p m x h = names_by_kind p m x h.interval (kind_of p h.interval h.of_layout) h.of_part h.from_start h.before_end
+names_from_layout p m x h = names_by_kind p m x h.interval (kind_of p h.interval h.of_layout) h.of_part h.from_start
+    h.before_end
 
-in_layout : (p : Parameters) (i : Interval) → Contains (static_row p ++ dynamic_row p ++ last_two p) i → Contains (layout p) i
+in_layout : (p : Parameters) (i : Interval) → Contains (static_row p ++ dynamic_row p ++ last_two p) i
+    → Contains (layout p) i
 in_layout p i h = subst (λ (xs : List Interval). Contains xs i) (sym (layout-parts p)) h
 
 -- numbers of a place, as a place of the layout
@@ -232,7 +258,9 @@ layout_from_names : (p : Parameters) (m : ℕ) (x : Place) → Names p x m → I
 layout_from_names p m (Static slot offset) h =
     record {
       interval = row_interval static_slot p.static_mt 1 0 (slot - 1);
-      of_layout = in_layout p _ (Contains-append_left (static_row p ++ dynamic_row p) (last_two p) _ (Contains-append_left (static_row p) (dynamic_row p) _ (in_row static_slot p.static_mt 1 p.static_slots 0 (slot - 1) (omega arith))));
+      of_layout = in_layout p _ (Contains-append_left (static_row p ++ dynamic_row p) (last_two p) _
+          (Contains-append_left (static_row p) (dynamic_row p) _
+          (in_row static_slot p.static_mt 1 p.static_slots 0 (slot - 1) (omega arith))));
       of_part = ap static_slot (omega arith);
       from_start = omega arith;
       before_end = omega arith;
@@ -240,7 +268,9 @@ layout_from_names p m (Static slot offset) h =
 layout_from_names p m (Minislot number offset) h =
     record {
       interval = row_interval minislot p.minislot_mt 1 (dynamic_start p) (number - 1);
-      of_layout = in_layout p _ (Contains-append_left (static_row p ++ dynamic_row p) (last_two p) _ (Contains-append_right (static_row p) (dynamic_row p) _ (in_row minislot p.minislot_mt 1 p.minislots (dynamic_start p) (number - 1) (omega arith))));
+      of_layout = in_layout p _ (Contains-append_left (static_row p ++ dynamic_row p) (last_two p) _
+          (Contains-append_right (static_row p) (dynamic_row p) _
+          (in_row minislot p.minislot_mt 1 p.minislots (dynamic_start p) (number - 1) (omega arith))));
       of_part = ap minislot (omega arith);
       from_start = omega arith;
       before_end = omega arith;
@@ -248,7 +278,8 @@ layout_from_names p m (Minislot number offset) h =
 layout_from_names p m (Symbol offset) h =
     record {
       interval = symbol_interval p;
-      of_layout = in_layout p _ (Contains-append_right (static_row p ++ dynamic_row p) (last_two p) _ (Contains-head (symbol_interval p) (idle_interval p ∷ [])));
+      of_layout = in_layout p _ (Contains-append_right (static_row p ++ dynamic_row p) (last_two p) _
+          (Contains-head (symbol_interval p) (idle_interval p ∷ [])));
       of_part = refl;
       from_start = omega arith;
       before_end = omega arith;
@@ -256,7 +287,9 @@ layout_from_names p m (Symbol offset) h =
 layout_from_names p m (Idle offset) h =
     record {
       interval = idle_interval p;
-      of_layout = in_layout p _ (Contains-append_right (static_row p ++ dynamic_row p) (last_two p) _ (Contains-tail (symbol_interval p) (idle_interval p) (idle_interval p ∷ []) (Contains-head (idle_interval p) [])));
+      of_layout = in_layout p _ (Contains-append_right (static_row p ++ dynamic_row p) (last_two p) _
+          (Contains-tail (symbol_interval p) (idle_interval p) (idle_interval p ∷ [])
+          (Contains-head (idle_interval p) [])));
       of_part = refl;
       from_start = omega arith;
       before_end = omega arith;
@@ -264,11 +297,14 @@ layout_from_names p m (Idle offset) h =
 
 -- ---- places by multiplying
 
-row_found : (first count size number offset m : ℕ) → start_in_row first count size number offset ≡ Some m → IsNamed first count size number offset m
+row_found : (first count size number offset m : ℕ) → start_in_row first count size number offset ≡ Some m
+    → IsNamed first count size number offset m
 row_found first count size number offset m e =
-    record { from_one = grind (arith, nat_tests); at_most = grind (arith, nat_tests); short = grind (arith, nat_tests); sum_is = grind (arith, nat_tests) }
+    record { from_one = grind (arith, nat_tests); at_most = grind (arith, nat_tests); short = grind (arith, nat_tests);
+        sum_is = grind (arith, nat_tests) }
 
-row_only : (first count size number offset m : ℕ) → IsNamed first count size number offset m → start_in_row first count size number offset ≡ Some m
+row_only : (first count size number offset m : ℕ) → IsNamed first count size number offset m
+    → start_in_row first count size number offset ≡ Some m
 row_only first count size number offset m h = grind (arith, nat_tests)
 
 start_found : (p : Parameters) (m : ℕ) (x : Place) → start_at p x ≡ Some m → Names p x m
@@ -287,7 +323,8 @@ start_only p m (Idle offset) h = row_only _ _ _ _ _ _ h
 
 -- ---- places by dividing
 
-place-static : (p : Parameters) (m : ℕ) → m < dynamic_start p → place_at p m ≡ Some (Static (m / p.static_mt + 1) (m % p.static_mt))
+place-static : (p : Parameters) (m : ℕ) → m < dynamic_start p
+    → place_at p m ≡ Some (Static (m / p.static_mt + 1) (m % p.static_mt))
 unfolding place_at
 place-static p m h = grind (arith, nat_tests)
 
@@ -296,11 +333,13 @@ place-dynamic : (p : Parameters) (m : ℕ) → dynamic_start p ≤ m → m < sym
 unfolding place_at
 place-dynamic p m h k = grind (arith, nat_tests)
 
-place-symbol : (p : Parameters) (m : ℕ) → symbol_start p ≤ m → m < idle_start p → place_at p m ≡ Some (Symbol (m - symbol_start p))
+place-symbol : (p : Parameters) (m : ℕ) → symbol_start p ≤ m → m < idle_start p
+    → place_at p m ≡ Some (Symbol (m - symbol_start p))
 unfolding place_at
 place-symbol p m h k = grind (arith, nat_tests)
 
-place-idle : (p : Parameters) (m : ℕ) → idle_start p ≤ m → m < cycle_end p → place_at p m ≡ Some (Idle (m - idle_start p))
+place-idle : (p : Parameters) (m : ℕ) → idle_start p ≤ m → m < cycle_end p
+    → place_at p m ≡ Some (Idle (m - idle_start p))
 unfolding place_at
 place-idle p m h k = grind (arith, nat_tests)
 
@@ -309,7 +348,8 @@ unfolding place_at
 place-none p m h = grind (arith, nat_tests)
 
 -- the part of a row that a macrotick lies in, by dividing
-row_divides : (first count size m : ℕ) → 0 < size → first ≤ m → m < first + count * size → IsNamed first count size ((m - first) / size + 1) ((m - first) % size) m
+row_divides : (first count size m : ℕ) → 0 < size → first ≤ m → m < first + count * size
+    → IsNamed first count size ((m - first) / size + 1) ((m - first) % size) m
 row_divides first count size m some from until =
     let row : (m - first) / size + 1 - 1 ≡ (m - first) / size = omega arith in
     let whole : (m - first) / size * size + (m - first) % size ≡ m - first = div-add-mod' (m - first) size in
@@ -327,10 +367,12 @@ record IsDivided (first count size number offset m : ℕ) : Type 0 where
   number_is : (m - first) / size + 1 ≡ number
   offset_is : (m - first) % size ≡ offset
 
-row_divided : (first count size number offset m : ℕ) → IsNamed first count size number offset m → IsDivided first count size number offset m
+row_divided : (first count size number offset m : ℕ) → IsNamed first count size number offset m
+    → IsDivided first count size number offset m
 row_divided first count size number offset m h =
     let from_first : m - first ≡ (number - 1) * size + offset = omega arith in
-    let inside : (number - 1) * size + offset < size * count = mul-add-lt (number - 1) size offset count (omega arith) h.short in
+    let inside : (number - 1) * size + offset < size * count =
+        mul-add-lt (number - 1) size offset count (omega arith) h.short in
     record {
       from = omega arith;
       until = omega arith;
@@ -353,7 +395,8 @@ place_only p m (Minislot number offset) h =
     place-dynamic p m d.from d.until
     ∙ ap (λ n. Some (Minislot n ((m - dynamic_start p) % p.minislot_mt))) d.number_is
     ∙ ap (λ n. Some (Minislot number n)) d.offset_is
-place_only p m (Symbol offset) h = place-symbol p m (omega arith) (omega arith) ∙ ap (λ n. Some (Symbol n)) (omega arith)
+place_only p m (Symbol offset) h = place-symbol p m (omega arith) (omega arith) ∙ ap (λ n. Some (Symbol n))
+    (omega arith)
 place_only p m (Idle offset) h = place-idle p m (omega arith) (omega arith) ∙ ap (λ n. Some (Idle n)) (omega arith)
 
 -- a macrotick has a place, or lies behind the cycle
@@ -362,7 +405,8 @@ data Located (p : Parameters) (m : ℕ) : Type 0 where
   behind : place_at p m ≡ None → p.cycle_mt ≤ m → Located p m
 
 alone_at : (start size m : ℕ) → start ≤ m → m < start + size → IsNamed start 1 size 1 (m - start) m
-alone_at start size m from until = record { from_one = omega arith; at_most = omega arith; short = omega arith; sum_is = omega arith }
+alone_at start size m from until = record { from_one = omega arith; at_most = omega arith; short = omega arith; sum_is =
+    omega arith }
 
 located : (p : Parameters) → IsParameters p → (m : ℕ) → Located p m
 located p lawful m =
@@ -370,18 +414,23 @@ located p lawful m =
       | inl in_static ↦
           at (Static (m / p.static_mt + 1) (m % p.static_mt)) (place-static p m in_static)
           (subst (λ n. IsNamed 0 p.static_slots p.static_mt (n / p.static_mt + 1) (n % p.static_mt) m) (from_zero m)
-          (row_divides 0 p.static_slots p.static_mt m (omega (arith, lawful.static_mt_fit.from_least)) (omega arith) (omega arith)))
+          (row_divides 0 p.static_slots p.static_mt m (omega (arith, lawful.static_mt_fit.from_least)) (omega arith)
+              (omega arith)))
       | inr after_static ↦
           elim (cases_lt m (symbol_start p)) [
             | inl in_dynamic ↦
-                at (Minislot ((m - dynamic_start p) / p.minislot_mt + 1) ((m - dynamic_start p) % p.minislot_mt)) (place-dynamic p m after_static in_dynamic)
-                (row_divides (dynamic_start p) p.minislots p.minislot_mt m (omega (arith, lawful.minislot_mt_fit.from_least)) after_static in_dynamic)
+                at (Minislot ((m - dynamic_start p) / p.minislot_mt + 1) ((m - dynamic_start p) % p.minislot_mt))
+                    (place-dynamic p m after_static in_dynamic)
+                (row_divides (dynamic_start p) p.minislots p.minislot_mt m
+                    (omega (arith, lawful.minislot_mt_fit.from_least)) after_static in_dynamic)
             | inr after_dynamic ↦
                 elim (cases_lt m (idle_start p)) [
-                  | inl in_symbol ↦ at (Symbol (m - symbol_start p)) (place-symbol p m after_dynamic in_symbol) (alone_at (symbol_start p) p.symbol_mt m after_dynamic in_symbol)
+                  | inl in_symbol ↦ at (Symbol (m - symbol_start p)) (place-symbol p m after_dynamic in_symbol)
+                      (alone_at (symbol_start p) p.symbol_mt m after_dynamic in_symbol)
                   | inr after_symbol ↦
                       elim (cases_lt m (cycle_end p)) [
-                        | inl in_idle ↦ at (Idle (m - idle_start p)) (place-idle p m after_symbol in_idle) (alone_at (idle_start p) p.nit_mt m after_symbol in_idle)
+                        | inl in_idle ↦ at (Idle (m - idle_start p)) (place-idle p m after_symbol in_idle)
+                            (alone_at (idle_start p) p.nit_mt m after_symbol in_idle)
                         | inr after ↦ behind (place-none p m after) (omega (arith, lawful.fills_the_cycle))
                       ]
                 ]
@@ -393,36 +442,44 @@ names_end : (p : Parameters) → IsParameters p → (m : ℕ) (x : Place) → Na
 names_end p lawful m (Static slot offset) h =
     omega (arith, (row_divided 0 p.static_slots p.static_mt slot offset m h).until, lawful.fills_the_cycle)
 names_end p lawful m (Minislot number offset) h =
-    omega (arith, (row_divided (dynamic_start p) p.minislots p.minislot_mt number offset m h).until, lawful.fills_the_cycle)
+    omega (arith, (row_divided (dynamic_start p) p.minislots p.minislot_mt number offset m h).until,
+        lawful.fills_the_cycle)
 names_end p lawful m (Symbol offset) h = omega (arith, lawful.fills_the_cycle)
 names_end p lawful m (Idle offset) h = omega (arith, lawful.fills_the_cycle)
 
 -- ---- what the calls answer
 
-pub located_found : (p : Parameters) → IsParameters p → (m : ℕ) (answer : Option Place) → answer ≡ place_at p m → IfSome answer (λ x. IsAt p m x)
+pub located_found : (p : Parameters) → IsParameters p → (m : ℕ) (answer : Option Place) → answer ≡ place_at p m
+    → IfSome answer (λ x. IsAt p m x)
 located_found p lawful m answer is =
     elim (located p lawful m) [
-      | at x same names ↦ subst (λ (o : Option Place). IfSome o (λ x. IsAt p m x)) (sym (is ∙ same)) (layout_from_names p m x names)
+      | at x same names ↦ subst (λ (o : Option Place). IfSome o (λ x. IsAt p m x)) (sym (is ∙ same))
+          (layout_from_names p m x names)
       | behind same after ↦ subst (λ (o : Option Place). IfSome o (λ x. IsAt p m x)) (sym (is ∙ same)) tt
     ]
 
-pub located_only : (p : Parameters) (m : ℕ) (answer : Option Place) → answer ≡ place_at p m → (x : Place) → IsAt p m x → answer ≡ Some x
+pub located_only : (p : Parameters) (m : ℕ) (answer : Option Place) → answer ≡ place_at p m → (x : Place) → IsAt p m x
+    → answer ≡ Some x
 located_only p m answer is x h = is ∙ place_only p m x (names_from_layout p m x h)
 
-pub located_none : (p : Parameters) → IsParameters p → (m : ℕ) (answer : Option Place) → answer ≡ place_at p m → IsNone answer ↔ (p.cycle_mt ≤ m)
+pub located_none : (p : Parameters) → IsParameters p → (m : ℕ) (answer : Option Place) → answer ≡ place_at p m
+    → IsNone answer ↔ (p.cycle_mt ≤ m)
 located_none p lawful m answer is =
     elim (located p lawful m) [
       | at x same names ↦
           subst (λ (o : Option Place). IsNone o ↔ (p.cycle_mt ≤ m)) (sym (is ∙ same))
           (λ e. absurd (cc), λ after. absurd (omega (arith, names_end p lawful m x names)))
-      | behind same after ↦ subst (λ (o : Option Place). IsNone o ↔ (p.cycle_mt ≤ m)) (sym (is ∙ same)) (λ e. after, λ h. refl)
+      | behind same after ↦ subst (λ (o : Option Place). IsNone o ↔ (p.cycle_mt ≤ m)) (sym (is ∙ same))
+          (λ e. after, λ h. refl)
     ]
 
-pub started_found : (p : Parameters) (x : Place) (answer : Option ℕ) → answer ≡ start_at p x → IfSome answer (λ m. IsAt p m x)
+pub started_found : (p : Parameters) (x : Place) (answer : Option ℕ) → answer ≡ start_at p x
+    → IfSome answer (λ m. IsAt p m x)
 started_found p x None is = tt
 started_found p x (Some m) is = layout_from_names p m x (start_found p m x (sym is))
 
-pub started_only : (p : Parameters) (x : Place) (answer : Option ℕ) → answer ≡ start_at p x → (m : ℕ) → IsAt p m x → answer ≡ Some m
+pub started_only : (p : Parameters) (x : Place) (answer : Option ℕ) → answer ≡ start_at p x → (m : ℕ) → IsAt p m x
+    → answer ≡ Some m
 started_only p x answer is m h = is ∙ start_only p m x (names_from_layout p m x h)
 
 -- a place has one macrotick
@@ -439,10 +496,12 @@ place-same p m x y h k =
     let there = place_only p m y (names_from_layout p m y k) in
     cc
 
-pub located_alone : (p : Parameters) (m : ℕ) (answer : Option Place) → IfSome answer (λ x. IsAt p m x) → IfSome answer (λ x. (n : ℕ) → IsAt p n x → n ≡ m)
+pub located_alone : (p : Parameters) (m : ℕ) (answer : Option Place) → IfSome answer (λ x. IsAt p m x)
+    → IfSome answer (λ x. (n : ℕ) → IsAt p n x → n ≡ m)
 located_alone p m None found = tt
 located_alone p m (Some x) found = λ n k. macrotick-same p m n x found k
 
-pub started_alone : (p : Parameters) (x : Place) (answer : Option ℕ) → IfSome answer (λ m. IsAt p m x) → IfSome answer (λ m. (y : Place) → IsAt p m y → y ≡ x)
+pub started_alone : (p : Parameters) (x : Place) (answer : Option ℕ) → IfSome answer (λ m. IsAt p m x)
+    → IfSome answer (λ m. (y : Place) → IsAt p m y → y ≡ x)
 started_alone p x None found = tt
 started_alone p x (Some m) found = λ y k. place-same p m x y found k

@@ -61,76 +61,105 @@ first_short One = omega arith
 first_short Two = omega arith
 first_short Three = omega arith
 
-params_read : (v : Version) (p : Parameters) → IsParameters p → take_bytes fresh (params_text v p) ≡ reading (node v p) []
+params_read : (v : Version) (p : Parameters) → IsParameters p
+    → take_bytes fresh (params_text v p) ≡ reading (node v p) []
 params_read v p is =
     let head : take_bytes fresh (head_text v) ≡ reading (params v) [] =
-    next_line fresh [] (first_line v) magic (params v) refl refl (first_no_feed v) (first_short v) (ap after_magic (version_again v)) in
-    next_line fresh (head_text v) (line_of (params_words p)) (params v) (node v p) head refl (params_no_feed p is) (params_short p is)
+    next_line fresh [] (first_line v) magic (params v) refl refl (first_no_feed v) (first_short v)
+        (ap after_magic (version_again v)) in
+    next_line fresh (head_text v) (line_of (params_words p)) (params v) (node v p) head refl (params_no_feed p is)
+        (params_short p is)
     (ap (after_numbers v) (params_line_again p is) ∙ ap (after_parameters v) (parameters_again p is))
 
 -- ---- the plan
 
-node_read : (v : Version) (p : Parameters) (plan : Plan) → IsParameters p → IsPlan plan → take_bytes fresh (params_text v p ++ line_text (node_words plan)) ≡ reading (lines v p (bare_plan plan)) []
+node_read : (v : Version) (p : Parameters) (plan : Plan) → IsParameters p → IsPlan plan
+    → take_bytes fresh (params_text v p ++ line_text (node_words plan)) ≡ reading (lines v p (bare_plan plan)) []
 node_read v p plan is plan_is =
-    next_line fresh (params_text v p) (line_of (node_words plan)) (node v p) (lines v p (bare_plan plan)) (params_read v p is) refl (node_no_feed plan plan_is) (node_short plan plan_is)
+    next_line fresh (params_text v p) (line_of (node_words plan)) (node v p) (lines v p (bare_plan plan))
+        (params_read v p is) refl (node_no_feed plan plan_is) (node_short plan plan_is)
     (ap (after_node v p) (node_line_again plan plan_is))
 
-bare_read : (v : Version) (p : Parameters) (plan : Plan) → IsParameters p → IsPlan plan → take_bytes fresh (plan_text v p (bare_plan plan)) ≡ reading (lines v p (bare_plan plan)) []
-bare_read v p plan is plan_is = ap (take_bytes fresh) (bare_text v p (bare_plan plan) refl refl refl) ∙ node_read v p plan is plan_is
+bare_read : (v : Version) (p : Parameters) (plan : Plan) → IsParameters p → IsPlan plan
+    → take_bytes fresh (plan_text v p (bare_plan plan)) ≡ reading (lines v p (bare_plan plan)) []
+bare_read v p plan is plan_is = ap (take_bytes fresh) (bare_text v p (bare_plan plan) refl refl refl)
+    ∙ node_read v p plan is plan_is
 
 -- the plan with these lines and no queue
 abbrev with_lines : Plan → List Own → List Buffer → Plan
 with_lines plan owned buffers = record (bare_plan plan) { owned = owned; buffers = buffers }
 
-own_line_read : (v : Version) (p : Parameters) (plan : Plan) (o : Own) → plan.buffers ≡ [] → plan.queue ≡ None → length plan.owned < 64 → IsSpelledOwn o → tells_own v o ≡ true → take_line (lines v p plan) (line_of (own_words v o)) ≡ Ok (lines v p (with_own plan o))
+own_line_read : (v : Version) (p : Parameters) (plan : Plan) (o : Own) → plan.buffers ≡ [] → plan.queue ≡ None
+    → length plan.owned < 64 → IsSpelledOwn o → tells_own v o ≡ true
+    → take_line (lines v p plan) (line_of (own_words v o)) ≡ Ok (lines v p (with_own plan o))
 own_line_read v p plan o no_buffer no_queue room spelled told =
-    rw (own_not_begin v o, own_told v (words_of (line_of (own_words v o))) o (own_line_again v o spelled told), no_buffer, no_queue, own_taken plan o spelled.fits room) refl
+    rw (own_not_begin v o, own_told v (words_of (line_of (own_words v o))) o (own_line_again v o spelled told),
+        no_buffer, no_queue, own_taken plan o spelled.fits room) refl
 
 -- further ownership lines
-owned_read : (v : Version) (p : Parameters) (plan : Plan) (more before : List Own) → length before + length more ≤ 64 → AllFit own_fits more → Each IsOwn more → AreOwnedTold v more
+owned_read : (v : Version) (p : Parameters) (plan : Plan) (more before : List Own) → length before + length more ≤ 64
+    → AllFit own_fits more → Each IsOwn more → AreOwnedTold v more
     → take_bytes fresh (plan_text v p (with_lines plan before [])) ≡ reading (lines v p (with_lines plan before [])) []
-    → take_bytes fresh (plan_text v p (with_lines plan (before ++ more) [])) ≡ reading (lines v p (with_lines plan (before ++ more) [])) []
+    → take_bytes fresh (plan_text v p (with_lines plan (before ++ more) [])) ≡ reading
+        (lines v p (with_lines plan (before ++ more) [])) []
 owned_read v p plan [] before few fit ranges told came =
-    subst (λ (owned : List Own). take_bytes fresh (plan_text v p (with_lines plan owned [])) ≡ reading (lines v p (with_lines plan owned [])) []) (sym (append-nil before)) came
+    subst (λ (owned : List Own). take_bytes fresh (plan_text v p (with_lines plan owned [])) ≡ reading
+        (lines v p (with_lines plan owned [])) []) (sym (append-nil before)) came
 owned_read v p plan (o ∷ more) before few fit ranges told came =
     let spelled : IsSpelledOwn o = record { is = ranges.0; fits = fit.0 } in
     let here = with_lines plan before [] in
     let next : take_bytes fresh (plan_text v p (with_own here o)) ≡ reading (lines v p (with_own here o)) [] =
     ap (take_bytes fresh) (own_text v p here o refl refl)
-    ∙ next_line fresh (plan_text v p here) (line_of (own_words v o)) (lines v p here) (lines v p (with_own here o)) came refl (own_no_feed v o spelled) (own_short v o spelled)
+    ∙ next_line fresh (plan_text v p here) (line_of (own_words v o)) (lines v p here)
+        (lines v p (with_own here o)) came refl (own_no_feed v o spelled) (own_short v o spelled)
     (own_line_read v p here o refl refl (omega arith) spelled told.0) in
-    subst (λ (owned : List Own). take_bytes fresh (plan_text v p (with_lines plan owned [])) ≡ reading (lines v p (with_lines plan owned [])) []) (append_assoc before (o ∷ []) more)
-    (owned_read v p plan more (before ++ o ∷ []) (omega (arith, length-append before (o ∷ []))) fit.1 ranges.1 told.1 next)
+    subst (λ (owned : List Own). take_bytes fresh (plan_text v p (with_lines plan owned [])) ≡ reading
+        (lines v p (with_lines plan owned [])) []) (append_assoc before (o ∷ []) more)
+    (owned_read v p plan more (before ++ o ∷ []) (omega (arith, length-append before (o ∷ []))) fit.1 ranges.1 told.1
+        next)
 
-buffer_line_read : (v : Version) (p : Parameters) (plan : Plan) (b : Buffer) → plan.queue ≡ None → length plan.buffers < 64 → IsSpelledBuffer b → take_line (lines v p plan) (line_of (buffer_words b)) ≡ Ok (lines v p (with_buffer plan b))
+buffer_line_read : (v : Version) (p : Parameters) (plan : Plan) (b : Buffer) → plan.queue ≡ None
+    → length plan.buffers < 64 → IsSpelledBuffer b → take_line (lines v p plan) (line_of (buffer_words b)) ≡ Ok
+    (lines v p (with_buffer plan b))
 buffer_line_read v p plan b none room spelled =
-    rw (buffer_not_begin b, buffer_told v (words_of (line_of (buffer_words b))) b (buffer_line_again b spelled), none, buffer_taken plan b spelled.fits room) refl
+    rw (buffer_not_begin b, buffer_told v (words_of (line_of (buffer_words b))) b (buffer_line_again b spelled), none,
+        buffer_taken plan b spelled.fits room) refl
 
 -- further buffers
-buffers_read : (v : Version) (p : Parameters) (plan : Plan) (owned : List Own) (more before : List Buffer) → length before + length more ≤ 64 → AllFit buffer_fits more → Each IsBuffer more
-    → take_bytes fresh (plan_text v p (with_lines plan owned before)) ≡ reading (lines v p (with_lines plan owned before)) []
-    → take_bytes fresh (plan_text v p (with_lines plan owned (before ++ more))) ≡ reading (lines v p (with_lines plan owned (before ++ more))) []
+buffers_read : (v : Version) (p : Parameters) (plan : Plan) (owned : List Own) (more before : List Buffer)
+    → length before + length more ≤ 64 → AllFit buffer_fits more → Each IsBuffer more
+    → take_bytes fresh (plan_text v p (with_lines plan owned before)) ≡ reading
+        (lines v p (with_lines plan owned before)) []
+    → take_bytes fresh (plan_text v p (with_lines plan owned (before ++ more))) ≡ reading
+        (lines v p (with_lines plan owned (before ++ more))) []
 buffers_read v p plan owned [] before few fit ranges came =
-    subst (λ (buffers : List Buffer). take_bytes fresh (plan_text v p (with_lines plan owned buffers)) ≡ reading (lines v p (with_lines plan owned buffers)) []) (sym (append-nil before)) came
+    subst (λ (buffers : List Buffer). take_bytes fresh (plan_text v p (with_lines plan owned buffers)) ≡ reading
+        (lines v p (with_lines plan owned buffers)) []) (sym (append-nil before)) came
 buffers_read v p plan owned (b ∷ more) before few fit ranges came =
     let spelled : IsSpelledBuffer b = record { is = ranges.0; fits = fit.0 } in
     let here = with_lines plan owned before in
     let next : take_bytes fresh (plan_text v p (with_buffer here b)) ≡ reading (lines v p (with_buffer here b)) [] =
     ap (take_bytes fresh) (buffer_text v p here b refl)
-    ∙ next_line fresh (plan_text v p here) (line_of (buffer_words b)) (lines v p here) (lines v p (with_buffer here b)) came refl (buffer_no_feed b spelled) (buffer_short b spelled)
+    ∙ next_line fresh (plan_text v p here) (line_of (buffer_words b)) (lines v p here)
+        (lines v p (with_buffer here b)) came refl (buffer_no_feed b spelled) (buffer_short b spelled)
     (buffer_line_read v p here b refl (omega arith) spelled) in
-    subst (λ (buffers : List Buffer). take_bytes fresh (plan_text v p (with_lines plan owned buffers)) ≡ reading (lines v p (with_lines plan owned buffers)) []) (append_assoc before (b ∷ []) more)
-    (buffers_read v p plan owned more (before ++ b ∷ []) (omega (arith, length-append before (b ∷ []))) fit.1 ranges.1 next)
+    subst (λ (buffers : List Buffer). take_bytes fresh (plan_text v p (with_lines plan owned buffers)) ≡ reading
+        (lines v p (with_lines plan owned buffers)) []) (append_assoc before (b ∷ []) more)
+    (buffers_read v p plan owned more (before ++ b ∷ []) (omega (arith, length-append before (b ∷ []))) fit.1 ranges.1
+        next)
 
 -- the queue
-queue_line_read : (v : Version) (p : Parameters) (plan : Plan) (q : Queue) → plan.queue ≡ None → IsSpelledQueue q → take_line (lines v p plan) (line_of (queue_words q)) ≡ Ok (lines v p (with_queue plan q))
+queue_line_read : (v : Version) (p : Parameters) (plan : Plan) (q : Queue) → plan.queue ≡ None → IsSpelledQueue q
+    → take_line (lines v p plan) (line_of (queue_words q)) ≡ Ok (lines v p (with_queue plan q))
 queue_line_read v p plan q none spelled =
-    rw (queue_not_begin q, queue_told v (words_of (line_of (queue_words q))) q (queue_line_again q spelled), queue_taken plan q spelled.fits none) refl
+    rw (queue_not_begin q, queue_told v (words_of (line_of (queue_words q))) q (queue_line_again q spelled),
+        queue_taken plan q spelled.fits none) refl
 
 abbrev with_queue_or_none : Plan → Option Queue → Plan
 with_queue_or_none plan o = record plan { queue = o }
 
-queue_read : (v : Version) (p : Parameters) (plan : Plan) (o : Option Queue) → plan.queue ≡ None → QueueFits o → IsQueueOrNone o
+queue_read : (v : Version) (p : Parameters) (plan : Plan) (o : Option Queue) → plan.queue ≡ None → QueueFits o
+    → IsQueueOrNone o
     → take_bytes fresh (plan_text v p plan) ≡ reading (lines v p plan) []
     → take_bytes fresh (plan_text v p (with_queue_or_none plan o)) ≡ reading (lines v p (with_queue_or_none plan o)) []
 queue_read v p plan None none fits ranges came =
@@ -148,31 +177,41 @@ queue_read v p plan None none fits ranges came =
 queue_read v p plan (Some q) none fits ranges came =
     let spelled : IsSpelledQueue q = record { is = ranges; fits = fits } in
     ap (take_bytes fresh) (queue_text v p plan q none)
-    ∙ next_line fresh (plan_text v p plan) (line_of (queue_words q)) (lines v p plan) (lines v p (with_queue plan q)) came refl (queue_no_feed q spelled) (queue_short q spelled)
+    ∙ next_line fresh (plan_text v p plan) (line_of (queue_words q)) (lines v p plan)
+        (lines v p (with_queue plan q)) came refl (queue_no_feed q spelled) (queue_short q spelled)
     (queue_line_read v p plan q none spelled)
 
-plan_read : (v : Version) (p : Parameters) (plan : Plan) → IsParameters p → IsPlan plan → AreOwnedTold v plan.owned → take_bytes fresh (plan_text v p plan) ≡ reading (lines v p plan) []
+plan_read : (v : Version) (p : Parameters) (plan : Plan) → IsParameters p → IsPlan plan → AreOwnedTold v plan.owned
+    → take_bytes fresh (plan_text v p plan) ≡ reading (lines v p plan) []
 plan_read v p plan is plan_is told =
     let few_owned = plan_is.few_owned in
     let few_buffers = plan_is.few_buffers in
-    let owned = owned_read v p plan plan.owned [] (omega arith) plan_is.owned_fit plan_is.owned_are told (bare_read v p plan is plan_is) in
-    let buffers = buffers_read v p plan plan.owned plan.buffers [] (omega arith) plan_is.buffers_fit plan_is.buffers_are owned in
+    let owned = owned_read v p plan plan.owned [] (omega arith) plan_is.owned_fit plan_is.owned_are told
+        (bare_read v p plan is plan_is) in
+    let buffers = buffers_read v p plan plan.owned plan.buffers []
+        (omega arith) plan_is.buffers_fit plan_is.buffers_are owned in
     queue_read v p (with_lines plan plan.owned plan.buffers) plan.queue refl plan_is.queue_fits plan_is.queue_is buffers
 
-begin_read : (v : Version) (p : Parameters) (plan : Plan) → IsParameters p → IsPlan plan → AreOwnedTold v plan.owned → plan_fault p plan ≡ None → take_bytes fresh (begin_text v p plan) ≡ reading (body v (record { params = p; plan = plan; entries = [] })) []
+begin_read : (v : Version) (p : Parameters) (plan : Plan) → IsParameters p → IsPlan plan → AreOwnedTold v plan.owned
+    → plan_fault p plan ≡ None → take_bytes fresh (begin_text v p plan) ≡ reading
+    (body v (record { params = p; plan = plan; entries = [] })) []
 begin_read v p plan is plan_is told faultless =
-    next_line fresh (plan_text v p plan) begin_line (lines v p plan) (body v (record { params = p; plan = plan; entries = [] })) (plan_read v p plan is plan_is told) refl refl (omega arith)
+    next_line fresh (plan_text v p plan) begin_line (lines v p plan)
+        (body v (record { params = p; plan = plan; entries = [] })) (plan_read v p plan is plan_is told) refl refl
+        (omega arith)
     (rw faultless refl)
 
 -- ---- entries
 
-get_below : (buffers : List Buffer) (buffer : ℕ) (P : Buffer → Type 0) → IsSomeAnd (slice_get buffers buffer) P → buffer < length buffers
+get_below : (buffers : List Buffer) (buffer : ℕ) (P : Buffer → Type 0) → IsSomeAnd (slice_get buffers buffer) P
+    → buffer < length buffers
 get_below [] buffer P h = absurd h
 get_below (b ∷ buffers) zero P h = omega arith
 get_below (b ∷ buffers) (suc buffer) P h = let lt = get_below buffers buffer P h in omega arith
 
 -- a buffer that is there is one of at most 64
-spelled_entry : (s : State) (e : Entry) → IsPlan s.plan → IsEntry e → IsLegal s.params s.plan s.entries e → IsSpelledEntry e
+spelled_entry : (s : State) (e : Entry) → IsPlan s.plan → IsEntry e → IsLegal s.params s.plan s.entries e
+    → IsSpelledEntry e
 spelled_entry s (Commit task buffer payload) plan_is ranges legal =
     let lt = get_below s.plan.buffers buffer _ legal.transmits in
     let few = plan_is.few_buffers in
@@ -189,7 +228,9 @@ spelled_entry s (Pop task from) plan_is ranges legal = ranges
 spelled_entry s (Fetch window a b) plan_is ranges legal = ranges
 spelled_entry s (Observe window a b) plan_is ranges legal = ranges
 
-entry_line_read : (v : Version) (s : State) (e : Entry) → IsPlan s.plan → IsEntry e → IsLegal s.params s.plan s.entries e → tells v e ≡ true → take_line (body v s) (line_of (entry_words e)) ≡ Ok (body v (with_entry s e))
+entry_line_read : (v : Version) (s : State) (e : Entry) → IsPlan s.plan → IsEntry e
+    → IsLegal s.params s.plan s.entries e → tells v e ≡ true
+    → take_line (body v s) (line_of (entry_words e)) ≡ Ok (body v (with_entry s e))
 entry_line_read v s e plan_is ranges legal told =
     let spelled = spelled_entry s e plan_is ranges legal in
     let made : made_by s e ≡ e = made-answered s e (legal_accepted s e legal).1 in
@@ -198,33 +239,45 @@ entry_line_read v s e plan_is ranges legal told =
 entries_read : (v : Version) (p : Parameters) (plan : Plan) (items before : List Entry) (front : List ℕ) → IsPlan plan
     → AllAfter (IsLegal p plan) before items → AllAfter (λ _ e. IsEntry e) before items → AreTold v items
     → take_bytes fresh front ≡ reading (body v (record { params = p; plan = plan; entries = before })) []
-    → take_bytes fresh (front ++ flat_map entry_line items) ≡ reading (body v (record { params = p; plan = plan; entries = before ++ items })) []
+    → take_bytes fresh (front ++ flat_map entry_line items) ≡ reading
+        (body v (record { params = p; plan = plan; entries = before ++ items })) []
 unfolding AllAfter
 entries_read v p plan [] before front plan_is legal ranges told came =
-    ap (take_bytes fresh) (append-nil front) ∙ came ∙ ap (λ xs. reading (body v (record { params = p; plan = plan; entries = xs })) []) (sym (append-nil before))
+    ap (take_bytes fresh) (append-nil front) ∙ came ∙ ap (λ xs. reading
+        (body v (record { params = p; plan = plan; entries = xs })) []) (sym (append-nil before))
 entries_read v p plan (e ∷ items) before front plan_is legal ranges told came =
     let s : State = record { params = p; plan = plan; entries = before } in
     let spelled = spelled_entry s e plan_is ranges.0 legal.0 in
     let next : take_bytes fresh (front ++ entry_line e) ≡ reading (body v (with_entry s e)) [] =
-    next_line fresh front (line_of (entry_words e)) (body v s) (body v (with_entry s e)) came refl (entry_no_feed e spelled) (entry_short e spelled) (entry_line_read v s e plan_is ranges.0 legal.0 told.0) in
+    next_line fresh front (line_of (entry_words e)) (body v s) (body v (with_entry s e)) came refl
+        (entry_no_feed e spelled) (entry_short e spelled) (entry_line_read v s e plan_is ranges.0 legal.0 told.0) in
     ap (take_bytes fresh) (sym (append_assoc front (entry_line e) (flat_map entry_line items)))
     ∙ entries_read v p plan items (before ++ e ∷ []) (front ++ entry_line e) plan_is legal.1 ranges.1 told.1 next
-    ∙ ap (λ xs. reading (body v (record { params = p; plan = plan; entries = xs })) []) (append_assoc before (e ∷ []) items)
+    ∙ ap (λ xs. reading (body v (record { params = p; plan = plan; entries = xs })) [])
+        (append_assoc before (e ∷ []) items)
 
 -- ---- the whole text
 
-pub text_again : (v : Version) (s : State) → IsLegalInterface s → AreOwnedTold v s.plan.owned → AreTold v s.entries → take_bytes fresh (trace_text v s) ≡ reading (finished v s) []
+pub text_again : (v : Version) (s : State) → IsLegalInterface s → AreOwnedTold v s.plan.owned → AreTold v s.entries
+    → take_bytes fresh (trace_text v s) ≡ reading (finished v s) []
 text_again v s is owned told =
     let begun = begin_read v s.params s.plan is.params_are is.plan_is owned is.faultless in
-    let entries = entries_read v s.params s.plan s.entries [] (begin_text v s.params s.plan) is.plan_is is.legal is.entries_are told begun in
+    let entries = entries_read v s.params s.plan s.entries []
+        (begin_text v s.params s.plan) is.plan_is is.legal is.entries_are told begun in
     next_line fresh (body_text v s) end_line (body v s) (finished v s) entries refl refl (omega arith) refl
 
 -- its line feed of `begin` comes after the plan
-pub text_begins : (v : Version) (s : State) → IsLegalInterface s → AreOwnedTold v s.plan.owned → Begins fresh (trace_text v s)
+pub text_begins : (v : Version) (s : State) → IsLegalInterface s → AreOwnedTold v s.plan.owned
+    → Begins fresh (trace_text v s)
 text_begins v s is owned =
     let front = plan_text v s.params s.plan ++ begin_line in
-    let before : take_bytes fresh (plan_text v s.params s.plan) ≡ reading (lines v s.params s.plan) [] = plan_read v s.params s.plan is.params_are is.plan_is owned in
-    let at : take_bytes fresh front ≡ reading (lines v s.params s.plan) begin_line = fold-append take_byte fresh (plan_text v s.params s.plan) begin_line ∙ ap (λ p. take_bytes p begin_line) before in
+    let before : take_bytes fresh (plan_text v s.params s.plan) ≡ reading (lines v s.params s.plan) [] =
+        plan_read v s.params s.plan is.params_are is.plan_is owned in
+    let at : take_bytes fresh front ≡ reading (lines v s.params s.plan) begin_line =
+        fold-append take_byte fresh (plan_text v s.params s.plan) begin_line ∙ ap
+        (λ p. take_bytes p begin_line) before in
     let begins : Begins fresh (begin_text v s.params s.plan) =
-    (front, [], sym (append_assoc (plan_text v s.params s.plan) begin_line line_feed), subst IsAtBegin (sym at) (refl, is.faultless)) in
-    begins_before fresh (body_text v s) (end_line ++ line_feed) (begins_before fresh (begin_text v s.params s.plan) (flat_map entry_line s.entries) begins)
+    (front, [], sym (append_assoc (plan_text v s.params s.plan) begin_line line_feed),
+        subst IsAtBegin (sym at) (refl, is.faultless)) in
+    begins_before fresh (body_text v s) (end_line ++ line_feed)
+        (begins_before fresh (begin_text v s.params s.plan) (flat_map entry_line s.entries) begins)

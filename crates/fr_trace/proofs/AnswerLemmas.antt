@@ -85,11 +85,14 @@ offered_again (Data n) = eq-eqb n n refl
 -- an entry whose answers are those of its call is the one that the call makes
 pub made-answered : (s : State) (e : Entry) → is_answered s e ≡ true → made_by s e ≡ e
 made-answered s (Commit task buffer payload) h = refl
-made-answered s (Withdraw task buffer of) h = ap (Withdraw task buffer) (same_number_is (pending_commit buffer s.entries) of h)
-made-answered s (Read task buffer from) h = ap (Read task buffer) (same_origin_is (option_map origin_of (received_by s buffer)) from h)
+made-answered s (Withdraw task buffer of) h = ap (Withdraw task buffer)
+    (same_number_is (pending_commit buffer s.entries) of h)
+made-answered s (Read task buffer from) h = ap (Read task buffer)
+    (same_origin_is (option_map origin_of (received_by s buffer)) from h)
 made-answered s (Pop task from) h = ap (Pop task) (same_origin_is (option_map origin_of (oldest_of s)) from h)
 made-answered s (Fetch window a b) h =
-    let parts = and_parts (same_offered (offered s.plan s.entries window A) a) (same_offered (offered s.plan s.entries window B) b) h in
+    let parts = and_parts (same_offered (offered s.plan s.entries window A) a)
+        (same_offered (offered s.plan s.entries window B) b) h in
     let offer_a = same_offered_is (offered s.plan s.entries window A) a parts.0 in
     let offer_b = same_offered_is (offered s.plan s.entries window B) b parts.1 in
     λ i. Fetch window (offer_a i) (offer_b i)
@@ -102,12 +105,15 @@ no_refusal o h = ap is_some h
 
 -- a legal commit
 
-commit_taken : (s : State) (payload : List ℕ) (o : Option Buffer) → IsSomeAnd o (λ b. (is_receive b.mode ≡ false) × (length payload ≡ 2 * words_of s.params b)) → is_host_full s ≡ false
+commit_taken : (s : State) (payload : List ℕ) (o : Option Buffer)
+    → IsSomeAnd o (λ b. (is_receive b.mode ≡ false) × (length payload ≡ 2 * words_of s.params b))
+    → is_host_full s ≡ false
     → unless_transmit s payload o ≡ None
 commit_taken s payload None h room = absurd h
 commit_taken s payload (Some b) h room = rw (h.0, eq-eqb (length payload) (2 * words_of s.params b) h.1, room) refl
 
-legal_commit : (s : State) (task buffer : ℕ) (payload : List ℕ) → IsLegalCommit s.params s.plan s.entries task buffer payload → commit_refusal s task buffer payload ≡ None
+legal_commit : (s : State) (task buffer : ℕ) (payload : List ℕ)
+    → IsLegalCommit s.params s.plan s.entries task buffer payload → commit_refusal s task buffer payload ≡ None
 legal_commit s task buffer payload legal =
     let few : leb s.plan.tasks task ≡ false = lt-leb s.plan.tasks task legal.task_is in
     let room : is_host_full s ≡ false = lt-leb s.plan.host_entries (count_by is_host s.entries) legal.room in
@@ -115,7 +121,8 @@ legal_commit s task buffer payload legal =
 
 -- a legal withdraw
 
-withdraw_taken : (s : State) (o : Option Buffer) → IsSomeAnd o (λ b. is_receive b.mode ≡ false) → is_host_full s ≡ false → unless_sending s o ≡ None
+withdraw_taken : (s : State) (o : Option Buffer) → IsSomeAnd o (λ b. is_receive b.mode ≡ false) → is_host_full s ≡ false
+    → unless_sending s o ≡ None
 withdraw_taken s None h room = absurd h
 withdraw_taken s (Some b) h room = rw (h, room) refl
 
@@ -124,18 +131,22 @@ legal_withdraw : (s : State) (task buffer : ℕ) (of : Option ℕ) → IsLegalWi
 legal_withdraw s task buffer of legal =
     let few : leb s.plan.tasks task ≡ false = lt-leb s.plan.tasks task legal.task_is in
     let room : is_host_full s ≡ false = lt-leb s.plan.host_entries (count_by is_host s.entries) legal.room in (
-      no_refusal (withdraw_refusal s task buffer) (rw few (withdraw_taken s (buffer_at s.plan buffer) legal.transmits room)),
+      no_refusal (withdraw_refusal s task buffer) (rw few
+          (withdraw_taken s (buffer_at s.plan buffer) legal.transmits room)),
       rw (← legal.found) (number_again of),
     )
 
 -- a legal read
 
-read_receives : (s : State) (o : Option Buffer) (from : Option Origin) → IsSomeAnd o (λ b. (is_receive b.mode ≡ true) × (from ≡ option_map origin_of (held s.params b.filter s.entries))) → is_host_full s ≡ false
+read_receives : (s : State) (o : Option Buffer) (from : Option Origin)
+    → IsSomeAnd o (λ b. (is_receive b.mode ≡ true) × (from ≡ option_map origin_of (held s.params b.filter s.entries)))
+    → is_host_full s ≡ false
     → (unless_receive s o ≡ None) × (option_map origin_of (option_and_then (received_in s) o) ≡ from)
 read_receives s None from h room = absurd h
 read_receives s (Some b) from h room = (rw (h.0, room) refl, rw h.0 (sym h.1))
 
-legal_read : (s : State) (task buffer : ℕ) (from : Option Origin) → IsLegalRead s.params s.plan s.entries task buffer from
+legal_read : (s : State) (task buffer : ℕ) (from : Option Origin)
+    → IsLegalRead s.params s.plan s.entries task buffer from
     → (is_refused s (Read task buffer from) ≡ false) × (is_answered s (Read task buffer from) ≡ true)
 legal_read s task buffer from legal =
     let few : leb s.plan.tasks task ≡ false = lt-leb s.plan.tasks task legal.task_is in
@@ -145,8 +156,11 @@ legal_read s task buffer from legal =
 
 -- a legal pop
 
-pop_queued : (s : State) (o : Option Queue) (from : Option Origin) → IsSomeAnd o (λ q. from ≡ option_map origin_of (oldest q.capacity (moves s.params s.plan q s.entries))) → is_host_full s ≡ false
-    → (unless_queued s o ≡ None) × (option_map origin_of (option_and_then (λ q. oldest q.capacity (moves s.params s.plan q s.entries)) o) ≡ from)
+pop_queued : (s : State) (o : Option Queue) (from : Option Origin)
+    → IsSomeAnd o (λ q. from ≡ option_map origin_of (oldest q.capacity (moves s.params s.plan q s.entries)))
+    → is_host_full s ≡ false
+    → (unless_queued s o ≡ None) × (option_map origin_of (option_and_then
+        (λ q. oldest q.capacity (moves s.params s.plan q s.entries)) o) ≡ from)
 pop_queued s None from h room = absurd h
 pop_queued s (Some q) from h room = (rw room refl, sym h)
 
@@ -167,8 +181,10 @@ not_above number (Some n) h = lt-leb number n h
 legal_fetch : (s : State) (window : Opportunity) (a b : Offered) → IsLegalFetch s.params s.plan s.entries window a b
     → (is_refused s (Fetch window a b) ≡ false) × (is_answered s (Fetch window a b) ≡ true)
 legal_fetch s window a b legal =
-    let above : is_not_above window.number (last_number s.entries) ≡ false = not_above window.number (last_number s.entries) legal.later in
-    let room : ltb s.plan.slot_entries (count_by is_slot s.entries + 2) ≡ false = le-ltb s.plan.slot_entries (count_by is_slot s.entries + 2) legal.room in (
+    let above : is_not_above window.number (last_number s.entries) ≡ false =
+        not_above window.number (last_number s.entries) legal.later in
+    let room : ltb s.plan.slot_entries (count_by is_slot s.entries + 2) ≡ false =
+        le-ltb s.plan.slot_entries (count_by is_slot s.entries + 2) legal.room in (
       no_refusal (fetch_refusal s window) (rw (legal.closed, legal.fits, above, room) refl),
       rw (← legal.offer_a, ← legal.offer_b, offered_again a, offered_again b) refl,
     )
@@ -179,13 +195,16 @@ closes : (number : ℕ) (o : Option Opportunity) → IsSomeAnd o (λ w. w.number
 closes number None h = absurd h
 closes number (Some w) h = rw (eq-eqb w.number number h) refl
 
-pub legal_accepted : (s : State) (e : Entry) → IsLegal s.params s.plan s.entries e → (is_refused s e ≡ false) × (is_answered s e ≡ true)
-legal_accepted s (Commit task buffer payload) legal = (no_refusal (commit_refusal s task buffer payload) (legal_commit s task buffer payload legal), refl)
+pub legal_accepted : (s : State) (e : Entry) → IsLegal s.params s.plan s.entries e
+    → (is_refused s e ≡ false) × (is_answered s e ≡ true)
+legal_accepted s (Commit task buffer payload) legal = (no_refusal (commit_refusal s task buffer payload)
+    (legal_commit s task buffer payload legal), refl)
 legal_accepted s (Withdraw task buffer of) legal = legal_withdraw s task buffer of legal
 legal_accepted s (Read task buffer from) legal = legal_read s task buffer from legal
 legal_accepted s (Pop task from) legal = legal_pop s task from legal
 legal_accepted s (Fetch window a b) legal = legal_fetch s window a b legal
-legal_accepted s (Observe window a b) legal = (no_refusal (observe_refusal s window) (closes window (open_window s.entries) legal), refl)
+legal_accepted s (Observe window a b) legal = (no_refusal (observe_refusal s window)
+    (closes window (open_window s.entries) legal), refl)
 
 pub no_fault : (line : ℕ) (s : State) (e : Entry) → IsLegal s.params s.plan s.entries e → fault_of line s e ≡ None
 no_fault line s e legal = let fine = legal_accepted s e legal in rw (fine.0, fine.1) refl

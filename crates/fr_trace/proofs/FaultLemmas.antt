@@ -71,7 +71,8 @@ own_fault v p plan o = elim (cases_Bool (has_owned_alone plan && is_none (own_re
   | inr refused ↦ rw refused tt
 ]
 
-plan_line_fault : (v : Version) (p : Parameters) (plan : Plan) (o : Option PlanLine) → FaultOfText (after_plan_line v p plan o)
+plan_line_fault : (v : Version) (p : Parameters) (plan : Plan) (o : Option PlanLine)
+    → FaultOfText (after_plan_line v p plan o)
 plan_line_fault v p plan None = tt
 plan_line_fault v p plan (Some (plan_line.Own o)) = own_fault v p plan o
 plan_line_fault v p plan (Some (plan_line.Buffer b)) = buffer_fault v p plan b

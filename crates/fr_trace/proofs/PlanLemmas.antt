@@ -37,7 +37,8 @@ pub queue_taken : (plan : Plan) (q : Queue) → queue_fits q ≡ true → plan.q
 queue_taken plan q fits none = rw (fits, none) refl
 
 -- a buffer that fits is taken as long as there is room
-pub buffer_taken : (plan : Plan) (b : Buffer) → buffer_fits b ≡ true → length plan.buffers < 64 → buffer_refusal plan b ≡ None
+pub buffer_taken : (plan : Plan) (b : Buffer) → buffer_fits b ≡ true → length plan.buffers < 64
+    → buffer_refusal plan b ≡ None
 buffer_taken plan b fits room = rw (fits, lt-leb 64 (length plan.buffers) room) refl
 
 -- an ownership line that fits is taken as long as there is room

@@ -62,32 +62,37 @@ numbers_next v (Some numbers) = parameters_next v (parameters_of numbers)
 bare_count : (plan : Plan) → plan.owned ≡ [] → plan.buffers ≡ [] → plan.queue ≡ None → line_count plan + 4 ≡ 3 + 1
 bare_count plan no_own no_buffer no_queue = rw (no_own, no_buffer, no_queue) refl
 
-node_next : (v : Version) (p : Parameters) (words : List (List ℕ)) (o : Option Plan) → node_in words ≡ o → GivesNext 3 (after_node v p o)
+node_next : (v : Version) (p : Parameters) (words : List (List ℕ)) (o : Option Plan) → node_in words ≡ o
+    → GivesNext 3 (after_node v p o)
 node_next v p words None read = refl
 node_next v p words (Some plan) read = let bare = node_no_lines words plan read in bare_count plan bare.0 bare.1 bare.2
 
-queue_next : (v : Version) (p : Parameters) (plan : Plan) (q : Queue) → GivesNext (line_count plan + 4) (after_queue v p plan q)
+queue_next : (v : Version) (p : Parameters) (plan : Plan) (q : Queue)
+    → GivesNext (line_count plan + 4) (after_queue v p plan q)
 queue_next v p plan q =
     elim (cases_Bool (is_none (queue_refusal plan q))) [
       | inl taken ↦ rw taken (let none = no_queue_yet plan q taken in rw none (omega arith))
       | inr refused ↦ rw refused refl
     ]
 
-buffer_next : (v : Version) (p : Parameters) (plan : Plan) (b : Buffer) → GivesNext (line_count plan + 4) (after_buffer v p plan b)
+buffer_next : (v : Version) (p : Parameters) (plan : Plan) (b : Buffer)
+    → GivesNext (line_count plan + 4) (after_buffer v p plan b)
 buffer_next v p plan b =
     elim (cases_Bool (is_none plan.queue && is_none (buffer_refusal plan b))) [
       | inl taken ↦ rw taken (omega (arith, length-append plan.buffers (b ∷ [])))
       | inr refused ↦ rw refused refl
     ]
 
-own_next : (v : Version) (p : Parameters) (plan : Plan) (o : Own) → GivesNext (line_count plan + 4) (after_own v p plan o)
+own_next : (v : Version) (p : Parameters) (plan : Plan) (o : Own)
+    → GivesNext (line_count plan + 4) (after_own v p plan o)
 own_next v p plan o =
     elim (cases_Bool (has_owned_alone plan && is_none (own_refusal plan o))) [
       | inl taken ↦ rw taken (omega (arith, length-append plan.owned (o ∷ [])))
       | inr refused ↦ rw refused refl
     ]
 
-plan_line_next : (v : Version) (p : Parameters) (plan : Plan) (o : Option PlanLine) → GivesNext (line_count plan + 4) (after_plan_line v p plan o)
+plan_line_next : (v : Version) (p : Parameters) (plan : Plan) (o : Option PlanLine)
+    → GivesNext (line_count plan + 4) (after_plan_line v p plan o)
 plan_line_next v p plan None = refl
 plan_line_next v p plan (Some (plan_line.Own o)) = own_next v p plan o
 plan_line_next v p plan (Some (plan_line.Buffer b)) = buffer_next v p plan b
@@ -100,7 +105,8 @@ begin_next v p plan =
       | inr fail ↦ rw fail refl
     ]
 
-fault_named : (n : ℕ) (s : State) (e : Entry) → IfSome (fault_of n s e) (λ error. IfSome (line_of_error error) (λ m. m ≡ n))
+fault_named : (n : ℕ) (s : State) (e : Entry) → IfSome (fault_of n s e)
+    (λ error. IfSome (line_of_error error) (λ m. m ≡ n))
 fault_named n s e =
     elim (cases_Bool (is_refused s e)) [
       | inl refused ↦ rw refused refl
@@ -110,14 +116,16 @@ fault_named n s e =
       ])
     ]
 
-fault_next : (v : Version) (s : State) (e : Entry) (o : Option TraceError) → IfSome o (λ error. IfSome (line_of_error error) (λ m. m ≡ line_number (body v s)))
+fault_next : (v : Version) (s : State) (e : Entry) (o : Option TraceError)
+    → IfSome o (λ error. IfSome (line_of_error error) (λ m. m ≡ line_number (body v s)))
     → GivesNext (line_number (body v s)) (after_fault v s e o)
 fault_next v s e None named = omega (arith, length-append s.entries (made_by s e ∷ []))
 fault_next v s e (Some error) named = named
 
 entry_next : (v : Version) (s : State) (o : Option Entry) → GivesNext (line_number (body v s)) (after_entry v s o)
 entry_next v s None = refl
-entry_next v s (Some e) = fault_next v s e (fault_of (line_number (body v s)) s e) (fault_named (line_number (body v s)) s e)
+entry_next v s (Some e) = fault_next v s e (fault_of (line_number (body v s)) s e)
+    (fault_named (line_number (body v s)) s e)
 
 line_next : (p : Phase) (line : List ℕ) → GivesNext (line_number p) (take_line p line)
 line_next magic line = magic_next (version_in line)
@@ -162,7 +170,8 @@ open_steps p line b =
     ]
 
 steps_in : (p : Phase) (line : List ℕ) (b : ℕ) → is_open p ≡ true → StepsTo (line_number p) (b == 10) (take_in p line b)
-steps_in p line b opened = subst (λ s. StepsTo (line_number p) (b == 10) s) (sym (take_in-open p line b opened)) (open_steps p line b)
+steps_in p line b opened = subst (λ s. StepsTo (line_number p) (b == 10) s) (sym (take_in-open p line b opened))
+    (open_steps p line b)
 
 steps : (p : Phase) (line : List ℕ) (b : ℕ) → StepsTo (line_number p) (b == 10) (take_in p line b)
 steps magic line b = steps_in magic line b refl
@@ -178,18 +187,21 @@ steps (finished v s) line b = refl
 abbrev WalksTo : ℕ → Progress → List ℕ → Progress → Type 0
 WalksTo n start bytes (reading q l) = line_number q ≡ n + feed_count bytes
 WalksTo n start bytes (failed e) =
-    (before : List ℕ) × (b : ℕ) × (after : List ℕ) × (bytes ≡ before ++ b ∷ after) × (answer_of (take_bytes start before) ≡ Ok tt) × (take_bytes start (before ++ b ∷ []) ≡ failed e)
+    (before : List ℕ) × (b : ℕ) × (after : List ℕ) × (bytes ≡ before ++ b ∷ after) ×
+        (answer_of (take_bytes start before) ≡ Ok tt) × (take_bytes start (before ++ b ∷ []) ≡ failed e)
     × IfSome (line_of_error e) (λ m. m ≡ n + feed_count before)
 
 feed_count-cons : (b : ℕ) (bytes : List ℕ) → feed_count (b ∷ bytes) ≡ cond (b == 10) 1 0 + feed_count bytes
 feed_count-cons b bytes = sum_by-cons (λ x. cond (x == 10) 1 0) b bytes
 
-longer : (bytes : List ℕ) (b : ℕ) (p : Phase) (l : List ℕ) (q : Phase) (m : List ℕ) (s : Progress) → take_in p l b ≡ reading q m → line_number q ≡ line_number p + cond (b == 10) 1 0
+longer : (bytes : List ℕ) (b : ℕ) (p : Phase) (l : List ℕ) (q : Phase) (m : List ℕ) (s : Progress)
+    → take_in p l b ≡ reading q m → line_number q ≡ line_number p + cond (b == 10) 1 0
     → WalksTo (line_number q) (reading q m) bytes s → WalksTo (line_number p) (reading p l) (b ∷ bytes) s
 longer bytes b p l q m (reading r k) is step walked = omega (arith, step, walked, feed_count-cons b bytes)
 longer bytes b p l q m (failed e) is step walked =
     let (before, c, after, parts, none, shown, line) = walked in
-    let lines : line_number q + feed_count before ≡ line_number p + feed_count (b ∷ before) = omega (arith, step, feed_count-cons b before) in (
+    let lines : line_number q + feed_count before ≡ line_number p + feed_count (b ∷ before) =
+        omega (arith, step, feed_count-cons b before) in (
       b ∷ before,
       c,
       after,
@@ -199,15 +211,20 @@ longer bytes b p l q m (failed e) is step walked =
       subst (λ k. IfSome (line_of_error e) (λ n. n ≡ k)) lines line,
     )
 
-after_byte : (bytes : List ℕ) (b : ℕ) (p : Phase) (l : List ℕ) (s : Progress) → take_in p l b ≡ s → StepsTo (line_number p) (b == 10) s
-    → ((q : Phase) (m : List ℕ) → WalksTo (line_number q) (reading q m) bytes (take_bytes (reading q m) bytes)) → WalksTo (line_number p) (reading p l) (b ∷ bytes) (take_bytes s bytes)
-after_byte bytes b p l (reading q m) is step walks = longer bytes b p l q m (take_bytes (reading q m) bytes) is step (walks q m)
+after_byte : (bytes : List ℕ) (b : ℕ) (p : Phase) (l : List ℕ) (s : Progress) → take_in p l b ≡ s
+    → StepsTo (line_number p) (b == 10) s
+    → ((q : Phase) (m : List ℕ) → WalksTo (line_number q) (reading q m) bytes (take_bytes (reading q m) bytes))
+        → WalksTo (line_number p) (reading p l) (b ∷ bytes) (take_bytes s bytes)
+after_byte bytes b p l (reading q m) is step walks = longer bytes b p l q m (take_bytes (reading q m) bytes) is step
+    (walks q m)
 after_byte bytes b p l (failed e) is step walks =
     let same : line_number p ≡ line_number p + 0 = omega arith in
-    subst (λ s. WalksTo (line_number p) (reading p l) (b ∷ bytes) s) (sym (fold_stays take_byte (failed e) (λ c. refl) bytes))
+    subst (λ s. WalksTo (line_number p) (reading p l) (b ∷ bytes) s)
+        (sym (fold_stays take_byte (failed e) (λ c. refl) bytes))
     ([], b, bytes, refl, refl, is, subst (λ k. IfSome (line_of_error e) (λ n. n ≡ k)) same step)
 
-walk : (bytes : List ℕ) (p : Phase) (l : List ℕ) → WalksTo (line_number p) (reading p l) bytes (take_bytes (reading p l) bytes)
+walk : (bytes : List ℕ) (p : Phase) (l : List ℕ) → WalksTo (line_number p) (reading p l) bytes
+    (take_bytes (reading p l) bytes)
 walk [] p l = omega arith
 walk (b ∷ bytes) p l = after_byte bytes b p l (take_in p l b) refl (steps p l b) (λ q m. walk bytes q m)
 
@@ -221,7 +238,8 @@ first_fault text e is =
     let (before, b, after, parts, none, shown, line) = walked in
     let next : 1 + feed_count before ≡ feed_count before + 1 = omega arith in
     let fault : IsFirstFault e text before b after =
-    record { parts = parts; none_before = none; shown = shown; line = subst (λ k. IfSome (line_of_error e) (λ n. n ≡ k)) next line } in
+    record { parts = parts; none_before = none; shown = shown; line =
+        subst (λ k. IfSome (line_of_error e) (λ n. n ≡ k)) next line } in
     always (line_of_error e) (before, b, after, fault)
 
 outcome_named_in : (s : Progress) (text : List ℕ) → take_bytes fresh text ≡ s → LineIsNamed (outcome_of s) text
@@ -250,11 +268,13 @@ answer_named text = answer_named_in (take_bytes fresh text) text refl
 pub hopeless : (bytes : List ℕ) (e : TraceError) → take_bytes fresh bytes ≡ failed e → IsHopeless bytes
 hopeless bytes e is rest s legal same =
     let all : take_bytes fresh (bytes ++ rest) ≡ failed e =
-    fold-append take_byte fresh bytes rest ∙ (ap (λ t. take_bytes t rest) is ∙ fold_stays take_byte (failed e) (λ b. refl) rest) in
+    fold-append take_byte fresh bytes rest ∙ (ap (λ t. take_bytes t rest) is ∙ fold_stays take_byte (failed e)
+        (λ b. refl) rest) in
     let taken : outcome_of (take_bytes fresh (bytes ++ rest)) ≡ Ok s = legal_outcome (bytes ++ rest) s legal same in
     cc (sym taken ∙ ap outcome_of all)
 
-answer_hopeless_in : (s : Progress) (bytes : List ℕ) → take_bytes fresh bytes ≡ s → HopelessIfRefused (answer_of s) bytes
+answer_hopeless_in : (s : Progress) (bytes : List ℕ) → take_bytes fresh bytes ≡ s
+    → HopelessIfRefused (answer_of s) bytes
 answer_hopeless_in (failed e) bytes is = λ of_text. hopeless bytes e is
 answer_hopeless_in (reading p l) bytes is = tt
 
@@ -263,17 +283,24 @@ answer_hopeless bytes = answer_hopeless_in (take_bytes fresh bytes) bytes refl
 
 -- ---- a piece, after bytes that an auditor has read
 
-read_on : (front piece : List ℕ) (old new : Progress) → old ≡ take_bytes fresh front → new ≡ take_bytes old piece → new ≡ take_bytes fresh (front ++ piece)
-read_on front piece old new so_far read = read ∙ (ap (λ s. take_bytes s piece) so_far ∙ sym (fold-append take_byte fresh front piece))
+read_on : (front piece : List ℕ) (old new : Progress) → old ≡ take_bytes fresh front → new ≡ take_bytes old piece
+    → new ≡ take_bytes fresh (front ++ piece)
+read_on front piece old new so_far read = read ∙ (ap (λ s. take_bytes s piece) so_far ∙ sym
+    (fold-append take_byte fresh front piece))
 
-pub piece_named : (front piece : List ℕ) (old new : Progress) → Reads old piece new → old ≡ take_bytes fresh front → LineIsNamed (answer_of new) (front ++ piece)
+pub piece_named : (front piece : List ℕ) (old new : Progress) → Reads old piece new → old ≡ take_bytes fresh front
+    → LineIsNamed (answer_of new) (front ++ piece)
 piece_named front piece old new (inl read) so_far =
-    subst (λ s. LineIsNamed (answer_of s) (front ++ piece)) (sym (read_on front piece old new so_far read)) (answer_named (front ++ piece))
-piece_named front piece old new (inr out) so_far = subst (λ s. LineIsNamed (answer_of s) (front ++ piece)) (sym out.0) tt
+    subst (λ s. LineIsNamed (answer_of s) (front ++ piece)) (sym (read_on front piece old new so_far read))
+        (answer_named (front ++ piece))
+piece_named front piece old new (inr out) so_far = subst (λ s. LineIsNamed (answer_of s) (front ++ piece)) (sym out.0)
+    tt
 
-pub piece_hopeless : (front piece : List ℕ) (old new : Progress) → Reads old piece new → old ≡ take_bytes fresh front → HopelessIfRefused (answer_of new) (front ++ piece)
+pub piece_hopeless : (front piece : List ℕ) (old new : Progress) → Reads old piece new → old ≡ take_bytes fresh front
+    → HopelessIfRefused (answer_of new) (front ++ piece)
 piece_hopeless front piece old new (inl read) so_far =
-    subst (λ s. HopelessIfRefused (answer_of s) (front ++ piece)) (sym (read_on front piece old new so_far read)) (answer_hopeless (front ++ piece))
+    subst (λ s. HopelessIfRefused (answer_of s) (front ++ piece)) (sym (read_on front piece old new so_far read))
+        (answer_hopeless (front ++ piece))
 piece_hopeless front piece old new (inr out) so_far =
     subst (λ s. HopelessIfRefused (answer_of s) (front ++ piece)) (sym out.0) (λ of_text. absurd of_text)
 
@@ -284,7 +311,8 @@ abbrev IsShort : ℕ → Progress → Type 0
 IsShort n (reading p l) = (n + 1201 ≤ 1201 * line_number p + length l) × (length l ≤ 1200)
 IsShort n (failed e) = Unit {0}
 
-line_short : (n : ℕ) (p : Phase) (l : List ℕ) (r : Result Phase TraceError) → IsShort n (reading p l) → GivesNext (line_number p) r → IsShort (n + 1) (after_line r)
+line_short : (n : ℕ) (p : Phase) (l : List ℕ) (r : Result Phase TraceError) → IsShort n (reading p l)
+    → GivesNext (line_number p) r → IsShort (n + 1) (after_line r)
 line_short n p l (Ok q) short next = (omega (arith, short.0, short.1, next), omega arith)
 line_short n p l (Err e) short next = tt
 
@@ -301,8 +329,10 @@ open_short n p l b short =
       ])
     ]
 
-short_in : (n : ℕ) (p : Phase) (l : List ℕ) (b : ℕ) → is_open p ≡ true → IsShort n (reading p l) → IsShort (n + 1) (take_in p l b)
-short_in n p l b opened short = subst (λ s. IsShort (n + 1) s) (sym (take_in-open p l b opened)) (open_short n p l b short)
+short_in : (n : ℕ) (p : Phase) (l : List ℕ) (b : ℕ) → is_open p ≡ true → IsShort n (reading p l)
+    → IsShort (n + 1) (take_in p l b)
+short_in n p l b opened short = subst (λ s. IsShort (n + 1) s) (sym (take_in-open p l b opened))
+    (open_short n p l b short)
 
 byte_short : (n : ℕ) (s : Progress) (b : ℕ) → IsShort n s → IsShort (n + 1) (take_byte s b)
 byte_short n (failed e) b short = tt
@@ -317,9 +347,11 @@ bytes_short : (bytes : List ℕ) (n : ℕ) (s : Progress) → IsShort n s → Is
 bytes_short [] n s short = let same : n ≡ n + 0 = omega arith in subst (λ k. IsShort k s) same short
 bytes_short (b ∷ bytes) n s short =
     let same : (n + 1) + length bytes ≡ n + length (b ∷ bytes) = omega arith in
-    subst (λ k. IsShort k (take_bytes (take_byte s b) bytes)) same (bytes_short bytes (n + 1) (take_byte s b) (byte_short n s b short))
+    subst (λ k. IsShort k (take_bytes (take_byte s b) bytes)) same
+        (bytes_short bytes (n + 1) (take_byte s b) (byte_short n s b short))
 
-whole_short : (p : Progress) (text : List ℕ) (s : State) → IsShort (length text) p → Spelled p text → outcome_of p ≡ Ok s → HasFewLines s → length text ≤ longest_text
+whole_short : (p : Progress) (text : List ℕ) (s : State) → IsShort (length text) p → Spelled p text
+    → outcome_of p ≡ Ok s → HasFewLines s → length text ≤ longest_text
 whole_short (failed e) text s short spelled h few = cc h
 whole_short (reading magic l) text s short spelled h few = cc h
 whole_short (reading (params v) l) text s short spelled h few = cc h
@@ -332,35 +364,44 @@ whole_short (reading (finished v t) l) text s short spelled h few =
     omega (arith, short.0, few', ap length spelled.1)
 
 -- a text that is accepted is no longer than the longest one
-pub short_text : (text : List ℕ) (s : State) → outcome_of (take_bytes fresh text) ≡ Ok s → HasFewLines s → length text ≤ longest_text
+pub short_text : (text : List ℕ) (s : State) → outcome_of (take_bytes fresh text) ≡ Ok s → HasFewLines s
+    → length text ≤ longest_text
 short_text text s h few =
     let start : IsShort 0 fresh = (omega arith, omega arith) in
-    let short : IsShort (length text) (take_bytes fresh text) = subst (λ k. IsShort k (take_bytes fresh text)) (zero-add (length text)) (bytes_short text 0 fresh start) in
+    let short : IsShort (length text) (take_bytes fresh text) =
+        subst (λ k. IsShort k (take_bytes fresh text)) (zero-add (length text)) (bytes_short text 0 fresh start) in
     whole_short (take_bytes fresh text) text s short (text_spelled text) h few
 
 -- ---- an audit
 
-pub through_short : (text rest : Option (List ℕ)) (s : State) (r : Result (Unit {0}) TraceError) → ReadsThrough text rest (Ok s) → HasFewLines s → ShortIfTaken r text
+pub through_short : (text rest : Option (List ℕ)) (s : State) (r : Result (Unit {0}) TraceError)
+    → ReadsThrough text rest (Ok s) → HasFewLines s → ShortIfTaken r text
 through_short None rest s (Ok x) through few = tt
 through_short None rest s (Err e) through few = tt
 through_short (Some text) None s r through few = absurd through
 through_short (Some text) (Some rest) s (Ok x) through few = short_text text s through.1 few
 through_short (Some text) (Some rest) s (Err e) through few = tt
 
-pub audited_named : (text old new : Option (List ℕ)) (r : Result (Unit {0}) TraceError) → Audits text old new r → IfSome text (λ t. LineIsNamed r t)
+pub audited_named : (text old new : Option (List ℕ)) (r : Result (Unit {0}) TraceError) → Audits text old new r
+    → IfSome text (λ t. LineIsNamed r t)
 audited_named None old new r audits = tt
 audited_named (Some text) old new (Ok x) audits = tt
 audited_named (Some text) old new (Err BadMagic) audits = tt
-audited_named (Some text) old new (Err (BadLine n)) audits = subst (λ (r : Result State TraceError). LineIsNamed r text) audits.0 (outcome_named text)
-audited_named (Some text) old new (Err (LineTooLong n)) audits = subst (λ (r : Result State TraceError). LineIsNamed r text) audits.0 (outcome_named text)
-audited_named (Some text) old new (Err (Refused n)) audits = subst (λ (r : Result State TraceError). LineIsNamed r text) audits.0 (outcome_named text)
-audited_named (Some text) old new (Err (WrongAnswer n)) audits = subst (λ (r : Result State TraceError). LineIsNamed r text) audits.0 (outcome_named text)
+audited_named (Some text) old new (Err (BadLine n)) audits =
+    subst (λ (r : Result State TraceError). LineIsNamed r text) audits.0 (outcome_named text)
+audited_named (Some text) old new (Err (LineTooLong n)) audits =
+    subst (λ (r : Result State TraceError). LineIsNamed r text) audits.0 (outcome_named text)
+audited_named (Some text) old new (Err (Refused n)) audits =
+    subst (λ (r : Result State TraceError). LineIsNamed r text) audits.0 (outcome_named text)
+audited_named (Some text) old new (Err (WrongAnswer n)) audits =
+    subst (λ (r : Result State TraceError). LineIsNamed r text) audits.0 (outcome_named text)
 audited_named (Some text) old new (Err Truncated) audits = tt
 audited_named (Some text) old new (Err Read) audits = tt
 audited_named (Some text) old new (Err Write) audits = tt
 audited_named (Some text) old new (Err Memory) audits = tt
 
-pub named_alike : (text : Option (List ℕ)) (r : Result State TraceError) → IfSome text (λ t. LineIsNamed (outcome r) t) → IfSome text (λ t. LineIsNamed r t)
+pub named_alike : (text : Option (List ℕ)) (r : Result State TraceError) → IfSome text (λ t. LineIsNamed (outcome r) t)
+    → IfSome text (λ t. LineIsNamed r t)
 named_alike None r h = tt
 named_alike (Some text) (Ok s) h = tt
 named_alike (Some text) (Err e) h = h

@@ -68,36 +68,43 @@ numbers_told : (v : Version) (o : Option (List ℤ)) → IsToldNext (after_numbe
 numbers_told v None = tt
 numbers_told v (Some numbers) = parameters_told v (parameters_of numbers)
 
-node_told : (v : Version) (p : Parameters) (words : List (List ℕ)) (o : Option Plan) → node_in words ≡ o → IsToldNext (after_node v p o)
+node_told : (v : Version) (p : Parameters) (words : List (List ℕ)) (o : Option Plan) → node_in words ≡ o
+    → IsToldNext (after_node v p o)
 node_told v p words None read = tt
 node_told v p words (Some plan) read = subst (AreOwnedTold v) (sym (node_no_lines words plan read).0) tt
 
-queue_told : (v : Version) (p : Parameters) (plan : Plan) (q : Queue) → AreOwnedTold v plan.owned → IsToldNext (after_queue v p plan q)
+queue_told : (v : Version) (p : Parameters) (plan : Plan) (q : Queue) → AreOwnedTold v plan.owned
+    → IsToldNext (after_queue v p plan q)
 queue_told v p plan q told = elim (cases_Bool (is_none (queue_refusal plan q))) [
   | inl taken ↦ rw taken told
   | inr refused ↦ rw refused tt
 ]
 
-buffer_told : (v : Version) (p : Parameters) (plan : Plan) (b : Buffer) → AreOwnedTold v plan.owned → IsToldNext (after_buffer v p plan b)
+buffer_told : (v : Version) (p : Parameters) (plan : Plan) (b : Buffer) → AreOwnedTold v plan.owned
+    → IsToldNext (after_buffer v p plan b)
 buffer_told v p plan b told = elim (cases_Bool (is_none plan.queue && is_none (buffer_refusal plan b))) [
   | inl taken ↦ rw taken told
   | inr refused ↦ rw refused tt
 ]
 
-own_told : (v : Version) (p : Parameters) (plan : Plan) (o : Own) → AreOwnedTold v plan.owned → tells_own v o ≡ true → IsToldNext (after_own v p plan o)
+own_told : (v : Version) (p : Parameters) (plan : Plan) (o : Own) → AreOwnedTold v plan.owned → tells_own v o ≡ true
+    → IsToldNext (after_own v p plan o)
 own_told v p plan o told one = elim (cases_Bool (has_owned_alone plan && is_none (own_refusal plan o))) [
   | inl taken ↦ rw taken (each_more (λ (x : Own). tells_own v x ≡ true) plan.owned o told one)
   | inr refused ↦ rw refused tt
 ]
 
-plan_line_told : (v : Version) (p : Parameters) (plan : Plan) (words : List (List ℕ)) (o : Option PlanLine) → plan_line_in v words ≡ o → AreOwnedTold v plan.owned
+plan_line_told : (v : Version) (p : Parameters) (plan : Plan) (words : List (List ℕ)) (o : Option PlanLine)
+    → plan_line_in v words ≡ o → AreOwnedTold v plan.owned
     → IsToldNext (after_plan_line v p plan o)
 plan_line_told v p plan words None read told = tt
-plan_line_told v p plan words (Some (plan_line.Own o)) read told = own_told v p plan o told (own_line_told v words o (told_read v words (plan_line.Own o) read))
+plan_line_told v p plan words (Some (plan_line.Own o)) read told =
+    own_told v p plan o told (own_line_told v words o (told_read v words (plan_line.Own o) read))
 plan_line_told v p plan words (Some (plan_line.Buffer b)) read told = buffer_told v p plan b told
 plan_line_told v p plan words (Some (plan_line.Queue q)) read told = queue_told v p plan q told
 
-begin_told : (v : Version) (p : Parameters) (plan : Plan) → AreOwnedTold v plan.owned → IsToldNext (after_begin v p plan)
+begin_told : (v : Version) (p : Parameters) (plan : Plan) → AreOwnedTold v plan.owned
+    → IsToldNext (after_begin v p plan)
 begin_told v p plan told = elim (cases_Bool (is_none (plan_fault p plan))) [
   | inl pass ↦ rw pass (told, tt)
   | inr fail ↦ rw fail tt
@@ -105,7 +112,8 @@ begin_told v p plan told = elim (cases_Bool (is_none (plan_fault p plan))) [
 
 -- ---- entries
 
-fault_told : (v : Version) (s : State) (e : Entry) (o : Option TraceError) → fault_of (line_number (body v s)) s e ≡ o → IsTold (body v s) → tells v e ≡ true
+fault_told : (v : Version) (s : State) (e : Entry) (o : Option TraceError) → fault_of (line_number (body v s)) s e ≡ o
+    → IsTold (body v s) → tells v e ≡ true
     → IsToldNext (after_fault v s e o)
 fault_told v s e (Some f) is told one = tt
 fault_told v s e None is told one =
@@ -113,9 +121,11 @@ fault_told v s e None is told one =
     let more : AreTold v (s.entries ++ e ∷ []) = each_more (λ (x : Entry). tells v x ≡ true) s.entries e told.1 one in
     (told.0, subst (λ (x : Entry). AreTold v (s.entries ++ x ∷ [])) (sym made) more)
 
-entry_told_next : (v : Version) (s : State) (words : List (List ℕ)) (o : Option Entry) → entry_in v words ≡ o → IsTold (body v s) → IsToldNext (after_entry v s o)
+entry_told_next : (v : Version) (s : State) (words : List (List ℕ)) (o : Option Entry) → entry_in v words ≡ o
+    → IsTold (body v s) → IsToldNext (after_entry v s o)
 entry_told_next v s words None read told = tt
-entry_told_next v s words (Some e) read told = fault_told v s e (fault_of (line_number (body v s)) s e) refl told (entry_told v words e read)
+entry_told_next v s words (Some e) read told = fault_told v s e (fault_of (line_number (body v s)) s e) refl told
+    (entry_told v words e read)
 
 -- ---- whole lines
 

@@ -16,8 +16,10 @@ use Rattle.fr_words.specs.declared.error.OrderError.{OrderError}
 use Rattle.fr_words.specs.declared.error.OrderError.TheVariants as refusal
 use Rattle.fr_view_orders.specs.declared.command.Asked.{Asked}
 use Rattle.fr_view_orders.specs.declared.command.Asked.TheVariants.{Outcome, Answers, Commits, Record, Heard, Trace}
-use Rattle.fr_view_orders.specs.Orders.{IsAnswerTo, IsOrder, IsScheduleBy, IsShowBy, asked_by, asks, channel_asked, cycle_asked}
-use Rattle.fr_view_orders.specs.Orders.{drawn_by, from_asked, has_run_by, has_schedule_by, has_show_by, matrix_of, node_asked}
+use Rattle.fr_view_orders.specs.Orders.{IsAnswerTo, IsOrder, IsScheduleBy, IsShowBy, asked_by, asks, channel_asked}
+use Rattle.fr_view_orders.specs.Orders.{cycle_asked}
+use Rattle.fr_view_orders.specs.Orders.{drawn_by, from_asked, has_run_by, has_schedule_by, has_show_by, matrix_of}
+use Rattle.fr_view_orders.specs.Orders.{node_asked}
 use Rattle.fr_view_orders.specs.Orders.{the_commands, viewer_asked}
 use Rattle.fr_words.specs.Commands.{IsNamed, cycles_in, order_error_of, word_in}
 
@@ -30,17 +32,20 @@ unfolding clap_on_literals
 are_free = refl
 
 -- an error for which there is a fault, or none for which there is want of memory
-pub refused_for : (words : List Text) (e : Error) → HasKind (fault_of the_commands words) e → IsAnswerTo words (Err (order_error_of (kind_of e)))
+pub refused_for : (words : List Text) (e : Error) → HasKind (fault_of the_commands words) e
+    → IsAnswerTo words (Err (order_error_of (kind_of e)))
 refused_for words e (inl memory) = rw memory tt
 refused_for words e (inr among) = by (order_error_of (kind_of e)) (fault_of the_commands words) refl among
   where
-    by : (given : OrderError) (kinds : Kinds) → fault_of the_commands words ≡ kinds → IsAmong (kind_of e) kinds → IsAnswerTo words (Err given)
+    by : (given : OrderError) (kinds : Kinds) → fault_of the_commands words ≡ kinds → IsAmong (kind_of e) kinds
+        → IsAnswerTo words (Err given)
     by refusal.Memory kinds are among = tt
     by refusal.Usage [] are among = absurd among
     by refusal.Usage (k ∷ ks) are among = inl (rw are (omega arith))
 
 -- without a fault the order that was found is the answer
-pub taken_for : (words : List Text) (found : Option Order) → fault_of the_commands words ≡ [] → IfSome found (IsOrder (subcommand_of the_commands words))
+pub taken_for : (words : List Text) (found : Option Order) → fault_of the_commands words ≡ []
+    → IfSome found (IsOrder (subcommand_of the_commands words))
     → IfNone found (asks (subcommand_of the_commands words) ≡ false) → IsAnswerTo words (ok_or found refusal.Usage)
 taken_for words (Some order) none told nothing = (none, told)
 taken_for words None none told nothing = inr nothing
@@ -52,7 +57,8 @@ pub has_alike : (f g : Text → Option Text) → ((id : Text) → f id ≡ g id)
 has_alike f g same =
     ap₂ (λ a b. a && b) (ap is_some (same (codes "FILE"))) (ap (λ w. is_some (cycle_asked w)) (same (codes "cycle")))
 
-schedule_alike : (f g : Text → Option Text) → ((id : Text) → f id ≡ g id) → (o : Order) → IsScheduleBy f o → IsScheduleBy g o
+schedule_alike : (f g : Text → Option Text) → ((id : Text) → f id ≡ g id) → (o : Order) → IsScheduleBy f o
+    → IsScheduleBy g o
 schedule_alike f g same (the_order.Capture until_fault own) is = is
 schedule_alike f g same (the_order.Frames until_fault all) is = is
 schedule_alike f g same the_order.Why is = is
@@ -61,7 +67,8 @@ schedule_alike f g same (the_order.Show asked cluster scenario cycles) is = is
 schedule_alike f g same (the_order.Schedule file cycle) is =
     (sym (same (codes "FILE")) ∙ is.0, ap cycle_asked (sym (same (codes "cycle"))) ∙ is.1)
 
-pub schedule_told : (entered : Option (Text × List Row)) (look : Text → Option Text) (found : Option Order) → IsNamed (codes "schedule") entered
+pub schedule_told : (entered : Option (Text × List Row)) (look : Text → Option Text) (found : Option Order)
+    → IsNamed (codes "schedule") entered
     → ((id : Text) → look id ≡ word_in entered id) → IfSome found (IsScheduleBy look) → IfSome found (IsOrder entered)
 schedule_told entered look None named same told = tt
 schedule_told entered look (Some o) named same told = by o (schedule_alike look (word_in entered) same o told)
@@ -74,24 +81,31 @@ schedule_told entered look (Some o) named same told = by o (schedule_alike look 
     by (the_order.Show asked cluster scenario cycles) is = absurd is
     by (the_order.Schedule file cycle) is = (named, is)
 
-asks_nothing : (entered : Option (Text × List Row)) → IsNamed (codes "schedule") entered → has_schedule_by (word_in entered) ≡ false → asks entered ≡ false
+asks_nothing : (entered : Option (Text × List Row)) → IsNamed (codes "schedule") entered
+    → has_schedule_by (word_in entered) ≡ false → asks entered ≡ false
 asks_nothing None named lacks = cc named
 asks_nothing (Some (name, rows)) named lacks =
     let is : name ≡ codes "schedule" = cc named in
     subst (λ (n : Text). asks (Some (n, rows)) ≡ false) (sym is) lacks
 
-pub schedule_lacks : (entered : Option (Text × List Row)) (look : Text → Option Text) (found : Option Order) → IsNamed (codes "schedule") entered
-    → ((id : Text) → look id ≡ word_in entered id) → IfNone found (has_schedule_by look ≡ false) → IfNone found (asks entered ≡ false)
+pub schedule_lacks : (entered : Option (Text × List Row)) (look : Text → Option Text) (found : Option Order)
+    → IsNamed (codes "schedule") entered
+    → ((id : Text) → look id ≡ word_in entered id) → IfNone found (has_schedule_by look ≡ false)
+        → IfNone found (asks entered ≡ false)
 schedule_lacks entered look (Some o) named same lacks = tt
-schedule_lacks entered look None named same lacks = asks_nothing entered named (sym (has_alike look (word_in entered) same) ∙ lacks)
+schedule_lacks entered look None named same lacks = asks_nothing entered named
+    (sym (has_alike look (word_in entered) same) ∙ lacks)
 
 -- ---- what is shown of a run
 
 drawn_alike : (f g : Text → Option Text) → ((id : Text) → f id ≡ g id) → drawn_by f ≡ drawn_by g
 drawn_alike f g same =
-    ap (λ w. matrix_of (channel_asked w) (viewer_asked (f (codes "node"))) (from_asked (f (codes "from")))) (same (codes "channel"))
-    ∙ ap (λ w. matrix_of (channel_asked (g (codes "channel"))) (viewer_asked w) (from_asked (f (codes "from")))) (same (codes "node"))
-    ∙ ap (λ w. matrix_of (channel_asked (g (codes "channel"))) (viewer_asked (g (codes "node"))) (from_asked w)) (same (codes "from"))
+    ap (λ w. matrix_of (channel_asked w) (viewer_asked (f (codes "node"))) (from_asked (f (codes "from"))))
+        (same (codes "channel"))
+    ∙ ap (λ w. matrix_of (channel_asked (g (codes "channel"))) (viewer_asked w) (from_asked (f (codes "from"))))
+        (same (codes "node"))
+    ∙ ap (λ w. matrix_of (channel_asked (g (codes "channel"))) (viewer_asked (g (codes "node"))) (from_asked w))
+        (same (codes "from"))
 
 -- what is shown by a command of this name, by the word for the node of a trace and by what is drawn
 abbrev asked_with : Text → Option Text → Option Asked → Option Asked
@@ -111,7 +125,8 @@ run_alike f g same =
     (ap₂ (λ a b. is_some a && is_some b) (same (codes "FILE")) (same (codes "SCENARIO")))
     (ap (λ w. is_some (option_and_then cycles_in w)) (same (codes "cycles")))
 
-show_alike : (name : Text) (f g : Text → Option Text) → ((id : Text) → f id ≡ g id) → (o : Order) → IsShowBy name f o → IsShowBy name g o
+show_alike : (name : Text) (f g : Text → Option Text) → ((id : Text) → f id ≡ g id) → (o : Order) → IsShowBy name f o
+    → IsShowBy name g o
 show_alike name f g same (the_order.Capture until_fault own) is = is
 show_alike name f g same (the_order.Frames until_fault all) is = is
 show_alike name f g same the_order.Why is = is
@@ -124,12 +139,14 @@ show_alike name f g same (the_order.Show asked cluster scenario cycles) is = (
   ap (λ w. option_and_then cycles_in w) (sym (same (codes "cycles"))) ∙ is.3,
 )
 
-pub show_told : (entered : Option (Text × List Row)) (name : Text) (look : Text → Option Text) (found : Option Order) → IsNamed name entered
+pub show_told : (entered : Option (Text × List Row)) (name : Text) (look : Text → Option Text) (found : Option Order)
+    → IsNamed name entered
     → ((id : Text) → look id ≡ word_in entered id) → IfSome found (IsShowBy name look) → IfSome found (IsOrder entered)
 show_told entered name look None named same told = tt
 show_told None name look (Some o) named same told = cc named
 show_told (Some (entered, rows)) name look (Some o) named same told =
-    by o (show_alike entered look (λ id. first_of id rows) same o (subst (λ (n : Text). IsShowBy n look o) (sym is) told))
+    by o (show_alike entered look (λ id. first_of id rows) same o
+        (subst (λ (n : Text). IsShowBy n look o) (sym is) told))
   where
     is : entered ≡ name
     is = cc named
@@ -142,10 +159,13 @@ show_told (Some (entered, rows)) name look (Some o) named same told =
     by (the_order.Schedule file cycle) is = absurd is
     by (the_order.Show asked cluster scenario cycles) is = is
 
-pub show_lacks : (entered : Option (Text × List Row)) (name : Text) (look : Text → Option Text) (found : Option Order) → IsNamed name entered
-    → bytes_eq name (codes "capture") ≡ false → bytes_eq name (codes "frames") ≡ false → bytes_eq name (codes "why") ≡ false
+pub show_lacks : (entered : Option (Text × List Row)) (name : Text) (look : Text → Option Text) (found : Option Order)
+    → IsNamed name entered
+    → bytes_eq name (codes "capture") ≡ false → bytes_eq name (codes "frames") ≡ false
+        → bytes_eq name (codes "why") ≡ false
     → bytes_eq name (codes "schedule") ≡ false
-    → ((id : Text) → look id ≡ word_in entered id) → IfNone found (has_show_by name look ≡ false) → IfNone found (asks entered ≡ false)
+    → ((id : Text) → look id ≡ word_in entered id) → IfNone found (has_show_by name look ≡ false)
+        → IfNone found (asks entered ≡ false)
 show_lacks entered name look (Some o) named capture frames why schedule same lacks = tt
 show_lacks None name look None named capture frames why schedule same lacks = cc named
 show_lacks (Some (entered, rows)) name look None named capture frames why schedule same lacks =

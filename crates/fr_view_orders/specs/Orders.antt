@@ -9,7 +9,8 @@ use Rattle.clap.specs.Words.{App, Row, Rule, Text, fault_of, first_of, new_app, 
 use Rattle.clap.specs.Words.{with_rule, with_subcommand}
 use Rattle.clap.specs.declared.error.kind.ErrorKind.TheVariants as kind
 use Rattle.fr_view_orders.specs.declared.command.Asked.{Asked}
-use Rattle.fr_view_orders.specs.declared.command.Asked.TheVariants.{Outcome, Answers, Commits, Record, Heard, Trace, Matrix}
+use Rattle.fr_view_orders.specs.declared.command.Asked.TheVariants.{Outcome, Answers, Commits, Record, Heard, Trace}
+use Rattle.fr_view_orders.specs.declared.command.Asked.TheVariants.{Matrix}
 use Rattle.fr_slots.specs.declared.channel.Channel.{Channel}
 use Rattle.fr_slots.specs.declared.channel.Channel.TheVariants.{A, B}
 use Rattle.clap.specs.declared.builder.action.ArgAction.TheVariants.{SetTrue}

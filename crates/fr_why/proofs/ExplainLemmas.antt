@@ -1,5 +1,6 @@
 -- What is kept of a text, and what is written of its line at fault.
-use Rattle.std.proofs.Common.{◌≡◌, ℕ, ◌<◌, ◌≤◌, List, [], ◌++◌, length, take, Option, Some, None, Ok, Err, IfSome, inl, inr, ap, ◌∙◌, subst, arith, lit<}
+use Rattle.std.proofs.Common.{◌≡◌, ℕ, ◌<◌, ◌≤◌, List, [], ◌++◌, length, take, Option, Some, None, Ok, Err, IfSome, inl}
+use Rattle.std.proofs.Common.{inr, ap, ◌∙◌, subst, arith, lit<}
 use Rattle.std.proofs.lemmas.Bool.{cases_lt}
 use Rattle.std.proofs.lemmas.List.{length-take-le, take_all}
 use Rattle.std.specs.Io.KnownBytes.{Appends}
@@ -24,14 +25,17 @@ use Rattle.fr_why.specs.WhyText.{fault_text, refused_text}
 use Rattle.fr_why.proofs.HeadLemmas.{reason_told}
 
 -- all bytes of as many as are kept
-pub all_kept : (known : Option (List ℕ)) (limit : ℕ) (old new : List ℕ) → limit ≡ 98548055 → old ≡ [] → IfSome (option_map (take limit) known) (λ xs. new ≡ old ++ xs) → IfSome known (λ text. new ≡ kept text)
+pub all_kept : (known : Option (List ℕ)) (limit : ℕ) (old new : List ℕ) → limit ≡ 98548055 → old ≡ []
+    → IfSome (option_map (take limit) known) (λ xs. new ≡ old ++ xs) → IfSome known (λ text. new ≡ kept text)
 all_kept None limit old new most nothing read = tt
 all_kept (Some text) limit old new most nothing read =
     read ∙ (ap (λ (t : List ℕ). t ++ take limit text) nothing ∙ ap (λ (n : ℕ). take n text) most)
 
 -- what is asked of what is kept of the lines before is what they tell
-pub refused_is : (e : TraceError) (front line words old : List ℕ) (before : ℕ) (h : Head) (o : Option State) (r : Reason) (w : ℕ) → Tells front h → old ≡ [] → words ≡ old ++ fault_text e before line r w
-    → before ≡ feed_count front → o ≡ state_at (take_bytes fresh front) → r ≡ reason_asked e h o line → w ≡ windows_of o → words ≡ refused_text e front line
+pub refused_is : (e : TraceError) (front line words old : List ℕ) (before : ℕ) (h : Head) (o : Option State)
+    (r : Reason) (w : ℕ) → Tells front h → old ≡ [] → words ≡ old ++ fault_text e before line r w
+    → before ≡ feed_count front → o ≡ state_at (take_bytes fresh front) → r ≡ reason_asked e h o line → w ≡ windows_of o
+        → words ≡ refused_text e front line
 refused_is e front line words old before h o r w (p, came, told) nothing is count left reason windows =
     let asked : r ≡ reason_for e (take_bytes fresh front) line =
     reason ∙ (ap (λ (x : Option State). reason_asked e h x line) left ∙ reason_told e front line h p came told) in
@@ -39,7 +43,8 @@ refused_is e front line words old before h o r w (p, came, told) nothing is coun
     ∙ (ap (λ (t : List ℕ). t ++ fault_text e before line r w) nothing
     ∙ (ap (λ (n : ℕ). fault_text e n line r w) count
     ∙ (ap (λ (x : Reason). fault_text e (feed_count front) line x w) asked
-    ∙ ap (λ (n : ℕ). fault_text e (feed_count front) line (reason_for e (take_bytes fresh front) line) n) (windows ∙ ap windows_of left))))
+    ∙ ap (λ (n : ℕ). fault_text e (feed_count front) line (reason_for e (take_bytes fresh front) line) n)
+        (windows ∙ ap windows_of left))))
 
 -- ---- what is accepted is whole
 
@@ -50,19 +55,23 @@ short_front n m text few less =
       | inr short ↦ take_all n text (omega (arith, short))
     ]
 
-whole_by : (text bytes words : List ℕ) (v : Verdict) → bytes ≡ kept text → IsExplained bytes v words → IsReadWhole text (Ok v)
+whole_by : (text bytes words : List ℕ) (v : Verdict) → bytes ≡ kept text → IsExplained bytes v words
+    → IsReadWhole text (Ok v)
 whole_by text bytes words Accepted is explained =
     let few : length bytes ≤ 98546854 = explained.3 in
     short_front 98548055 98546854 text (subst (λ (t : List ℕ). length t ≤ 98546854) is few) (lit< tt)
 whole_by text bytes words Refused is explained = tt
 
-pub read_whole : (known : Option (List ℕ)) (bytes words : List ℕ) (v : Verdict) → IfSome known (λ text. bytes ≡ kept text) → IsExplained bytes v words → IfSome known (λ text. IsReadWhole text (Ok v))
+pub read_whole : (known : Option (List ℕ)) (bytes words : List ℕ) (v : Verdict)
+    → IfSome known (λ text. bytes ≡ kept text) → IsExplained bytes v words
+    → IfSome known (λ text. IsReadWhole text (Ok v))
 read_whole None bytes words v read explained = tt
 read_whole (Some text) bytes words v read explained = whole_by text bytes words v read explained
 
 -- ---- until the fault
 
-pub shows_fault : (form : Form) (text front line rest : List ℕ) (old new : Option (List ℕ)) (e : TraceError) → IsOfText e → IsAtFault e text front line rest
+pub shows_fault : (form : Form) (text front line rest : List ℕ) (old new : Option (List ℕ)) (e : TraceError)
+    → IsOfText e → IsAtFault e text front line rest
     → Appends old new (shown_so_far form (state_at (take_bytes fresh front))) → ShowsUntil form text old new (Err e)
 shows_fault form text front line rest old new refusal.BadMagic is fault shown = (front, line, rest, fault, shown)
 shows_fault form text front line rest old new (refusal.BadLine n) is fault shown = (front, line, rest, fault, shown)

@@ -23,7 +23,8 @@ use Rattle.fr_trace.specs.declared.error.TraceError.{TraceError}
 use Rattle.fr_trace.specs.declared.error.TraceError.TheVariants as refusal
 use Rattle.fr_trace.specs.Stream.{Phase, magic, params, node, lines, body, finished, reading}
 use Rattle.fr_trace.specs.Stream.{after_magic, after_parameters, after_plan_line, has_owned_alone, after_begin}
-use Rattle.fr_trace.specs.Stream.{after_own, after_buffer, after_queue, after_fault, after_entry, take_line, line_number}
+use Rattle.fr_trace.specs.Stream.{after_own, after_buffer, after_queue, after_fault, after_entry, take_line}
+use Rattle.fr_trace.specs.Stream.{line_number}
 use Rattle.fr_trace.specs.Stream.{fresh, take_bytes}
 use Rattle.fr_trace.specs.Stream as stream
 use Rattle.fr_why.specs.Asking.{reason_asked}
@@ -62,7 +63,8 @@ begin_follows v p plan =
       | inr fail ↦ rw fail tt
     ]
 
-own_follows : (v : Version) (p : Parameters) (plan : Plan) (o : Own) → Follows (after_own v p plan o) (head.Lines v p (with_line plan (Some (plan_line.Own o))))
+own_follows : (v : Version) (p : Parameters) (plan : Plan) (o : Own)
+    → Follows (after_own v p plan o) (head.Lines v p (with_line plan (Some (plan_line.Own o))))
 own_follows v p plan o =
     elim (cases_Bool (has_owned_alone plan)) [
       | inl alone ↦ elim (cases_Bool (is_none (own_refusal plan o))) [
@@ -72,7 +74,8 @@ own_follows v p plan o =
       | inr late ↦ rw late tt
     ]
 
-buffer_follows : (v : Version) (p : Parameters) (plan : Plan) (b : Buffer) → Follows (after_buffer v p plan b) (head.Lines v p (with_line plan (Some (plan_line.Buffer b))))
+buffer_follows : (v : Version) (p : Parameters) (plan : Plan) (b : Buffer)
+    → Follows (after_buffer v p plan b) (head.Lines v p (with_line plan (Some (plan_line.Buffer b))))
 buffer_follows v p plan b =
     elim (cases_Bool (is_none plan.queue)) [
       | inl early ↦ elim (cases_Bool (is_none (buffer_refusal plan b))) [
@@ -82,20 +85,23 @@ buffer_follows v p plan b =
       | inr late ↦ rw late tt
     ]
 
-queue_follows : (v : Version) (p : Parameters) (plan : Plan) (q : Queue) → Follows (after_queue v p plan q) (head.Lines v p (with_line plan (Some (plan_line.Queue q))))
+queue_follows : (v : Version) (p : Parameters) (plan : Plan) (q : Queue)
+    → Follows (after_queue v p plan q) (head.Lines v p (with_line plan (Some (plan_line.Queue q))))
 queue_follows v p plan q =
     elim (cases_Bool (is_none (queue_refusal plan q))) [
       | inl taken ↦ rw taken refl
       | inr refused ↦ rw refused tt
     ]
 
-plan_line_follows : (v : Version) (p : Parameters) (plan : Plan) (o : Option PlanLine) → Follows (after_plan_line v p plan o) (head.Lines v p (with_line plan o))
+plan_line_follows : (v : Version) (p : Parameters) (plan : Plan) (o : Option PlanLine)
+    → Follows (after_plan_line v p plan o) (head.Lines v p (with_line plan o))
 plan_line_follows v p plan None = tt
 plan_line_follows v p plan (Some (plan_line.Own o)) = own_follows v p plan o
 plan_line_follows v p plan (Some (plan_line.Buffer b)) = buffer_follows v p plan b
 plan_line_follows v p plan (Some (plan_line.Queue q)) = queue_follows v p plan q
 
-fault_follows : (v : Version) (s : State) (e : Entry) (o : Option TraceError) → Follows (after_fault v s e o) (head.Body v)
+fault_follows : (v : Version) (s : State) (e : Entry) (o : Option TraceError)
+    → Follows (after_fault v s e o) (head.Body v)
 fault_follows v s e None = refl
 fault_follows v s e (Some error) = tt
 
@@ -119,11 +125,13 @@ line_follows (finished v s) line = tt
 
 -- what is kept after a line that is taken
 pub followed : (p q : Phase) (line : List ℕ) → take_line p line ≡ Ok q → next_head (head_of p) line ≡ head_of q
-followed p q line taken = subst (λ (r : Result Phase TraceError). Follows r (next_head (head_of p) line)) taken (line_follows p line)
+followed p q line taken = subst (λ (r : Result Phase TraceError). Follows r (next_head (head_of p) line)) taken
+    (line_follows p line)
 
 -- ---- reasons
 
-asked_in : (e : TraceError) (p : Phase) (held line : List ℕ) → reason_asked e (head_of p) (state_in p) line ≡ reason_for e (reading p held) line
+asked_in : (e : TraceError) (p : Phase) (held line : List ℕ)
+    → reason_asked e (head_of p) (state_in p) line ≡ reason_for e (reading p held) line
 asked_in (refusal.Refused n) magic held line = refl
 asked_in (refusal.Refused n) (params v) held line = refl
 asked_in (refusal.Refused n) (node v p) held line = refl
@@ -150,6 +158,7 @@ asked_in refusal.Write p held line = refl
 asked_in refusal.Memory p held line = refl
 
 -- what is asked of what is kept is what the lines before tell
-pub reason_told : (e : TraceError) (front line : List ℕ) (h : Head) (p : Phase) → take_bytes fresh front ≡ reading p [] → h ≡ head_of p
+pub reason_told : (e : TraceError) (front line : List ℕ) (h : Head) (p : Phase) → take_bytes fresh front ≡ reading p []
+    → h ≡ head_of p
     → reason_asked e h (state_at (take_bytes fresh front)) line ≡ reason_for e (take_bytes fresh front) line
 reason_told e front line h p came told = rw (came, told) (asked_in e p [] line)

@@ -38,24 +38,32 @@ none_in_line (b ∷ line) plain =
 -- the first cut lies behind the other, or isn't behind it
 abbrev Cut : List ℕ → List ℕ → List ℕ → List ℕ → Type 0
 Cut front rest before after =
-    ((more : List ℕ) × (front ≡ before ++ more) × (after ≡ more ++ rest)) ⊎ ((more : List ℕ) × (before ≡ front ++ more) × (rest ≡ more ++ after))
+    ((more : List ℕ) × (front ≡ before ++ more) × (after ≡ more ++ rest)) ⊎
+        ((more : List ℕ) × (before ≡ front ++ more) × (rest ≡ more ++ after))
 
-cut_more : (b c : ℕ) (front rest before after : List ℕ) → b ≡ c → Cut front rest before after → Cut (b ∷ front) rest (c ∷ before) after
-cut_more b c front rest before after same (inl (more, x, y)) = inl (more, ap (λ (t : List ℕ). b ∷ t) x ∙ ap (λ (d : ℕ). d ∷ (before ++ more)) same, y)
-cut_more b c front rest before after same (inr (more, x, y)) = inr (more, ap (λ (t : List ℕ). c ∷ t) x ∙ ap (λ (d : ℕ). d ∷ (front ++ more)) (sym same), y)
+cut_more : (b c : ℕ) (front rest before after : List ℕ) → b ≡ c → Cut front rest before after
+    → Cut (b ∷ front) rest (c ∷ before) after
+cut_more b c front rest before after same (inl (more, x, y)) =
+    inl (more, ap (λ (t : List ℕ). b ∷ t) x ∙ ap (λ (d : ℕ). d ∷ (before ++ more)) same, y)
+cut_more b c front rest before after same (inr (more, x, y)) =
+    inr (more, ap (λ (t : List ℕ). c ∷ t) x ∙ ap (λ (d : ℕ). d ∷ (front ++ more)) (sym same), y)
 
 cut : (front rest before after : List ℕ) → front ++ rest ≡ before ++ after → Cut front rest before after
 cut [] rest before after same = inr (before, refl, same)
 cut (b ∷ front) rest [] after same = inl (b ∷ front, refl, sym same)
-cut (b ∷ front) rest (c ∷ before) after same = cut_more b c front rest before after (cc same) (cut front rest before after (cc same))
+cut (b ∷ front) rest (c ∷ before) after same = cut_more b c front rest before after (cc same)
+    (cut front rest before after (cc same))
 
 -- ---- the byte with which the fault shows
 
 -- the bytes before it have no line feed, where it stands in the line or is what ends it
-no_feed_before : (line tail l : List ℕ) (b : ℕ) (after : List ℕ) → has_no_feed line ≡ true → length tail ≤ 1 → line ++ tail ≡ l ++ b ∷ after → feed_count l ≡ 0
+no_feed_before : (line tail l : List ℕ) (b : ℕ) (after : List ℕ) → has_no_feed line ≡ true → length tail ≤ 1
+    → line ++ tail ≡ l ++ b ∷ after → feed_count l ≡ 0
 no_feed_before line tail [] b after plain short same = refl
-no_feed_before [] tail (c ∷ []) b after plain short same = let long = ap length same in absurd (omega (arith, long, short))
-no_feed_before [] tail (c ∷ d ∷ l) b after plain short same = let long = ap length same in absurd (omega (arith, long, short))
+no_feed_before [] tail (c ∷ []) b after plain short same = let long =
+    ap length same in absurd (omega (arith, long, short))
+no_feed_before [] tail (c ∷ d ∷ l) b after plain short same = let long =
+    ap length same in absurd (omega (arith, long, short))
 no_feed_before (d ∷ line) tail (c ∷ l) b after plain short same =
     let parts = and_parts (not (is_feed d)) (has_no_feed line) plain in
     let more = no_feed_before line tail l b after parts.1 short (cc same) in
@@ -66,18 +74,22 @@ no_feed_before (d ∷ line) tail (c ∷ l) b after plain short same =
     ]
 
 -- no fault has shown in bytes that go on after the one with which one shows
-not_behind : (e : TraceError) (front before : List ℕ) (b : ℕ) (more : List ℕ) → HasNoFault front → take_bytes fresh (before ++ b ∷ []) ≡ failed e → front ≡ before ++ b ∷ more → ⊥
+not_behind : (e : TraceError) (front before : List ℕ) (b : ℕ) (more : List ℕ) → HasNoFault front
+    → take_bytes fresh (before ++ b ∷ []) ≡ failed e → front ≡ before ++ b ∷ more → ⊥
 not_behind e front before b more none shown is =
     let whole : front ≡ (before ++ b ∷ []) ++ more = is ∙ sym (append_assoc before (b ∷ []) more) in
     let bad : take_bytes fresh front ≡ failed e =
-    ap (take_bytes fresh) whole ∙ (fold-append take_byte fresh (before ++ b ∷ []) more ∙ (ap (λ (s : Progress). take_bytes s more) shown ∙ stays_failed e more)) in
+    ap (take_bytes fresh) whole ∙ (fold-append take_byte fresh (before ++ b ∷ []) more ∙
+        (ap (λ (s : Progress). take_bytes s more) shown ∙ stays_failed e more)) in
     cc (sym none ∙ ap answer_of bad)
 
 abbrev IsNamed : TraceError → List ℕ → Type 0
 IsNamed e front = IfSome (line_of_error e) (λ n. n ≡ feed_count front + 1)
 
-by_cut : (e : TraceError) (front line tail before : List ℕ) (b : ℕ) (after : List ℕ) → HasNoFault front → has_no_feed line ≡ true → length tail ≤ 1
-    → IsFirstFault e (front ++ (line ++ tail)) before b after → Cut front (line ++ tail) before (b ∷ after) → IsNamed e front
+by_cut : (e : TraceError) (front line tail before : List ℕ) (b : ℕ) (after : List ℕ) → HasNoFault front
+    → has_no_feed line ≡ true → length tail ≤ 1
+    → IsFirstFault e (front ++ (line ++ tail)) before b after → Cut front (line ++ tail) before (b ∷ after)
+        → IsNamed e front
 by_cut e front line tail before b after none plain short fault (inl ([], x, y)) =
     let both : feed_count front ≡ feed_count before + 0 = ap feed_count x ∙ feed_count-append before [] in
     let same : feed_count before + 1 ≡ feed_count front + 1 = omega (arith, both) in
@@ -96,8 +108,10 @@ with_number Q None h f = tt
 with_number Q (Some n) h f = f h
 
 -- a fault that shows in this line, or as it ends, names it
-pub line_named : (e : TraceError) (front line tail : List ℕ) → HasNoFault front → has_no_feed line ≡ true → length tail ≤ 1 → NamesItsLine e (front ++ (line ++ tail)) → IsNamed e front
+pub line_named : (e : TraceError) (front line tail : List ℕ) → HasNoFault front → has_no_feed line ≡ true
+    → length tail ≤ 1 → NamesItsLine e (front ++ (line ++ tail)) → IsNamed e front
 line_named e front line tail none plain short named =
     with_number (λ n. n ≡ feed_count front + 1) (line_of_error e) named (λ found.
     let (before, b, after, fault) = found in
-    by_cut e front line tail before b after none plain short fault (cut front (line ++ tail) before (b ∷ after) fault.parts))
+    by_cut e front line tail before b after none plain short fault
+        (cut front (line ++ tail) before (b ∷ after) fault.parts))

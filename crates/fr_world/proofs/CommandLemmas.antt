@@ -26,11 +26,13 @@ pub given_alike : (f g : Text → Option Text) → ((id : Text) → f id ≡ g i
 given_alike f g same = ap₂ with_file (same (codes "FILE")) (ap (option_and_then cycles_in) (same (codes "cycles")))
 
 -- an error for which there is a fault, or none after an allocation that failed
-pub refused_for : (words : List Text) (e : Error) → HasKind (fault_of the_command words) e → IsAnswer words (Err (order_error_of (kind_of e)))
+pub refused_for : (words : List Text) (e : Error) → HasKind (fault_of the_command words) e
+    → IsAnswer words (Err (order_error_of (kind_of e)))
 refused_for words e (inl memory) = rw memory tt
 refused_for words e (inr among) = by (order_error_of (kind_of e)) (fault_of the_command words) refl among
   where
-    by : (given : OrderError) (kinds : Kinds) → fault_of the_command words ≡ kinds → IsAmong (kind_of e) kinds → IsAnswer words (Err given)
+    by : (given : OrderError) (kinds : Kinds) → fault_of the_command words ≡ kinds → IsAmong (kind_of e) kinds
+        → IsAnswer words (Err given)
     by refusal.Memory kinds are among = tt
     by refusal.Usage [] are among = absurd among
     by refusal.Usage (k ∷ ks) are among = inl (rw are (omega arith))

@@ -13,5 +13,6 @@ returns-in-None c =
       windows = (λ yes. tt, λ agrees. refl);
       offers = λ k. tt;
       sights = λ k. tt;
-      scripts = task_found_new c.args.scripts.now c.args.node c.new_courses.result c.other_task.result c.new_courses.ensures c.other_task.ensures;
+      scripts = task_found_new c.args.scripts.now c.args.node c.new_courses.result c.other_task.result
+          c.new_courses.ensures c.other_task.ensures;
     })

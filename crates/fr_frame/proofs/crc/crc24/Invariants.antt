@@ -8,5 +8,6 @@ use Rattle.fr_frame.proofs.crc.crc24.Given as goal
 abbrev pub invariant-loop-sixteen : goal.invariant-loop-sixteen
 invariant-loop-sixteen l = record {
   fits : l.register < 2 ^ 24;
-  rest : divided frame_divisor (bits_of 24 l.register) (bits_of_bytes (drop (l.sixteen-index * 16) l.bytes)) ≡ frame_check l.fn.channel l.bytes;
+  rest : divided frame_divisor (bits_of 24 l.register) (bits_of_bytes (drop (l.sixteen-index * 16) l.bytes))
+      ≡ frame_check l.fn.channel l.bytes;
 }

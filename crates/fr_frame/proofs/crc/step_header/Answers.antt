@@ -7,7 +7,9 @@ pub returns-then-feedback-clause-fits : goal.returns-then-feedback-clause-fits
 returns-then-feedback-clause-fits c = xor_lt 11 _ 901 (shifted_fits 10 16 c.args.register (lit≤ tt)) (lit< tt)
 
 pub returns-then-feedback-clause-bits : goal.returns-then-feedback-clause-bits
-returns-then-feedback-clause-bits c = stepped-with_feedback 10 16 901 c.args.register c.args.bit (lit≤ tt) c.requires c.if-feedback.true
+returns-then-feedback-clause-bits c = stepped-with_feedback 10 16 901 c.args.register c.args.bit
+    (lit≤ tt) c.requires c.if-feedback.true
 
 pub returns-else-feedback-clause-bits : goal.returns-else-feedback-clause-bits
-returns-else-feedback-clause-bits c = stepped-without 10 16 901 c.args.register c.args.bit (lit≤ tt) c.requires c.if-feedback.false
+returns-else-feedback-clause-bits c = stepped-without 10 16 901 c.args.register c.args.bit
+    (lit≤ tt) c.requires c.if-feedback.false

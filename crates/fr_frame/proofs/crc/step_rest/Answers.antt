@@ -12,18 +12,25 @@ loop-eight-preserved c =
     let bytes = c.args.bytes.now in
     let i = c.loop-eight.eight-index in
     let within : i < length bytes / 8 = omega (arith, c.loop-eight-test.true, c.as_chunks.ensures.front_len) in
-    let block = ap (λ blocks. get_or blocks i []) c.as_chunks.ensures.front ∙ block_at 8 (length bytes / 8) i bytes [] within in
+    let block = ap (λ blocks. get_or blocks i []) c.as_chunks.ensures.front ∙ block_at 8
+        (length bytes / 8) i bytes [] within in
     record {
       fits = c.step_eight-register.ensures.fits;
-      rest = divided-next_block 8 _ _ _ bytes i _ (length-polynomial 6122955 c.loop-eight.register) (some_bits c.loop-eight.register) (c.step_eight-register.ensures.bits ∙ ap (λ b. stepped_all (bits_of 24 6122955) (bits_of 24 c.loop-eight.register) (bits_of_bytes b)) block) c.loop-eight.invariant.rest;
+      rest = divided-next_block 8 _ _ _ bytes i _ (length-polynomial 6122955 c.loop-eight.register)
+          (some_bits c.loop-eight.register) (c.step_eight-register.ensures.bits ∙ ap
+          (λ b. stepped_all (bits_of 24 6122955) (bits_of 24 c.loop-eight.register) (bits_of_bytes b)) block)
+          c.loop-eight.invariant.rest;
     }
 
 pub loop-byte-preserved : goal.loop-byte-preserved
 loop-byte-preserved c = record {
   fits = c.step_byte-register.ensures.fits;
-  rest = divided-next_byte _ _ _ _ _ _ (length-polynomial 6122955 c.loop-byte.register) (some_bits c.loop-byte.register) c.loop-byte-test.true c.step_byte-register.ensures.bits c.loop-byte.invariant.rest;
+  rest = divided-next_byte _ _ _ _ _ _ (length-polynomial 6122955 c.loop-byte.register)
+      (some_bits c.loop-byte.register) c.loop-byte-test.true c.step_byte-register.ensures.bits
+      c.loop-byte.invariant.rest;
 }
 
 pub returns-clause-left : goal.returns-clause-left
 returns-clause-left c =
-    ap (λ bytes. divided frame_divisor (bits_of 24 c.loop-byte.register) (bits_of_bytes bytes)) (sym (drop_all _ _ c.loop-byte-test.false)) ∙ c.loop-byte.invariant.rest
+    ap (λ bytes. divided frame_divisor (bits_of 24 c.loop-byte.register) (bits_of_bytes bytes))
+        (sym (drop_all _ _ c.loop-byte-test.false)) ∙ c.loop-byte.invariant.rest

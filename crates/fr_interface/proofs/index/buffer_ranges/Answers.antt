@@ -10,8 +10,11 @@ pub loop-place-preserved : goal.loop-place-preserved
 loop-place-preserved c =
     let lines = c.args.buffers.now in
     let place = c.loop-place.place in
-    ranges-next (λ (line : Buffer). line.filter.slot) lines place c.index-buffers-place.result c.widen.new.ranges.items c.loop-place-test.true c.index-buffers-place.is
-    (c.widen.ensures (map (λ (line : Buffer). line.filter.slot) (take place lines)) (length-before (λ (line : Buffer). line.filter.slot) lines place c.loop-place-test.true) c.loop-place.invariant)
+    ranges-next (λ (line : Buffer). line.filter.slot) lines place c.index-buffers-place.result c.widen.new.ranges.items
+        c.loop-place-test.true c.index-buffers-place.is
+    (c.widen.ensures (map (λ (line : Buffer). line.filter.slot) (take place lines))
+        (length-before (λ (line : Buffer). line.filter.slot) lines place c.loop-place-test.true) c.loop-place.invariant)
 
 pub returns : goal.returns
-returns c = ranges-all (λ (line : Buffer). line.filter.slot) c.args.buffers.now c.loop-place.place c.loop-place.ranges.items c.loop-place-test.false c.loop-place.invariant
+returns c = ranges-all (λ (line : Buffer). line.filter.slot) c.args.buffers.now c.loop-place.place
+    c.loop-place.ranges.items c.loop-place-test.false c.loop-place.invariant

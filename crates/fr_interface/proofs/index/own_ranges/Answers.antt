@@ -10,8 +10,11 @@ pub loop-place-preserved : goal.loop-place-preserved
 loop-place-preserved c =
     let lines = c.args.owned.now in
     let place = c.loop-place.place in
-    ranges-next (λ (line : Own). line.slot) lines place c.index-owned-place.result c.widen.new.ranges.items c.loop-place-test.true c.index-owned-place.is
-    (c.widen.ensures (map (λ (line : Own). line.slot) (take place lines)) (length-before (λ (line : Own). line.slot) lines place c.loop-place-test.true) c.loop-place.invariant)
+    ranges-next (λ (line : Own). line.slot) lines place c.index-owned-place.result c.widen.new.ranges.items
+        c.loop-place-test.true c.index-owned-place.is
+    (c.widen.ensures (map (λ (line : Own). line.slot) (take place lines))
+        (length-before (λ (line : Own). line.slot) lines place c.loop-place-test.true) c.loop-place.invariant)
 
 pub returns : goal.returns
-returns c = ranges-all (λ (line : Own). line.slot) c.args.owned.now c.loop-place.place c.loop-place.ranges.items c.loop-place-test.false c.loop-place.invariant
+returns c = ranges-all (λ (line : Own). line.slot) c.args.owned.now c.loop-place.place c.loop-place.ranges.items
+    c.loop-place-test.false c.loop-place.invariant

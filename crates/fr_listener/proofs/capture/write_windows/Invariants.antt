@@ -8,5 +8,6 @@ use Rattle.fr_listener.proofs.capture.write_windows.Given as goal
 abbrev pub invariant-loop-sealed : goal.invariant-loop-sealed
 invariant-loop-sealed g l = record {
   begun : l.begun ≡ cycles_begun (take l.sealed-index l.bus.sealed);
-  written : Appends (g.W.Write.contents l.fn.writer) (g.W.Write.contents l.writer) (all_records l.params (take l.sealed-index l.bus.sealed));
+  written : Appends (g.W.Write.contents l.fn.writer) (g.W.Write.contents l.writer)
+      (all_records l.params (take l.sealed-index l.bus.sealed));
 }

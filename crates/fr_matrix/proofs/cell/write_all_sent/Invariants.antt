@@ -7,4 +7,5 @@ use Rattle.fr_matrix.proofs.cell.write_all_sent.Given as goal
 -- the transmissions so far
 abbrev pub invariant-loop-sent : goal.invariant-loop-sent
 invariant-loop-sent g l =
-    Appends (g.W.Write.contents l.fn.writer) (g.W.Write.contents l.writer) (flat_map (sent_on l.channel) (take l.sent-index l.all))
+    Appends (g.W.Write.contents l.fn.writer) (g.W.Write.contents l.writer)
+        (flat_map (sent_on l.channel) (take l.sent-index l.all))

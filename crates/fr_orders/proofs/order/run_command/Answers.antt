@@ -19,6 +19,8 @@ returns c =
     let first_local : (out-Command c.in_ok-files.files).has_globals ≡ false = search rules in
     let second_local : (out-Command c.in_ok-arg.field-0).has_globals ≡ false = search rules in
     record {
-      app = IfOk-weaker c.arg-3.result _ _ (λ m h. h.shape (search rules) ∙ ap₂ with_rule third free_is) c.arg-3.ensures;
-      local = IfOk-weaker c.arg-3.result _ _ (λ m h. h.globals ∙ ap₂ (λ a b. a || b) second_local (search rules)) c.arg-3.ensures;
+      app = IfOk-weaker c.arg-3.result _ _ (λ m h. h.shape (search rules) ∙ ap₂ with_rule third free_is)
+          c.arg-3.ensures;
+      local = IfOk-weaker c.arg-3.result _ _ (λ m h. h.globals ∙ ap₂ (λ a b. a || b) second_local (search rules))
+          c.arg-3.ensures;
     }

@@ -3,4 +3,5 @@ use Rattle.fr_outcome.specs.OutcomeText.{node_text}
 use Rattle.fr_outcome.proofs.outcome_text.write_nodes.Given as goal
 
 abbrev pub invariant-loop-node : goal.invariant-loop-node
-invariant-loop-node g l = AreNodes node_text l.interfaces l.node (g.W.Write.contents l.fn.writer) (g.W.Write.contents l.writer)
+invariant-loop-node g l = AreNodes node_text l.interfaces l.node (g.W.Write.contents l.fn.writer)
+    (g.W.Write.contents l.writer)

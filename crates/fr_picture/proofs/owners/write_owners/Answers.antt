@@ -29,6 +29,7 @@ loop-earlier-preserved g c =
           let after = g.W.Write.contents w.write_owner-in-Some.new.writer in
           let same = slot_is (earlier + 1) w.in-Some.slot (sym w.in-Some.ensures) in
           subst (λ x. Adds (AreOwnerTexts d c.args.cycle (earlier + 1)) start (g.W.Write.contents x)) (sym w.writer-is)
-          (one_slot d c.args.cycle earlier w.in-Some.slot start before middle after same c.loop-earlier.invariant w.in_ok-write_owner.ensures w.in_ok-write_owner-2.ensures)
+          (one_slot d c.args.cycle earlier w.in-Some.slot start before middle after same c.loop-earlier.invariant
+              w.in_ok-write_owner.ensures w.in_ok-write_owner-2.ensures)
       | in_default w ↦ absurd (no_slot_is (earlier + 1) (omega arith) (omega arith) (sym w.in_default.ensures))
     ]

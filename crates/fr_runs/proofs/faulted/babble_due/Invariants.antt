@@ -5,4 +5,5 @@ use Rattle.fr_runs.proofs.faulted.babble_due.Given as goal
 -- the babble is that of the lines that are left
 abbrev pub invariant-loop-line : goal.invariant-loop-line
 invariant-loop-line l =
-    babble_due (drop l.line-index l.lines) l.cycle l.window l.node l.channel ≡ babble_due l.lines l.cycle l.window l.node l.channel
+    babble_due (drop l.line-index l.lines) l.cycle l.window l.node l.channel
+        ≡ babble_due l.lines l.cycle l.window l.node l.channel

@@ -4,4 +4,5 @@ use Rattle.fr_runs.proofs.faulted.bit_due.Given as goal
 
 -- the bit is that of the lines that are left
 abbrev pub invariant-loop-line : goal.invariant-loop-line
-invariant-loop-line l = bit_due (drop l.line-index l.lines) l.cycle l.window l.channel ≡ bit_due l.lines l.cycle l.window l.channel
+invariant-loop-line l = bit_due (drop l.line-index l.lines) l.cycle l.window l.channel
+    ≡ bit_due l.lines l.cycle l.window l.channel

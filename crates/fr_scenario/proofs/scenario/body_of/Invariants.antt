@@ -5,4 +5,5 @@ use Rattle.fr_scenario.proofs.scenario.body_of.Given as goal
 
 -- what is kept, with what the lines left say
 abbrev pub invariant-loop-number : goal.invariant-loop-number
-invariant-loop-number l = kept_from l.number l.gathered (read_from l.version l.number l.left) ≡ kept_from 2 none_yet (read_from l.version 2 (lines_in l.text))
+invariant-loop-number l = kept_from l.number l.gathered (read_from l.version l.number l.left) ≡ kept_from 2 none_yet
+    (read_from l.version 2 (lines_in l.text))

@@ -12,7 +12,8 @@ returns-in-Some c =
     let n = c.loop-number.number in
     sym (nodes_some fault n c.index-plans-number.result (drop (n + 1) c.args.plans.now) c.in-Some.fault
     (ap (λ m. fault m c.index-plans-number.result) (sym c.from_number.ensures) ∙ sym c.in-Some.ensures))
-    ∙ sym (at_item (first_in_nodes fault n) c.args.plans.now n c.index-plans-number.result c.loop-number-test.true c.index-plans-number.is)
+    ∙ sym (at_item (first_in_nodes fault n) c.args.plans.now n c.index-plans-number.result c.loop-number-test.true
+        c.index-plans-number.is)
     ∙ c.loop-number.invariant
 
 pub loop-number-preserved : goal.loop-number-preserved
@@ -22,7 +23,8 @@ loop-number-preserved c =
     let gone : c.fault_by.result ≡ None = search rules in
     sym (nodes_none fault n c.index-plans-number.result (drop (n + 1) c.args.plans.now)
     (ap (λ m. fault m c.index-plans-number.result) (sym c.from_number.ensures) ∙ sym c.fault_by.ensures ∙ gone))
-    ∙ sym (at_item (first_in_nodes fault n) c.args.plans.now n c.index-plans-number.result c.loop-number-test.true c.index-plans-number.is)
+    ∙ sym (at_item (first_in_nodes fault n) c.args.plans.now n c.index-plans-number.result c.loop-number-test.true
+        c.index-plans-number.is)
     ∙ c.loop-number.invariant
 
 pub returns : goal.returns

@@ -5,4 +5,5 @@ use Rattle.fr_schedule.proofs.faults.first_by.Given as goal
 
 -- the nodes that are left have the first fault of all
 abbrev pub invariant-loop-number : goal.invariant-loop-number
-invariant-loop-number l = first_in_nodes (fault_by l.rule l.params) l.number (drop l.number l.plans) ≡ first_by (fault_by l.rule l.params) l.plans
+invariant-loop-number l = first_in_nodes (fault_by l.rule l.params) l.number (drop l.number l.plans) ≡ first_by
+    (fault_by l.rule l.params) l.plans

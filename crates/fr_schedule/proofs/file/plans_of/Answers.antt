@@ -17,9 +17,11 @@ returns-in_err-plan-clause-refused c =
     rw gone
     (λ other.
     sym c.loop-number.invariant.left
-    ∙ at_item (plans_left p n c.loop-number.plans.items) c.args.values.now n c.index-values-number.result c.loop-number-test.true c.index-values-number.is
+    ∙ at_item (plans_left p n c.loop-number.plans.items) c.args.values.now n c.index-values-number.result
+        c.loop-number-test.true c.index-values-number.is
     ∙ plan_refused p n c.loop-number.plans.items c.index-values-number.result (drop (n + 1) c.args.values.now) _
-    (ap (λ m. plan_of p m (view c.index-values-number.result)) (sym c.from_number.ensures) ∙ sym c.in_err-plan.ensures.value))
+    (ap (λ m. plan_of p m (view c.index-values-number.result)) (sym c.from_number.ensures)
+        ∙ sym c.in_err-plan.ensures.value))
 
 pub loop-number-preserved : goal.loop-number-preserved
 loop-number-preserved c =
@@ -28,11 +30,15 @@ loop-number-preserved c =
     let plan = c.in_ok-plan.plan in
     let pushed : c.push.new.self.items ≡ c.loop-number.plans.items ++ plan ∷ [] = search rules in
     record {
-      lawful = subst (Each IsPlan) (sym pushed) (Each-snoc IsPlan c.loop-number.plans.items plan c.loop-number.invariant.lawful c.in_ok-plan.ensures.lawful);
+      lawful = subst (Each IsPlan) (sym pushed) (Each-snoc IsPlan c.loop-number.plans.items plan
+          c.loop-number.invariant.lawful c.in_ok-plan.ensures.lawful);
       left = ap (λ plans. plans_left p (n + 1) plans (drop (n + 1) c.args.values.now)) pushed
-          ∙ sym (plan_taken p n c.loop-number.plans.items c.index-values-number.result (drop (n + 1) c.args.values.now) plan
-          (ap (λ m. plan_of p m (view c.index-values-number.result)) (sym c.from_number.ensures) ∙ sym c.in_ok-plan.ensures.value))
-          ∙ sym (at_item (plans_left p n c.loop-number.plans.items) c.args.values.now n c.index-values-number.result c.loop-number-test.true c.index-values-number.is)
+          ∙ sym (plan_taken p n c.loop-number.plans.items c.index-values-number.result
+              (drop (n + 1) c.args.values.now) plan
+          (ap (λ m. plan_of p m (view c.index-values-number.result)) (sym c.from_number.ensures)
+              ∙ sym c.in_ok-plan.ensures.value))
+          ∙ sym (at_item (plans_left p n c.loop-number.plans.items) c.args.values.now n c.index-values-number.result
+              c.loop-number-test.true c.index-values-number.is)
           ∙ c.loop-number.invariant.left;
     }
 
@@ -41,5 +47,6 @@ returns-clause-plans c =
     let p = c.args.params.now in
     let n = c.loop-number.number in
     sym c.loop-number.invariant.left
-    ∙ at_drop_all (plans_left p n c.loop-number.plans.items) c.args.values.now n (omega (arith, c.loop-number-test.false))
+    ∙ at_drop_all (plans_left p n c.loop-number.plans.items) c.args.values.now n
+        (omega (arith, c.loop-number-test.false))
     ∙ plans_end p n c.loop-number.plans.items

@@ -9,5 +9,6 @@ use Rattle.fr_schedule.proofs.file.plans_of.Given as goal
 abbrev pub invariant-loop-number : goal.invariant-loop-number
 invariant-loop-number l = record {
   lawful : Each IsPlan l.plans.items;
-  left : plans_left l.params l.number l.plans.items (drop l.number l.values) ≡ each_of (plan_of l.params) 0 (map view l.values);
+  left : plans_left l.params l.number l.plans.items (drop l.number l.values) ≡ each_of (plan_of l.params) 0
+      (map view l.values);
 }

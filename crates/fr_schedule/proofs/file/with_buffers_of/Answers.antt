@@ -21,8 +21,10 @@ returns-in_err-buffer c =
     let n = c.loop-number.number in
     let gone : c.from_residual.result ≡ Err c.in_err-buffer.field-0.0 = search rules in
     gone
-    ∙ sym (left_refused p c.args.node c.args.plan n c.loop-number.plan.buffers c.index-values-number.result (drop (n + 1) c.args.values.now) _ (sym c.in_err-buffer.ensures.value))
-    ∙ sym (at_item (buffers_left p c.args.node c.args.plan n c.loop-number.plan.buffers) c.args.values.now n c.index-values-number.result c.loop-number-test.true c.index-values-number.is)
+    ∙ sym (left_refused p c.args.node c.args.plan n c.loop-number.plan.buffers c.index-values-number.result
+        (drop (n + 1) c.args.values.now) _ (sym c.in_err-buffer.ensures.value))
+    ∙ sym (at_item (buffers_left p c.args.node c.args.plan n c.loop-number.plan.buffers) c.args.values.now n
+        c.index-values-number.result c.loop-number-test.true c.index-values-number.is)
     ∙ c.loop-number.invariant.left
 
 pub loop-number-preserved : goal.loop-number-preserved
@@ -33,11 +35,15 @@ loop-number-preserved c =
     let added : c.add_buffer.new.self ≡ with_buffer c.loop-number.plan buffer = search rules in
     let buffers = ap (λ (plan : Plan). plan.buffers) added in
     record {
-      so_far = ap length buffers ∙ length_push c.loop-number.plan.buffers buffer ∙ ap (λ m. m + 1) c.loop-number.invariant.so_far;
-      kept = added ∙ kept_more c.args.plan c.loop-number.plan buffer c.loop-number.invariant.kept ∙ sym (ap (with_buffers c.args.plan) buffers);
+      so_far = ap length buffers ∙ length_push c.loop-number.plan.buffers buffer ∙ ap
+          (λ m. m + 1) c.loop-number.invariant.so_far;
+      kept = added ∙ kept_more c.args.plan c.loop-number.plan buffer c.loop-number.invariant.kept ∙ sym
+          (ap (with_buffers c.args.plan) buffers);
       left = ap (λ bs. buffers_left p c.args.node c.args.plan (n + 1) bs (drop (n + 1) c.args.values.now)) buffers
-          ∙ sym (left_taken p c.args.node c.args.plan n c.loop-number.plan.buffers c.index-values-number.result (drop (n + 1) c.args.values.now) buffer (sym c.in_ok-buffer.ensures.value))
-          ∙ sym (at_item (buffers_left p c.args.node c.args.plan n c.loop-number.plan.buffers) c.args.values.now n c.index-values-number.result c.loop-number-test.true c.index-values-number.is)
+          ∙ sym (left_taken p c.args.node c.args.plan n c.loop-number.plan.buffers c.index-values-number.result
+              (drop (n + 1) c.args.values.now) buffer (sym c.in_ok-buffer.ensures.value))
+          ∙ sym (at_item (buffers_left p c.args.node c.args.plan n c.loop-number.plan.buffers) c.args.values.now n
+              c.index-values-number.result c.loop-number-test.true c.index-values-number.is)
           ∙ c.loop-number.invariant.left;
     }
 
@@ -47,5 +53,6 @@ returns c =
     let n = c.loop-number.number in
     ap (λ (plan : Plan). let r : Result Plan ConfigError = Ok plan in r) c.loop-number.invariant.kept
     ∙ sym (left_end p c.args.node c.args.plan n c.loop-number.plan.buffers)
-    ∙ sym (at_drop_all (buffers_left p c.args.node c.args.plan n c.loop-number.plan.buffers) c.args.values.now n (omega (arith, c.loop-number-test.false)))
+    ∙ sym (at_drop_all (buffers_left p c.args.node c.args.plan n c.loop-number.plan.buffers) c.args.values.now n
+        (omega (arith, c.loop-number-test.false)))
     ∙ c.loop-number.invariant.left

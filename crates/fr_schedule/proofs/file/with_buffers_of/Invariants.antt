@@ -9,5 +9,6 @@ abbrev pub invariant-loop-number : goal.invariant-loop-number
 invariant-loop-number l = record {
   so_far : length l.plan.buffers ≡ l.number;
   kept : l.plan ≡ with_buffers l.fn.plan l.plan.buffers;
-  left : buffers_left l.params l.node l.fn.plan l.number l.plan.buffers (drop l.number l.values) ≡ with_buffers_of l.params l.node (map view l.values) l.fn.plan;
+  left : buffers_left l.params l.node l.fn.plan l.number l.plan.buffers (drop l.number l.values)
+      ≡ with_buffers_of l.params l.node (map view l.values) l.fn.plan;
 }

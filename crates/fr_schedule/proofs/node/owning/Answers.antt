@@ -10,8 +10,10 @@ returns-in_err-own c =
     let p = c.args.params.now in
     let i = c.loop-line.line-index in
     c.from_residual.ensures
-    ∙ sym (owning_none p c.loop-line.plan c.line-item.result (drop (i + 1) c.args.lines.now) (sym c.in_err-own.ensures.value))
-    ∙ sym (at_item (owning_more p c.loop-line.plan) c.args.lines.now i c.line-item.result c.loop-line-test.true c.line-item.is)
+    ∙ sym (owning_none p c.loop-line.plan c.line-item.result (drop (i + 1) c.args.lines.now)
+        (sym c.in_err-own.ensures.value))
+    ∙ sym (at_item (owning_more p c.loop-line.plan) c.args.lines.now i c.line-item.result c.loop-line-test.true
+        c.line-item.is)
     ∙ c.loop-line.invariant.left
 
 pub loop-line-preserved : goal.loop-line-preserved
@@ -21,10 +23,13 @@ loop-line-preserved c =
     let own = c.in_ok-own.own in
     let added : c.add_own.new.self ≡ with_own c.loop-line.plan own = search rules in
     record {
-      so_far = ap (λ (plan : Plan). length plan.owned) added ∙ length_push c.loop-line.plan.owned own ∙ ap (λ n. n + 1) c.loop-line.invariant.so_far;
+      so_far = ap (λ (plan : Plan). length plan.owned) added ∙ length_push c.loop-line.plan.owned own ∙ ap
+          (λ n. n + 1) c.loop-line.invariant.so_far;
       left = ap (λ (plan : Plan). owning_more p plan (drop (i + 1) c.args.lines.now)) added
-          ∙ sym (owning_some p c.loop-line.plan c.line-item.result (drop (i + 1) c.args.lines.now) own (sym c.in_ok-own.ensures.value))
-          ∙ sym (at_item (owning_more p c.loop-line.plan) c.args.lines.now i c.line-item.result c.loop-line-test.true c.line-item.is)
+          ∙ sym (owning_some p c.loop-line.plan c.line-item.result (drop (i + 1) c.args.lines.now) own
+              (sym c.in_ok-own.ensures.value))
+          ∙ sym (at_item (owning_more p c.loop-line.plan) c.args.lines.now i c.line-item.result c.loop-line-test.true
+              c.line-item.is)
           ∙ c.loop-line.invariant.left;
     }
 
@@ -32,5 +37,6 @@ pub returns : goal.returns
 returns c =
     let p = c.args.params.now in
     sym (owning_end p c.loop-line.plan)
-    ∙ sym (at_drop_all (owning_more p c.loop-line.plan) c.args.lines.now c.loop-line.line-index (omega (arith, c.loop-line-test.false)))
+    ∙ sym (at_drop_all (owning_more p c.loop-line.plan) c.args.lines.now c.loop-line.line-index
+        (omega (arith, c.loop-line-test.false)))
     ∙ c.loop-line.invariant.left

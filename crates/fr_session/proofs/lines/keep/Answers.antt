@@ -9,4 +9,5 @@ returns c =
     let appended : c.try_extend_from_slice-outcome.new.self.items ≡ line ++ take fits c.args.more.now = search rules in
     let room = c.remaining_capacity-room.ensures in
     let least = c.min-fits.ensures in
-    appended ∙ kept_front line c.args.more.now fits (omega (arith, room, least)) (λ less. omega (arith, room, least, less))
+    appended ∙ kept_front line c.args.more.now fits (omega (arith, room, least))
+        (λ less. omega (arith, room, least, less))

@@ -5,4 +5,5 @@ use Rattle.fr_session.proofs.striking.strike_all.Given as goal
 
 -- the lines so far
 abbrev pub invariant-loop-line : goal.invariant-loop-line
-invariant-loop-line l = Tells l.fn.world (flat_map (strike_events l.cycle l.window) (take l.line-index l.faults)) l.struck l.world
+invariant-loop-line l = Tells l.fn.world (flat_map (strike_events l.cycle l.window) (take l.line-index l.faults))
+    l.struck l.world

@@ -5,4 +5,5 @@ use Rattle.fr_showing.proofs.ends.offer_of.Given as goal
 
 -- the offer is among those that are left
 abbrev pub invariant-loop-t : goal.invariant-loop-t
-invariant-loop-t l = find (is_offer_of l.channel l.node) (drop l.t-index l.sent) ≡ find (is_offer_of l.channel l.node) l.sent
+invariant-loop-t l = find (is_offer_of l.channel l.node) (drop l.t-index l.sent) ≡ find
+    (is_offer_of l.channel l.node) l.sent

@@ -8,5 +8,6 @@ abbrev pub invariant-loop-sealed : goal.invariant-loop-sealed
 invariant-loop-sealed l = record {
   begun : l.begun ≡ cycles_begun (take l.sealed-index l.record);
   few : l.begun ≤ l.sealed-index;
-  left : has_struck_after l.params l.line (take l.sealed-index l.record) (drop l.sealed-index l.record) ≡ has_struck l.params l.record l.line;
+  left : has_struck_after l.params l.line (take l.sealed-index l.record) (drop l.sealed-index l.record)
+      ≡ has_struck l.params l.record l.line;
 }

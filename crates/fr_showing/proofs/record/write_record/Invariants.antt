@@ -9,5 +9,6 @@ abbrev pub invariant-loop-sealed : goal.invariant-loop-sealed
 invariant-loop-sealed g l = record {
   begun : l.begun ≡ cycles_begun (take l.sealed-index l.record);
   few : l.begun ≤ l.sealed-index;
-  written : Appends (g.W.Write.contents l.fn.writer) (g.W.Write.contents l.writer) (record_text l.scenario l.params (take l.sealed-index l.record));
+  written : Appends (g.W.Write.contents l.fn.writer) (g.W.Write.contents l.writer)
+      (record_text l.scenario l.params (take l.sealed-index l.record));
 }

@@ -7,4 +7,5 @@ use Rattle.fr_showing.proofs.record.write_transmissions.Given as goal
 -- the lines so far
 abbrev pub invariant-loop-transmission : goal.invariant-loop-transmission
 invariant-loop-transmission g l =
-    Appends (g.W.Write.contents l.fn.writer) (g.W.Write.contents l.writer) (flat_map (sent_line l.scenario l.params l.cycle l.sealed) (take l.transmission-index l.sent))
+    Appends (g.W.Write.contents l.fn.writer) (g.W.Write.contents l.writer)
+        (flat_map (sent_line l.scenario l.params l.cycle l.sealed) (take l.transmission-index l.sent))

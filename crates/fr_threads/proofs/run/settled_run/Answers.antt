@@ -3,13 +3,15 @@ use Rattle.std.specs.Prelude.{IsTrue}
 use Rattle.fr_core.specs.Receivers.{Receivers}
 use Rattle.fr_runs.specs.Stepping.{AreStepped}
 use Rattle.fr_threads.proofs.RunLemmas.{settles_same}
-use Rattle.fr_threads.proofs.run.settled_run.Goals.{else-stepped-via-then-stepped+else-not-are_stepped, else-stepped-via-else-stepped}
+use Rattle.fr_threads.proofs.run.settled_run.Goals.{else-stepped-via-then-stepped+else-not-are_stepped}
+use Rattle.fr_threads.proofs.run.settled_run.Goals.{else-stepped-via-else-stepped}
 use Rattle.fr_threads.proofs.run.settled_run.Goals as goal
 
 pub returns : goal.returns
 returns g c =
     let same_interfaces = c.as_slice-2.ensures.value in
-    let settled = settles_same _ _ _ _ _ _ _ same_interfaces c.as_slice-3.ensures.value c.in_ok-settled.ensures.answer in
+    let settled = settles_same _ _ _ _ _ _ _ same_interfaces c.as_slice-3.ensures.value c.in_ok-settled.ensures.answer
+        in
     let at_end : IsTrue c.in_ok-is_at_end.field-0 = search rules in
     let stepped : c.args.stepped ≡ true → AreStepped c.args.bus.sealed c.args.given.now c.args.nodes.interfaces.items =
     elim c.else-stepped.branch [
@@ -24,7 +26,8 @@ returns g c =
     record {
       agrees = settled.0;
       windows = settled.1;
-      receivers = subst (λ is. Receivers c.args.cluster.now is c.args.bus.sealed) same_interfaces c.in_ok-settled.ensures.receivers;
+      receivers = subst (λ is. Receivers c.args.cluster.now is c.args.bus.sealed) same_interfaces
+          c.in_ok-settled.ensures.receivers;
       one_sender = c.in_ok-settled.ensures.one_sender;
       commits = c.requires;
       finished = c.in_ok-is_at_end.ensures.finished at_end;

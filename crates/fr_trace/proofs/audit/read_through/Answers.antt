@@ -5,12 +5,15 @@ use Rattle.fr_trace.proofs.audit.read_through.Goals as goal
 pub returns-in-Err-fed-clause-through : goal.returns-in-Err-fed-clause-through
 returns-in-Err-fed-clause-through g c =
     let room : length c.read.new.buf ≡ 4096 = c.read.auto.buf ∙ c.pieces.invariant.1 in
-    let short : length (take c.in-Ok.count c.read.new.buf) ≤ 4096 = omega (arith, room, c.in-Ok.ensures.bound.0, c.in-Ok.ensures.bound.1) in
-    read_fault _ _ _ c.pieces.auditor c.feed-fed.new.self _ c.in-Err-fed.fault c.pieces.invariant.0 c.in-Ok.ensures.bytes.0 short c.feed-fed.ensures.state
+    let short : length (take c.in-Ok.count c.read.new.buf) ≤ 4096 =
+        omega (arith, room, c.in-Ok.ensures.bound.0, c.in-Ok.ensures.bound.1) in
+    read_fault _ _ _ c.pieces.auditor c.feed-fed.new.self _ c.in-Err-fed.fault c.pieces.invariant.0
+        c.in-Ok.ensures.bytes.0 short c.feed-fed.ensures.state
     (sym c.feed-fed.ensures.answer ∙ c.in-Err-fed.is)
 
 pub pieces-preserved : goal.pieces-preserved
 pieces-preserved g c = (
-  read_more _ _ _ c.pieces.auditor c.feed-fed.new.self _ c.pieces.invariant.0 c.in-Ok.ensures.bytes.0 c.feed-fed.ensures.state (sym c.feed-fed.ensures.answer ∙ c.in_default.is),
+  read_more _ _ _ c.pieces.auditor c.feed-fed.new.self _ c.pieces.invariant.0 c.in-Ok.ensures.bytes.0
+      c.feed-fed.ensures.state (sym c.feed-fed.ensures.answer ∙ c.in_default.is),
   c.read.auto.buf ∙ c.pieces.invariant.1,
 )

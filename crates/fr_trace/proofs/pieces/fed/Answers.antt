@@ -14,6 +14,8 @@ loop-piece-preserved c =
     let piece : Bor (List ℕ) = get_or pieces i (record { ref_ptr = (0, 0); now = [] }) in
     let joined : flat_map (λ p. p.now) (take (i + 1) pieces) ≡ flat_map (λ p. p.now) (take i pieces) ++ piece.now =
     ap (flat_map (λ p. p.now)) (take_more pieces i (record { ref_ptr = (0, 0); now = [] }) c.loop-piece-test.true)
-    ∙ (flat_map-append (λ p. p.now) (take i pieces) (piece ∷ []) ∙ ap (λ t. flat_map (λ p. p.now) (take i pieces) ++ t) (append-nil piece.now)) in
+    ∙ (flat_map-append (λ p. p.now) (take i pieces) (piece ∷ []) ∙ ap (λ t. flat_map (λ p. p.now) (take i pieces) ++ t)
+        (append-nil piece.now)) in
     subst (λ t. Reads fresh t c.feed.new.self) (sym joined)
-    (reads_more fresh (flat_map (λ p. p.now) (take i pieces)) piece.now c.loop-piece.auditor c.feed.new.self c.loop-piece.invariant c.feed.ensures.state)
+    (reads_more fresh (flat_map (λ p. p.now) (take i pieces)) piece.now c.loop-piece.auditor c.feed.new.self
+        c.loop-piece.invariant c.feed.ensures.state)

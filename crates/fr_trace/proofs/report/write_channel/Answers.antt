@@ -21,5 +21,6 @@ returns g c =
     let back = errors_text (slice_index counts 2) (slice_index counts 3) (slice_index counts 4) in
     let first : Appends start mid front = search rules in
     subst (λ (t : List ℕ). OnOk c.write_errors.result (Appends start end t))
-    (sym (line-behind_three letter valid syntax (decimal (slice_index counts 2)) (decimal (slice_index counts 3) ∷ decimal (slice_index counts 4) ∷ [])))
+    (sym (line-behind_three letter valid syntax (decimal (slice_index counts 2))
+        (decimal (slice_index counts 3) ∷ decimal (slice_index counts 4) ∷ [])))
     (appends-last c.write_errors.result start mid end front back first c.write_errors.ensures)

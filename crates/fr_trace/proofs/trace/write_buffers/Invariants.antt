@@ -5,4 +5,5 @@ use Rattle.fr_trace.specs.TraceText.{buffer_line}
 use Rattle.fr_trace.proofs.trace.write_buffers.Given as goal
 
 abbrev pub invariant-loop-buffer : goal.invariant-loop-buffer
-invariant-loop-buffer g l = Appends (g.W.Write.contents l.fn.writer) (g.W.Write.contents l.writer) (flat_map buffer_line (take l.buffer-index l.buffers))
+invariant-loop-buffer g l = Appends (g.W.Write.contents l.fn.writer) (g.W.Write.contents l.writer)
+    (flat_map buffer_line (take l.buffer-index l.buffers))

@@ -11,5 +11,7 @@ returns g c =
     let start = g.W.Write.contents c.args.writer.now in
     let first = g.W.Write.contents c.writeln.new.self in
     let second = g.W.Write.contents c.write_params.new.writer in
-    appends-last c.write_node.result start second (g.W.Write.contents c.write_node.new.writer) (params_text Three params) (line_text (node_words c.args.plan.now))
-    (Appends-trans start first second (head_text Three) (line_text (params_words params)) c.in_ok-writeln.ensures.bytes c.in_ok-write_params.ensures) c.write_node.ensures
+    appends-last c.write_node.result start second (g.W.Write.contents c.write_node.new.writer)
+        (params_text Three params) (line_text (node_words c.args.plan.now))
+    (Appends-trans start first second (head_text Three) (line_text (params_words params)) c.in_ok-writeln.ensures.bytes
+        c.in_ok-write_params.ensures) c.write_node.ensures

@@ -18,6 +18,8 @@ returns c =
     c.in_ok-arg-2.ensures.shape (search rules) ∙ ap₂ with_rule first scenario_is in
     let local : (out-Command c.in_ok-arg-2.field-0).has_globals ≡ false = search rules in
     record {
-      app = IfOk-weaker c.arg-3.result _ _ (λ m h. h.shape (search rules) ∙ ap₂ with_rule second cycles_is) c.arg-3.ensures;
-      local = IfOk-weaker c.arg-3.result _ _ (λ m h. h.globals ∙ ap₂ (λ a b. a || b) local (search rules)) c.arg-3.ensures;
+      app = IfOk-weaker c.arg-3.result _ _ (λ m h. h.shape (search rules) ∙ ap₂ with_rule second cycles_is)
+          c.arg-3.ensures;
+      local = IfOk-weaker c.arg-3.result _ _ (λ m h. h.globals ∙ ap₂ (λ a b. a || b) local (search rules))
+          c.arg-3.ensures;
     }

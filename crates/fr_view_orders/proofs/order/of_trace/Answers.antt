@@ -13,6 +13,8 @@ returns c =
     let local : (out-Command c.in_ok-arg.field-0).has_globals ≡ false =
     c.in_ok-arg.ensures.globals ∙ ap₂ (λ a b. a || b) fresh c.flag-until_fault.ensures.local in
     record {
-      app = IfOk-weaker c.arg-2.result _ _ (λ m h. h.shape (search rules) ∙ ap₂ with_rule first c.flag-more.ensures.rule) c.arg-2.ensures;
-      local = IfOk-weaker c.arg-2.result _ _ (λ m h. h.globals ∙ ap₂ (λ a b. a || b) local c.flag-more.ensures.local) c.arg-2.ensures;
+      app = IfOk-weaker c.arg-2.result _ _ (λ m h. h.shape (search rules)
+          ∙ ap₂ with_rule first c.flag-more.ensures.rule) c.arg-2.ensures;
+      local = IfOk-weaker c.arg-2.result _ _ (λ m h. h.globals ∙ ap₂ (λ a b. a || b) local c.flag-more.ensures.local)
+          c.arg-2.ensures;
     }

@@ -32,7 +32,8 @@ returns-in-capture-clause-told c =
     let named : IsNamed (codes "capture") entered = search rules in
     let words : (id : Text) → first_value found id ≡ word_in entered id =
     λ id. first_value-rows found id ∙ sym (word_of_rows entered (rows_of found) id (search rules)) in
-    (named, c.flags_in-until_fault.ensures.until_fault ∙ ap is_true (words (codes "until-fault")), c.flags_in-until_fault.ensures.more ∙ ap is_true (words (codes "own")))
+    (named, c.flags_in-until_fault.ensures.until_fault ∙ ap is_true (words (codes "until-fault")),
+        c.flags_in-until_fault.ensures.more ∙ ap is_true (words (codes "own")))
 
 pub returns-in-frames-clause-told : goal.returns-in-frames-clause-told
 returns-in-frames-clause-told c =
@@ -41,7 +42,8 @@ returns-in-frames-clause-told c =
     let named : IsNamed (codes "frames") entered = search rules in
     let words : (id : Text) → first_value found id ≡ word_in entered id =
     λ id. first_value-rows found id ∙ sym (word_of_rows entered (rows_of found) id (search rules)) in
-    (named, c.flags_in-until_fault-in-frames.ensures.until_fault ∙ ap is_true (words (codes "until-fault")), c.flags_in-until_fault-in-frames.ensures.more ∙ ap is_true (words (codes "all")))
+    (named, c.flags_in-until_fault-in-frames.ensures.until_fault ∙ ap is_true (words (codes "until-fault")),
+        c.flags_in-until_fault-in-frames.ensures.more ∙ ap is_true (words (codes "all")))
 
 pub returns-in_default-clause-told : goal.returns-in_default-clause-told
 returns-in_default-clause-told c =
@@ -59,5 +61,6 @@ returns-in_default-clause-nothing c =
     let named : IsNamed c.in_ok-name.name.now entered = search rules in
     let words : (id : Text) → first_value found id ≡ word_in entered id =
     λ id. first_value-rows found id ∙ sym (word_of_rows entered (rows_of found) id (search rules)) in
-    show_lacks entered c.in_ok-name.name.now (first_value found) c.show_in.result named (search rules) (search rules) (search rules) (search rules)
+    show_lacks entered c.in_ok-name.name.now (first_value found) c.show_in.result named (search rules) (search rules)
+        (search rules) (search rules)
     words c.show_in.ensures.nothing

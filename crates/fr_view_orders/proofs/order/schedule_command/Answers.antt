@@ -11,6 +11,8 @@ returns c =
     let cycle_is : rule_of c.long-cycle.result ≡ the_cycle = search rules in
     let file_local : (out-Command c.in_ok-of_file.field-0).has_globals ≡ false = c.in_ok-of_file.ensures.local in
     record {
-      app = IfOk-weaker c.arg.result _ _ (λ m h. h.shape (search rules) ∙ ap₂ with_rule c.in_ok-of_file.ensures.app cycle_is) c.arg.ensures;
-      local = IfOk-weaker c.arg.result _ _ (λ m h. h.globals ∙ ap₂ (λ a b. a || b) file_local (search rules)) c.arg.ensures;
+      app = IfOk-weaker c.arg.result _ _ (λ m h. h.shape (search rules)
+          ∙ ap₂ with_rule c.in_ok-of_file.ensures.app cycle_is) c.arg.ensures;
+      local = IfOk-weaker c.arg.result _ _ (λ m h. h.globals ∙ ap₂ (λ a b. a || b) file_local (search rules))
+          c.arg.ensures;
     }

@@ -9,8 +9,10 @@ loop-number-preserved g c = (
   omega (arith, c.in-Some.ensures.len),
   search rules,
   rw c.pop.ensures.rest (All-take (λ s. s ≡ 0) _ _ c.loop-number.invariant.3),
-  rw c.push_reserved.ensures.items (All-push (λ p. p.commits ≡ 0) _ _ c.loop-number.invariant.4 (all_last (λ s. s ≡ 0) _ _ _ c.loop-number.invariant.3 c.in-Some.ensures.items)),
-  rw c.push_reserved.ensures.items (numbered_push (λ p. p.task) _ _ _ (search rules) c.from_number-task.ensures c.loop-number.invariant.5),
+  rw c.push_reserved.ensures.items (All-push (λ p. p.commits ≡ 0) _ _ c.loop-number.invariant.4
+      (all_last (λ s. s ≡ 0) _ _ _ c.loop-number.invariant.3 c.in-Some.ensures.items)),
+  rw c.push_reserved.ensures.items (numbered_push (λ p. p.task) _ _ _
+      (search rules) c.from_number-task.ensures c.loop-number.invariant.5),
 )
 
 pub returns-clause-tasks : goal.returns-clause-tasks

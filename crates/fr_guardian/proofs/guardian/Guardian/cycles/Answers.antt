@@ -15,8 +15,10 @@ returns-clause-value c =
     ∙ ap (λ (d : Description). period (all_owned d.plans)) c.self.view_is
 
 pub returns-clause-some : goal.returns-clause-some
-returns-clause-some c = subst (λ n. 1 ≤ n) (sym (returns-clause-value c)) (period_some (all_owned c.args.self.now.plans))
+returns-clause-some c = subst (λ n. 1 ≤ n) (sym (returns-clause-value c))
+    (period_some (all_owned c.args.self.now.plans))
 
 pub returns-clause-again : goal.returns-clause-again
 returns-clause-again c node cycle macrotick channel =
-    opens_again c.args.self.now (subst IsCluster c.self.view_is c.self.invariant.cluster) c.cycles_of.result (returns-clause-value c) node cycle macrotick channel
+    opens_again c.args.self.now (subst IsCluster c.self.view_is c.self.invariant.cluster) c.cycles_of.result
+        (returns-clause-value c) node cycle macrotick channel

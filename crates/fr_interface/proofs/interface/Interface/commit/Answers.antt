@@ -25,12 +25,14 @@ invariant_of-self c =
     let plan = c.self.inside.plan in
     let line = c.in-Some.line in
     let entries = c.self.inside.journal.entries in
-    let transmit : c.deref_mut.result.now ≡ transmitters plan entries = c.deref_mut.ensures.value ∙ c.self.invariant.transmit_is in
+    let transmit : c.deref_mut.result.now ≡ transmitters plan entries =
+        c.deref_mut.ensures.value ∙ c.self.invariant.transmit_is in
     let kept = c.kept_payload-payload.result.now in
     let is : kept ≡ c.args.payload.now = c.kept_payload-payload.ensures.value in
     let there : buffer_at plan c.args.buffer ≡ Some line = sym c.buffer.ensures ∙ c.in-Some.is in
     let transmits : is_receive line.mode ≡ false = sym c.is_receive.ensures ∙ c.if-is_receive.false in
-    let words : length kept ≡ 2 * words_of params line = ap length is ∙ words_from_test params line c.args.payload.now (sym c.has_words.ensures ∙ c.if-not-has_words.false) in
+    let words : length kept ≡ 2 * words_of params line = ap length is ∙ words_from_test params line c.args.payload.now
+        (sym c.has_words.ensures ∙ c.if-not-has_words.false) in
     rw c.push_commit.ensures (record {
       host_limit = c.self.invariant.host_limit;
       slot_limit = c.self.invariant.slot_limit;
@@ -46,33 +48,46 @@ invariant_of-self c =
         );
         legal = AllAfter-snoc _ _ _ legal.legal (record {
           task_is = omega (arith, c.number.ensures.value, c.tasks.ensures.value);
-          transmits = subst (λ (o : Option Buffer). IsSomeAnd o (λ b. (is_receive b.mode ≡ false) × (length kept ≡ 2 * words_of params b))) (sym there) (transmits, words);
+          transmits = subst (λ (o : Option Buffer). IsSomeAnd o
+              (λ b. (is_receive b.mode ≡ false) × (length kept ≡ 2 * words_of params b))) (sym there)
+              (transmits, words);
           room = omega (arith, c.host_room.ensures, c.self.invariant.host_limit);
         });
       };
       opening_is = c.self.invariant.opening_is ∙ sym (opening-commit entries c.args.task c.args.buffer kept);
       transmit_is =
-          written c.self.inside.transmit.len c.commit_to.new.buffers _ (omega (arith, c.deref_mut.ensures.len, c.commit_to.auto.buffers))
+          written c.self.inside.transmit.len c.commit_to.new.buffers _
+              (omega (arith, c.deref_mut.ensures.len, c.commit_to.auto.buffers))
           ∙ c.commit_to.ensures
-          ∙ ap (λ (l : List Transmitter). change_at (λ b. with_commit b (record { entry = c.len-entry.result; payload = kept })) l c.args.buffer) transmit
-          ∙ ap (λ (n : ℕ). change_at (λ b. with_commit b (record { entry = n; payload = kept })) (transmitters plan entries) c.args.buffer) c.len-entry.ensures.value
+          ∙ ap (λ (l : List Transmitter). change_at (λ b. with_commit b
+              (record { entry = c.len-entry.result; payload = kept })) l c.args.buffer) transmit
+          ∙ ap (λ (n : ℕ). change_at (λ b. with_commit b (record { entry = n; payload = kept }))
+              (transmitters plan entries) c.args.buffer) c.len-entry.ensures.value
           ∙ transmitters-commit entries c.args.task c.args.buffer kept plan;
-      receive_is = c.self.invariant.receive_is ∙ sym (held-other params entries (Commit c.args.task c.args.buffer kept) plan.buffers (λ f. refl));
-      queue_is = c.self.invariant.queue_is ∙ queue-other params plan entries (Commit c.args.task c.args.buffer kept) (λ q. refl) refl plan.queue;
-      counters_are = c.self.invariant.counters_are ∙ sym (counters-other params entries (Commit c.args.task c.args.buffer kept) (λ bit channel. refl));
+      receive_is = c.self.invariant.receive_is ∙ sym (held-other params entries
+          (Commit c.args.task c.args.buffer kept) plan.buffers (λ f. refl));
+      queue_is = c.self.invariant.queue_is ∙ queue-other params plan entries (Commit c.args.task c.args.buffer kept)
+          (λ q. refl) refl plan.queue;
+      counters_are = c.self.invariant.counters_are ∙ sym (counters-other params entries
+          (Commit c.args.task c.args.buffer kept) (λ bit channel. refl));
     })
 
 pub commit_to-requires-clause-there : goal.commit_to-requires-clause-there
 commit_to-requires-clause-there c =
     let plan = c.self.inside.plan in
     let entries = c.self.inside.journal.entries in
-    let transmit : c.deref_mut.result.now ≡ transmitters plan entries = c.deref_mut.ensures.value ∙ c.self.invariant.transmit_is in
-    subst (λ (l : List Transmitter). c.args.buffer < length l) (sym transmit) (number_there plan entries c.args.buffer c.in-Some.line (sym c.buffer.ensures ∙ c.in-Some.is))
+    let transmit : c.deref_mut.result.now ≡ transmitters plan entries =
+        c.deref_mut.ensures.value ∙ c.self.invariant.transmit_is in
+    subst (λ (l : List Transmitter). c.args.buffer < length l) (sym transmit)
+        (number_there plan entries c.args.buffer c.in-Some.line (sym c.buffer.ensures ∙ c.in-Some.is))
 
 pub commit_to-requires-clause-few : goal.commit_to-requires-clause-few
 commit_to-requires-clause-few c =
     let plan = c.self.inside.plan in
     let entries = c.self.inside.journal.entries in
-    let transmit : c.deref_mut.result.now ≡ transmitters plan entries = c.deref_mut.ensures.value ∙ c.self.invariant.transmit_is in
-    subst (λ (l : List Transmitter). IfSome (slice_get l c.args.buffer) (λ b. b.tally.committed + 1 < 2 ^ 32)) (sym transmit)
-    (commits_fit plan entries c.args.buffer c.in-Some.line (sym c.buffer.ensures ∙ c.in-Some.is) (omega (arith, c.len-entry.ensures.value, c.len-entry.ensures.few)))
+    let transmit : c.deref_mut.result.now ≡ transmitters plan entries =
+        c.deref_mut.ensures.value ∙ c.self.invariant.transmit_is in
+    subst (λ (l : List Transmitter). IfSome (slice_get l c.args.buffer) (λ b. b.tally.committed + 1 < 2 ^ 32))
+        (sym transmit)
+    (commits_fit plan entries c.args.buffer c.in-Some.line (sym c.buffer.ensures ∙ c.in-Some.is)
+        (omega (arith, c.len-entry.ensures.value, c.len-entry.ensures.few)))

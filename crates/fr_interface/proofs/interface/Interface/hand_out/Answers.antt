@@ -15,15 +15,20 @@ returns-then-is_some-clause-spelled c =
     let s = c.args.self.now in
     let window = c.args.window.now in
     let channel = c.args.channel in
-    let nothing : offered s.plan s.entries window channel ≡ Nothing = sym (offered-place s.plan s.entries window channel) ∙ sym (ap (λ (o : Outgoing). o.offered) c.requires) ∙ c.in-Nothing.is in
-    subst (λ (f : Option Fields). IsHandedOut channel f None) (sym (frame-nothing s.plan s.entries s.params window channel nothing)) tt
+    let nothing : offered s.plan s.entries window channel ≡ Nothing =
+        sym (offered-place s.plan s.entries window channel) ∙ sym (ap (λ (o : Outgoing). o.offered) c.requires)
+        ∙ c.in-Nothing.is in
+    subst (λ (f : Option Fields). IsHandedOut channel f None)
+        (sym (frame-nothing s.plan s.entries s.params window channel nothing)) tt
 
 pub returns-then-is_some-clause-bytes : goal.returns-then-is_some-clause-bytes
 returns-then-is_some-clause-bytes c =
     let s = c.args.self.now in
     let window = c.args.window.now in
     let channel = c.args.channel in
-    let nothing : offered s.plan s.entries window channel ≡ Nothing = sym (offered-place s.plan s.entries window channel) ∙ sym (ap (λ (o : Outgoing). o.offered) c.requires) ∙ c.in-Nothing.is in
+    let nothing : offered s.plan s.entries window channel ≡ Nothing =
+        sym (offered-place s.plan s.entries window channel) ∙ sym (ap (λ (o : Outgoing). o.offered) c.requires)
+        ∙ c.in-Nothing.is in
     sym (ap (bytes_of channel) (frame-nothing s.plan s.entries s.params window channel nothing))
 
 pub returns-else-is_some-clause-spelled : goal.returns-else-is_some-clause-spelled
@@ -31,17 +36,22 @@ returns-else-is_some-clause-spelled c =
     let s = c.args.self.now in
     let window = c.args.window.now in
     let channel = c.args.channel in
-    let nothing : offered s.plan s.entries window channel ≡ Nothing = sym (offered-place s.plan s.entries window channel) ∙ sym (ap (λ (o : Outgoing). o.offered) c.requires) ∙ c.in-Nothing.is in
+    let nothing : offered s.plan s.entries window channel ≡ Nothing =
+        sym (offered-place s.plan s.entries window channel) ∙ sym (ap (λ (o : Outgoing). o.offered) c.requires)
+        ∙ c.in-Nothing.is in
     let empty = none_from_test c.is_some.result c.args.bytes.now c.is_some.ensures c.if-is_some.false in
     subst (IsHandedOut channel (frame_offered s.params s.plan s.entries window channel)) (sym empty)
-    (subst (λ (f : Option Fields). IsHandedOut channel f None) (sym (frame-nothing s.plan s.entries s.params window channel nothing)) tt)
+    (subst (λ (f : Option Fields). IsHandedOut channel f None)
+        (sym (frame-nothing s.plan s.entries s.params window channel nothing)) tt)
 
 pub returns-else-is_some-clause-bytes : goal.returns-else-is_some-clause-bytes
 returns-else-is_some-clause-bytes c =
     let s = c.args.self.now in
     let window = c.args.window.now in
     let channel = c.args.channel in
-    let nothing : offered s.plan s.entries window channel ≡ Nothing = sym (offered-place s.plan s.entries window channel) ∙ sym (ap (λ (o : Outgoing). o.offered) c.requires) ∙ c.in-Nothing.is in
+    let nothing : offered s.plan s.entries window channel ≡ Nothing =
+        sym (offered-place s.plan s.entries window channel) ∙ sym (ap (λ (o : Outgoing). o.offered) c.requires)
+        ∙ c.in-Nothing.is in
     none_from_test c.is_some.result c.args.bytes.now c.is_some.ensures c.if-is_some.false
     ∙ sym (ap (bytes_of channel) (frame-nothing s.plan s.entries s.params window channel nothing))
 
@@ -52,12 +62,17 @@ returns-in-Null c =
     let entries = c.self.inside.journal.entries in
     let window = c.args.window.now in
     let channel = c.args.channel in
-    let buffers : c.as_slice-buffers.result.now ≡ transmitters plan entries = c.as_slice-buffers.ensures.value ∙ c.self.invariant.transmit_is in
+    let buffers : c.as_slice-buffers.result.now ≡ transmitters plan entries =
+        c.as_slice-buffers.ensures.value ∙ c.self.invariant.transmit_is in
     let outgoing = c.requires ∙ ap (λ (s : State). outgoing_in s window channel) (sym c.self.view_is) in
-    let frame : frame_by params plan c.as_slice-buffers.result.now window channel c.args.outgoing.now ≡ frame_offered params plan entries window channel =
-    (λ i. frame_by params plan (buffers i) window channel (outgoing i)) ∙ frame-place plan entries params window channel in
+    let frame : frame_by params plan c.as_slice-buffers.result.now window channel c.args.outgoing.now
+        ≡ frame_offered params plan entries window channel =
+    (λ i. frame_by params plan (buffers i) window channel (outgoing i))
+        ∙ frame-place plan entries params window channel in
     record {
-      spelled = subst (λ (s : State). IsHandedOut channel (frame_offered s.params s.plan s.entries window channel) c.spelled_by.result) c.self.view_is
+      spelled = subst (λ (s : State). IsHandedOut channel (frame_offered s.params s.plan s.entries window channel)
+          c.spelled_by.result) c.self.view_is
           (subst (λ (f : Option Fields). IsHandedOut channel f c.spelled_by.result) frame c.spelled_by.ensures.spelled);
-      bytes = c.spelled_by.ensures.bytes ∙ ap (bytes_of channel) frame ∙ ap (λ (s : State). bytes_of channel (frame_offered s.params s.plan s.entries window channel)) c.self.view_is;
+      bytes = c.spelled_by.ensures.bytes ∙ ap (bytes_of channel) frame ∙ ap
+          (λ (s : State). bytes_of channel (frame_offered s.params s.plan s.entries window channel)) c.self.view_is;
     }

@@ -23,9 +23,12 @@ invariant_of-result c =
     let plan_is : c.in_ok-indexed.indexed ≡ plan = c.in_ok-indexed.ensures in
     let transmit : c.in_ok-transmit.transmit.items ≡ map (λ (b : Buffer). new_transmitter b.mode) plan.buffers =
     c.in_ok-transmit.ensures ∙ ap (map (λ (b : Buffer). new_transmitter b.mode)) c.buffers.ensures.value in
-    let receive : c.in_ok-receive.receive.items ≡ map (λ (b : Buffer). let empty : Option Arrival = None in empty) plan.buffers =
-    c.in_ok-receive.ensures ∙ ap (map (λ (b : Buffer). let empty : Option Arrival = None in empty)) c.buffers-2.ensures.value in
-    let queue : c.in_ok-queue.queue ≡ option_map empty_queue plan.queue = c.in_ok-queue.ensures ∙ ap (option_map empty_queue) c.queue.ensures.value in
+    let receive : c.in_ok-receive.receive.items ≡ map (λ (b : Buffer). let empty : Option Arrival = None in empty)
+        plan.buffers =
+    c.in_ok-receive.ensures ∙ ap (map (λ (b : Buffer). let empty : Option Arrival = None in empty))
+        c.buffers-2.ensures.value in
+    let queue : c.in_ok-queue.queue ≡ option_map empty_queue plan.queue =
+        c.in_ok-queue.ensures ∙ ap (option_map empty_queue) c.queue.ensures.value in
     record {
       host_limit = search rules;
       slot_limit = search rules;
@@ -38,7 +41,9 @@ invariant_of-result c =
       };
       opening_is = sym opening-none ∙ ap opening_of (sym none);
       transmit_is = transmit ∙ transmitters-none plan ∙ (λ i. transmitters (sym plan_is i) (sym none i));
-      receive_is = receive ∙ sym (held-none params plan.buffers) ∙ (λ i. map (held_in (sym params_is i) (sym none i)) (sym plan_is i).buffers);
-      queue_is = queue ∙ queue-none params plan [] plan.queue ∙ (λ i. option_map (waiting_of (sym params_is i) (sym plan_is i) (sym none i)) (sym plan_is i).queue);
+      receive_is = receive ∙ sym (held-none params plan.buffers) ∙
+          (λ i. map (held_in (sym params_is i) (sym none i)) (sym plan_is i).buffers);
+      queue_is = queue ∙ queue-none params plan [] plan.queue ∙
+          (λ i. option_map (waiting_of (sym params_is i) (sym plan_is i) (sym none i)) (sym plan_is i).queue);
       counters_are = sym (counters-none params) ∙ (λ i. counters_of (sym params_is i) (sym none i));
     }

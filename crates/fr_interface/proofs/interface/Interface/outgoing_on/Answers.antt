@@ -14,7 +14,8 @@ returns-clause-offered c =
     let entries = c.self.inside.journal.entries in
     let window = c.args.window.now in
     let channel = c.args.channel in
-    let buffers : c.as_slice.result.now ≡ transmitters plan entries = c.as_slice.ensures.value ∙ c.self.invariant.transmit_is in
+    let buffers : c.as_slice.result.now ≡ transmitters plan entries =
+        c.as_slice.ensures.value ∙ c.self.invariant.transmit_is in
     ap (λ (o : Outgoing). o.offered) c.outgoing_on.ensures.value
     ∙ ap (λ (l : List Transmitter). (outgoing_on plan l window channel).offered) buffers
     ∙ offered-place plan entries window channel

@@ -22,9 +22,12 @@ invariant_of-self c =
     let plan = c.self.inside.plan in
     let entries = c.self.inside.journal.entries in
     let e = Pop c.args.task c.origin_in-from.result in
-    let taken : c.pop_from-oldest.result ≡ option_and_then (λ (q : Queue). oldest q.capacity (moves params plan q entries)) plan.queue =
-    c.pop_from-oldest.ensures.oldest ∙ ap (option_and_then (λ (w : Waiting). slice_get w.frames 0)) c.self.invariant.queue_is ∙ front_of params plan entries plan.queue in
-    let from_is : c.origin_in-from.result ≡ option_map origin_of (option_and_then (λ (q : Queue). oldest q.capacity (moves params plan q entries)) plan.queue) =
+    let taken : c.pop_from-oldest.result ≡ option_and_then (λ (q : Queue). oldest q.capacity
+        (moves params plan q entries)) plan.queue =
+    c.pop_from-oldest.ensures.oldest ∙ ap (option_and_then (λ (w : Waiting). slice_get w.frames 0))
+        c.self.invariant.queue_is ∙ front_of params plan entries plan.queue in
+    let from_is : c.origin_in-from.result ≡ option_map origin_of
+        (option_and_then (λ (q : Queue). oldest q.capacity (moves params plan q entries)) plan.queue) =
     c.origin_in-from.ensures.value ∙ ap (option_map origin_of) taken in
     rw c.push_host.ensures (record {
       host_limit = c.self.invariant.host_limit;
@@ -36,14 +39,17 @@ invariant_of-self c =
         entries_are = AllAfter-snoc _ _ _ legal.entries_are (c.number.ensures.fits, c.origin_in-from.ensures.fits);
         legal = AllAfter-snoc _ _ _ legal.legal (record {
           task_is = omega (arith, c.number.ensures.value, c.tasks.ensures.value);
-          queued = pop_queued params plan entries c.origin_in-from.result plan.queue from_is (ap is_some (sym c.queue.ensures.value) ∙ c.is_none.ensures ∙ ap not c.if-is_none.false);
+          queued = pop_queued params plan entries c.origin_in-from.result plan.queue from_is
+              (ap is_some (sym c.queue.ensures.value) ∙ c.is_none.ensures ∙ ap not c.if-is_none.false);
           room = omega (arith, c.host_room.ensures, c.self.invariant.host_limit);
         });
       };
       opening_is = c.self.invariant.opening_is ∙ sym (opening-pop entries c.args.task c.origin_in-from.result);
-      transmit_is = c.self.invariant.transmit_is ∙ sym (transmitters-other plan entries e (λ n. refl) (λ k. refl) (λ k. refl));
+      transmit_is = c.self.invariant.transmit_is ∙ sym (transmitters-other plan entries e (λ n. refl) (λ k. refl)
+          (λ k. refl));
       receive_is = c.self.invariant.receive_is ∙ sym (held-other params entries e plan.buffers (λ f. refl));
-      queue_is = c.pop_from-oldest.ensures.left ∙ ap (option_map without_oldest) c.self.invariant.queue_is ∙ queue-pop params plan entries c.args.task c.origin_in-from.result plan.queue from_is;
+      queue_is = c.pop_from-oldest.ensures.left ∙ ap (option_map without_oldest) c.self.invariant.queue_is
+          ∙ queue-pop params plan entries c.args.task c.origin_in-from.result plan.queue from_is;
       counters_are = c.self.invariant.counters_are ∙ sym (counters-other params entries e (λ bit channel. refl));
     })
 
@@ -52,6 +58,9 @@ returns-clause-frames c =
     let params = c.self.inside.params in
     let plan = c.self.inside.plan in
     let entries = c.self.inside.journal.entries in
-    let taken : c.pop_from-oldest.result ≡ option_and_then (λ (q : Queue). oldest q.capacity (moves params plan q entries)) plan.queue =
-    c.pop_from-oldest.ensures.oldest ∙ ap (option_and_then (λ (w : Waiting). slice_get w.frames 0)) c.self.invariant.queue_is ∙ front_of params plan entries plan.queue in
-    subst (λ (o : Option Fields). IfSome o IsReceivable) (sym (c.frame_in.ensures ∙ ap (option_map frame_of) taken)) (front_receivable params plan entries c.self.invariant.legal.entries_are plan.queue)
+    let taken : c.pop_from-oldest.result ≡ option_and_then (λ (q : Queue). oldest q.capacity
+        (moves params plan q entries)) plan.queue =
+    c.pop_from-oldest.ensures.oldest ∙ ap (option_and_then (λ (w : Waiting). slice_get w.frames 0))
+        c.self.invariant.queue_is ∙ front_of params plan entries plan.queue in
+    subst (λ (o : Option Fields). IfSome o IsReceivable) (sym (c.frame_in.ensures ∙ ap (option_map frame_of) taken))
+        (front_receivable params plan entries c.self.invariant.legal.entries_are plan.queue)

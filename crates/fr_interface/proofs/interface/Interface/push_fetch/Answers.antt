@@ -26,9 +26,11 @@ use Rattle.fr_interface.proofs.interface.Interface.push_fetch.Goals as goal
 
 pub push_slot-requires-clause-room : goal.push_slot-requires-clause-room
 push_slot-requires-clause-room c =
-    let before : State = record { params = c.self.inside.params; plan = c.self.inside.plan; entries = c.self.inside.journal.entries } in
+    let before : State = record { params = c.self.inside.params; plan = c.self.inside.plan; entries =
+        c.self.inside.journal.entries } in
     let window = c.args.window.now in
-    let accepted = fetchable before window (ap (λ (s : State). fetch_refusal s window) c.self.view_is ∙ c.requires.accepted) in
+    let accepted = fetchable before window (ap (λ (s : State). fetch_refusal s window) c.self.view_is
+        ∙ c.requires.accepted) in
     omega (arith, accepted.room, c.self.invariant.slot_limit)
 
 pub invariant_of-self : goal.invariant_of-self
@@ -39,7 +41,8 @@ invariant_of-self c =
     let entries = c.self.inside.journal.entries in
     let window = c.args.window.now in
     let before : State = record { params = params; plan = plan; entries = entries } in
-    let accepted = fetchable before window (ap (λ (s : State). fetch_refusal s window) c.self.view_is ∙ c.requires.accepted) in
+    let accepted = fetchable before window (ap (λ (s : State). fetch_refusal s window) c.self.view_is
+        ∙ c.requires.accepted) in
     let kept = c.kept_window-window.result in
     let window_is : kept ≡ window = c.kept_window-window.ensures.value in
     let ranged : IsInRange kept = subst IsInRange (sym window_is) c.kept_window-window.ensures.fits in
@@ -47,21 +50,26 @@ invariant_of-self c =
     let placed = transmitters plan entries in
     let a = c.args.a.now in
     let b = c.args.b.now in
-    let out_a : a ≡ outgoing_in before window A = c.requires.outgoing_a ∙ ap (λ (s : State). outgoing_in s window A) (sym c.self.view_is) in
-    let out_b : b ≡ outgoing_in before window B = c.requires.outgoing_b ∙ ap (λ (s : State). outgoing_in s window B) (sym c.self.view_is) in
+    let out_a : a ≡ outgoing_in before window A = c.requires.outgoing_a ∙ ap (λ (s : State). outgoing_in s window A)
+        (sym c.self.view_is) in
+    let out_b : b ≡ outgoing_in before window B = c.requires.outgoing_b ∙ ap (λ (s : State). outgoing_in s window B)
+        (sym c.self.view_is) in
     let from_a : a.sender ≡ sender_on plan placed window A = ap (λ (o : Outgoing). o.sender) out_a in
     let from_b : b.sender ≡ sender_on plan placed window B = ap (λ (o : Outgoing). o.sender) out_b in
     let offer_a = ap (λ (o : Outgoing). o.offered) out_a in
     let offer_b = ap (λ (o : Outgoing). o.offered) out_b in
     let sent : IsFetched plan entries kept a.offered b.offered a.sender b.sender = record {
-      sender_a = subst (λ (o : Option Sender). IfSome o (IsSender plan entries)) (sym from_a) (sender-is plan entries window A);
-      sender_b = subst (λ (o : Option Sender). IfSome o (IsSender plan entries)) (sym from_b) (sender-is plan entries window B);
+      sender_a = subst (λ (o : Option Sender). IfSome o (IsSender plan entries)) (sym from_a)
+          (sender-is plan entries window A);
+      sender_b = subst (λ (o : Option Sender). IfSome o (IsSender plan entries)) (sym from_b)
+          (sender-is plan entries window B);
       sent_a = λ k. ap (is_data_of k) offer_a ∙ sent-by plan window A k placed ∙ ap (sends_by k) (sym from_a);
       sent_b = λ k. ap (is_data_of k) offer_b ∙ sent-by plan window B k placed ∙ ap (sends_by k) (sym from_b);
     } in
     let e = Fetch kept a.offered b.offered in
     let after_a : c.send_from.new.buffers ≡ after_sender placed a.sender =
-    c.send_from.ensures ∙ ap (λ (l : List Transmitter). after_sender l a.sender) (c.deref_mut.ensures.value ∙ c.self.invariant.transmit_is) in
+    c.send_from.ensures ∙ ap (λ (l : List Transmitter). after_sender l a.sender)
+        (c.deref_mut.ensures.value ∙ c.self.invariant.transmit_is) in
     rw c.push_slot.ensures (record {
       host_limit = c.self.invariant.host_limit;
       slot_limit = c.self.invariant.slot_limit;
@@ -77,17 +85,25 @@ invariant_of-self c =
         legal = AllAfter-snoc _ _ _ legal.legal (record {
           closed = accepted.closed;
           fits = ap (window_fits params) window_is ∙ accepted.fits;
-          later = subst (λ (w : Opportunity). IfSome (last_number entries) (λ m. m < w.number)) (sym window_is) accepted.later;
+          later = subst (λ (w : Opportunity). IfSome (last_number entries) (λ m. m < w.number))
+              (sym window_is) accepted.later;
           room = accepted.room;
-          offer_a = offer_a ∙ offered-place plan entries window A ∙ ap (λ (w : Opportunity). offered plan entries w A) (sym window_is);
-          offer_b = offer_b ∙ offered-place plan entries window B ∙ ap (λ (w : Opportunity). offered plan entries w B) (sym window_is);
+          offer_a = offer_a ∙ offered-place plan entries window A ∙ ap (λ (w : Opportunity). offered plan entries w A)
+              (sym window_is);
+          offer_b = offer_b ∙ offered-place plan entries window B ∙ ap (λ (w : Opportunity). offered plan entries w B)
+              (sym window_is);
         });
       };
-      opening_is = (λ i. record { window = Some kept; last = Some (number_kept i) }) ∙ sym (opening-fetch entries kept a.offered b.offered);
+      opening_is = (λ i. record { window = Some kept; last = Some (number_kept i) }) ∙ sym
+          (opening-fetch entries kept a.offered b.offered);
       transmit_is =
-          written c.self.inside.transmit.len c.send_from-2.new.buffers _ (omega (arith, c.deref_mut.ensures.len, c.deref_mut-2.ensures.len, c.send_from.auto.buffers, c.send_from-2.auto.buffers))
+          written c.self.inside.transmit.len c.send_from-2.new.buffers _
+              (omega (arith, c.deref_mut.ensures.len, c.deref_mut-2.ensures.len, c.send_from.auto.buffers,
+              c.send_from-2.auto.buffers))
           ∙ c.send_from-2.ensures
-          ∙ ap (λ (l : List Transmitter). after_sender l b.sender) (c.deref_mut-2.ensures.value ∙ written c.self.inside.transmit.len c.send_from.new.buffers _ (omega (arith, c.deref_mut.ensures.len, c.send_from.auto.buffers)) ∙ after_a)
+          ∙ ap (λ (l : List Transmitter). after_sender l b.sender)
+              (c.deref_mut-2.ensures.value ∙ written c.self.inside.transmit.len c.send_from.new.buffers _
+              (omega (arith, c.deref_mut.ensures.len, c.send_from.auto.buffers)) ∙ after_a)
           ∙ transmitters-fetch plan entries kept a.offered b.offered a.sender b.sender sent;
       receive_is = c.self.invariant.receive_is ∙ sym (held-other params entries e plan.buffers (λ f. refl));
       queue_is = c.self.invariant.queue_is ∙ queue-other params plan entries e (λ q. refl) refl plan.queue;
@@ -104,9 +120,12 @@ returns c =
     let window_is : c.kept_window-window.result ≡ window = c.kept_window-window.ensures.value in
     let out_a = c.requires.outgoing_a ∙ ap (λ (s : State). outgoing_in s window A) (sym c.self.view_is) in
     let out_b = c.requires.outgoing_b ∙ ap (λ (s : State). outgoing_in s window B) (sym c.self.view_is) in
-    let offer_a : c.args.a.now.offered ≡ offered plan entries window A = ap (λ (o : Outgoing). o.offered) out_a ∙ offered-place plan entries window A in
-    let offer_b : c.args.b.now.offered ≡ offered plan entries window B = ap (λ (o : Outgoing). o.offered) out_b ∙ offered-place plan entries window B in
+    let offer_a : c.args.a.now.offered ≡ offered plan entries window A =
+        ap (λ (o : Outgoing). o.offered) out_a ∙ offered-place plan entries window A in
+    let offer_b : c.args.b.now.offered ≡ offered plan entries window B =
+        ap (λ (o : Outgoing). o.offered) out_b ∙ offered-place plan entries window B in
     let pushed : List Entry → State = λ xs. record { params = params; plan = plan; entries = xs } in
     ap (λ (k : Kept). pushed k.entries) c.push_slot.ensures
     ∙ (λ i. with_entry before (Fetch (window_is i) (offer_a i) (offer_b i)))
-    ∙ ap (λ (s : State). with_entry s (Fetch window (offered s.plan s.entries window A) (offered s.plan s.entries window B))) c.self.view_is
+    ∙ ap (λ (s : State). with_entry s (Fetch window (offered s.plan s.entries window A)
+        (offered s.plan s.entries window B))) c.self.view_is

@@ -9,5 +9,7 @@ pub returns-in-Some-clause-balance : goal.returns-in-Some-clause-balance
 returns-in-Some-clause-balance c =
     let s = state_in c.self.inside in
     rw (sym c.self.view_is)
-    (subst (λ (lost : ℕ). IfSome s.plan.queue (λ q. arrived_of s q ≡ popped_of s + queued_of s q + lost)) (sym c.lost.ensures)
-    (balance-place s c.self.inside.queue c.self.invariant.queue_is c.self.invariant.legal.legal c.in-Some.queue c.in-Some.is))
+    (subst (λ (lost : ℕ). IfSome s.plan.queue (λ q. arrived_of s q ≡ popped_of s + queued_of s q + lost))
+        (sym c.lost.ensures)
+    (balance-place s c.self.inside.queue c.self.invariant.queue_is c.self.invariant.legal.legal c.in-Some.queue
+        c.in-Some.is))

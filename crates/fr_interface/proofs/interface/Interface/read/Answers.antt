@@ -34,10 +34,12 @@ invariant_of-self c =
     let there : buffer_at plan c.args.buffer ≡ Some line = sym c.buffer.ensures ∙ c.in-Some.is in
     let held_is : c.arrival_at-held.result ≡ held params filter entries =
     c.arrival_at-held.ensures
-    ∙ ap (λ (l : List (Option Arrival)). option_and_then (λ (h : Option Arrival). h) (slice_get l c.args.buffer)) c.deref.ensures.value
+    ∙ ap (λ (l : List (Option Arrival)). option_and_then (λ (h : Option Arrival). h) (slice_get l c.args.buffer))
+        c.deref.ensures.value
     ∙ received-place s c.args.buffer c.self.inside.receive.items c.self.invariant.receive_is
     ∙ received_line s c.args.buffer line there (search rules) in
-    let from_is : c.origin_in-from.result ≡ option_map origin_of (held params filter entries) = c.origin_in-from.ensures.value ∙ ap (option_map origin_of) held_is in
+    let from_is : c.origin_in-from.result ≡ option_map origin_of (held params filter entries) =
+        c.origin_in-from.ensures.value ∙ ap (option_map origin_of) held_is in
     rw c.push_host.ensures (record {
       host_limit = c.self.invariant.host_limit;
       slot_limit = c.self.invariant.slot_limit;
@@ -45,15 +47,20 @@ invariant_of-self c =
         params_are = legal.params_are;
         plan_is = legal.plan_is;
         faultless = legal.faultless;
-        entries_are = AllAfter-snoc _ _ _ legal.entries_are (c.number.ensures.fits, c.ranges.buffer.fits, c.origin_in-from.ensures.fits);
+        entries_are = AllAfter-snoc _ _ _ legal.entries_are (c.number.ensures.fits, c.ranges.buffer.fits,
+            c.origin_in-from.ensures.fits);
         legal = AllAfter-snoc _ _ _ legal.legal (record {
           task_is = omega (arith, c.number.ensures.value, c.tasks.ensures.value);
-          receives = subst (λ (o : Option Buffer). IsSomeAnd o (λ b. (is_receive b.mode ≡ true) × (c.origin_in-from.result ≡ option_map origin_of (held params b.filter entries)))) (sym there) (search rules, from_is);
+          receives = subst (λ (o : Option Buffer). IsSomeAnd o
+              (λ b. (is_receive b.mode ≡ true) × (c.origin_in-from.result ≡ option_map origin_of
+              (held params b.filter entries)))) (sym there) (search rules, from_is);
           room = omega (arith, c.host_room.ensures, c.self.invariant.host_limit);
         });
       };
-      opening_is = c.self.invariant.opening_is ∙ sym (opening-read entries c.args.task c.args.buffer c.origin_in-from.result);
-      transmit_is = c.self.invariant.transmit_is ∙ sym (transmitters-other plan entries e (λ n. refl) (λ k. refl) (λ k. refl));
+      opening_is = c.self.invariant.opening_is ∙ sym (opening-read entries c.args.task c.args.buffer
+          c.origin_in-from.result);
+      transmit_is = c.self.invariant.transmit_is ∙ sym (transmitters-other plan entries e (λ n. refl) (λ k. refl)
+          (λ k. refl));
       receive_is = c.self.invariant.receive_is ∙ sym (held-other params entries e plan.buffers (λ f. refl));
       queue_is = c.self.invariant.queue_is ∙ queue-other params plan entries e (λ q. refl) refl plan.queue;
       counters_are = c.self.invariant.counters_are ∙ sym (counters-other params entries e (λ bit channel. refl));
@@ -64,13 +71,16 @@ returns-clause-accepted c =
     let s = state_in c.self.inside in
     let held_is : c.arrival_at-held.result ≡ received_by s c.args.buffer =
     c.arrival_at-held.ensures
-    ∙ ap (λ (l : List (Option Arrival)). option_and_then (λ (h : Option Arrival). h) (slice_get l c.args.buffer)) c.deref.ensures.value
+    ∙ ap (λ (l : List (Option Arrival)). option_and_then (λ (h : Option Arrival). h) (slice_get l c.args.buffer))
+        c.deref.ensures.value
     ∙ received-place s c.args.buffer c.self.inside.receive.items c.self.invariant.receive_is in
-    let from_is : c.origin_in-from.result ≡ option_map origin_of (received_by s c.args.buffer) = c.origin_in-from.ensures.value ∙ ap (option_map origin_of) held_is in
+    let from_is : c.origin_in-from.result ≡ option_map origin_of (received_by s c.args.buffer) =
+        c.origin_in-from.ensures.value ∙ ap (option_map origin_of) held_is in
     let pushed : List Entry → State = λ xs. record { params = s.params; plan = s.plan; entries = xs } in
     ap (λ (k : Kept). pushed k.entries) c.push_host.ensures
     ∙ (λ i. with_entry s (Read c.args.task c.args.buffer (from_is i)))
-    ∙ ap (λ (t : State). with_entry t (Read c.args.task c.args.buffer (option_map origin_of (received_by t c.args.buffer)))) c.self.view_is
+    ∙ ap (λ (t : State). with_entry t (Read c.args.task c.args.buffer
+        (option_map origin_of (received_by t c.args.buffer)))) c.self.view_is
 
 pub returns-clause-frames : goal.returns-clause-frames
 returns-clause-frames c =
@@ -80,7 +90,9 @@ returns-clause-frames c =
     c.frame_in.ensures
     ∙ ap (option_map frame_of)
     (c.arrival_at-held.ensures
-    ∙ ap (λ (l : List (Option Arrival)). option_and_then (λ (h : Option Arrival). h) (slice_get l c.args.buffer)) c.deref.ensures.value
+    ∙ ap (λ (l : List (Option Arrival)). option_and_then (λ (h : Option Arrival). h) (slice_get l c.args.buffer))
+        c.deref.ensures.value
     ∙ received-place s c.args.buffer c.self.inside.receive.items c.self.invariant.receive_is
     ∙ received_line s c.args.buffer line (sym c.buffer.ensures ∙ c.in-Some.is) (search rules)) in
-    subst (λ (o : Option Fields). IfSome o IsReceivable) (sym frame_is) (held_is_receivable s.params line.filter s.entries c.self.invariant.legal.entries_are)
+    subst (λ (o : Option Fields). IfSome o IsReceivable) (sym frame_is)
+        (held_is_receivable s.params line.filter s.entries c.self.invariant.legal.entries_are)

@@ -28,10 +28,12 @@ invariant_of-self c =
     let entries = c.self.inside.journal.entries in
     let of = c.withdraw_from-of.result in
     let e = Withdraw c.args.task c.args.buffer of in
-    let transmit : c.deref_mut.result.now ≡ transmitters plan entries = c.deref_mut.ensures.value ∙ c.self.invariant.transmit_is in
+    let transmit : c.deref_mut.result.now ≡ transmitters plan entries =
+        c.deref_mut.ensures.value ∙ c.self.invariant.transmit_is in
     let there : buffer_at plan c.args.buffer ≡ Some line = sym c.buffer.ensures ∙ c.in-Some.is in
     let transmits : is_receive line.mode ≡ false = sym c.is_receive.ensures ∙ c.if-is_receive.false in
-    let found : of ≡ pending_commit c.args.buffer entries = c.withdraw_from-of.ensures.answer ∙ pending-place (state_in c.self.inside) c.args.buffer line there c.deref_mut.result.now transmit in
+    let found : of ≡ pending_commit c.args.buffer entries = c.withdraw_from-of.ensures.answer ∙ pending-place
+        (state_in c.self.inside) c.args.buffer line there c.deref_mut.result.now transmit in
     rw c.push_host.ensures (record {
       host_limit = c.self.invariant.host_limit;
       slot_limit = c.self.invariant.slot_limit;
@@ -39,7 +41,8 @@ invariant_of-self c =
         params_are = legal.params_are;
         plan_is = legal.plan_is;
         faultless = legal.faultless;
-        entries_are = AllAfter-snoc _ _ _ legal.entries_are (c.number.ensures.fits, c.ranges.buffer.fits, c.withdraw_from-of.ensures.fits);
+        entries_are = AllAfter-snoc _ _ _ legal.entries_are (c.number.ensures.fits, c.ranges.buffer.fits,
+            c.withdraw_from-of.ensures.fits);
         legal = AllAfter-snoc _ _ _ legal.legal (record {
           task_is = omega (arith, c.number.ensures.value, c.tasks.ensures.value);
           transmits = subst (λ (o : Option Buffer). IsSomeAnd o (λ b. is_receive b.mode ≡ false)) (sym there) transmits;
@@ -49,7 +52,8 @@ invariant_of-self c =
       };
       opening_is = c.self.invariant.opening_is ∙ sym (opening-withdraw entries c.args.task c.args.buffer of);
       transmit_is =
-          written c.self.inside.transmit.len c.withdraw_from-of.new.buffers _ (omega (arith, c.deref_mut.ensures.len, c.withdraw_from-of.auto.buffers))
+          written c.self.inside.transmit.len c.withdraw_from-of.new.buffers _
+              (omega (arith, c.deref_mut.ensures.len, c.withdraw_from-of.auto.buffers))
           ∙ c.withdraw_from-of.ensures.buffers
           ∙ ap (λ (l : List Transmitter). change_at after_withdraw l c.args.buffer) transmit
           ∙ transmitters-withdraw entries c.args.task c.args.buffer plan
@@ -62,7 +66,8 @@ invariant_of-self c =
 pub returns-clause-answer : goal.returns-clause-answer
 returns-clause-answer c =
     let s = state_in c.self.inside in
-    let transmit : c.deref_mut.result.now ≡ transmitters s.plan s.entries = c.deref_mut.ensures.value ∙ c.self.invariant.transmit_is in
+    let transmit : c.deref_mut.result.now ≡ transmitters s.plan s.entries =
+        c.deref_mut.ensures.value ∙ c.self.invariant.transmit_is in
     c.withdraw_from-of.ensures.answer
     ∙ pending-place s c.args.buffer c.in-Some.line (sym c.buffer.ensures ∙ c.in-Some.is) c.deref_mut.result.now transmit
     ∙ ap (λ (t : State). pending_commit c.args.buffer t.entries) c.self.view_is
@@ -70,10 +75,13 @@ returns-clause-answer c =
 pub returns-clause-accepted : goal.returns-clause-accepted
 returns-clause-accepted c =
     let s = state_in c.self.inside in
-    let transmit : c.deref_mut.result.now ≡ transmitters s.plan s.entries = c.deref_mut.ensures.value ∙ c.self.invariant.transmit_is in
+    let transmit : c.deref_mut.result.now ≡ transmitters s.plan s.entries =
+        c.deref_mut.ensures.value ∙ c.self.invariant.transmit_is in
     let found : c.withdraw_from-of.result ≡ pending_commit c.args.buffer s.entries =
-    c.withdraw_from-of.ensures.answer ∙ pending-place s c.args.buffer c.in-Some.line (sym c.buffer.ensures ∙ c.in-Some.is) c.deref_mut.result.now transmit in
+    c.withdraw_from-of.ensures.answer ∙ pending-place s c.args.buffer c.in-Some.line
+        (sym c.buffer.ensures ∙ c.in-Some.is) c.deref_mut.result.now transmit in
     let pushed : List Entry → State = λ xs. record { params = s.params; plan = s.plan; entries = xs } in
     ap (λ (k : Kept). pushed k.entries) c.push_host.ensures
     ∙ (λ i. with_entry s (Withdraw c.args.task c.args.buffer (found i)))
-    ∙ ap (λ (t : State). with_entry t (Withdraw c.args.task c.args.buffer (pending_commit c.args.buffer t.entries))) c.self.view_is
+    ∙ ap (λ (t : State). with_entry t (Withdraw c.args.task c.args.buffer (pending_commit c.args.buffer t.entries)))
+        c.self.view_is

@@ -18,7 +18,8 @@ invariant_of-self c =
       owned_are = c.self.invariant.owned_are;
       few_buffers = search rules;
       buffers_fit = rw c.push.ensures.items (AllFit-snoc buffer_fits _ _ c.self.invariant.buffers_fit (search rules));
-      buffers_are = rw c.push.ensures.items (Each-snoc IsBuffer _ _ c.self.invariant.buffers_are c.buffer_fits.ensures.ranges);
+      buffers_are = rw c.push.ensures.items (Each-snoc IsBuffer _ _ c.self.invariant.buffers_are
+          c.buffer_fits.ensures.ranges);
       queue_fits = c.self.invariant.queue_fits;
       queue_is = c.self.invariant.queue_is;
     }
