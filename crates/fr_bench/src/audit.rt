@@ -9,7 +9,7 @@ use fr_trace::error::TraceError;
 use std::alloc::Global;
 use std::io::{Read, Write};
 
-/// Reads a trace to its end and writes its report (own profile).
+/// Reads a trace to its end and writes its report (project-defined).
 ///
 /// The report is kept in memory first and then written at once, so that nothing is written of a
 /// report that isn't whole. The refusals are those of the trace; `Memory` also where memory for the
@@ -32,7 +32,7 @@ pub fn audit<R: Read, W: Write>(
     let mut report = Vec::new(alloc);
     match fr_trace::audit::audit(alloc, reader, &mut report) {
         Ok(()) => {}
-        // A list of bytes fails to take more for want of memory alone.
+        // A list of bytes takes no more only if an allocation fails.
         Err(TraceError::Write) => return Err(TraceError::Memory),
         Err(refusal) => return Err(refusal),
     }

@@ -9,7 +9,7 @@ use fr_words::error::OrderError;
 use thiserror::Error;
 
 /// Why the program hasn't done what it was asked; printed, it is the line on standard error
-/// (own profile).
+/// (project-defined).
 #[derive(Clone, Copy, Debug, Drop, PartialEq, Eq, Error)]
 pub enum Failure {
     /// The words were no command, or memory for reading them was refused.

@@ -9,7 +9,7 @@ use fr_slots::channel::Channel;
 use std::alloc::{AllocError, Global};
 use std::marker::Model;
 
-/// Frames that wait to be popped, the oldest first, in a ring (own profile).
+/// Frames that wait to be popped, the oldest first, in a ring (project-defined).
 #[derive(Drop)]
 pub struct ReceiveQueue {
     ring: HeapCircularBuffer<Arrival>,

@@ -20,7 +20,7 @@ pub struct HeldCommit {
 }
 
 /// What a node keeps of a buffer that transmits: its mode, its last commit unless that was withdrawn, and what became
-/// of all of them (chapter 9; the modes, withdraws and the tally are own profile).
+/// of all of them (chapter 9; the modes, withdraws and the tally are project-defined).
 #[derive(Drop)]
 pub struct TxBuffer {
     mode: Mode,
@@ -128,7 +128,7 @@ impl TxBuffer {
         };
     }
 
-    /// Takes the commit back that it holds, where that is pending, and tells its entry (own profile).
+    /// Takes the commit back that it holds, where that is pending, and tells its entry (project-defined).
     ///
     /// The buffer is empty then: no commit before that one comes back. Where no commit is pending, nothing changes: a
     /// commit that was sent stays, and is offered again in state mode.

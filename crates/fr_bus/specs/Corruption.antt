@@ -1,4 +1,4 @@
--- One bit of a transmission turned (own profile).
+-- One bit of a transmission turned (project-defined).
 use Rattle.std.specs.Prelude.{ℕ, ◌-◌, ◌/◌, ◌%◌, ◌^◌, nat_lt, List, length, Option, Some, None, bit_xor, slice_index}
 use Rattle.std.specs.Prelude.{slice_set, if◌then◌else◌}
 use Rattle.arrayvec.specs.ArrayVec.{ArrayVec}

@@ -1,5 +1,5 @@
--- What becomes of the transmissions of a window, and what each node sees of them (own profile, but for what a guardian
--- is).
+-- What becomes of the transmissions of a window, and what each node sees of them (project-defined, but for what a
+-- guardian is).
 use Rattle.std.specs.Prelude.{ℕ, ◌+◌, ◌-◌, ◌*◌, ◌==◌, nat_lt, max, Bool, true, false, ◌&&◌, List, [], ◌∷◌, ◌++◌, length}
 use Rattle.std.specs.Prelude.{map, Option, Some, None, if◌then◌else◌}
 use Rattle.std.specs.List.{list_any, filter, fold}

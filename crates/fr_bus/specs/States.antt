@@ -143,7 +143,7 @@ new_bus d cycles = record {
   sealed = [];
 }
 
--- want of memory comes only where the cycles fit
+-- a failed allocation comes only where the cycles fit
 abbrev pub Opens : Description → ℕ → Result BusState BusError → Type 0
 Opens d cycles (Ok b) = (cycles_fit cycles ≡ true) × (b ≡ new_bus d cycles)
 Opens d cycles (Err Memory) = cycles_fit cycles ≡ true
@@ -227,7 +227,7 @@ sealed_with b (Some w) = record b { phase = InSealed; sealed = b.sealed ++ outco
 abbrev pub sealed_now : BusState → BusState
 sealed_now b = sealed_with b b.opened
 
--- the answer and what it leaves: want of memory comes only where the seal is otherwise lawful, and changes nothing
+-- the answer and what it leaves: a failed allocation comes only where the seal is otherwise lawful, and changes nothing
 abbrev pub Seals : BusState → Result (Unit {0}) BusError → BusState → Type 0
 Seals old (Ok x) new = (seal_refusal old ≡ None) × (new ≡ sealed_now old)
 Seals old (Err Memory) new = (seal_refusal old ≡ None) × (new ≡ old)

@@ -24,7 +24,8 @@ use std::alloc::{AllocError, Global};
 use std::marker::Model;
 
 /// The bus of a cluster in a run of so many cycles: the open window, what the nodes put and take in it, the faults
-/// injected, and the record of all windows before it (own profile, but for the order of slots, which is chapter 5's).
+/// injected, and the record of all windows before it (project-defined, but for the order of slots, which is chapter
+/// 5's).
 ///
 /// A window goes through three steps. While it collects, each node puts its offer once, and faults may be injected.
 /// Once all have put, `seal` settles what became of each transmission and appends that to the record. Then each node

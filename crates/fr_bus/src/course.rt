@@ -16,7 +16,7 @@ use fr_slots::params::Params;
 use fr_slots::window::Window;
 use std::marker::Model;
 
-/// How far a run has come (chapter 5; what a window is, is own profile).
+/// How far a run has come (chapter 5; what a window is, is project-defined).
 #[derive(Drop)]
 pub(crate) struct Course {
     params: Params,
@@ -113,7 +113,7 @@ impl Course {
         requires { cycles ≤ 1024 }
         ensures { result ≡ course_of params.now cycles [] }
     {
-        // Field by field, since what holds of parameters is told where one of them is read.
+        // Field by field, since what holds of parameters is stated where one of them is read.
         let params = Params { ..*params };
         Course {
             params,

@@ -6,7 +6,7 @@ ghost use Rattle.fr_bus.specs.States.{collects, seals};
 use std::error::Error;
 use std::fmt;
 
-/// Where the open window stands (own profile).
+/// Where the open window stands (project-defined).
 #[derive(Clone, Copy, PartialEq, Eq)]
 pub enum Phase {
     /// Nodes put their offers, and faults are injected.
@@ -33,7 +33,7 @@ impl Phase {
     }
 }
 
-/// Why a call of a bus is refused (own profile).
+/// Why a call of a bus is refused (project-defined).
 #[derive(Clone, Copy, Debug, PartialEq, Eq)]
 pub enum BusError {
     /// The cluster doesn't have the node.
@@ -64,7 +64,7 @@ impl BusError {
     ghost use Rattle.std.specs.Prelude.{◌≡◌};
     ghost use Rattle.fr_bus.specs.ErrorNames.{bus_error_name};
 
-    /// The refusal's name, as it is printed (own profile).
+    /// The refusal's name, as it is printed (project-defined).
     pub fn name(self) -> &'static str
         ensures { result.now ≡ bus_error_name self }
     {

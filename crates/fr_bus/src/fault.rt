@@ -6,7 +6,7 @@ use fr_frame::frame::{Bytes, duplicate_bytes};
 use fr_slots::channel::Channel;
 use fr_slots::numbers::NodeId;
 
-/// A fault of the open window, and of no other (own profile). On a channel without a slot it has no effect.
+/// A fault of the open window, and of no other (project-defined). On a channel without a slot it has no effect.
 #[derive(Drop, PartialEq, Eq)]
 pub enum Fault {
     /// The node sends these bytes on the channel, beside what it offers. Without bytes it sends nothing more.
@@ -20,8 +20,8 @@ pub enum Fault {
         node: NodeId,
         channel: Channel,
     },
-    /// One bit is turned where exactly one transmission passes on the channel, counted from the most significant bit of
-    /// its first byte. A bit after its last byte turns nothing.
+    /// One bit is flipped where exactly one transmission passes on the channel, counted from the most significant bit
+    /// of its first byte. A bit after its last byte flips nothing.
     Corrupt {
         channel: Channel,
         bit: u16,

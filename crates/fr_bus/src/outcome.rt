@@ -27,7 +27,7 @@ use fr_status::seen::{LentSeen, Seen};
 use std::alloc::{AllocError, Global};
 use std::marker::Model;
 
-/// What becomes of a transmission (own profile).
+/// What becomes of a transmission (project-defined).
 #[derive(Clone, Copy, PartialEq, Eq)]
 pub enum Fate {
     /// It reaches the channel.
@@ -38,7 +38,7 @@ pub enum Fate {
     Muted,
 }
 
-/// A transmission of a sealed window (own profile).
+/// A transmission of a sealed window (project-defined).
 #[derive(Drop, PartialEq, Eq)]
 pub struct Sent {
     /// Who sent it.
@@ -54,15 +54,15 @@ pub struct Sent {
 }
 
 impl Sent {
-    /// Whether it passed on the channel (own profile).
+    /// Whether it passed on the channel (project-defined).
     pub fn passed_on(&self, channel: Channel) -> bool
         ensures { result ≡ passed_on channel self.now }
     {
         self.channel == channel && self.fate == Fate::Passed
     }
 
-    /// Whether it is too long for the window: longer than a static slot's frame, or beyond the last minislot (own
-    /// profile).
+    /// Whether it is too long for the window: longer than a static slot's frame, or beyond the last minislot
+    /// (project-defined).
     pub fn overruns(&self, params: &Params, window: &Window) -> bool
         ensures { result ≡ overruns params.now window.now (length self.now.bytes.items) }
     {
@@ -70,7 +70,7 @@ impl Sent {
     }
 }
 
-/// A window of the record (own profile).
+/// A window of the record (project-defined).
 #[derive(Drop)]
 pub struct Sealed {
     /// The window.
@@ -289,7 +289,7 @@ fn byte_with_bit_turned(byte: u8, bit: u16) -> u8
     byte ^ (1 << (7 - bit))
 }
 
-/// Turns one bit, counted from the most significant bit of the first byte. A bit after the last byte is none of them.
+/// Flips one bit, counted from the most significant bit of the first byte. A bit after the last byte is none of them.
 fn turn_bit(bytes: &mut Bytes, bit: u16)
     ensures { bytes.new.items ≡ with_bit_turned bytes.old.items bit }
 {
@@ -359,7 +359,7 @@ fn sight_of_several(any_own: bool) -> Seen
     if any_own { Seen::Conflict } else { Seen::Noise }
 }
 
-/// Sees what a node sees on a channel of the window where this was sent, and this bit is turned (own profile).
+/// Sees what a node sees on a channel of the window where this was sent, and this bit is flipped (project-defined).
 fn see_in(
     params: &Params,
     window: &Window,
@@ -383,7 +383,7 @@ fn see_in(
     }
 }
 
-/// Sees what a node sees that sends nothing, on a channel of the window where this was sent, and this bit is turned.
+/// Sees what a node sees that sends nothing, on a channel of the window where this was sent, and this bit is flipped.
 fn hear_in(
     params: &Params,
     window: &Window,
@@ -404,7 +404,7 @@ fn hear_in(
     }
 }
 
-/// Whether the other nodes see this of the only transmission that passed. Bytes are copied only to turn a bit of them.
+/// Whether the other nodes see this of the only transmission that passed. Bytes are copied only to flip a bit of them.
 fn shows_alone(
     params: &Params,
     window: &Window,
@@ -433,7 +433,7 @@ fn are_turned(bytes: &Bytes, corrupt: Option<u16>, seen: &[u8]) -> bool
     }
 }
 
-/// Whether a node sees this on a channel of the window where this was sent, and this bit is turned.
+/// Whether a node sees this on a channel of the window where this was sent, and this bit is flipped.
 fn shows_in(
     params: &Params,
     window: &Window,
@@ -489,8 +489,8 @@ impl Sealed {
     ghost use Rattle.fr_bus.specs.Outcome.{longest};
     ghost use Rattle.fr_status.specs.Lent.{whole_seen};
 
-    /// The bit that a fault turns on the channel, if any, counted from the most significant bit of the first byte (own
-    /// profile).
+    /// The bit that a fault turns on the channel, if any, counted from the most significant bit of the first byte
+    /// (project-defined).
     pub fn corrupt_on(&self, channel: Channel) -> Option<u16>
         ensures { result ≡ corrupt_on self.now channel }
     {
@@ -501,7 +501,7 @@ impl Sealed {
     }
 
     /// What the node sees on the channel of what passed there and of the bit that is turned, by the parameters of the
-    /// cluster (own profile).
+    /// cluster (project-defined).
     pub fn seen(&self, params: &Params, channel: Channel, node: NodeId) -> Seen
         ensures { result ≡ seen_by params.now self.now channel node }
     {
@@ -528,7 +528,7 @@ impl Sealed {
     }
 
     /// What a node sees on the channel that sends nothing there: the bytes of what passed alone, with the bit that is
-    /// turned, or how else the window went (own profile).
+    /// turned, or how else the window went (project-defined).
     pub fn heard(&self, params: &Params, channel: Channel) -> Seen
         ensures { result ≡ heard params.now self.now channel }
     {

@@ -10,7 +10,7 @@ use Rattle.fr_timing.specs.Division.{start_at, place_at}
 use Rattle.fr_timing.specs.Layout.{IsAt}
 use Rattle.fr_timing.proofs.LayoutLemmas.{started_found, started_only, located_only, located_none}
 
--- what is told of a start is what it is by its definition
+-- what is reported of a start is what it is by its definition
 pub start_same : (p : Parameters) (x : Place) (answer : Option ℕ) → IfSome answer (λ m. IsAt p m x)
     → ((m : ℕ) → IsAt p m x → answer ≡ Some m) → answer ≡ start_at p x
 start_same p x (Some m) found only = sym (started_only p x (start_at p x) refl m found)

@@ -131,7 +131,7 @@ module _ (p : Parameters) (w : Opportunity) (a b : Seen) where
       λ i. taker_if (takes_is p w a b channel line i) (taker.Buffer number) ++ buffers_is channel (number + 1) lines i
 
 module _ (p : Parameters) (plan : Plan) (w : Opportunity) (a b : Seen) where
-  -- the takers, where it is known whether data frames came
+  -- the receivers, where it is known whether data frames came
   pub takers_is : (came_a came_b : Bool) → came_a ≡ is_some (data_frame_seen p w A a)
       → came_b ≡ is_some (data_frame_seen p w B b) → (channel : Channel)
       → takers_by plan w came_a came_b channel ≡ takers_of p plan w a b channel

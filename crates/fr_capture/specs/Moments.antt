@@ -1,5 +1,5 @@
 -- When the windows of a journal were. The time is counted in microseconds from the start of the round of 64 cycles in
--- which the first window was, and a macrotick is one of them (own profile).
+-- which the first window was, and a macrotick is one of them (project-defined).
 use Rattle.std.specs.Prelude.{ℕ, ◌+◌, ◌*◌, nat_le, Bool, false, List, [], length, Option, Some, None}
 use Rattle.std.specs.Prelude.{unwrap_or}
 use Rattle.fr_journal.specs.declared.entry.Entry.{Entry}

@@ -1,5 +1,5 @@
--- The classic capture format: a file header, and then the records of what was seen (own profile). Numbers are spelled
--- with their lowest byte first.
+-- The classic capture format: a file header, and then the records of what was seen (project-defined). Numbers are
+-- spelled with their lowest byte first.
 use Rattle.std.specs.Prelude.{ℕ, ◌-◌, ◌/◌, ◌%◌, Bool, List, [], ◌∷◌, ◌++◌, length, take, Option, Some, None}
 use Rattle.std.specs.Prelude.{if◌then◌else◌}
 use Rattle.arrayvec.specs.ArrayVec.{ArrayVec}

@@ -1,4 +1,5 @@
--- The table of what was seen: the names of the columns, and a line for each sighting that is told (own profile).
+-- The table of what was seen: the names of the columns, and a line for each sighting that is reported
+-- (project-defined).
 use Rattle.std.specs.Prelude.{ℕ, Bool, true, ◌&&◌, List, [], ◌∷◌, ◌++◌, codes, Option, Some, None, is_some}
 use Rattle.std.specs.Prelude.{option_map, if◌then◌else◌}
 use Rattle.std.specs.Fmt.{decimal}

@@ -1,5 +1,5 @@
 -- What took a frame: the receive buffers and the queue of the node that saw it (chapter 9; the queue, and channel A
--- before B, are own profile).
+-- before B, are project-defined).
 use Rattle.std.specs.Prelude.{ℕ, ◌+◌, Bool, true, false, List, [], ◌∷◌, ◌++◌, codes, if◌then◌else◌}
 use Rattle.std.specs.Fmt.{decimal}
 use Rattle.fr_capture.specs.declared.takers.Taker.{Taker}

@@ -1,5 +1,5 @@
 -- Whether a receive buffer or a queue takes a frame that its node saw (chapter 9; the queue, and channel A before B,
--- are own profile).
+-- are project-defined).
 use Rattle.std.specs.Prelude.{Bool, false, ◌&&◌, Option, Some, None, is_some}
 use Rattle.fr_journal.specs.Arrivals.{is_for_queue}
 use Rattle.fr_journal.specs.declared.entry.Arrival.{Arrival}

@@ -1,6 +1,6 @@
 //! In which form it is shown what was seen.
 
-/// The form in which it is shown what was seen (own profile).
+/// The form in which it is shown what was seen (project-defined).
 #[derive(Clone, Copy, PartialEq, Eq)]
 pub enum Form {
     /// A capture in the classic format of `libpcap`, with link type 210, which is FlexRay's: a record for all bytes

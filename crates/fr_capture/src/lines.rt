@@ -27,7 +27,7 @@ use fr_status::status::lent_status_of;
 use std::io;
 use std::io::Write;
 
-/// What is told of a channel of a window.
+/// What is reported of a channel of a window.
 #[derive(Drop)]
 struct Told<'a> {
     channel: Channel,
@@ -83,7 +83,7 @@ fn word_of(
     }
 }
 
-/// What is told of a channel on which this was seen.
+/// What is reported of a channel on which this was seen.
 fn told_of<'a>(params: &Params, window: &Window, channel: Channel, seen: &'a Seen) -> Told<'a>
     ensures channel { result.channel ≡ channel }
     ensures seen { result.seen.now ≡ seen.now }

@@ -12,7 +12,7 @@ use fr_slots::window::Window;
 use fr_timing::cycle::start_of;
 use fr_timing::place::Place;
 
-/// A window, and when it began (own profile).
+/// A window, and when it began (project-defined).
 #[derive(Clone, Copy)]
 pub struct Moment {
     pub window: Window,

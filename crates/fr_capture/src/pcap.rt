@@ -17,7 +17,7 @@ const FILE_HEADER: [u8; 24] = [
     0xd4, 0xc3, 0xb2, 0xa1, 2, 0, 4, 0, 0, 0, 0, 0, 0, 0, 0, 0, 8, 1, 0, 0, 210, 0, 0, 0,
 ];
 
-/// Writes what a capture begins with (own profile).
+/// Writes what a capture begins with (project-defined).
 ///
 /// Fails where the writer fails, and then a part of it may have gone out.
 pub fn write_file_header<W: Write>(writer: &mut W) -> io::Result<()>
@@ -72,8 +72,8 @@ fn write_record_header<W: Write>(writer: &mut W, time: u64, count: u32) -> io::R
     writer.write_all(&count.to_le_bytes())
 }
 
-/// Writes the record of bytes that were on the channel at this time, in microseconds from the start of the capture (own
-/// profile). Its seconds are a number of four bytes.
+/// Writes the record of bytes that were on the channel at this time, in microseconds from the start of the capture
+/// (project-defined). Its seconds are a number of four bytes.
 ///
 /// Fails where the writer fails, and then a part of it may have gone out.
 pub fn write_record<W: Write>(

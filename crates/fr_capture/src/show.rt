@@ -123,7 +123,7 @@ fn write_pieces<W: Write>(
     hand_on(writer, piece)
 }
 
-/// Writes what a controller saw, in this form: its capture, or its table (own profile).
+/// Writes what a controller saw, in this form: its capture, or its table (project-defined).
 ///
 /// Refused with `Memory` where memory for the first piece is refused, and then nothing is written; and with `Write`
 /// where the writer fails, and then some of it may have been written.
@@ -146,7 +146,7 @@ pub fn write_form<W: Write>(
     }
 }
 
-/// Reads a trace to its end, and writes what was seen in it, in this form (own profile).
+/// Reads a trace to its end, and writes what was seen in it, in this form (project-defined).
 ///
 /// Refused with the error of the first line at fault, at which it stops reading; with `Read` where the reader fails;
 /// with `Memory` where memory is refused; and with `Write` where the writer fails. On every error but `Write` nothing

@@ -13,7 +13,7 @@ use std::io;
 use std::io::Write;
 use std::marker::Model;
 
-/// What takes a frame (own profile).
+/// What takes a frame (project-defined).
 #[derive(Clone, Copy)]
 pub(crate) enum Taker {
     /// The receive buffer of this number.
@@ -22,7 +22,7 @@ pub(crate) enum Taker {
     Queue,
 }
 
-/// What takes what came on a channel of a window (own profile). It is found where it is written.
+/// What takes what came on a channel of a window (project-defined). It is found where it is written.
 #[derive(Drop)]
 pub(crate) struct Takers<'a> {
     pub(crate) plan: &'a NodePlan,
@@ -41,7 +41,7 @@ impl<'a> Model for Takers<'a> {
     ghost view = { λ t. takers_by t.plan.now t.window.now t.came.a t.came.b t.channel };
 }
 
-/// Writes a taker, after a comma where one was written before.
+/// Writes a receiver, after a comma where one was written before.
 #[tactic(auto, unfolding(crate::specs::Takers::after_commas))]
 fn write_taker<W: Write>(writer: &mut W, any: bool, taker: Taker) -> io::Result<()>
     ensures { Writes W.contents writer.old writer.new result (after_commas any (taker ∷ [])) }
@@ -53,7 +53,7 @@ fn write_taker<W: Write>(writer: &mut W, any: bool, taker: Taker) -> io::Result<
     }
 }
 
-/// Writes a taker, if it is one, and says whether any was written by then.
+/// Writes a receiver, if it is one, and says whether any was written by then.
 #[tactic(auto, unfolding(crate::specs::Takers::after_commas))]
 fn write_if<W: Write>(writer: &mut W, any: bool, takes: bool, taker: Taker) -> io::Result<bool>
     ensures text { Writes W.contents writer.old writer.new result (after_commas any (taker_if takes taker)) }

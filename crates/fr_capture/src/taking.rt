@@ -18,8 +18,8 @@ pub struct Came {
     pub b: bool,
 }
 
-/// Whether this line is a receive buffer that takes what came on the channel (chapter 9; channel A before B is own
-/// profile).
+/// Whether this line is a receive buffer that takes what came on the channel (chapter 9; channel A before B is
+/// project-defined).
 pub fn takes(window: &Window, came: Came, channel: Channel, line: &Buffer) -> bool
     ensures { result ≡ takes_by window.now came.a came.b channel line.now }
 {
@@ -68,7 +68,7 @@ fn came_in(came: Came, channel: Channel) -> bool
 }
 
 /// Whether the node has a queue that takes what came on the channel: it admits the slot there, and no receive buffer
-/// does (own profile).
+/// does (project-defined).
 pub fn queue_takes(plan: &NodePlan, window: &Window, came: Came, channel: Channel) -> bool
     ensures { result ≡ queue_takes_by plan.now window.now came.a came.b channel plan.now.queue }
 {

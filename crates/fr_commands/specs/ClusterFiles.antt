@@ -28,7 +28,7 @@ IsClusterIn text (Err (error.Config e)) = IsRefused text e
 IsClusterIn text (Err error.Memory) = IsUtf8 text
 IsClusterIn text (Err e) = ⊥
 
--- The cluster that the text describes, or the first fault of the text. Of a failing reader and of want of memory
+-- The cluster that the text describes, or the first fault of the text. Of a failing reader and of a failed allocation
 -- nothing is said.
 abbrev pub IsClusterOf : List ℕ → Result Description BenchError → Type 0
 IsClusterOf text (Ok d) = IsDescribed text d
@@ -38,7 +38,7 @@ IsClusterOf text (Err error.Read) = ⊤
 IsClusterOf text (Err error.Memory) = ⊤
 IsClusterOf text (Err e) = ⊥
 
--- an error of a cluster file as one of the command, whose want of memory is its own
+-- an error of a cluster file as one of the command, whose failed allocation is its own
 abbrev pub given_of : ConfigError → BenchError
 given_of config.Memory = error.Memory
 given_of e = error.Config e

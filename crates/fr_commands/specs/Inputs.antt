@@ -4,7 +4,7 @@ use Rattle.std.specs.declared.alloc.Global.{Global}
 use Rattle.fr_commands.specs.declared.error.BenchError.{BenchError}
 use Rattle.fr_commands.specs.declared.error.BenchError.TheVariants as refusal
 
--- the whole text, or the text is too long; of a failing reader and of want of memory nothing is said
+-- the whole text, or the text is too long; of a failing reader and of a failed allocation nothing is said
 abbrev pub IsReadUpTo : ℕ → List ℕ → Result (Vec ℕ Global) BenchError → Type 0
 IsReadUpTo limit text (Ok bytes) = (bytes.items ≡ text) × (length text ≤ limit)
 IsReadUpTo limit text (Err refusal.TooLong) = limit < length text

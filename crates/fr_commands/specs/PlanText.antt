@@ -1,5 +1,5 @@
 -- The text of a cluster's plan: who sends where and in which cycles, and when each channel is open to each node in each
--- cycle (own profile).
+-- cycle (project-defined).
 use Rattle.std.specs.Prelude.{◌≡◌, ℕ, ◌+◌, suc, zero, ◌==◌, Bool, ◌&&◌, List, [], ◌∷◌, ◌++◌, length, codes, Option}
 use Rattle.std.specs.Prelude.{if◌then◌else◌}
 use Rattle.std.specs.Fmt.{decimal}
@@ -102,7 +102,7 @@ AreCycleTexts d node channel (suc cycle) text =
     (before : List ℕ) × (last : List ℕ) × AreCycleTexts d node channel cycle before
     × IsGuardText d node channel cycle last × (text ≡ before ++ last)
 
--- how many cycles are told: the greatest repetition of the ownership lines, or one where there are none
+-- how many cycles are reported: the greatest repetition of the ownership lines, or one where there are none
 abbrev pub cycles_told : Description → ℕ
 cycles_told d = period (all_owned d.plans)
 
@@ -116,7 +116,7 @@ AreGuardTexts d (suc node) text =
 -- ---- the plan
 
 -- The owners of the static slots, then the dynamic transmit buffers, then the open intervals of all nodes in the cycles
--- that are told.
+-- that are reported.
 pub record IsPlanText (d : Description) (text : List ℕ) : Type 0 where
   pub guards : List ℕ
   pub guards_are : AreGuardTexts d (length d.plans) guards

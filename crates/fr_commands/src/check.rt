@@ -9,7 +9,7 @@ use fr_lines::writing::write_params;
 use std::alloc::Global;
 use std::io::{Read, Write};
 
-/// Reads a cluster file to its end and writes the line of its parameters, as a trace has it (own profile).
+/// Reads a cluster file to its end and writes the line of its parameters, as a trace has it (project-defined).
 ///
 /// The whole file is held against the rules. Refused with `TooLong` for more than 1,048,576 bytes, and then with what
 /// the file is refused for. `Read`, `Write` and `Memory` come where the reader fails, the writer fails, or memory is
@@ -26,7 +26,7 @@ pub fn check_text<R: Read, W: Write>(
     let mut line = Vec::new(alloc);
     match write_params(&mut line, cluster.params()) {
         Ok(()) => write_whole(writer, line.as_slice()),
-        // A list of bytes fails to take more for want of memory alone.
+        // A list of bytes takes no more only if an allocation fails.
         Err(_) => Err(BenchError::Memory),
     }
 }

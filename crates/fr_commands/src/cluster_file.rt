@@ -23,7 +23,7 @@ fn cluster_in(alloc: Global, bytes: &[u8]) -> Result<Cluster, BenchError>
     Ok(Cluster::from_text_leaking(alloc, text)?)
 }
 
-/// Reads a cluster file to its end, and gives the cluster that it describes (own profile).
+/// Reads a cluster file to its end, and gives the cluster that it describes (project-defined).
 ///
 /// Refused with `TooLong` for more than 1,048,576 bytes, then as a text that is no cluster file: with `Toml` also where
 /// it isn't UTF-8. `Read` and `Memory` come where the reader fails and where memory is refused.

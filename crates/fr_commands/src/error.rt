@@ -7,7 +7,7 @@ use fr_midpoint::ranks::MidpointError;
 use fr_schedule::error::ConfigError;
 use thiserror::Error;
 
-/// Why `check`, `plan` or `midpoint` hasn't done what it was asked (own profile).
+/// Why `check`, `plan` or `midpoint` hasn't done what it was asked (project-defined).
 ///
 /// Printed, it is the error's name, and for an error of a crate below the names and values of that
 /// error.
@@ -28,7 +28,7 @@ pub enum BenchError {
     /// A word of the input is no number.
     #[error("BadNumber")]
     BadNumber,
-    /// The cluster file is refused, for another cause than want of memory.
+    /// The cluster file is refused, for another cause than a failed allocation.
     #[error("{0}")]
     Config(ConfigError),
     /// The values have no midpoint.

@@ -1,5 +1,5 @@
 //! What the program's commands `check`, `plan` and `midpoint` do with a whole text: read it, and write what it tells
-//! (own profile).
+//! (project-defined).
 //!
 //! ```text
 //! check_text(alloc, &mut file, &mut output)?; // params 3 4 1 20 5 0 10 90 0 5
@@ -8,7 +8,7 @@
 //! ```
 //!
 //! A chapter in parentheses is one of the FlexRay Protocol Specification 2.1, revision A, whose rule it is.
-//! *(own profile)* marks a rule of this project's own, which says nothing of the standard.
+//! *(project-defined)* marks a rule of this project's own, which says nothing of the standard.
 #![tactic(auto)]
 
 pub mod check;

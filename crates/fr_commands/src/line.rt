@@ -36,7 +36,7 @@ fn put_number(line: &mut [u8; ROOM], end: usize, number: u64) -> usize
     start - 1
 }
 
-/// Writes a line: what it tells, a number, the channels, and three more numbers (own profile).
+/// Writes a line: what it tells, a number, the channels, and three more numbers (project-defined).
 ///
 /// Fails where the writer fails, and then a part of the line may have gone out.
 pub(crate) fn write_line<W: Write>(

@@ -32,7 +32,7 @@ fn write_midpoint<W: Write>(writer: &mut W, answer: Option<Midpoint>) -> io::Res
 }
 
 /// Reads numbers to the end and writes their fault-tolerant midpoint with the ranks of the two values
-/// that it lies between, or `none` (chapter 8; the texts are own profile).
+/// that it lies between, or `none` (chapter 8; the texts are project-defined).
 ///
 /// Numbers are separated by spaces and line feeds. Refused with `TooLong` for more than 4096 bytes,
 /// then with `BadNumber` for a word that is no number, then with `TooMany` for more than 15 numbers,
@@ -53,7 +53,7 @@ pub fn midpoint_text<R: Read, W: Write>(
     let mut line = Vec::new(alloc);
     match write_midpoint(&mut line, answer) {
         Ok(()) => write_whole(writer, line.as_slice()),
-        // A list of bytes fails to take more for want of memory alone.
+        // A list of bytes takes no more only if an allocation fails.
         Err(_) => Err(BenchError::Memory),
     }
 }

@@ -62,7 +62,7 @@ fn with_spaces(alloc: Global, text: &[u8]) -> Result<Vec<u8>, AllocError>
         .collect(alloc)
 }
 
-/// The numbers that a text spells, separated by spaces and line feeds (own profile).
+/// The numbers that a text spells, separated by spaces and line feeds (project-defined).
 ///
 /// A number is an optional `-` and 1 to 10 digits. One that doesn't fit 32 bits is brought to the
 /// nearest that does. Refused with `BadNumber` where a word is no number, and with `Memory` where

@@ -6,7 +6,7 @@ ghost use Rattle.fr_commands.specs.declared.error.BenchError.TheVariants as refu
 use crate::error::BenchError;
 use std::io::Write;
 
-/// Hands the whole text to the writer, so that a reader of the output never sees a part of a line (own profile).
+/// Hands the whole text to the writer, so that a reader of the output never sees a part of a line (project-defined).
 ///
 /// Refused with `Write` where the writer fails, which may have taken a part by then.
 pub fn write_whole<W: Write>(writer: &mut W, text: &[u8]) -> Result<(), BenchError>

@@ -328,8 +328,8 @@ fn write_guards<W: Write>(writer: &mut W, guardian: &Guardian, nodes: u8) -> io:
 
 /// Writes the plan of a cluster: for each static slot and channel a line for each of its ownership lines, by base, a
 /// line for each dynamic transmit buffer, and one for each interval of a cycle in which a channel is open to a node, in
-/// the cycles below the greatest repetition of the ownership lines, or in the first one where there are none (own
-/// profile).
+/// the cycles below the greatest repetition of the ownership lines, or in the first one where there are none
+/// (project-defined).
 ///
 /// Fails where the writer fails, and then a part of the text may have gone out.
 pub fn write_plan<W: Write>(
@@ -346,7 +346,7 @@ pub fn write_plan<W: Write>(
 }
 
 /// Reads a cluster file to its end, and writes who sends where and when each channel is open to each node, cycle by
-/// cycle (own profile).
+/// cycle (project-defined).
 ///
 /// Refused as `check` is. On every refusal but `Write` nothing is written.
 pub fn plan_text<R: Read, W: Write>(
@@ -364,7 +364,7 @@ pub fn plan_text<R: Read, W: Write>(
     let mut text = Vec::new(alloc);
     match write_plan(&mut text, &cluster, &guardian) {
         Ok(()) => write_whole(writer, text.as_slice()),
-        // A list of bytes fails to take more for want of memory alone.
+        // A list of bytes takes no more only if an allocation fails.
         Err(_) => Err(BenchError::Memory),
     }
 }

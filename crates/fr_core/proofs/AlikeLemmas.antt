@@ -175,7 +175,8 @@ pub alike : (d : Description) (interfaces others : List State) (rs ts : List Rec
         → mine.plan ≡ theirs.plan)
     → AreAlike d interfaces rs others ts
 alike d interfaces others rs ts h g timed_r timed_t lawful legal params plans =
-    λ k j owner slot r t mine theirs channel at there mine_at theirs_at static still guarded on_r on_t own_it cycle same n.
+    λ k j owner slot r t mine theirs channel at there mine_at theirs_at static still guarded on_r on_t own_it cycle same
+        n.
     let x = h.owned k owner slot r mine channel at mine_at static guarded on_r own_it in
     let own_there : IsOwner d t.window.cycle slot channel owner =
         subst (λ (c : ℕ). IsOwner d c slot channel owner) (same_cycle rs ts k j r t timed_r timed_t at there static

@@ -1,4 +1,4 @@
--- What is seen as bytes in a faultless slot is the owner's offer.
+-- What is seen as bytes in a fault-free slot is the owner's offer.
 use Rattle.std.proofs.Common.{◌≡◌, ℕ, Bool, true, false, not, cond, ◌&&◌, ◌||◌, List, [], ◌∷◌, length, Option, Some}
 use Rattle.std.proofs.Common.{None, refl, sym, ap, ◌∙◌}
 use Rattle.std.specs.List.{list_all, list_any}

@@ -1,4 +1,4 @@
--- From a faultless slot receivers hold what the owner committed: from the lists of the interfaces alone.
+-- From a fault-free slot receivers hold what the owner committed: from the lists of the interfaces alone.
 use Rattle.std.proofs.Common.{◌≡◌, ℕ, true, List, [], ◌∷◌, ◌++◌, length, map, take, Option, Some}
 use Rattle.std.proofs.Common.{None, refl, sym, ap, ◌∙◌, inl, inr, slice_get, option_map}
 use Rattle.std.specs.Prelude.{option_to_list}
@@ -125,7 +125,7 @@ sight_is_recorded p rs n mine follows before after number x y w cut opened =
 
 -- ---- the owner
 
--- the owner of a faultless slot passes there
+-- the owner of a fault-free slot passes there
 owner_is_let : (d : Description) (r : Recorded) (channel : Channel) (owner : ℕ) → IsFaultlessAt d r channel owner
     → passes d owner r.window channel ≡ true
 owner_is_let d r channel owner f = owner_passes d owner r.window channel f.owned.plan f.slot f.owned.at f.slot_is
@@ -136,7 +136,7 @@ pub handed_is_offered : (owner : ℕ) (r : Recorded) (channel : Channel)
 handed_is_offered owner r A = refl
 handed_is_offered owner r B = refl
 
--- bytes that a node saw in a faultless slot, and that are a data frame, are what the owner handed over
+-- bytes that a node saw in a fault-free slot, and that are a data frame, are what the owner handed over
 from_owner : (d : Description) (rs : List Recorded) (n owner k : ℕ) (theirs : State) (r : Recorded) (channel : Channel)
     (bytes : ArrayVec ℕ) (f : Fields)
     → IsCluster d → AreJudged d rs → IsLegalInterface theirs → Follows d.params rs owner theirs
@@ -167,7 +167,7 @@ pub holds_is_seen : (s : State) (a : Arrival) → Holds s a → IsSeenIn s.param
 holds_is_seen s a (inl h) = held_in s (buffer_at s.plan h.0) a h.1
 holds_is_seen s a (inr h) = queued_is_seen s.params s.plan h.0 (h.0).capacity h.1 s.entries a h.3
 
--- a frame that an observe saw is in a recorded window, and where its slot was faultless there, it is the owner's
+-- a frame that an observe saw is in a recorded window, and where its slot was fault-free there, it is the owner's
 received_from : (d : Description) (interfaces : List State) (rs : List Recorded) (n : ℕ) (mine : State) (a : Arrival)
     → IsCluster d → AreJudged d rs
     → ((k : ℕ) (s : State) → slice_get interfaces k ≡ Some s → IsLegalInterface s)

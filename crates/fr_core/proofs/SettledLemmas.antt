@@ -1,4 +1,4 @@
--- What a settling tells: the windows of lists that agree, where a first failure stands, and what a world gives.
+-- What a cross-check tells: the windows of lists that agree, where a first failure stands, and what a world gives.
 use Rattle.std.proofs.Common.{◌≡◌, ◌<◌, ◌≤◌, ℕ, zero, suc, Bool, true, false, not, ◌&&◌, ◌||◌, List, [], ◌∷◌, ◌++◌}
 use Rattle.std.proofs.Common.{length, map, Option, Some, None, refl, sym, ap, subst, ◌∙◌, arith, get_or, inl, inr}
 use Rattle.std.specs.Prelude.{slice_get, option_map, option_to_list, nat_lt, ◌==◌, Result, Ok, Err, IfSome, OnOk}

@@ -1,4 +1,4 @@
--- What a settling gives beside the agreement: the senders and the receivers of the record are those of the cluster,
+-- What a cross-check gives beside the agreement: the senders and the receivers of the record are those of the cluster,
 -- whatever cluster the bus was made with.
 use Rattle.std.proofs.Common.{◌≡◌, ◌<◌, ◌≤◌, ℕ, Bool, true, false, not, ◌&&◌, ◌||◌, List, [], ◌∷◌, length, Some, refl}
 use Rattle.std.proofs.Common.{ap, subst, ◌∙◌, arith, ◌+◌}

@@ -1,4 +1,4 @@
--- An owner's account, its babble and its mute, and what is faultless, worked out.
+-- An owner's account, its babble and its mute, and what is fault-free, worked out.
 use Rattle.std.proofs.Common.{◌≡◌, ℕ, Bool, true, false, cond, List, [], ◌∷◌, ◌++◌, Option, Some, None, refl}
 use Rattle.std.specs.List.{list_all}
 use Rattle.arrayvec.specs.ArrayVec.{ArrayVec}
@@ -178,7 +178,7 @@ pub a_record_tells_mute_and_babble :
     × (mute_of (owner_sent false None) ≡ false) × (babble_of (owner_sent false None) ≡ None)
 a_record_tells_mute_and_babble = (refl, refl, refl, refl)
 
--- ---- what is faultless
+-- ---- what is fault-free
 
 -- node 1 babbles too, and is blocked, and the owner is muted on channel B
 abbrev beside : List Sent

@@ -1,4 +1,4 @@
--- The account of a static slot: what its owner's own journal says of what it sends there (own profile).
+-- The account of a static slot: what its owner's own journal says of what it sends there (project-defined).
 use Rattle.std.specs.Prelude.{◌≡◌, ℕ, ◌+◌, ◌-◌, ◌%◌, ◌==◌, Bool, true, false, ◌&&◌, List, [], ◌∷◌, ◌++◌, take, count_by}
 use Rattle.std.specs.Prelude.{slice_get, Option, Some, None, if◌then◌else◌}
 use Rattle.std.specs.List.{filter}

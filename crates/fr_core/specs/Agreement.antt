@@ -1,4 +1,4 @@
--- How journals, the record and what controllers carry agree in every world (own profile).
+-- How journals, the record and what controllers carry agree in every world (project-defined).
 use Rattle.std.specs.Prelude.{◌≡◌, ℕ, ◌-◌, ◌<◌, Bool, true, false, List, [], ◌∷◌, ◌++◌, length, map, slice_get}
 use Rattle.std.specs.Prelude.{Option, Some, None, if◌then◌else◌}
 use Rattle.arrayvec.specs.ArrayVec.{ArrayVec}

@@ -1,5 +1,5 @@
--- What a controller carries from one of its steps to the next (own profile). In each window it looks, fetches, puts,
--- takes and observes, in this order.
+-- What a controller carries from one of its steps to the next (project-defined). In each window it looks, fetches,
+-- puts, takes and observes, in this order.
 use Rattle.fr_core.specs.declared.controller.Due.{Due}
 use Rattle.fr_core.specs.declared.controller.Due.TheVariants as due
 use Rattle.fr_interface.specs.declared.interface.Offer.{Offer}

@@ -1,4 +1,4 @@
--- How the refusal of an event is printed (own profile).
+-- How the refusal of an event is printed (project-defined).
 use Rattle.std.specs.Prelude.{ℕ, List, codes, ◌++◌}
 use Rattle.fr_bus.specs.ErrorNames.{bus_error_name}
 use Rattle.fr_core.specs.declared.error.StepError.{StepError}

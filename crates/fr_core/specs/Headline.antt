@@ -1,4 +1,4 @@
--- The headline promise: what holds of every world, whatever list of events led to it (own profile).
+-- The headline promise: what holds of every world, whatever list of events led to it (project-defined).
 use Rattle.std.specs.Prelude.{◌≡◌}
 use Rattle.std.specs.List.{All}
 use Rattle.fr_bus.specs.States.{IsRun, OneSenderEach}
@@ -21,7 +21,7 @@ pub record Headline (w : WorldState) : Type 0 where
   -- the interfaces are those of the cluster's nodes, and all journals agree with the record, but for at most one step
   -- that each controller carries
   pub agrees : IsWorld w
-  -- from a faultless slot receivers hold what its owner committed
+  -- from a fault-free slot receivers hold what its owner committed
   pub receivers : Receivers w.bus.cluster w.interfaces w.bus.sealed
   -- in a guarded static slot each node sees what its owner's account gives, whatever others commit, babble or lose
   pub harmless : IsHarmless w.bus.cluster w.interfaces w.bus.sealed

@@ -1,4 +1,4 @@
--- From a faultless slot receivers hold what its owner committed (own profile).
+-- From a fault-free slot receivers hold what its owner committed (project-defined).
 use Rattle.std.specs.Prelude.{◌≡◌, ◌<◌, ℕ, not, Bool, true, false, ◌&&◌, ◌||◌, ◌⊎◌, List, take, slice_get}
 use Rattle.std.specs.Prelude.{Some, None}
 use Rattle.std.specs.List.{list_all}
@@ -32,7 +32,7 @@ pub record IsOwner (d : Description) (cycle slot : ℕ) (channel : Channel) (nod
   pub at : slice_get d.plans node ≡ Some plan
   pub owns : is_owned plan.owned slot channel cycle ≡ true
 
--- ---- faultless slots
+-- ---- fault-free slots
 
 abbrev pub is_muted : Fate → Bool
 is_muted Passed = false
@@ -85,7 +85,7 @@ pub record HandsOver (s : State) (window : Opportunity) (channel : Channel) (fra
 
 -- ---- the receivers' clause
 
--- The window in which the journal saw the frame is recorded, and where its slot was faultless there, the frame is what
+-- The window in which the journal saw the frame is recorded, and where its slot was fault-free there, the frame is what
 -- its owner handed over.
 pub record IsReceived (d : Description) (interfaces : List State) (rs : List Recorded) (mine : State)
     (a : Arrival) : Type 0 where

@@ -1,4 +1,4 @@
--- What a task did, by the journal of its node, and whether that is its script (own profile).
+-- What a task did, by the journal of its node, and whether that is its script (project-defined).
 use Rattle.std.specs.Prelude.{◌≡◌, ℕ, ◌==◌, Bool, true, false, ◌&&◌, List, [], length, slice_get, Option, Some, None}
 use Rattle.std.specs.Prelude.{IfSome, option_to_list, if◌then◌else◌}
 use Rattle.std.specs.List.{list_any}

@@ -1,4 +1,4 @@
--- What a settling of a cluster, interfaces, a record and scripts answers (own profile).
+-- What a cross-check of a cluster, interfaces, a record and scripts answers (project-defined).
 use Rattle.std.specs.Prelude.{◌≡◌, ℕ, ◌<◌, ◌≤◌, nat_lt, Bool, true, not, ◌&&◌, ◌||◌, List, [], length, map}
 use Rattle.std.specs.Prelude.{slice_get, Option, Some, None, option_to_list, Result, Ok, Err}
 use Rattle.std.specs.List.{list_all}

@@ -1,5 +1,5 @@
--- One atomic step of a world (own profile): which events are refused and why, in the order in which it is tested, what
--- an accepted one is answered, and what it leaves.
+-- One atomic step of a world (project-defined): which events are refused and why, in the order in which it is tested,
+-- what an accepted one is answered, and what it leaves.
 use Rattle.std.specs.Prelude.{◌≡◌, ℕ, length, Option, Some, None, option_map, Result, Ok, Err}
 use Rattle.std.specs.Prelude.{slice_set, if◌then◌else◌}
 use Rattle.fr_bus.specs.declared.error.BusError.TheVariants.{NotCollecting, Memory}

@@ -1,4 +1,4 @@
--- What a world is seen as (own profile).
+-- What a world is seen as (project-defined).
 use Rattle.std.specs.Prelude.{◌≡◌, ℕ, nat_lt, Bool, true, false, List, [], length, map, replicate, Result, Ok, Err}
 use Rattle.std.specs.Prelude.{slice_index_or}
 use Rattle.fr_bus.specs.declared.error.BusError.{BusError}
@@ -66,7 +66,7 @@ opening_world d cycles = record {
   carried = replicate (length d.plans) Idle;
 }
 
--- want of memory comes only where the cycles fit
+-- a failed allocation comes only where the cycles fit
 abbrev pub OpensWorld : Description → ℕ → Result WorldState BusError → Type 0
 OpensWorld d cycles (Ok w) = (cycles_fit cycles ≡ true) × (w ≡ opening_world d cycles)
 OpensWorld d cycles (Err Memory) = cycles_fit cycles ≡ true

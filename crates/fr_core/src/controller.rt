@@ -10,7 +10,7 @@ use fr_status::seen::Seen;
 use std::marker::Model;
 
 /// Which step of a controller is due, and in which window. In each window it looks, fetches, puts, takes and observes,
-/// in this order (own profile).
+/// in this order (project-defined).
 #[derive(Clone, Copy, PartialEq, Eq)]
 pub enum Due {
     Look,

@@ -5,7 +5,7 @@ use fr_interface::errors::{HostError, SlotError};
 use std::error::Error;
 use std::fmt;
 
-/// Why an event is refused (own profile).
+/// Why an event is refused (project-defined).
 #[derive(Clone, Copy, Debug, PartialEq, Eq)]
 pub enum StepError {
     /// The cluster doesn't have the node.

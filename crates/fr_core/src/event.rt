@@ -7,7 +7,7 @@ use fr_interface::interface::Receipt;
 use fr_slots::numbers::{NodeId, TaskId};
 use fr_slots::window::Window;
 
-/// One atomic step of a cluster: one call of one node's interface, or one of the bus (own profile).
+/// One atomic step of a cluster: one call of one node's interface, or one of the bus (project-defined).
 #[derive(Drop, PartialEq, Eq)]
 pub enum Event {
     /// The task gives the payload to the node's transmit buffer of this number (chapter 9).
@@ -52,7 +52,7 @@ pub enum Event {
     Advance,
 }
 
-/// What an accepted event is answered (own profile).
+/// What an accepted event is answered (project-defined).
 #[derive(Drop, PartialEq, Eq)]
 pub enum Reply {
     /// Whose commit it is, and which entry of its interface's journal.

@@ -41,7 +41,7 @@ impl Action {
     }
 }
 
-/// A line of a script (own profile).
+/// A line of a script (project-defined).
 #[derive(Drop, PartialEq, Eq)]
 pub struct Line {
     /// The cycle of the run in which it is to be done, from 0.
@@ -52,7 +52,7 @@ pub struct Line {
     pub answer: Option<Reply>,
 }
 
-/// What a task of a node is to do, in order (own profile).
+/// What a task of a node is to do, in order (project-defined).
 #[derive(Drop)]
 pub struct Script {
     /// The node.

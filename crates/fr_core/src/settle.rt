@@ -27,14 +27,14 @@ use std::alloc::Global;
 use std::thread::Threads;
 use thiserror::Error;
 
-/// What a settling found that agrees.
+/// What a cross-check found that agrees.
 #[derive(Clone, Copy, PartialEq, Eq)]
 pub struct Settled {
     /// How many windows the record has.
     pub windows: u32,
 }
 
-/// Why a settling fails: what differs, and where (own profile).
+/// Why a cross-check fails: what differs, and where (project-defined).
 #[derive(Clone, Copy, Debug, PartialEq, Eq, Error)]
 pub enum SettleError {
     /// The interface of this place hasn't the cluster's parameters and the plan of the node of this number, or only one
@@ -375,7 +375,7 @@ fn settle_beside(
 }
 
 /// Whether the interfaces are those of the cluster's nodes, and their journals and the scripts agree with the record of
-/// the bus (own profile).
+/// the bus (project-defined).
 ///
 /// Each of these is tested for all nodes before the next, and where one fails the least node is named, and then the
 /// first window or the least task of that node:
@@ -394,7 +394,7 @@ fn settle_beside(
 /// between two windows settles with its own cluster, interfaces and bus, but for the scripts.
 ///
 /// Where all agrees, no static slot of a channel that the cluster guards carries two senders in the record, and a frame
-/// that a receive buffer or a queue holds from a faultless slot is one that the slot's owner in that cycle committed
+/// that a receive buffer or a queue holds from a fault-free slot is one that the slot's owner in that cycle committed
 /// and handed over, whatever cluster the bus was made with.
 pub fn settle(
     alloc: Global,
@@ -413,7 +413,7 @@ pub fn settle(
 }
 
 /// The same as `settle`, with the same answer, where the journals are walked in as many threads as run beside one
-/// another, if these can be made, and else one after another (own profile).
+/// another, if these can be made, and else one after another (project-defined).
 ///
 /// Where memory for what the threads find is refused the journals are walked one after another, as `settle` walks them.
 pub fn settle_in_threads<R: Threads + Sync>(

@@ -12,7 +12,7 @@ use std::alloc::Global;
 use std::marker::Model;
 
 /// The world of a cluster in a run: an interface for each node, the bus, and what each node's controller carries from
-/// one of its steps to the next (own profile).
+/// one of its steps to the next (project-defined).
 ///
 /// In each window a controller looks at the bus for the open window, fetches it at its interface, puts what that hands
 /// out on the bus, takes what it sees once the window is sealed, and observes it at its interface. Tasks commit,
@@ -60,8 +60,8 @@ impl World {
     /// where another step of its controller is due, and with what the one call refuses: `Host` for that of a task,
     /// `Slot` for that of a controller at its interface, and `Bus` for one at the bus. A look is refused by the bus
     /// with `NotCollecting` where no window is open for offers, and a fault of an unknown node with the bus's
-    /// `UnknownNode`. A seal alone may be refused for want of memory. The world is then unchanged. Of the world after
-    /// the event the headline promise holds.
+    /// `UnknownNode`. A seal alone may be refused where an allocation fails. The world is then unchanged. Of the world
+    /// after the event the headline promise holds.
     pub fn step(&mut self, event: &Event) -> Result<Reply, StepError>
         ensures step { Steps self.old event.now result self.new }
         ensures headline { Headline self.new }
@@ -71,7 +71,8 @@ impl World {
         answer
     }
 
-    /// Does one event as `step` does, and leaves its answer out, so that no room for a frame is moved (own profile).
+    /// Does one event as `step` does, and leaves its answer out, so that no room for a frame is moved
+    /// (project-defined).
     ///
     /// Refused as `step` is, and the world is then unchanged. Of the world after the event the headline promise holds.
     pub fn apply(&mut self, event: &Event) -> Result<(), StepError>
@@ -108,12 +109,12 @@ impl World {
         self.machine.between_windows()
     }
 
-    /// The headline promise, which holds of every world, whatever list of events led to it (own profile).
+    /// The headline promise, which holds of every world, whatever list of events led to it (project-defined).
     ///
     /// Each interface is legal, and each of its commits is sent, overwritten, withdrawn or pending. The record is that
     /// of a run, and no static slot of a guarded channel carries two senders. The interfaces are those of the cluster's
     /// nodes, and all journals agree with the record, but for at most one step that each controller carries. A frame
-    /// that a receive buffer or a queue holds from a faultless slot is one that the slot's owner in that cycle
+    /// that a receive buffer or a queue holds from a fault-free slot is one that the slot's owner in that cycle
     /// committed and handed over. In a static slot of a guarded channel each node sees what the account of the slot's
     /// owner in that cycle gives, with the owner's own babble and mute and the corrupt bit, whatever other nodes
     /// commit, babble or lose; where the slot has no owner in the cycle, each sees silence. It does nothing but tell
@@ -127,7 +128,8 @@ impl World {
 
     /// What a babbling node can't change: in two worlds of one cluster, a static slot of a guarded channel in a run
     /// cycle shows each node the same, where the account before it of the slot's owner in that cycle, its babble and
-    /// mute there and the corrupt bit are the same, whatever else differs (own profile). It does nothing but tell so.
+    /// mute there and the corrupt bit are the same, whatever else differs (project-defined). It does nothing but tell
+    /// so.
     pub fn alike(&self, other: &World)
         ensures { WorldsAlike self.now other.now }
     {

@@ -1,4 +1,4 @@
-//! What a settling tells of worlds after their first window, of interfaces and a record of different worlds, and of
+//! What a cross-check tells of worlds after their first window, of interfaces and a record of different worlds, and of
 //! scripts.
 
 use crate::steps::{Harm, fault_of};
@@ -47,7 +47,7 @@ fn world_of(alloc: Global, kind: Kind) -> Result<World, Fail> {
     Ok(world)
 }
 
-/// What a settling of these interfaces with the record of that world tells: how many windows, or what differs.
+/// What a cross-check of these interfaces with the record of that world tells: how many windows, or what differs.
 fn settle_told(
     alloc: Global,
     interfaces: &[Interface],
@@ -59,7 +59,7 @@ fn settle_told(
     Ok(settled.map(|settled| settled.windows))
 }
 
-/// What a settling of the interfaces of one world with the record of another tells, without scripts.
+/// What a cross-check of the interfaces of one world with the record of another tells, without scripts.
 fn told_between(
     alloc: Global,
     interfaces: Kind,
@@ -113,7 +113,7 @@ fn told_again(alloc: Global, world: &World, places: &[usize]) -> Result<Vec<Inte
     Ok(interfaces)
 }
 
-/// What a settling of the interfaces of these places of an idle world tells with its own record.
+/// What a cross-check of the interfaces of these places of an idle world tells with its own record.
 fn told_of_places(alloc: Global, places: &[usize]) -> Result<Result<u32, SettleError>, Fail> {
     let idle = world_of(alloc, Kind::Idle)?;
     let interfaces = told_again(alloc, &idle, places)?;
@@ -153,7 +153,7 @@ fn script(alloc: Global, entry: Option<u32>) -> Result<Script, Fail> {
     })
 }
 
-/// What a settling tells of the world in which node 0 committed, where it was to be answered so.
+/// What a cross-check tells of the world in which node 0 committed, where it was to be answered so.
 fn told_with(alloc: Global, entry: Option<u32>) -> Result<Result<u32, SettleError>, Fail> {
     let sent = world_of(alloc, Kind::Sent)?;
     settle_told(alloc, sent.interfaces(), &sent, &[script(alloc, entry)?])

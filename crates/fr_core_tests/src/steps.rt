@@ -39,7 +39,7 @@ pub(crate) fn bus_of(alloc: Global, text: &str, cycles: u16) -> Result<Bus, Fail
     Ok(Bus::new(alloc, &cluster, cycles)?)
 }
 
-/// What a fault does: it babbles these bytes, it loses what a node offers, or it turns a bit.
+/// What a fault does: it babbles these bytes, it loses what a node offers, or it flips a bit.
 #[derive(Clone, Copy)]
 pub(crate) enum Harm {
     Babble(u8, Channel, &'static [u8]),

@@ -1,4 +1,4 @@
-//! A withdraw among the lines of a script, as a settling compares it. What withdraws do is tried in sessions.
+//! A withdraw among the lines of a script, as a cross-check compares it. What withdraws do is tried in sessions.
 
 use crate::worlds::{commit, step_all};
 use fr_core::event::{Event, Reply};
@@ -54,7 +54,7 @@ fn world_of(alloc: Global, cluster: &Cluster) -> Result<World, Fail> {
     Ok(world)
 }
 
-/// What a settling tells of this world, where the withdraw was to be answered so.
+/// What a cross-check tells of this world, where the withdraw was to be answered so.
 fn told_with(alloc: Global, answer: Option<u32>) -> Result<Result<u32, SettleError>, Fail> {
     let cluster = Cluster::from_text(alloc, ONE_NODE)?;
     let world = world_of(alloc, &cluster)?;

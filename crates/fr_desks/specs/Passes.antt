@@ -1,4 +1,4 @@
--- What a task's pass is seen as (own profile).
+-- What a task's pass is seen as (project-defined).
 use Rattle.std.specs.Prelude.{ℕ}
 
 pub record Pass : Type 0 where

@@ -31,7 +31,7 @@ use std::sync::ledger::{Blank, Ledger};
 use std::sync::{Mutex, Wait};
 
 /// What a task makes its calls with: its number, and its share of the commits, which counts those that were accepted
-/// (own profile).
+/// (project-defined).
 #[derive(Drop)]
 pub struct TaskPass<L: Ledger> {
     task: TaskId,
@@ -164,10 +164,11 @@ impl<L: Ledger> Counted<L> {
     }
 }
 
-/// A node's desk, where the node's tasks and its controller make their calls, each under the one lock (own profile).
+/// A node's desk, where the node's tasks and its controller make their calls, each under the one lock
+/// (project-defined).
 ///
 /// Whenever the lock is free the interface is legal, and a book beside it counts its commits. Which calls were made,
-/// and in which order, is told by the journal of the interface that `close` gives back.
+/// and in which order, is reported by the journal of the interface that `close` gives back.
 #[derive(Drop)]
 pub struct Desk<L: Ledger> {
     node: NodeId,

@@ -2,7 +2,7 @@
 
 use fr_slots::numbers::{NodeId, TaskId};
 
-/// Who makes a call (own profile).
+/// Who makes a call (project-defined).
 #[derive(Clone, Copy, PartialEq, Eq)]
 pub enum Actor {
     /// This task of the node.
@@ -13,7 +13,7 @@ pub enum Actor {
     Bus,
 }
 
-/// Where a call stands (own profile).
+/// Where a call stands (project-defined).
 #[derive(Clone, Copy, PartialEq, Eq)]
 pub enum Side {
     /// It has not asked for its lock.
@@ -24,7 +24,7 @@ pub enum Side {
     After,
 }
 
-/// A point that each call passes (own profile).
+/// A point that each call passes (project-defined).
 #[derive(Clone, Copy, PartialEq, Eq)]
 pub struct Point {
     /// Who makes the call.
@@ -33,13 +33,13 @@ pub struct Point {
     pub side: Side,
 }
 
-/// What calls pass, so that tests can hold one until another has come far enough (own profile).
+/// What calls pass, so that tests can hold one until another has come far enough (project-defined).
 pub trait Gate {
     /// Is passed Before, Inside and After each call of a desk, and Before and After each seal of a wire. It may wait.
     fn pass(&self, point: Point);
 }
 
-/// A gate that holds nobody (own profile).
+/// A gate that holds nobody (project-defined).
 #[derive(Clone, Copy)]
 pub struct OpenGate;
 

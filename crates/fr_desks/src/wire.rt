@@ -29,8 +29,8 @@ const LOOKS: u32 = 400;
 /// or two: all nodes wait for them.
 const LOOKS_IN_A_ROW: u32 = 2_000;
 
-/// The most time, in microseconds, that other threads of the run take before a call looks again. Another process that is
-/// let run keeps the core for a slice of some milliseconds, so a longer pause shows that the cores are shared.
+/// The most time, in microseconds, that other threads of the run take before a call looks again. Another process that
+/// is let run keeps the core for a slice of some milliseconds, so a longer pause shows that the cores are shared.
 const LONG_PAUSE: u128 = 500;
 
 /// How many calls that aren't due sleep at once after the first long pause. To be woken costs a call less than a slice
@@ -46,7 +46,7 @@ const RELIEF: u32 = 8;
 /// Of so many takes one reads the clock while no pause was long, since two readings cost a tenth of a hand-over.
 const TIMED_TAKES: u32 = 8;
 
-/// Why a call of a wire is refused (own profile).
+/// Why a call of a wire is refused (project-defined).
 #[derive(Clone, Copy, Debug, PartialEq, Eq, Error)]
 pub enum WireError {
     /// The bus refuses the call.
@@ -233,7 +233,7 @@ fn microseconds<R: Clock>(rt: &R) -> u128 {
     }
 }
 
-/// The bus, where controllers and whoever moves it on make their calls, each under the one lock (own profile).
+/// The bus, where controllers and whoever moves it on make their calls, each under the one lock (project-defined).
 ///
 /// Whenever the lock is free the bus is one that its own calls lead to: no static slot of a guarded channel carries two
 /// senders. Each call waits until its phase is there, and never once the run is over. After `stop` each answers
@@ -283,8 +283,8 @@ impl Wire {
         node.number() < self.nodes
     }
 
-    /// The bus under its lock, once the call is due at the stage that the window has come to. A call that is timed tells
-    /// whether other processes take the cores.
+    /// The bus under its lock, once the call is due at the stage that the window has come to. A call that is timed
+    /// tells whether other processes take the cores.
     fn ready<R: Wait + Clock, F: Fn(Stage) -> bool>(
         &self,
         rt: &R,

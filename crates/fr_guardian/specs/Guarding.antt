@@ -1,5 +1,5 @@
 -- What a bus guardian lets pass, and when it is open (chapter 5; that it watches over static slots alone, and which
--- channels are guarded, are own profile).
+-- channels are guarded, are project-defined).
 use Rattle.std.specs.Prelude.{◌≡◌, ℕ, Bool, true, false, not, ◌&&◌, ◌||◌, List, Option, Some, None, slice_get}
 use Rattle.fr_slots.specs.declared.channel.Channel.{Channel}
 use Rattle.fr_slots.specs.declared.plan.Own.{Own}

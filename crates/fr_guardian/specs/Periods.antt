@@ -1,4 +1,4 @@
--- After how many cycles what nodes own comes again (own profile).
+-- After how many cycles what nodes own comes again (project-defined).
 use Rattle.std.specs.Prelude.{ℕ, List, [], ◌∷◌, max}
 use Rattle.fr_slots.specs.declared.plan.Own.{Own}
 

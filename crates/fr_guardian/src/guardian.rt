@@ -31,7 +31,7 @@ struct Post {
 }
 
 /// The bus guardians of a cluster, one for each node and channel (chapter 5; that they watch over the static slots
-/// alone is own profile).
+/// alone is project-defined).
 #[derive(Drop)]
 pub struct Guardian {
     params: Params,
@@ -81,7 +81,7 @@ impl Guardian {
     }
 
     /// After how many cycles the open macroticks of all nodes come again: the greatest repetition of the ownership
-    /// lines of the cluster, 1 to 64, or 1 where there are none (own profile).
+    /// lines of the cluster, 1 to 64, or 1 where there are none (project-defined).
     pub fn cycles(&self) -> u8
         ensures value { result ≡ period (all_owned self.now.plans) }
         ensures some { 1 ≤ result }
@@ -95,7 +95,7 @@ impl Guardian {
 
     /// Whether a transmission of the node passes in the window on the channel. In a static slot of a guarded channel
     /// only those of the slot's owner in the window's cycle pass, so that none does in a cycle in which nobody owns it,
-    /// and everywhere else all do (own profile).
+    /// and everywhere else all do (project-defined).
     ///
     /// Nothing passes where the window has no slot on the channel, and nothing of a node that the cluster doesn't have.
     pub fn passes(&self, node: NodeId, window: &Window, channel: Channel) -> bool
@@ -116,7 +116,7 @@ impl Guardian {
 
     /// The macroticks of the cycle in which the channel is open to the node, as half-open intervals from the first
     /// macrotick up to the one after the last, in their order and as long as can be: the dynamic segment, and of the
-    /// static one the slots that it owns in this cycle, or all of it where the channel isn't guarded (own profile).
+    /// static one the slots that it owns in this cycle, or all of it where the channel isn't guarded (project-defined).
     ///
     /// There are none for a node that the cluster doesn't have.
     pub fn windows(&self, node: NodeId, cycle: Cycle, channel: Channel) -> &[(u32, u32)]

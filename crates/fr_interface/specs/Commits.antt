@@ -1,4 +1,4 @@
--- The commits of an interface, and what became of them (own profile).
+-- The commits of an interface, and what became of them (project-defined).
 use Rattle.std.specs.Prelude.{◌≡◌, ℕ, ◌+◌, Bool, true, false, length, count_by}
 use Rattle.std.specs.List.{sum_by, range_with_len}
 use Rattle.fr_interface.specs.State.{State}

@@ -1,5 +1,5 @@
--- What transmit buffers that stand in place offer in a window, and what goes out (chapter 5; the modes are own
--- profile).
+-- What transmit buffers that stand in place offer in a window, and what goes out (chapter 5; the modes are
+-- project-defined).
 use Rattle.std.specs.Prelude.{ℕ, ◌*◌, List, [], replicate, slice_get, Option, Some, None, is_some, true, false}
 use Rattle.std.specs.Prelude.{if◌then◌else◌, option_map, unwrap_or}
 use Rattle.std.specs.Option.{option_and_then}

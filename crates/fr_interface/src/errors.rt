@@ -15,7 +15,7 @@ impl InterfaceError {
     ghost use Rattle.std.specs.Prelude.{◌≡◌};
     ghost use Rattle.fr_interface.specs.ErrorNames.{interface_error_name};
 
-    /// The refusal's name, as it is printed (own profile).
+    /// The refusal's name, as it is printed (project-defined).
     pub fn name(self) -> &'static str
         ensures { result.now ≡ interface_error_name self }
     {
@@ -39,7 +39,7 @@ impl fmt::Display for InterfaceError {
 
 impl Error for InterfaceError {}
 
-/// Why a call of the host is refused (own profile).
+/// Why a call of the host is refused (project-defined).
 #[derive(Clone, Copy, Debug, PartialEq, Eq)]
 pub enum HostError {
     /// The plan doesn't have the task.
@@ -62,7 +62,7 @@ impl HostError {
     ghost use Rattle.std.specs.Prelude.{◌≡◌};
     ghost use Rattle.fr_interface.specs.ErrorNames.{host_error_name};
 
-    /// The refusal's name, as it is printed (own profile).
+    /// The refusal's name, as it is printed (project-defined).
     pub fn name(self) -> &'static str
         ensures { result.now ≡ host_error_name self }
     {
@@ -92,7 +92,7 @@ impl fmt::Display for HostError {
 
 impl Error for HostError {}
 
-/// Why a call of the controller is refused (own profile).
+/// Why a call of the controller is refused (project-defined).
 #[derive(Clone, Copy, Debug, PartialEq, Eq)]
 pub enum SlotError {
     /// The window that was fetched last isn't observed.
@@ -113,7 +113,7 @@ impl SlotError {
     ghost use Rattle.std.specs.Prelude.{◌≡◌};
     ghost use Rattle.fr_interface.specs.ErrorNames.{slot_error_name};
 
-    /// The refusal's name, as it is printed (own profile).
+    /// The refusal's name, as it is printed (project-defined).
     pub fn name(self) -> &'static str
         ensures { result.now ≡ slot_error_name self }
     {

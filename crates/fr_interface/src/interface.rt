@@ -44,7 +44,7 @@ pub struct Offer {
     pub b: Option<Bytes>,
 }
 
-/// Which entry of the journal a commit is, and whose (own profile).
+/// Which entry of the journal a commit is, and whose (project-defined).
 #[derive(Clone, Copy, PartialEq, Eq)]
 pub struct Receipt {
     /// The task that made the commit.
@@ -109,7 +109,7 @@ impl Interface {
         let receive = receive_buffers(alloc, plan.buffers())?;
         let queue = receive_queue(alloc, plan.queue())?;
         let indexed = IndexedPlan::new(alloc, plan)?;
-        // Field by field, since what holds of parameters is told where one of them is read.
+        // Field by field, since what holds of parameters is stated where one of them is read.
         let params = Params { ..*params };
         Ok(Interface {
             params,
@@ -164,7 +164,7 @@ impl Interface {
     }
 
     /// Takes the last commit on a transmit buffer back for a task, where it is pending, and answers the number of its
-    /// entry; none where no commit is pending (own profile).
+    /// entry; none where no commit is pending (project-defined).
     ///
     /// The buffer is empty after a commit was taken back: it offers nothing, and no commit before that one comes back.
     /// A commit that was sent stays as it is. A withdraw that finds nothing is accepted, and is an entry too.
@@ -223,7 +223,7 @@ impl Interface {
         Ok(frame_in(held))
     }
 
-    /// Takes the oldest frame of the receive queue for a task, if the queue holds one (own profile).
+    /// Takes the oldest frame of the receive queue for a task, if the queue holds one (project-defined).
     ///
     /// Refused, in this order, with `UnknownTask`, `NoQueue` where the plan has no queue, and `HostFull` where the
     /// journal has no room for the pop. A pop of an empty queue is accepted, and is an entry too.
@@ -275,7 +275,7 @@ impl Interface {
     }
 
     /// Opens a window, and hands out what the node sends in it, as `fetch` does. The bytes are written over the offer
-    /// that is there, so that no room for frames has to be moved (own profile).
+    /// that is there, so that no room for frames has to be moved (project-defined).
     ///
     /// Refused as `fetch` is, with `NotObserved`, `BadWindow`, `WindowOrder` and `SlotFull` in this order; the offer
     /// is then left as it was.
@@ -303,7 +303,7 @@ impl Interface {
     }
 
     /// Opens a window as `fetch` does, and answers what the node offers on channel A and on channel B, as the entry has
-    /// it. No frame is spelled, so this is the call for an audit, which has no bus (own profile).
+    /// it. No frame is spelled, so this is the call for an audit, which has no bus (project-defined).
     ///
     /// Refused as `fetch` is, with `NotObserved`, `BadWindow`, `WindowOrder` and `SlotFull` in this order.
     pub fn fetch_offered(&mut self, window: &Window) -> Result<(Offered, Offered), SlotError>
@@ -446,8 +446,8 @@ impl Interface {
         }
     }
 
-    /// What became of the commits on a transmit buffer (own profile). None for a receive buffer, and for one that the
-    /// plan doesn't have.
+    /// What became of the commits on a transmit buffer (project-defined). None for a receive buffer, and for one that
+    /// the plan doesn't have.
     pub fn tally(&self, buffer: u8) -> Option<Tally>
         ensures value { result ≡ tally_by self.now buffer }
         // Each commit met one fate, and at most one is pending.
@@ -497,7 +497,8 @@ impl Interface {
         )
     }
 
-    /// How many frames the receive queue holds, at most its capacity (own profile). None where the plan has no queue.
+    /// How many frames the receive queue holds, at most its capacity (project-defined). None where the plan has no
+    /// queue.
     pub fn queue_len(&self) -> Option<u32>
         ensures value { result ≡ length_of self.now }
         ensures within { IfSome result (λ n. IfSome self.now.plan.queue (λ q. n ≤ q.capacity)) }
@@ -508,8 +509,8 @@ impl Interface {
         }
     }
 
-    /// How many frames the receive queue lost since others took their places (own profile). None where the plan has no
-    /// queue.
+    /// How many frames the receive queue lost since others took their places (project-defined). None where the plan has
+    /// no queue.
     pub fn queue_lost(&self) -> Option<u32>
         ensures value { result ≡ lost_of self.now }
         // What arrived was popped, is still there, or was lost.

@@ -1,4 +1,4 @@
--- The receive queue: what arrived, what it holds, and how many frames it lost (own profile).
+-- The receive queue: what arrived, what it holds, and how many frames it lost (project-defined).
 use Rattle.std.specs.Prelude.{ℕ, ◌+◌, ◌-◌, min, Bool, false, not, ◌&&◌, List, [], ◌∷◌, ◌++◌, length, drop, Option, Some}
 use Rattle.std.specs.Prelude.{None, is_some, if◌then◌else◌, option_map, count_by, option_to_list, slice_get}
 use Rattle.std.specs.List.{fold, list_any}

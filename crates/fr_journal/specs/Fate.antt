@@ -1,4 +1,4 @@
--- The fate of each commit, and the tally of a buffer (own profile).
+-- The fate of each commit, and the tally of a buffer (project-defined).
 use Rattle.std.specs.Prelude.{ℕ, ◌+◌, ◌==◌, Bool, true, false, ◌||◌, List, [], ◌∷◌, ◌++◌, length, drop, Option, Some}
 use Rattle.std.specs.Prelude.{None, if◌then◌else◌, count_by}
 use Rattle.std.specs.List.{list_any}

@@ -1,5 +1,5 @@
--- What a receive buffer holds: the last valid data frame that it admitted (chapter 9; channel A before B is own
--- profile).
+-- What a receive buffer holds: the last valid data frame that it admitted (chapter 9; channel A before B is
+-- project-defined).
 use Rattle.std.specs.Prelude.{◌≡◌, ℕ, true, List, [], length, Option, Some, None, if◌then◌else◌, option_map, take}
 use Rattle.std.specs.Prelude.{slice_get}
 use Rattle.std.specs.Option.{option_and_then, option_or}

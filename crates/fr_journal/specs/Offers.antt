@@ -1,5 +1,5 @@
 -- What a node offers in a window, decided by the entries before the fetch (chapter 5; the modes, and that nodes divide
--- a static slot by cycles, are own profile).
+-- a static slot by cycles, are project-defined).
 use Rattle.std.specs.Prelude.{ℕ, ◌*◌, nat_le, Bool, true, false, ◌&&◌, ◌||◌, List, [], replicate, slice_get, Option}
 use Rattle.std.specs.Prelude.{Some, None, is_some, option_map, if◌then◌else◌}
 use Rattle.std.specs.List.{position}

@@ -47,7 +47,7 @@ pub enum Entry {
         payload: Payload,
     },
     /// A task took a transmit buffer's last commit back: the one of this number, which was pending, or none where none
-    /// was (own profile).
+    /// was (project-defined).
     Withdraw {
         task: TaskId,
         buffer: u8,

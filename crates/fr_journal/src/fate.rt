@@ -1,6 +1,6 @@
 //! What becomes of commits.
 
-/// What became of a commit (own profile).
+/// What became of a commit (project-defined).
 #[derive(Clone, Copy, PartialEq, Eq)]
 pub enum Fate {
     /// A later fetch handed it to the bus.
@@ -13,7 +13,7 @@ pub enum Fate {
     Pending,
 }
 
-/// How many commits on a transmit buffer met each fate (own profile).
+/// How many commits on a transmit buffer met each fate (project-defined).
 #[derive(Clone, Copy, PartialEq, Eq)]
 pub struct Tally {
     /// All commits on the buffer.

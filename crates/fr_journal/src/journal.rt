@@ -23,7 +23,7 @@ use fr_status::seen::Seen;
 use std::alloc::{AllocError, Global};
 use std::marker::Model;
 
-/// The entries of an interface, of which there are at most as many as its limits (own profile).
+/// The entries of an interface, of which there are at most as many as its limits (project-defined).
 #[derive(Drop)]
 pub struct Journal {
     host_limit: u32,

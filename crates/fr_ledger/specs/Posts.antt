@@ -1,4 +1,4 @@
--- Posts are counted in one book and in the shares with which they are made (own profile).
+-- Posts are counted in one book and in the shares with which they are made (project-defined).
 use Rattle.std.specs.Prelude.{ℕ, ◌+◌, List, sum}
 
 -- the parts of a ledger for so many tasks: one for the desk and one for each task

@@ -9,7 +9,7 @@ use std::marker::Model;
 use std::sync::ledger;
 use std::sync::ledger::{Blank, Ledger};
 
-/// How many posts were made with all shares of the ledger (own profile).
+/// How many posts were made with all shares of the ledger (project-defined).
 #[derive(Drop)]
 pub struct Book<L: Ledger> {
     count: u64,
@@ -26,7 +26,7 @@ impl<L: Ledger> Model for Book<L> {
     ghost invariant = { λ b. b.posts.total ≡ b.count };
 }
 
-/// One part of the ledger, with the posts that were made with it (own profile). It takes no bytes.
+/// One part of the ledger, with the posts that were made with it (project-defined). It takes no bytes.
 #[derive(Drop)]
 pub struct Share<L: Ledger> {
     part: ledger::Share<L>,
@@ -42,7 +42,7 @@ impl<L: Ledger> Model for Share<L> {
     ghost invariant = { λ s. s.part.parts ≡ 1 };
 }
 
-/// The book of a ledger, the desk's share and one for each of 0 to 255 tasks, all without a post (own profile).
+/// The book of a ledger, the desk's share and one for each of 0 to 255 tasks, all without a post (project-defined).
 ///
 /// The blank is the ledger's, cut into a part for the desk and one for each task. Refused where memory for the list of
 /// the tasks' shares is refused.
@@ -69,7 +69,7 @@ pub fn open_books<L: Ledger>(
     Ok((Book { count: 0, posts }, Share { part: rest }, shares))
 }
 
-/// Counts one post, in the book and in the share with which it is made (own profile).
+/// Counts one post, in the book and in the share with which it is made (project-defined).
 ///
 /// The book has room for it: it counts up to the greatest number of 64 bits.
 pub fn post<L: Ledger>(book: &mut Book<L>, share: &mut Share<L>)
@@ -82,7 +82,7 @@ pub fn post<L: Ledger>(book: &mut Book<L>, share: &mut Share<L>)
 }
 
 /// How many posts were made with the desk's share and the tasks' shares together, which is what the book counts, since
-/// these are all parts of the ledger (own profile).
+/// these are all parts of the ledger (project-defined).
 pub fn gather<L: Ledger>(book: &mut Book<L>, desk: Share<L>, tasks: Vec<Share<L>>) -> u64
     requires all { L.parts ≡ parts_for (vec_len tasks) }
     ensures sum { result ≡ posts_of desk tasks.items }

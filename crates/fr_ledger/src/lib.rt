@@ -7,7 +7,7 @@
 //! let posts = gather(&mut book, desk, tasks); // 2, from the book as from the shares
 //! ```
 //!
-//! *(own profile)* marks a rule of this project's own, which says nothing of the standard.
+//! *(project-defined)* marks a rule of this project's own, which says nothing of the standard.
 #![tactic(auto)]
 
 pub mod books;

@@ -13,7 +13,7 @@ use Rattle.fr_slots.specs.declared.plan.Buffer.{Buffer}
 use Rattle.fr_slots.specs.declared.plan.Own.{Own}
 use Rattle.fr_slots.specs.declared.plan.Queue.{Queue}
 
--- what is told as one kind of line was read as that kind
+-- what is reported as one kind of line was read as that kind
 own_mapped : (r : Option Own) (line : PlanLine) → option_map plan_line.Own r ≡ Some line
     → (o : Own) × (line ≡ plan_line.Own o) × (r ≡ Some o)
 own_mapped None line h = cc h

@@ -6,7 +6,7 @@ use fr_slots::numbers::TaskId;
 use fr_slots::window::Window;
 use fr_status::seen::Seen;
 
-/// An entry of a journal without what was committed or seen (own profile).
+/// An entry of a journal without what was committed or seen (project-defined).
 #[derive(Clone, Copy, PartialEq, Eq)]
 pub enum BareEntry {
     /// A task gave a payload to a transmit buffer.

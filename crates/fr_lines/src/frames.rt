@@ -1,4 +1,4 @@
-//! The parts of a line that shows a frame (own profile).
+//! The parts of a line that shows a frame (project-defined).
 ghost use Rattle.std.specs.Prelude.{◌≡◌};
 ghost use Rattle.fr_text.specs.Writing.{Writes};
 ghost use Rattle.fr_lines.specs.Parts.{indicators, mark};
@@ -15,7 +15,7 @@ fn mark(letter: &'static str, is_so: bool) -> &'static str
 }
 
 /// Writes the letters of a frame's indicators, in this order: `p` for the payload preamble, `n` for a null frame, `s`
-/// for a sync frame, `u` for a startup frame, and a dash in place of each that isn't so (own profile).
+/// for a sync frame, `u` for a startup frame, and a dash in place of each that isn't so (project-defined).
 #[tactic(auto, unfolding(crate::specs::Parts::indicators))]
 pub fn write_indicators<W: Write>(writer: &mut W, frame: &LentFrame<'_>) -> io::Result<()>
     ensures { Writes W.contents writer.old writer.new result (indicators frame.now) }

@@ -1,4 +1,4 @@
-//! The lines of a trace: how each is spelled, and what each spells in a version of the format (own profile).
+//! The lines of a trace: how each is spelled, and what each spells in a version of the format (project-defined).
 //!
 //! A line is given without its line feed, and is cut at each space into words. Each thing has one spelling: a number
 //! is decimal without sign and leading zeros, and `-` stands where there is nothing.
@@ -14,7 +14,7 @@
 //! ```
 //!
 //! A chapter in parentheses is one of the FlexRay Protocol Specification 2.1, revision A, whose rule it is.
-//! *(own profile)* marks a rule of this project's own, which says nothing of the standard.
+//! *(project-defined)* marks a rule of this project's own, which says nothing of the standard.
 #![tactic(auto)]
 
 pub mod bare;

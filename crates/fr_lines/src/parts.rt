@@ -21,7 +21,7 @@ use fr_text::hexes::{bytes_into, bytes_of};
 use fr_text::numbers::number_of;
 use fr_text::words::Words;
 
-/// The node that the word spells, 0 to 15 (own profile). `None` where it spells none.
+/// The node that the word spells, 0 to 15 (project-defined). `None` where it spells none.
 pub fn node_of(word: &[u8]) -> Option<NodeId>
     ensures { result ≡ number_in 16 word.now }
 {
@@ -29,7 +29,7 @@ pub fn node_of(word: &[u8]) -> Option<NodeId>
     NodeId::new(number as u8)
 }
 
-/// The task that the word spells, 0 to 7 (own profile). `None` where it spells none.
+/// The task that the word spells, 0 to 7 (project-defined). `None` where it spells none.
 pub fn task_of(word: &[u8]) -> Option<TaskId>
     ensures { result ≡ number_in 8 word.now }
 {
@@ -37,7 +37,7 @@ pub fn task_of(word: &[u8]) -> Option<TaskId>
     TaskId::new(number as u8)
 }
 
-/// The number of a buffer that the word spells, 0 to 63 (own profile). `None` where it spells none.
+/// The number of a buffer that the word spells, 0 to 63 (project-defined). `None` where it spells none.
 pub fn buffer_of(word: &[u8]) -> Option<u8>
     ensures { result ≡ number_in 64 word.now }
 {
@@ -45,7 +45,7 @@ pub fn buffer_of(word: &[u8]) -> Option<u8>
     Some(number as u8)
 }
 
-/// The one channel that the word spells, `A` or `B` (own profile). `None` where it spells none.
+/// The one channel that the word spells, `A` or `B` (project-defined). `None` where it spells none.
 #[tactic(auto, unfolding(crate::specs::PartReading::channel_in))]
 pub fn channel_of(word: &[u8]) -> Option<Channel>
     ensures { result ≡ channel_in word.now }
@@ -150,8 +150,8 @@ pub(crate) fn size_of(word: &[u8]) -> Option<Option<u8>>
     }
 }
 
-/// The payload that the word spells: whole words of two bytes, at most 254 bytes (own profile). `None` where it spells
-/// none.
+/// The payload that the word spells: whole words of two bytes, at most 254 bytes (project-defined). `None` where it
+/// spells none.
 #[tactic(auto, unfolding(crate::specs::PartReading::payload_in))]
 pub fn payload_of(word: &[u8]) -> Option<Payload>
     ensures { result ≡ payload_in word.now }

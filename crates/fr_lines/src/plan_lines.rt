@@ -10,7 +10,7 @@ use crate::versions::Version;
 use fr_slots::plan::{Buffer, Own, Queue};
 use fr_text::words::Words;
 
-/// A line of a plan after the line of its numbers (own profile).
+/// A line of a plan after the line of its numbers (project-defined).
 #[derive(Clone, Copy, PartialEq, Eq)]
 pub enum PlanLine {
     /// A line `own`.

@@ -58,8 +58,8 @@ fn queue_in(line: &[u8]) -> Option<Queue>
 /// The receive queue of a line `queue`, which a plan takes where it has none yet.
 ///
 /// `None` for a line of another form, for a capacity that isn't 1 to 256, for slots that aren't 1 to 2047 or of which
-/// the first is above the last, and where base and repetition are no cycle filter (chapter 9; the queue is own
-/// profile).
+/// the first is above the last, and where base and repetition are no cycle filter (chapter 9; the queue is
+/// project-defined).
 pub fn queue_of(line: &[u8]) -> Option<Queue>
     ensures found { IfSome result (λ q. line.now ≡ line_of (queue_words q)) }
     ensures fits { IfSome result IsSpelledQueue }

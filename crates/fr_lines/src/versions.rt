@@ -4,7 +4,7 @@ ghost use Rattle.fr_lines.specs.declared.versions.Version.{Version};
 ghost use Rattle.fr_lines.specs.Reading.{version_in};
 ghost use Rattle.fr_lines.specs.Spelling.{first_line};
 
-/// A version of the format (own profile).
+/// A version of the format (project-defined).
 #[derive(Clone, Copy, PartialEq, Eq)]
 pub enum Version {
     /// Version 1, which has no line for a withdraw.

@@ -1,4 +1,4 @@
-//! The lines of a trace, written with their line feeds (own profile).
+//! The lines of a trace, written with their line feeds (project-defined).
 //!
 //! Each function fails where the writer fails, and then a part of the line may have gone out.
 ghost use Rattle.std.specs.Prelude.{◌≡◌, ◌∷◌};
@@ -22,7 +22,7 @@ use fr_text::hexes::write_hex;
 use std::io;
 use std::io::Write;
 
-/// The word of channels: `A`, `B`, or `AB` for both (own profile).
+/// The word of channels: `A`, `B`, or `AB` for both (project-defined).
 pub fn channels_word(channels: Channels) -> &'static str
     ensures { result.now ≡ channels_word channels }
 {

@@ -1,5 +1,5 @@
--- What a listener hears on the bus that sends nothing, as the records of a capture (own profile). The time is counted
--- in microseconds from the start of the run, and a macrotick is one of them.
+-- What a listener hears on the bus that sends nothing, as the records of a capture (project-defined). The time is
+-- counted in microseconds from the start of the run, and a macrotick is one of them.
 use Rattle.std.specs.Prelude.{ℕ, ◌+◌, ◌-◌, ◌*◌, List, [], ◌∷◌, ◌++◌}
 use Rattle.fr_bus.specs.Record.{Recorded, heard}
 use Rattle.fr_bus.specs.Windows.{cycles_begun}

@@ -81,7 +81,7 @@ fn write_windows<W: Write>(writer: &mut W, params: &Params, bus: &Bus) -> io::Re
 
 /// Writes what a listener hears on the bus that sends nothing, as a capture in the classic format, link type 210: a
 /// record for each channel of each window in which a frame or other bytes passed alone and weren't too long, as the
-/// nodes see them that don't send, with the bit that a fault turns (own profile). They stand in the order of the
+/// nodes see them that don't send, with the bit that a fault turns (project-defined). They stand in the order of the
 /// windows, of one channel A before B, and their time is that of the window's first macrotick, of which each takes a
 /// microsecond, from the start of the run.
 ///

@@ -1,5 +1,5 @@
 -- The cells of a matrix: for each window of the record in which the channel has a slot, what was seen there and what
--- was sent (own profile).
+-- was sent (project-defined).
 use Rattle.std.specs.Prelude.{◌≡◌, ℕ, ◌+◌, ◌-◌, ◌*◌, nat_lt, nat_le, Bool, ◌&&◌, List, [], ◌∷◌, ◌++◌}
 use Rattle.std.specs.Prelude.{length, codes, Option, Some, None, if◌then◌else◌}
 use Rattle.std.specs.Fmt.{decimal}

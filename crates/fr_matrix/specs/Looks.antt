@@ -1,5 +1,5 @@
--- What a cell shows of a window of the record: what was seen there, who sent it, and what became of all else (own
--- profile).
+-- What a cell shows of a window of the record: what was seen there, who sent it, and what became of all else
+-- (project-defined).
 use Rattle.std.specs.Prelude.{ℕ, ◌/◌, nat_lt, length, Bool, true, false, ◌&&◌, List, Option, Some, None, is_some}
 use Rattle.std.specs.Prelude.{codes, option_map, if◌then◌else◌}
 use Rattle.std.specs.List.{find, list_any}

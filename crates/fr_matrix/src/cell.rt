@@ -16,7 +16,7 @@ use fr_text::hexes::write_hex;
 use std::io;
 use std::io::Write;
 
-/// What a cell of the matrix shows, and where (own profile).
+/// What a cell of the matrix shows, and where (project-defined).
 #[derive(Clone, Copy)]
 pub struct Cell {
     /// How far it stands from the left.
@@ -213,7 +213,7 @@ fn write_front<W: Write>(
     write_close(writer)
 }
 
-/// Writes a cell, with all that was sent on the channel and the bit that was turned (own profile).
+/// Writes a cell, with all that was sent on the channel and the bit that was turned (project-defined).
 ///
 /// Fails where the writer fails, and then a part of it may have gone out.
 pub fn write_cell<W: Write>(

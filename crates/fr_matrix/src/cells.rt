@@ -111,7 +111,7 @@ fn write_at<W: Write>(
     }
 }
 
-/// Writes the cells of the record, in the order of its windows (own profile).
+/// Writes the cells of the record, in the order of its windows (project-defined).
 ///
 /// Fails where the writer fails, and then a part of them may have gone out.
 pub fn write_cells<W: Write>(

@@ -15,7 +15,7 @@ use fr_slots::numbers::NodeId;
 use fr_slots::params::Params;
 use fr_status::seen::Seen;
 
-/// What was seen in a window on a channel (own profile).
+/// What was seen in a window on a channel (project-defined).
 #[derive(Clone, Copy, PartialEq, Eq)]
 pub enum Look {
     /// Nothing.
@@ -34,7 +34,7 @@ pub enum Look {
     Overrun,
 }
 
-/// What became of transmissions that didn't come through, and of the bits of those that did (own profile).
+/// What became of transmissions that didn't come through, and of the bits of those that did (project-defined).
 #[derive(Clone, Copy, PartialEq, Eq)]
 pub struct Marks {
     /// A guardian stopped one.
@@ -72,8 +72,8 @@ fn look_of(channel: Channel, seen: &Seen) -> Look
     }
 }
 
-/// What the node of the view sees of the window, and without one what is heard there by who sends nothing (own
-/// profile).
+/// What the node of the view sees of the window, and without one what is heard there by who sends nothing
+/// (project-defined).
 pub fn look_in(params: &Params, view: &View, sealed: &Sealed) -> Look
     ensures { result ≡ look_in params.now view.now sealed.now }
 {
@@ -84,7 +84,7 @@ pub fn look_in(params: &Params, view: &View, sealed: &Sealed) -> Look
     look_of(view.channel, &sight)
 }
 
-/// Who sent what passed first on the channel, if anything did (own profile).
+/// Who sent what passed first on the channel, if anything did (project-defined).
 pub fn sender_in(channel: Channel, sent: &[Sent]) -> Option<NodeId>
     ensures { result ≡ sender_in channel sent.now }
 {
@@ -122,7 +122,7 @@ fn any_lost(channel: Channel, sent: &[Sent]) -> bool
     sent.iter().any(|t| is_lost(channel, t))
 }
 
-/// The bit that a fault turned of what came through on the channel, if any (own profile).
+/// The bit that a fault turned of what came through on the channel, if any (project-defined).
 pub fn turned_bit(params: &Params, channel: Channel, sealed: &Sealed) -> Option<u16>
     ensures { result ≡ turned_bit params.now channel sealed.now }
 {
@@ -132,7 +132,7 @@ pub fn turned_bit(params: &Params, channel: Channel, sealed: &Sealed) -> Option<
     }
 }
 
-/// What became of the transmissions on the channel (own profile).
+/// What became of the transmissions on the channel (project-defined).
 pub fn marks_in(params: &Params, channel: Channel, sealed: &Sealed) -> Marks
     ensures { result ≡ marks_in params.now channel sealed.now }
 {

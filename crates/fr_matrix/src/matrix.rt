@@ -22,12 +22,12 @@ fn cells_of(
     let mut text = Vec::new(alloc);
     match write_cells(&mut text, params, view, recorded) {
         Ok(()) => Ok(text),
-        // A list of bytes fails to take more for want of memory alone, here and below.
+        // A list of bytes takes no more only if an allocation fails, here and below.
         Err(_) => Err(AllocError),
     }
 }
 
-/// The communication matrix of a run with this record, as it happened: an SVG text (own profile).
+/// The communication matrix of a run with this record, as it happened: an SVG text (project-defined).
 ///
 /// It has a row for each cycle of the run from `view.from` on, up to 64, and a column for each window of the cycle, up
 /// to 512: the static slots, and then the windows of the dynamic segment in their order. A cell is left out where the

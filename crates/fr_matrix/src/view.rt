@@ -3,7 +3,7 @@
 use fr_slots::channel::Channel;
 use fr_slots::numbers::NodeId;
 
-/// What of a run is drawn (own profile).
+/// What of a run is drawn (project-defined).
 #[derive(Clone, Copy, PartialEq, Eq)]
 pub struct View {
     /// On this channel.

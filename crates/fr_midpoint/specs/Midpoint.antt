@@ -23,7 +23,7 @@ abbrev pub dropped : ℕ → ℕ
 dropped count = if nat_le count 2 then 0 else if nat_le count 7 then 1 else 2
 
 -- Half of a sum, truncated toward zero: twice the half differs from the sum by at most 1, and isn't farther from 0
--- (the truncation is own profile).
+-- (the truncation is project-defined).
 pub record IsHalf (sum half : ℤ) : Type 0 where
   pub near : unsigned_abs (half +ℤ half -ℤ sum) ≤ 1
   pub no_farther : unsigned_abs (half +ℤ half) ≤ unsigned_abs sum

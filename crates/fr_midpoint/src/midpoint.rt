@@ -14,11 +14,11 @@ ghost use Rattle.fr_midpoint.specs.Selection.{middle_of};
 use crate::ranks::{GREATEST, Midpoint, MidpointError, VALUES};
 use arrayvec::ArrayVec;
 
-/// The fault-tolerant midpoint of values (chapter 8), or none of no values (own profile).
+/// The fault-tolerant midpoint of values (chapter 8), or none of no values (project-defined).
 ///
 /// Of up to 2 values none is dropped, of 3 to 7 the least and the greatest, and of 8 and more the
 /// two least and the two greatest. The midpoint is half of what the least and the greatest of the rest
-/// add up to; of an odd sum it is the half nearer to zero (own profile).
+/// add up to; of an odd sum it is the half nearer to zero (project-defined).
 ///
 /// Refused with `TooMany` where there are more than 15 values, and then with `TooLarge` where one
 /// of them is more than 1,000,000 from 0. It takes no memory.

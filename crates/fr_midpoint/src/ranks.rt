@@ -2,10 +2,10 @@
 
 use thiserror::Error;
 
-/// At most this many values have a midpoint (own profile).
+/// At most this many values have a midpoint (project-defined).
 pub const VALUES: usize = 15;
 
-/// The greatest distance of a value from 0 (own profile).
+/// The greatest distance of a value from 0 (project-defined).
 pub const GREATEST: u32 = 1_000_000;
 
 /// The midpoint of some values, and which of them it lies between.

@@ -1,5 +1,5 @@
 -- The rows of a channel's dynamic segment in one cycle: a row for each slot that opens there, as long as what was sent
--- in it asks for (chapter 5; lengths and the last slot are own profile).
+-- in it asks for (chapter 5; lengths and the last slot are project-defined).
 use Rattle.std.specs.Prelude.{◌≡◌, ℕ, ◌+◌, ◌*◌, ◌==◌, nat_le, Bool, true, ◌&&◌, List, [], length, sum_by, Option, Some}
 use Rattle.std.specs.Prelude.{None, if◌then◌else◌}
 use Rattle.std.specs.Int.{div_ceil}

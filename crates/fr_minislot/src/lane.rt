@@ -15,7 +15,7 @@ const LONGEST: u16 = 262;
 /// The last slot of a channel (chapter 5).
 const LAST_SLOT: u16 = 2047;
 
-/// Why a slot can't be closed (own profile).
+/// Why a slot can't be closed (project-defined).
 #[derive(Clone, Copy, Debug, PartialEq, Eq, Error)]
 pub enum LaneError {
     /// The channel opens no further slot in the cycle.
@@ -30,7 +30,8 @@ pub enum LaneError {
 ///
 /// It stands after the slots that were closed, at the one that is next. The first dynamic slot is the one after the
 /// last static slot, and opens at minislot 1. The next one opens after the minislots that the one before it took: one
-/// where nothing was sent, else those that its longest transmission fills and the idle ones after them (own profile).
+/// where nothing was sent, else those that its longest transmission fills and the idle ones after them
+/// (project-defined).
 #[derive(Clone, Copy, PartialEq, Eq)]
 pub struct Lane {
     params: Params,

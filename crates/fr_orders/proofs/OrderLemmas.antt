@@ -110,7 +110,7 @@ run_told entered look (Some o) named same told = by o (run_by_alike look (word_i
 pub none_has_none : (o : Option Text) → o ≡ None → is_some o ≡ true → ⊥
 none_has_none o none some = true≢false (sym some ∙ ap is_some none)
 
--- an error for which there is a fault, or none for which there is want of memory
+-- an error for which there is a fault, or none for which there is a failed allocation
 pub refused_for : (words : List Text) (e : Error) → HasKind (fault_of the_commands words) e
     → IsAnswer words (Err (order_error_of (kind_of e)))
 refused_for words e (inl memory) = rw memory tt

@@ -93,8 +93,8 @@ IsOrder entered (the_order.Run cluster scenario cycles free) =
     IsNamed (codes "run") entered × IsRunBy (word_in entered) (the_order.Run cluster scenario cycles free)
 
 -- The order is the one that the words enter, where `clap` finds no fault with them. Where it finds one they are no
--- command, and else only where they enter a run whose number of cycles is none; for want of memory either may stay
--- unanswered.
+-- command, and else only where they enter a run whose number of cycles is none; where an allocation fails either may
+-- stay unanswered.
 abbrev pub IsAnswer : List Text → Result Order OrderError → Type 0
 IsAnswer words (Ok order) = (fault_of the_commands words ≡ []) × IsOrder (subcommand_of the_commands words) order
 IsAnswer words (Err refusal.Usage) =

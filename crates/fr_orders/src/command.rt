@@ -1,6 +1,6 @@
 //! What the program can be asked to do.
 
-/// What the program is asked to do (own profile).
+/// What the program is asked to do (project-defined).
 #[derive(Clone, Copy, PartialEq, Eq)]
 pub enum Order<'a> {
     /// Read the trace of one controller on standard input and print its audited report.

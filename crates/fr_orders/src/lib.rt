@@ -1,4 +1,4 @@
-//! The words after the program's name, read as an order (own profile).
+//! The words after the program's name, read as an order (project-defined).
 //!
 //! ```text
 //! order(alloc, &["audit"])?; // Order::Audit
@@ -7,7 +7,7 @@
 //! order(alloc, &["audit", "trace"]); // Err(OrderError::Usage)
 //! ```
 //!
-//! *(own profile)* marks a rule of this project's own, which says nothing of the standard.
+//! *(project-defined)* marks a rule of this project's own, which says nothing of the standard.
 #![tactic(auto)]
 
 pub mod command;

@@ -24,7 +24,7 @@ fn run_command<'a>(alloc: Global) -> Result<Command<'a>, AllocError>
     files.arg(cycles)?.arg(free)
 }
 
-/// The commands, as `clap` is told of them.
+/// The commands, as `clap` reads them.
 fn commands<'a>(alloc: Global) -> Result<Command<'a>, AllocError>
     ensures { IfOk result (λ c. app_of c ≡ the_commands) }
 {
@@ -64,7 +64,7 @@ fn order_in<'a>(matches: &ArgMatches<'a>) -> Option<Order<'a>>
     }
 }
 
-/// The order that the words after the program's name give (own profile).
+/// The order that the words after the program's name give (project-defined).
 ///
 /// Refused with `Memory` where memory for the parse was refused, and else with `Usage` for all words
 /// that are no command. A call for help is no command, nor is a run whose number of cycles isn't 1 to 1024, or has a

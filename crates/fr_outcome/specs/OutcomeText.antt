@@ -1,4 +1,4 @@
--- The text of the outcome of a run (own profile).
+-- The text of the outcome of a run (project-defined).
 use Rattle.std.specs.Prelude.{ℕ, List, [], ◌∷◌, ◌++◌, codes}
 use Rattle.std.specs.Fmt.{decimal}
 use Rattle.fr_commands.specs.PlanText.{of_nodes}

@@ -1,4 +1,4 @@
--- What a whole scenario file is read as, and whether a run with it can be had (own profile).
+-- What a whole scenario file is read as, and whether a run with it can be had (project-defined).
 use Rattle.std.specs.Prelude.{⊤, ◌≡◌, ◌<◌, ◌≤◌, ◌⊎◌, ℕ, List, length, Option, Some, Result, Ok, Err}
 use Rattle.std.specs.Str.{IsUtf8}
 use Rattle.fr_commands.specs.declared.error.BenchError.TheVariants as bench
@@ -29,7 +29,7 @@ IsScenarioIn text (Ok contents) = IsScenarioText text contents
 IsScenarioIn text (Err (refusal.Scenario e)) = IsRefused text e
 IsScenarioIn text (Err (refusal.Text e)) = ⊥
 
--- The scenario that the text is, or its first fault. Of a failing reader and of want of memory nothing is said.
+-- The scenario that the text is, or its first fault. Of a failing reader and of a failed allocation nothing is said.
 abbrev pub IsScenarioOf : List ℕ → Result Contents FileError → Type 0
 IsScenarioOf text (Ok contents) = IsShort text × IsScenarioText text contents
 IsScenarioOf text (Err (refusal.Scenario e)) = IsShort text × IsRefused text e

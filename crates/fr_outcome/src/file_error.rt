@@ -6,7 +6,7 @@ use fr_commands::error::BenchError;
 use fr_scenario::error::ScenarioError;
 use thiserror::Error;
 
-/// Why the file of a scenario is refused (own profile). Printed, it is the name and the values of the error below.
+/// Why the file of a scenario is refused (project-defined). Printed, it is the name and the values of the error below.
 #[derive(Clone, Copy, Debug, Drop, PartialEq, Eq, Error)]
 pub enum FileError {
     /// The file couldn't be read, or is too long, or memory for its bytes was refused.

@@ -1,12 +1,12 @@
-//! What all programs share that run a cluster: the file of a scenario, and the text of the outcome of a run (own
-//! profile).
+//! What all programs share that run a cluster: the file of a scenario, and the text of the outcome of a run
+//! (project-defined).
 //!
 //! ```text
 //! let scenario = scenario_of(alloc, &mut file)?;
 //! write_outcome(&mut output, interfaces, windows)?; // node 0, its report, node 1 and so on
 //! ```
 //!
-//! *(own profile)* marks a rule of this project's own, which says nothing of the standard.
+//! *(project-defined)* marks a rule of this project's own, which says nothing of the standard.
 #![tactic(auto)]
 
 pub mod file_error;

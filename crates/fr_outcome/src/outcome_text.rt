@@ -36,7 +36,7 @@ fn write_settled<W: Write>(writer: &mut W, windows: usize) -> io::Result<()>
     writeln!(writer, "settled")
 }
 
-/// Writes the outcome of a run: each node's report, the number of windows and that all agrees (own profile).
+/// Writes the outcome of a run: each node's report, the number of windows and that all agrees (project-defined).
 ///
 /// Fails where the writer fails, and then a part of the text may have gone out.
 pub fn write_outcome<W: Write>(

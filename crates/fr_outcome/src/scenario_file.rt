@@ -27,7 +27,7 @@ fn scenario_in(alloc: Global, bytes: &[u8]) -> Result<Scenario, FileError>
     }
 }
 
-/// Reads a scenario file to its end (own profile).
+/// Reads a scenario file to its end (project-defined).
 ///
 /// Refused with `TooLong` for more than 1,048,576 bytes, then as a text that is no scenario: with `BadMagic` also where
 /// it isn't UTF-8. `Read` and `Memory` come where the reader fails and where memory is refused.

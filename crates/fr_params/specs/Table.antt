@@ -1,5 +1,5 @@
 -- What a table says of the parameters: the first key at fault in the order of the keys, then the sum, or the parameters
--- (own profile).
+-- (project-defined).
 use Rattle.std.specs.Prelude.{ℕ, ◌==◌, ℤ, Option, Some, None, Result, Ok, Err, if◌then◌else◌}
 use Rattle.toml.specs.Data.{Data, Members, get_member, as_integer}
 use Rattle.fr_slots.specs.declared.params.Key.{Key}

@@ -10,7 +10,7 @@ use crate::error::ParamError;
 use fr_slots::params::{Five, Key, Params};
 use toml::{Table, Value};
 
-/// The parameters of a table (own profile). Keys that aren't parameters are ignored.
+/// The parameters of a table (project-defined). Keys that aren't parameters are ignored.
 ///
 /// Refused with the first key at fault in the order of `Key`: `Missing` where the table hasn't the
 /// key, `NotANumber` where what stands there is no integer, `OutOfRange` where the integer is out
@@ -93,7 +93,7 @@ fn number_at(table: &Table, key: Key) -> Result<u16, ParamError>
     }
 }
 
-/// What the table has under the name, and none where it has no such key (own profile).
+/// What the table has under the name, and none where it has no such key (project-defined).
 pub fn value_under<'a>(table: &'a Table, name: &str) -> Option<&'a Value>
     ensures { option_map (λ v. view v.now) result ≡ get_member name.now (table_view table.now) }
 {

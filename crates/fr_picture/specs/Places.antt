@@ -1,4 +1,4 @@
--- Where things stand in a picture, in tenths of its units (own profile).
+-- Where things stand in a picture, in tenths of its units (project-defined).
 use Rattle.std.specs.Prelude.{ℕ, ◌+◌, ◌-◌, ◌*◌, ◌/◌, max}
 use Rattle.fr_slots.specs.declared.channel.Channel.{Channel}
 use Rattle.fr_slots.specs.declared.channel.Channel.TheVariants.{A, B}

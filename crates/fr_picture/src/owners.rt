@@ -140,7 +140,7 @@ fn write_owner<W: Write>(
 }
 
 /// Writes the elements of the static slots, each with the node that the sender table has for it in the cycle, and of
-/// each slot that on channel A before that on channel B (chapter 5; the picture is own profile).
+/// each slot that on channel A before that on channel B (chapter 5; the picture is project-defined).
 ///
 /// Fails where the writer fails, and then a part of them may have gone out.
 pub fn write_owners<W: Write>(writer: &mut W, cluster: &Cluster, cycle: Cycle) -> io::Result<()>

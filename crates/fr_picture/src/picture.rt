@@ -55,12 +55,12 @@ fn owners_of(alloc: Global, cluster: &Cluster, cycle: Cycle) -> Result<Vec<u8>, 
     let mut text = Vec::new(alloc);
     match write_owners(&mut text, cluster, cycle) {
         Ok(()) => Ok(text),
-        // A list of bytes fails to take more for want of memory alone.
+        // A list of bytes takes no more only if an allocation fails.
         Err(_) => Err(BenchError::Memory),
     }
 }
 
-/// The picture of a cycle: an SVG text (own profile).
+/// The picture of a cycle: an SVG text (project-defined).
 ///
 /// It has the four segments of the cycle, for each channel the static slots with their owners and the dynamic slots
 /// that have a sender, and for each node and channel the intervals in which its guardian is open, all of them in this
@@ -87,7 +87,7 @@ pub fn picture_of(alloc: Global, cluster: &Cluster, cycle: Cycle) -> Result<Vec<
     Ok(text)
 }
 
-/// Reads a cluster file to its end, and writes a picture of one of its cycles (own profile).
+/// Reads a cluster file to its end, and writes a picture of one of its cycles (project-defined).
 ///
 /// Refused as `check` is. On every refusal but `Write` nothing is written.
 pub fn show_schedule<R: Read, W: Write>(

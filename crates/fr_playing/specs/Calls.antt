@@ -1,4 +1,4 @@
--- What the lines of scripts do in the world, one after another (own profile).
+-- What the lines of scripts do in the world, one after another (project-defined).
 use Rattle.std.specs.Prelude.{◌≡◌, ℕ, ◌==◌, List, [], ◌∷◌, ◌++◌, length, map, slice_get, Option, Some, None, Ok}
 use Rattle.std.specs.Prelude.{if◌then◌else◌}
 use Rattle.std.specs.List.{flat_map}

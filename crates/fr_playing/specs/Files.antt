@@ -1,4 +1,4 @@
--- A run with the scenario of a text (own profile).
+-- A run with the scenario of a text (project-defined).
 use Rattle.std.specs.Prelude.{⊤, ◌<◌, ℕ, List, length, Some, None, Result, Ok, Err}
 use Rattle.fr_commands.specs.declared.error.BenchError.TheVariants as bench
 use Rattle.fr_outcome.specs.ScenarioFiles.{IsShort, IsRefused, RunIsRefused}
@@ -16,8 +16,8 @@ IsPlayIn d cycles text file =
     × IsPlayed d file.scenario.scripts file.scenario.faults cycles file.played
 
 -- The run with the scenario that the text is, or why there is none: the text is refused so, or the run with it. Of a
--- failing reader and of want of memory nothing is said, nor of an event that the world refused in a run that can be
--- had.
+-- failing reader and of a failed allocation nothing is said, nor of an event that the world refused in a run that can
+-- be had.
 abbrev pub IsPlayOf : Description → ℕ → List ℕ → Result PlayedFile PlayError → Type 0
 IsPlayOf d cycles text (Ok file) = RunIsRefused d cycles text None × IsPlayIn d cycles text file
 IsPlayOf d cycles text (Err (refusal.Run e)) = RunIsRefused d cycles text (Some e)

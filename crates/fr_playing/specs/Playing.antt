@@ -1,4 +1,4 @@
--- A whole run, one event after another (own profile).
+-- A whole run, one event after another (project-defined).
 use Rattle.std.specs.Prelude.{◌≡◌, ℕ, zero, suc, List, [], ◌++◌, length, map, None}
 use Rattle.std.specs.List.{flat_map, range_with_len}
 use Rattle.fr_core.specs.declared.event.Event.{Event}

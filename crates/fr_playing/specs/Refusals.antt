@@ -1,5 +1,5 @@
 -- How the errors of a run without threads follow from those of its files, and which of them says that it can't be had
--- (own profile).
+-- (project-defined).
 use Rattle.std.specs.Prelude.{⊤, Option, Some, None, Result, Ok, Err}
 use Rattle.fr_bus.specs.declared.error.BusError.TheVariants as bus
 use Rattle.fr_commands.specs.declared.error.BenchError.TheVariants as bench
@@ -41,7 +41,7 @@ abbrev pub refusal_told : {A : Type 0} → Result A PlayError → Option RunRefu
 refusal_told (Ok x) = None
 refusal_told (Err e) = refusal_of e
 
--- an error of a run, and of none of its files but for want of memory
+-- an error of a run, and of none of its files but where an allocation fails
 abbrev pub IsOfRun : PlayError → Type 0
 IsOfRun (refusal.Text bench.Memory) = ⊤
 IsOfRun (refusal.Text e) = ⊥

@@ -1,4 +1,4 @@
--- The windows of a cycle as events, all of which are accepted (own profile).
+-- The windows of a cycle as events, all of which are accepted (project-defined).
 use Rattle.std.specs.Prelude.{◌≡◌, ℕ, zero, suc, true, false, List, [], ◌∷◌, ◌++◌, Some}
 use Rattle.std.specs.List.{flat_map}
 use Rattle.fr_core.specs.declared.event.Event.{Event}

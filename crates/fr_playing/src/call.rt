@@ -10,7 +10,7 @@ use fr_core::script::{Action, Line, Script};
 use fr_core::world::World;
 use fr_slots::numbers::{NodeId, TaskId};
 
-/// What a line of a script did, and how that was answered (own profile).
+/// What a line of a script did, and how that was answered (project-defined).
 #[derive(Drop, PartialEq, Eq)]
 pub struct Call {
     /// The node.

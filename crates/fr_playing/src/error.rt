@@ -10,7 +10,7 @@ use fr_runs::check::RunRefusal;
 use fr_scenario::error::ScenarioError;
 use thiserror::Error;
 
-/// Why a run isn't played, or not shown (own profile). Printed, it is the error's name, and for an error of a crate
+/// Why a run isn't played, or not shown (project-defined). Printed, it is the error's name, and for an error of a crate
 /// below the names and values of that error.
 #[derive(Clone, Copy, Debug, Drop, PartialEq, Eq, Error)]
 pub enum PlayError {
@@ -24,7 +24,7 @@ pub enum PlayError {
     /// The run can't be had.
     #[error("{0}")]
     Run(RunRefusal),
-    /// The world refused an event of the run, for another cause than want of memory.
+    /// The world refused an event of the run, for another cause than a failed allocation.
     #[error("{0}")]
     Step(StepError),
     /// The bus didn't come to its end.

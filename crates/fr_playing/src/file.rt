@@ -10,7 +10,7 @@ use fr_schedule::cluster::Cluster;
 use std::alloc::Global;
 use std::io::Read;
 
-/// A scenario, and what a run with it leaves (own profile).
+/// A scenario, and what a run with it leaves (project-defined).
 #[derive(Drop)]
 pub struct PlayedFile {
     /// The scenario that the file is.
@@ -19,8 +19,8 @@ pub struct PlayedFile {
     pub played: Played,
 }
 
-/// Reads a scenario file to its end, and plays a run of the cluster with it for so many cycles (own profile). Gives the
-/// scenario too.
+/// Reads a scenario file to its end, and plays a run of the cluster with it for so many cycles (project-defined). Gives
+/// the scenario too.
 ///
 /// Refused as the file of the scenario is, then as the run is (`play`).
 #[tactic(auto, using(crate::proofs::FileLemmas::file_refused))]

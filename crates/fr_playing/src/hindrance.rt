@@ -10,7 +10,8 @@ use fr_commands::error::BenchError;
 use fr_core::error::StepError;
 use std::alloc::{AllocError, AllocFailed};
 
-/// What ends a play before the run is over. Of a run that can be had only want of memory is known to come.
+/// What ends a play before the run is over. Of a run that the cluster accepts only a failed allocation is known to
+/// come.
 #[derive(Clone, Copy, PartialEq, Eq)]
 pub(crate) enum Hindrance {
     /// The world refused an event.

@@ -8,7 +8,8 @@ ghost use Rattle.fr_runs.specs.declared.fault_line.FaultLine.{FaultLine};
 ghost use Rattle.fr_schedule.specs.Descriptions.{Description};
 ghost use Rattle.fr_session.specs.Laws.{IsLed};
 
-/// What a run leads to, a list of events leads to from the opening world (own profile). It does nothing but tell so.
+/// What a run leads to, a list of events leads to from the opening world (project-defined). It does nothing but tell
+/// so.
 pub fn led_by_events()
     ensures { (d : Description) (scripts : List Scripted) (faults : List FaultLine) (cycles : ℕ) (played : Played)
         → IsPlayed d scripts faults cycles played → IsLed (opening_world d cycles) played.world }

@@ -1,4 +1,4 @@
-//! A run of a cluster without threads: one event after another in the world (own profile).
+//! A run of a cluster without threads: one event after another in the world (project-defined).
 //!
 //! ```text
 //! let played = play(alloc, &cluster, scenario.scripts(), scenario.faults(), cycles)?;
@@ -8,7 +8,7 @@
 //! play_file(alloc, &cluster, &mut scenario_file, cycles)?.played; // the same with the scenario of a file
 //! ```
 //!
-//! *(own profile)* marks a rule of this project's own, which says nothing of the standard.
+//! *(project-defined)* marks a rule of this project's own, which says nothing of the standard.
 #![tactic(auto)]
 
 pub mod call;

@@ -18,7 +18,7 @@ use fr_schedule::cluster::Cluster;
 use fr_session::moving::whole_window;
 use std::alloc::Global;
 
-/// What a run leaves (own profile).
+/// What a run leaves (project-defined).
 #[derive(Drop)]
 pub struct Played {
     /// The world at its end.
@@ -61,7 +61,7 @@ fn play_cycles(
     Ok(())
 }
 
-/// Plays a run that can be had.
+/// Plays a run that the cluster accepts.
 fn play_all(
     alloc: Global,
     cluster: &Cluster,
@@ -88,7 +88,7 @@ fn play_all(
     }
 }
 
-/// Plays a run of the cluster for so many cycles in one thread, one event of its world after another (own profile).
+/// Plays a run of the cluster for so many cycles in one thread, one event of its world after another (project-defined).
 ///
 /// Cycle after cycle, first the lines of the cycle are done, in the order of the scripts and of the lines of each. Then
 /// comes window after window: the faults that come in it, in the order of their lines; the look, the fetch and the put

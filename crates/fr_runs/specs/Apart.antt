@@ -1,4 +1,4 @@
--- No window has two faults of one kind, node and channel (own profile).
+-- No window has two faults of one kind, node and channel (project-defined).
 use Rattle.std.specs.Prelude.{◌≡◌, ℕ, ◌<◌, true, false, List, slice_get, Some}
 use Rattle.fr_runs.specs.declared.fault_line.FaultLine.{FaultLine}
 use Rattle.fr_runs.specs.Striking.{strikes}

@@ -1,5 +1,5 @@
 -- What the faults of a run leave in its record: the bits that are turned, the babbles, and the offers that are lost
--- (own profile).
+-- (project-defined).
 use Rattle.std.specs.Prelude.{◌≡◌, ℕ, ◌+◌, ◌-◌, ◌==◌, Bool, true, false, not, ◌&&◌, List, [], ◌∷◌, take, slice_get}
 use Rattle.std.specs.Prelude.{Option, Some, None, IfSome, Contains, if◌then◌else◌}
 use Rattle.std.specs.List.{list_any, filter}
@@ -39,7 +39,7 @@ loses node channel (Babble of on bytes) = false
 loses node channel (Mute of on) = of == node && is_channel on channel
 loses node channel (Corrupt on bit) = false
 
--- ---- what the lines do that strike a window, which lies in the cycle of this number of the run
+-- ---- what the lines do that take effect in a window, which lies in the cycle of this number of the run
 
 abbrev pub bit_by : FaultLine → ℕ → Opportunity → Channel → Option ℕ
 bit_by line cycle w channel = if strikes line cycle w then bit_turned channel line.fault else None
@@ -62,7 +62,7 @@ is_lost_by cycle w node channel line = strikes line cycle w && loses node channe
 abbrev pub is_loss_due : List FaultLine → ℕ → Opportunity → ℕ → Channel → Bool
 is_loss_due lines cycle w node channel = list_any (is_lost_by cycle w node channel) lines
 
--- the lines that name the cycle of this number of the run, of which alone any strikes in it
+-- the lines that name the cycle of this number of the run, of which alone any takes effect in it
 abbrev pub lines_of_cycle : ℕ → List FaultLine → List FaultLine
 lines_of_cycle cycle lines = filter (λ (line : FaultLine). names_cycle line.cycles cycle) lines
 
@@ -81,9 +81,9 @@ abbrev pub babble_in : Channel → ℕ → List Sent → Option (ArrayVec ℕ)
 babble_in channel node [] = None
 babble_in channel node (t ∷ ts) = if is_babble_of channel node t then Some t.bytes else babble_in channel node ts
 
--- The window has the faults of the lines that strike there in this cycle of the run, and no others: on each channel the
--- bit that a line turns, of each node on each channel the babble that a line has it send, if the channel has a slot and
--- the babble bytes, and of its transmissions those offers are muted that a line loses.
+-- The window has the faults of the lines that take effect there in this cycle of the run, and no others: on each
+-- channel the bit that a line turns, of each node on each channel the babble that a line has it send, if the channel
+-- has a slot and the babble bytes, and of its transmissions those offers are muted that a line loses.
 pub record HasFaults (lines : List FaultLine) (cycle : ℕ) (r : Recorded) : Type 0 where
   pub bits : (channel : Channel) → corrupt_on r channel ≡ bit_due lines cycle r.window channel
   pub babbles : (node : ℕ) (channel : Channel) → babble_in channel node r.sent
@@ -98,13 +98,14 @@ cycle_at rs k = cycles_begun (take (k + 1) rs) - 1
 abbrev pub HasFaultsAt : List FaultLine → List Recorded → ℕ → Type 0
 HasFaultsAt lines rs k = IfSome (slice_get rs k) (HasFaults lines (cycle_at rs k))
 
--- each window of the record has the faults of the lines that strike there, and no others
+-- each window of the record has the faults of the lines that take effect there, and no others
 abbrev pub HaveFaults : List FaultLine → List Recorded → Type 0
 HaveFaults lines rs = (k : ℕ) → HasFaultsAt lines rs k
 
 -- ---- a window transmission by transmission, and line by line
 
--- the transmission is a babble of a line that strikes, or an offer that is muted exactly where such a line loses it
+-- the transmission is a babble of a line that takes effect, or an offer that is muted exactly where such a line loses
+-- it
 pub record IsDue (lines : List FaultLine) (cycle : ℕ) (w : Opportunity) (t : Sent) : Type 0 where
   pub babble : t.babble ≡ true
       → recordable (slot_of w t.channel) (babble_due lines cycle w t.node t.channel) ≡ Some t.bytes

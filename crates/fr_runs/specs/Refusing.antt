@@ -1,4 +1,4 @@
--- Whether a run can be had (own profile).
+-- Whether a run can be had (project-defined).
 use Rattle.std.specs.Prelude.{◌≡◌, ℕ, true, false, List, Option, Some, None}
 use Rattle.fr_bus.specs.States.{cycles_fit}
 use Rattle.fr_core.specs.Scripts.{Scripted}

@@ -1,4 +1,4 @@
--- Whether tasks did the lines of their scripts in the cycles of these (own profile).
+-- Whether tasks did the lines of their scripts in the cycles of these (project-defined).
 use Rattle.std.specs.Prelude.{◌≡◌, ℕ, ◌==◌, Bool, true, false, List, [], ◌∷◌, length, take, slice_get, count_by}
 use Rattle.std.specs.Prelude.{Option, Some, None, IfSome, if◌then◌else◌}
 use Rattle.fr_bus.specs.Record.{Recorded}

@@ -1,4 +1,4 @@
--- The windows in which the fault of a line comes (own profile).
+-- The windows in which the fault of a line comes (project-defined).
 use Rattle.std.specs.Prelude.{ℕ, ◌==◌, not, Bool, true, false, ◌&&◌, Option, Some, None}
 use Rattle.fr_runs.specs.declared.fault_line.FaultCycles.{FaultCycles}
 use Rattle.fr_runs.specs.declared.fault_line.FaultCycles.TheVariants.{Every, Only}

@@ -1,4 +1,4 @@
--- Whether the scripts of tasks, and the faults, suit a cluster and a run of so many cycles (own profile).
+-- Whether the scripts of tasks, and the faults, suit a cluster and a run of so many cycles (project-defined).
 use Rattle.std.specs.Prelude.{◌≡◌, ℕ, ◌+◌, ◌*◌, ◌<◌, ◌≤◌, ◌==◌, nat_lt, nat_le, Bool, true, false, ◌&&◌, List, length}
 use Rattle.std.specs.Prelude.{take, slice_get, Option, Some, None, is_some, IfSome, if◌then◌else◌}
 use Rattle.std.specs.List.{list_all, list_any, sum_by, AllAdjacentBelow}

@@ -17,7 +17,7 @@ use fr_slots::params::Params;
 use fr_slots::plan::NodePlan;
 use thiserror::Error;
 
-/// Why a run can't be had (own profile).
+/// Why a run can't be had (project-defined).
 #[derive(Clone, Copy, Debug, PartialEq, Eq, Error)]
 pub enum RunRefusal {
     /// The number of cycles is 0 or above 1024.
@@ -94,7 +94,7 @@ fn full_node(cluster: &Cluster, scripts: &[Script], cycles: u16) -> Option<NodeI
     None
 }
 
-/// Whether a run of so many cycles, 1 to 1024, can be had with these scripts and faults (own profile). It takes no
+/// Whether a run of so many cycles, 1 to 1024, can be had with these scripts and faults (project-defined). It takes no
 /// memory.
 ///
 /// Refused, in this order, each kind looked for in the whole lists before the next, and of a kind the first named:

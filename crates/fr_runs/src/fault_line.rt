@@ -9,7 +9,7 @@ use fr_slots::numbers::SlotId;
 use fr_slots::window::Window;
 use std::alloc::AllocError;
 
-/// The cycles of a run in which a fault comes (own profile).
+/// The cycles of a run in which a fault comes (project-defined).
 #[derive(Clone, Copy, PartialEq, Eq)]
 pub enum FaultCycles {
     /// Every cycle of the run.
@@ -18,7 +18,7 @@ pub enum FaultCycles {
     Only(u16),
 }
 
-/// The windows of a cycle in which a fault comes (own profile).
+/// The windows of a cycle in which a fault comes (project-defined).
 #[derive(Clone, Copy, PartialEq, Eq)]
 pub enum FaultPlace {
     /// Every static slot.
@@ -30,7 +30,7 @@ pub enum FaultPlace {
     Minislot(u16),
 }
 
-/// A fault, and the windows of a run in which it comes (own profile).
+/// A fault, and the windows of a run in which it comes (project-defined).
 #[derive(Drop, PartialEq, Eq)]
 pub struct FaultLine {
     /// What goes wrong.
@@ -42,7 +42,7 @@ pub struct FaultLine {
 }
 
 /// Puts copies of the lines that name the cycle of this number of the run, in their order, in the place of those that
-/// are kept (own profile). No other line strikes a window of that cycle.
+/// are kept (project-defined). No other line takes effect in a window of that cycle.
 ///
 /// Where memory is refused some of them are kept.
 pub fn keep_lines_of(
@@ -117,8 +117,8 @@ impl FaultLine {
         }
     }
 
-    /// Whether the fault comes in this window (own profile). `cycle` is the number of the window's cycle in the run,
-    /// counted from 0 and going on after 63.
+    /// Whether the fault comes in this window (project-defined). `cycle` is the number of the window's cycle in the
+    /// run, counted from 0 and going on after 63.
     pub fn strikes(&self, cycle: u16, window: &Window) -> bool
         ensures { result ≡ strikes self.now cycle window.now }
     {

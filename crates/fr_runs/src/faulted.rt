@@ -59,7 +59,7 @@ fn loses(node: NodeId, channel: Channel, fault: &Fault) -> bool
     }
 }
 
-/// The bit that the line turns on the channel of the window, if it strikes there.
+/// The bit that the line turns on the channel of the window, if it takes effect there.
 fn bit_by(line: &FaultLine, cycle: u16, window: &Window, channel: Channel) -> Option<u16>
     ensures { result ≡ bit_by line.now cycle window.now channel }
 {
@@ -83,7 +83,7 @@ fn bit_due(lines: &[FaultLine], cycle: u16, window: &Window, channel: Channel) -
     None
 }
 
-/// What the line has the node send on the channel of the window, if it strikes there.
+/// What the line has the node send on the channel of the window, if it takes effect there.
 fn babble_by<'a>(
     line: &'a FaultLine,
     cycle: u16,
@@ -213,7 +213,8 @@ fn is_loss_right(lines: &[FaultLine], cycle: u16, window: &Window, sent: &Sent) 
     is_muted(sent.fate) == is_lost
 }
 
-/// Whether the transmission is due, as a babble of a line that strikes, or as an offer that such a line loses or not.
+/// Whether the transmission is due, as a babble of a line that takes effect, or as an offer that such a line loses or
+/// not.
 fn is_due(lines: &[FaultLine], cycle: u16, window: &Window, sent: &Sent) -> bool
     ensures { IsTrue result ↔ IsDue lines.now cycle window.now sent.now }
 {
@@ -274,7 +275,7 @@ fn is_babbled(sealed: &Sealed, fault: &Fault) -> bool
     }
 }
 
-/// Whether what the line has a node send was sent, if the line strikes the window.
+/// Whether what the line has a node send was sent, if the line takes effect in the window.
 fn is_babbled_by(cycle: u16, sealed: &Sealed, line: &FaultLine) -> bool
     ensures { IsTrue result ↔ IsBabbledBy cycle sealed.now line.now }
 {
@@ -310,7 +311,7 @@ fn is_bit_due(lines: &[FaultLine], cycle: u16, sealed: &Sealed, channel: Channel
     sealed.corrupt_on(channel) == bit_due(lines, cycle, &sealed.window, channel)
 }
 
-/// Whether the window, which lies in the cycle of this number of the run, has the faults of the lines that strike
+/// Whether the window, which lies in the cycle of this number of the run, has the faults of the lines that take effect
 /// there, and no others.
 #[tactic(auto, using(crate::proofs::FaultedLemmas::has_faults))]
 fn has_faults(lines: &[FaultLine], cycle: u16, sealed: &Sealed) -> bool
@@ -322,12 +323,13 @@ fn has_faults(lines: &[FaultLine], cycle: u16, sealed: &Sealed) -> bool
         && are_babbled(lines, cycle, sealed)
 }
 
-/// Whether each window of the record has the faults of the lines that strike there, and no others (own profile).
+/// Whether each window of the record has the faults of the lines that take effect there, and no others
+/// (project-defined).
 ///
 /// That is found by one walk along the record, in which each line is looked at once for each cycle, and each that names
 /// the cycle a few times for each of its windows. Of lines that bring more than one fault of a kind, node and channel
 /// into a window, which `check_run` doesn't accept, the first is looked for, and the answer may be false for a record
-/// that has it. Refused for want of memory, which it takes for the lines of a cycle.
+/// that has it. Refused where an allocation fails, which it takes for the lines of a cycle.
 pub fn have_faults(
     alloc: Global,
     lines: &[FaultLine],

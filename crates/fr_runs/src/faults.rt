@@ -114,8 +114,8 @@ fn meets_any(line: &FaultLine, before: &[FaultLine]) -> bool
     before.iter().any(|other| lines_meet(line, other))
 }
 
-/// Whether a run of the cluster for so many cycles, which has the fault lines before it, can have this one too (own
-/// profile): the cluster has the node of the fault, where it has one, the run has the cycle and each cycle the static
+/// Whether a run of the cluster for so many cycles, which has the fault lines before it, can have this one too
+/// (project-defined): the cluster has the node of the fault, where it has one, the run has the cycle and each cycle the static
 /// slot or minislot, where the line names one, and no line before it names a window that it names for the same kind,
 /// node and channel, or for a corruption the same channel. It is what `check_run` asks of each fault line.
 pub fn suits_after(cluster: &Cluster, cycles: u16, before: &[FaultLine], line: &FaultLine) -> bool

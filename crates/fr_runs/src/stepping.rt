@@ -213,8 +213,8 @@ fn is_stepped_at(
     }
 }
 
-/// Whether each call that a task made came in the cycle of the line that it is taken for (own profile): once its node
-/// had fetched and observed all windows of the cycles before, and before it fetched the first window of the line's
+/// Whether each call that a task made came in the cycle of the line that it is taken for (project-defined): once its
+/// node had fetched and observed all windows of the cycles before, and before it fetched the first window of the line's
 /// cycle. A task's lines are those of the first script that is for it, and its calls are taken for them in their order.
 /// A line whose call is missing isn't looked for: `settle` tells that.
 ///

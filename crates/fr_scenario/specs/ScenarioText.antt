@@ -1,4 +1,4 @@
--- The text of a scenario (own profile).
+-- The text of a scenario (project-defined).
 use Rattle.std.specs.Prelude.{◌≡◌, ℕ, ◌≤◌, ◌+◌, List, ◌++◌, codes, length}
 use Rattle.std.specs.List.{flat_map}
 use Rattle.fr_lines.specs.Spelling.{line_feed, line_text, end_line}

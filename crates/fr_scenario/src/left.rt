@@ -7,10 +7,10 @@ use crate::error::ScenarioError;
 use memchr::memchr;
 use std::marker::Model;
 
-/// The number of the last line that a scenario can have (own profile).
+/// The number of the last line that a scenario can have (project-defined).
 pub(crate) const LAST_LINE: u32 = 4096;
 
-/// The most bytes of a line, without its line feed (own profile).
+/// The most bytes of a line, without its line feed (project-defined).
 const LONGEST_LINE: usize = 1200;
 
 /// The lines that a text has left: its whole lines, and what stands after its last line feed.

@@ -1,4 +1,4 @@
-//! Scenarios: what the tasks of a cluster do in a run and which faults come in it, as a text (own profile).
+//! Scenarios: what the tasks of a cluster do in a run and which faults come in it, as a text (project-defined).
 //!
 //! ```text
 //! let scenario = Scenario::from_text(alloc, "frscenario 2\npop 0 1 2\nmute 2 A * s*\nend\n")?;
@@ -9,7 +9,7 @@
 //! ```
 //!
 //! A chapter in parentheses is one of the FlexRay Protocol Specification 2.1, revision A, whose rule it is.
-//! *(own profile)* marks a rule of this project's own, which says nothing of the standard.
+//! *(project-defined)* marks a rule of this project's own, which says nothing of the standard.
 #![tactic(auto)]
 
 pub mod error;

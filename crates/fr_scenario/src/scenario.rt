@@ -16,7 +16,7 @@ use fr_runs::fault_line::FaultLine;
 use std::alloc::Global;
 use std::marker::Model;
 
-/// What the tasks of a cluster are to do in a run, and which faults come in it (own profile).
+/// What the tasks of a cluster are to do in a run, and which faults come in it (project-defined).
 #[derive(Drop)]
 pub struct Scenario {
     scripts: Vec<Script>,
@@ -100,7 +100,7 @@ impl Scenario {
         })
     }
 
-    /// The scenario that a text spells (own profile).
+    /// The scenario that a text spells (project-defined).
     ///
     /// The first line is `frscenario 1` or `frscenario 2`, and the last one `end`; each line ends with a line feed and
     /// has at most 1200 bytes before it, and there are at most 4096 of them. Between those two stand, in any order:
@@ -154,8 +154,8 @@ impl Scenario {
         self.faults.as_slice()
     }
 
-    /// The number of each fault line in the text, in the order of the text (own profile). A line feed ends each line,
-    /// and the first line, which names the version, is line 1.
+    /// The number of each fault line in the text, in the order of the text (project-defined). A line feed ends each
+    /// line, and the first line, which names the version, is line 1.
     pub fn fault_numbers(&self) -> &[u32]
         ensures { result.now ≡ self.now.numbers }
     {

@@ -1,6 +1,6 @@
 //! The versions of a scenario's format.
 
-/// A version of the format, which the first line of a text names (own profile).
+/// A version of the format, which the first line of a text names (project-defined).
 #[derive(Clone, Copy, PartialEq, Eq)]
 pub(crate) enum Version {
     /// Version 1, which has no line for a withdraw.

@@ -1,5 +1,5 @@
 -- What is at fault among the nodes of a cluster file, each by itself being in order (chapters 5 and 9; that nodes
--- divide a static slot on a channel by cycles, and the order of the faults, are own profile).
+-- divide a static slot on a channel by cycles, and the order of the faults, are project-defined).
 use Rattle.std.specs.Prelude.{ℕ, ◌+◌, Bool, List, [], ◌∷◌, Option, Some, None, option_map, position, if◌then◌else◌}
 use Rattle.std.specs.List.{flat_map}
 use Rattle.std.specs.Option.{option_or}

@@ -1,4 +1,4 @@
--- The cluster that a file describes, or the first of its faults (own profile).
+-- The cluster that a file describes, or the first of its faults (project-defined).
 use Rattle.std.specs.Prelude.{◌≡◌, ℕ, ◌+◌, nat_le, ◌&&◌, List, [], ◌∷◌, length, codes, Option, Some, None, ok_or}
 use Rattle.std.specs.Prelude.{option_and_then, Result, Ok, Err, if◌then◌else◌, String}
 use Rattle.std.specs.BTreeMap.{BTreeMap}

@@ -1,4 +1,4 @@
--- What the table of a node and the tables in it are read as (own profile): `None` where one can't be.
+-- What the table of a node and the tables in it are read as (project-defined): `None` where one can't be.
 use Rattle.std.specs.Prelude.{ℕ, Bool, false, List, codes, Option, Some, None, option_map, if◌then◌else◌}
 use Rattle.std.specs.Result.{result_ok}
 use Rattle.fr_slots.specs.declared.filter.Filter.{Filter}
@@ -19,7 +19,7 @@ checked test value = if test value then Some value else None
 
 -- ---- ownership lines
 
--- the slot is a static one, in every cycle where no other ones are told, and only a sync frame is a startup frame
+-- the slot is a static one, in every cycle where no other ones are reported, and only a sync frame is a startup frame
 unfoldable pub own_in : Parameters → Members → Option Own
 own_in p table = do
   slot ← number_at (codes "slot") 1 p.static_slots table

@@ -1,5 +1,5 @@
 -- Who sends in a slot on a channel in a cycle (chapters 5 and 9; that nodes divide a static slot on a channel by cycles
--- is own profile).
+-- is project-defined).
 use Rattle.std.specs.Prelude.{◌≡◌, ℕ, ◌<◌, Bool, true, Some, slice_get, if◌then◌else◌}
 use Rattle.std.specs.List.{list_any}
 use Rattle.fr_schedule.specs.Descriptions.{Description}

@@ -1,5 +1,5 @@
--- What a table of a cluster file has under a key (own profile): `None` where the key is missing that has to be there,
--- and where something else stands there than has to.
+-- What a table of a cluster file has under a key (project-defined): `None` where the key is missing that has to be
+-- there, and where something else stands there than has to.
 use Rattle.std.specs.Prelude.{ℕ, nat_le, ℤ, pos, Bool, false, ◌&&◌, List, [], ◌∷◌, length, codes, Option, Some, None}
 use Rattle.std.specs.Prelude.{is_some, option_and_then, if◌then◌else◌}
 use Rattle.std.specs.Int.Signed.{le_z}

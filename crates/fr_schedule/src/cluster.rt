@@ -76,7 +76,7 @@ fn cluster_of(alloc: Global, root: &Table) -> Result<Cluster, ConfigError>
 }
 
 impl Cluster {
-    /// The cluster that a cluster file describes (own profile).
+    /// The cluster that a cluster file describes (project-defined).
     ///
     /// Refused, in this order:
     ///
@@ -111,7 +111,7 @@ impl Cluster {
 
     /// The node that sends in the slot on the channel in the cycle, or None where there is none: the owner of a static
     /// slot in that cycle, and in a dynamic slot the node with a transmit buffer that admits it (chapter 5; the
-    /// division of a static slot by cycles is own profile).
+    /// division of a static slot by cycles is project-defined).
     pub fn sender(&self, cycle: Cycle, slot: SlotId, channel: Channel) -> Option<NodeId>
         ensures sender { IfSome result (λ node. IsSender self.now cycle slot channel node) }
         ensures nobody { IfNone result ((node : ℕ) → ¬ IsSender self.now cycle slot channel node) }
@@ -153,7 +153,7 @@ impl Cluster {
         self.plans.len() as u8
     }
 
-    /// Whether the guardians watch over the channel (own profile).
+    /// Whether the guardians watch over the channel (project-defined).
     pub fn guarded(&self, channel: Channel) -> bool
         ensures value { result ≡ is_guarded self.now.guard channel }
         ensures lawful { IsCluster self.now }

@@ -32,18 +32,18 @@ pub enum ConfigError {
     #[error("BadBuffer {} {}", .0.number(), .1)]
     BadBuffer(NodeId, u8),
     /// The transmit buffer is for a static slot that its node doesn't own on all the buffer's channels and in all the
-    /// cycles that the buffer admits (chapter 5; the division by cycles is own profile).
+    /// cycles that the buffer admits (chapter 5; the division by cycles is project-defined).
     #[error("NotOwned {} {}", .0.number(), .1)]
     NotOwned(NodeId, u8),
-    /// The transmit buffer is for a dynamic slot on both channels (own profile).
+    /// The transmit buffer is for a dynamic slot on both channels (project-defined).
     #[error("DynamicBoth {} {}", .0.number(), .1)]
     DynamicBoth(NodeId, u8),
     /// Two ownership lines are for the slot on the channel in the cycle, or two transmit buffers admit it, of one node
-    /// or of two (chapter 5; the division of a static slot by cycles is own profile).
+    /// or of two (chapter 5; the division of a static slot by cycles is project-defined).
     #[error("Overlap {} {} {}", .0.number(), .1, .2.number())]
     Overlap(SlotId, Channel, Cycle),
     /// A frame of the dynamic transmit buffer that begins at the latest minislot of its node on its channel would end
-    /// after the dynamic segment, where the minislots that stay idle after it don't count (own profile).
+    /// after the dynamic segment, where the minislots that stay idle after it don't count (project-defined).
     #[error("TooLong {} {}", .0.number(), .1)]
     TooLong(NodeId, u8),
     /// Memory was refused.

@@ -18,9 +18,9 @@ use fr_slots::sharing::Occasion;
 pub(crate) enum Rule {
     /// A static one is for channels on which its node owns the slot in the buffer's cycles (chapter 5).
     Owned,
-    /// A dynamic one is for one channel (own profile).
+    /// A dynamic one is for one channel (project-defined).
     OneChannel,
-    /// A frame of a dynamic one that begins at the latest minislot ends within the dynamic segment (own profile).
+    /// A frame of a dynamic one that begins at the latest minislot ends within the dynamic segment (project-defined).
     EndsInTime,
 }
 

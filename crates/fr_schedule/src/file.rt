@@ -22,7 +22,7 @@ use fr_slots::plan::{Buffer, NodePlan};
 use std::alloc::Global;
 use toml::{Table, Value};
 
-/// The most nodes of a cluster (own profile).
+/// The most nodes of a cluster (project-defined).
 const MOST_NODES: usize = NODES as usize;
 
 /// The table `params`, if there is one.

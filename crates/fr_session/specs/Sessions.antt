@@ -101,7 +101,7 @@ abbrev pub ServedWorld : Terms → Option (List ℕ) → Option (List ℕ) → O
 ServedWorld terms text before after old new =
     (kept : List FaultLine) × Served terms text before after (opening old) (state_of new kept)
 
--- ---- want of memory
+-- ---- a failed allocation
 
 -- the reader or the writer failed
 abbrev pub IsOfStream : SessionError → Type 0

@@ -1,4 +1,4 @@
--- The faults that come in a window, as events (own profile).
+-- The faults that come in a window, as events (project-defined).
 use Rattle.std.specs.Prelude.{◌≡◌, ℕ, List, [], ◌∷◌, Result, Ok, Err, if◌then◌else◌}
 use Rattle.fr_core.specs.declared.error.StepError.{StepError}
 use Rattle.fr_core.specs.declared.event.Event.{Event}

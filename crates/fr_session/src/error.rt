@@ -2,7 +2,7 @@
 
 use thiserror::Error;
 
-/// Why a session ends before its input does (own profile).
+/// Why a session ends before its input does (project-defined).
 #[derive(Clone, Copy, Debug, PartialEq, Eq, Error)]
 pub enum SessionError {
     /// The requests couldn't be read.

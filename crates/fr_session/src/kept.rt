@@ -13,8 +13,8 @@ use std::alloc::{AllocError, Global};
 use std::collections::HashSet;
 use std::marker::Model;
 
-/// Fault lines in their order, and marks of the windows that they name, so that each further line is checked in the same
-/// time. Contracts see them as the list of lines.
+/// Fault lines in their order, and marks of the windows that they name, so that each further line is checked in the
+/// same time. Contracts see them as the list of lines.
 #[derive(Drop)]
 pub(crate) struct KeptLines {
     lines: Vec<FaultLine>,

@@ -1,5 +1,5 @@
-//! A session with the world of a cluster: requests in, a line each, and a reply to each before the next is read (own
-//! profile).
+//! A session with the world of a cluster: requests in, a line each, and a reply to each before the next is read
+//! (project-defined).
 //!
 //! ```text
 //! serve(alloc, &cluster, cycles, &mut world, &mut reader, &mut writer)?;
@@ -11,7 +11,7 @@
 //! // cycle                   open 7 1 0 1 1
 //! ```
 //!
-//! *(own profile)* marks a rule of this project's own, which says nothing of the standard.
+//! *(project-defined)* marks a rule of this project's own, which says nothing of the standard.
 #![tactic(auto)]
 
 pub mod error;

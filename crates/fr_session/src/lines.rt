@@ -8,7 +8,7 @@ use memchr::memchr;
 use std::io;
 use std::io::{BufRead, ErrorKind};
 
-/// The longest line, without its line feed (own profile).
+/// The longest line, without its line feed (project-defined).
 pub(crate) const LONGEST_LINE: usize = 1200;
 
 /// So many bytes of a line are kept: one more than it may have, so that a longer one shows.

@@ -91,7 +91,7 @@ fn push_whole(events: &mut Vec<Event>, nodes: u8) -> Result<(), AllocError>
 }
 
 /// What is due in a window of so many nodes, 16 at most, in which nothing has been done, but for the bus's advance:
-/// the look, the fetch and the put of each node, the seal, and the take and the observe of each (own profile).
+/// the look, the fetch and the put of each node, the seal, and the take and the observe of each (project-defined).
 ///
 /// Refused where memory is.
 pub fn whole_window(alloc: Global, nodes: u8) -> Result<Vec<Event>, AllocError>
@@ -167,7 +167,7 @@ pub(crate) fn finish_window(
     hindrance(found, &last)
 }
 
-/// Whether the open window is the first of its cycle, or the run is over (own profile).
+/// Whether the open window is the first of its cycle, or the run is over (project-defined).
 pub fn is_at_cycle(bus: &Bus) -> bool
     ensures { result ≡ is_at_cycle bus.now.opened }
 {

@@ -4,7 +4,7 @@ use fr_core::event::Event;
 use fr_runs::fault_line::FaultLine;
 use fr_slots::numbers::NodeId;
 
-/// What a line asks for (own profile).
+/// What a line asks for (project-defined).
 #[derive(Drop, PartialEq, Eq)]
 pub enum Request {
     /// One event of the world.

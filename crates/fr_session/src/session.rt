@@ -198,8 +198,8 @@ impl Session {
     }
 }
 
-/// Writes the session's first line, `frworld 1`, and answers each line of the reader, each before the next is read (own
-/// profile).
+/// Writes the session's first line, `frworld 1`, and answers each line of the reader, each before the next is read
+/// (project-defined).
 ///
 /// The reply is handed on at once: the writer is flushed after each. A line that is no request, or has more than 1200
 /// bytes before its line feed, is answered with `refused BadLine N`, N its number from 1, and changes nothing. What
@@ -212,7 +212,7 @@ impl Session {
 ///
 /// Ends early with `Memory` where memory for the session itself is refused, before anything is read or written; with
 /// `Read` where the reader fails, and with `Write` where the writer does, which may have taken a part of a reply by
-/// then. Want of memory later on is answered: `refused Bus Memory` of a seal, `refused Memory` of a fault line, a
+/// then. A failed allocation later on is answered: `refused Bus Memory` of a seal, `refused Memory` of a fault line, a
 /// report, a trace or a window of the record.
 pub fn serve<R: BufRead, W: Write>(
     alloc: Global,
@@ -225,7 +225,7 @@ pub fn serve<R: BufRead, W: Write>(
     // What is written is the first line and then the reply to each line, in order, by the definition of events.
     ensures served { OnOk result (ServedWorld (terms_of cluster.now cycles) (R.remaining reader.old)
         (W.contents writer.old) (W.contents writer.new) world.old world.new) }
-    // Want of memory ends it only before it has begun.
+    // A failed allocation ends it only before it has begun.
     ensures memory { IsUntouched result (W.contents writer.old) (W.contents writer.new) world.old world.new }
     ensures headline { Headline world.new }
 {

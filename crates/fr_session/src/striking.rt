@@ -42,7 +42,7 @@ fn first_of(before: Result<(), StepError>, next: Result<(), StepError>) -> Resul
 }
 
 /// Brings into the open window of the world, which has to be this one of the cycle of this number of the run, the
-/// faults that come there, in the order of their lines (own profile).
+/// faults that come there, in the order of their lines (project-defined).
 ///
 /// A fault that the bus refuses, as a second one of its kind, node and channel in the window, doesn't come; those of
 /// the other lines do. The first such refusal is returned.

@@ -1,4 +1,4 @@
--- Whether a line struck something, one window more, and the lines that struck nothing, one line more.
+-- Whether a line struck something, one window more, and the lines that had no effect, one line more.
 use Rattle.std.proofs.Common.{◌≡◌, ℕ, ◌+◌, ◌-◌, ◌≤◌, ◌<◌, ◌||◌, Bool, cond, true, false, List, [], ◌∷◌, ◌++◌, length}
 use Rattle.std.proofs.Common.{take, drop, get_or, refl, sym, ap}
 use Rattle.std.proofs.Common.{◌∙◌, ◌⊎◌, inl, inr, append_assoc}
@@ -64,7 +64,7 @@ module _ (p : Parameters) (rs : List Recorded) where
         (by_first ∙ ap (λ (b : Bool). cond b (idle_numbers p rs lines numbers)
         (number ∷ idle_numbers p rs lines numbers)) struck)) ∙ so_far
 
-    -- a line that struck nothing
+    -- a line that had no effect
     pub line_idle : has_struck p rs line ≡ false → (idle ++ number ∷ []) ++ idle_numbers p rs lines numbers ≡ all
     line_idle none =
         append_assoc idle (number ∷ []) (idle_numbers p rs lines numbers)

@@ -51,7 +51,7 @@ unwritten d cycles shown text old new (refusal.Text bench.BadNumber) same = same
 unwritten d cycles shown text old new (refusal.Text (bench.Config e)) same = same
 unwritten d cycles shown text old new (refusal.Text (bench.Midpoint e)) same = same
 
--- a node that isn't there, or want of memory
+-- a node that isn't there, or a failed allocation
 pub node_missing : (d : Description) (cycles : ℕ) (shown : Shown) (text : Option (List ℕ)) (file : PlayedFile)
     (e : PlayError) → IfSome text (λ t. IsPlayOf d cycles t (Ok file))
     → (e ≡ refusal.Text bench.Memory) ⊎ ((e ≡ refusal.UnknownNode) × LacksNode shown file)

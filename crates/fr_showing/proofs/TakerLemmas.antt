@@ -149,7 +149,7 @@ module _ (p : Parameters) (r : Recorded) (node : ℕ) where
   queue_is a b a_is b_is plan A (Some q) = ap (λ (t : Bool). is_for_queue plan q r.window A && t) a_is
   queue_is a b a_is b_is plan B (Some q) = ap (λ (t : Bool). is_for_queue plan q r.window B && t) b_is
 
-  -- the takers of the node
+  -- the receivers of the node
   pub takers_is : (w : Opportunity) (a b : Bool) → w ≡ r.window
       → a ≡ is_some (data_frame_seen p r.window A (seen_by p r A node))
       → b ≡ is_some (data_frame_seen p r.window B (seen_by p r B node))

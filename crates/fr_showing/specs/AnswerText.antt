@@ -1,4 +1,4 @@
--- The lines of the scripts of a run, each with its answer (own profile).
+-- The lines of the scripts of a run, each with its answer (project-defined).
 use Rattle.std.specs.Prelude.{ℕ, List, [], ◌∷◌, codes, slice_get, Option, Some, None, option_map}
 use Rattle.std.specs.Fmt.{decimal}
 use Rattle.std.specs.Option.{option_and_then}

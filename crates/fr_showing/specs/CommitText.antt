@@ -1,4 +1,4 @@
--- The commits of a run, each with what became of it (own profile).
+-- The commits of a run, each with what became of it (project-defined).
 use Rattle.std.specs.Prelude.{ℕ, List, [], ◌∷◌, ◌++◌, codes, length, slice_get, Option, Some}
 use Rattle.std.specs.Fmt.{decimal}
 use Rattle.std.specs.List.{flat_map, range_with_len}

@@ -1,4 +1,4 @@
--- How a transmission ended (own profile).
+-- How a transmission ended (project-defined).
 use Rattle.std.specs.Prelude.{ℕ, ◌/◌, nat_lt, Bool, false, List, codes, length, count_by, Option, Some, None}
 use Rattle.std.specs.Prelude.{option_map, if◌then◌else◌}
 use Rattle.std.specs.List.{find}

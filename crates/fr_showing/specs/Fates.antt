@@ -1,5 +1,5 @@
--- What became of a commit, by which entry of its journal and in which cycle of the run, and where it was sent (own
--- profile).
+-- What became of a commit, by which entry of its journal and in which cycle of the run, and where it was sent
+-- (project-defined).
 use Rattle.std.specs.Prelude.{ℕ, ◌+◌, List, [], ◌∷◌, ◌++◌, length, take, drop, count_by, Option, Some, None, unwrap_or}
 use Rattle.std.specs.Prelude.{if◌then◌else◌}
 use Rattle.std.specs.Option.{option_or}
@@ -37,7 +37,7 @@ abbrev pub overwritten_by : ℕ → List Entry → Entry → Option Became
 overwritten_by buffer before e = if is_commit_on buffer e then Some (Overwritten (cycles_of before) (length before))
     else None
 
--- By the fate of a commit. Where a later entry took it back or took its place, the first such entry is told.
+-- By the fate of a commit. Where a later entry took it back or took its place, the first such entry is reported.
 abbrev pub told_by : Fate → Option Became → Option Became → Became
 told_by fate.Sent withdrawn overwritten = Sent
 told_by fate.Withdrawn withdrawn overwritten = unwrap_or withdrawn Pending

@@ -1,4 +1,4 @@
--- Which fault lines of a scenario struck nothing in a run (own profile).
+-- Which fault lines of a scenario had no effect in a run (project-defined).
 use Rattle.std.specs.Prelude.{ℕ, ◌-◌, Bool, true, false, ◌&&◌, ◌||◌, List, [], ◌∷◌, ◌++◌, if◌then◌else◌}
 use Rattle.std.specs.List.{list_any}
 use Rattle.fr_bus.specs.declared.fault.Fault.{Fault}
@@ -30,7 +30,7 @@ is_turned_end Blocked = false
 abbrev pub shows : Parameters → Recorded → Fault → Sent → Bool
 shows p r fault t = brings t fault || (turns t.channel fault && is_turned_end (end_of p r t))
 
--- the line strikes there, and a transmission shows it
+-- the line takes effect there, and a transmission shows it
 abbrev pub has_struck_in : Parameters → FaultLine → ℕ → Recorded → Bool
 has_struck_in p line cycle r = strikes line cycle r.window && list_any (shows p r line.fault) r.sent
 
@@ -48,7 +48,7 @@ has_struck p rs line = has_struck_after p line [] rs
 
 -- ---- the lines that didn't
 
--- The numbers of the lines that struck nothing, in the order of the lines, where the lines have these numbers.
+-- The numbers of the lines that had no effect, in the order of the lines, where the lines have these numbers.
 unfoldable pub idle_numbers : Parameters → List Recorded → List FaultLine → List ℕ → List ℕ
 idle_numbers p rs [] numbers = []
 idle_numbers p rs (line ∷ lines) [] = []

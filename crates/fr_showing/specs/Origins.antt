@@ -1,4 +1,4 @@
--- Which line of a scenario each fault of a record comes from (own profile).
+-- Which line of a scenario each fault of a record comes from (project-defined).
 use Rattle.std.specs.Prelude.{ℕ, Bool, false, ◌&&◌, Option, option_and_then, position, slice_get}
 use Rattle.fr_bus.specs.declared.fault.Fault.{Fault}
 use Rattle.fr_bus.specs.declared.fault.Fault.TheVariants.{Babble, Mute, Corrupt}
@@ -24,7 +24,7 @@ brings t (Babble node channel bytes) = t.babble && is_sent_by node channel t
 brings t (Mute node channel) = is_muted t.fate && is_sent_by node channel t
 brings t (Corrupt channel bit) = false
 
--- the fault turns a bit on the channel
+-- the fault flips a bit on the channel
 abbrev pub turns : Channel → Fault → Bool
 turns channel (Babble node on bytes) = false
 turns channel (Mute node on) = false
@@ -41,7 +41,7 @@ has_turned cycle w channel line = strikes line cycle w && turns channel line.fau
 -- ---- its number in the text of the scenario
 
 -- The number of the first fault line of which this holds, if there is one. Of the lines that do the same in one window
--- there is at most one in a run that can be had.
+-- there is at most one in a run that the cluster accepts.
 abbrev pub number_of : (FaultLine → Bool) → Contents → Option ℕ
 number_of holds s = option_and_then (slice_get s.numbers) (position holds s.faults)
 
@@ -50,6 +50,6 @@ number_of holds s = option_and_then (slice_get s.numbers) (position holds s.faul
 abbrev pub origin_of_sent : Contents → ℕ → Opportunity → Sent → Option ℕ
 origin_of_sent s cycle w t = number_of (has_brought cycle w t) s
 
--- the line that turns a bit on the channel
+-- the line that flips a bit on the channel
 abbrev pub origin_of_bit : Contents → ℕ → Opportunity → Channel → Option ℕ
 origin_of_bit s cycle w channel = number_of (has_turned cycle w channel) s

@@ -1,5 +1,5 @@
--- The bus's record, a line for each transmission and each turned bit, with the line of the scenario that it comes from
--- (own profile).
+-- The bus's record, a line for each transmission and each flipped bit, with the line of the scenario that it comes from
+-- (project-defined).
 use Rattle.std.specs.Prelude.{ℕ, ◌-◌, List, [], ◌∷◌, ◌++◌, codes, Option, Some, None}
 use Rattle.std.specs.Prelude.{if◌then◌else◌}
 use Rattle.std.specs.Fmt.{decimal}

@@ -1,4 +1,4 @@
--- What is shown of a run (own profile).
+-- What is shown of a run (project-defined).
 use Rattle.std.specs.Prelude.{⊤, ◌≡◌, ℕ, List, length, slice_get, Option, Some, None, option_map, IfSome, IsSome}
 use Rattle.std.specs.Prelude.{Result, Ok, Err}
 use Rattle.std.specs.Global.{Vec}
@@ -62,13 +62,13 @@ LacksNode (Trace node) file = slice_get file.played.world.interfaces node ≡ No
 
 -- ---- what is written
 
--- the text of a run with that scenario was written, and nothing else, and these fault lines struck nothing in the run
+-- the text of a run with that scenario was written, and nothing else, and these fault lines had no effect in the run
 abbrev pub Adds : Description → ℕ → Shown → Option (List ℕ) → Option (List ℕ) → List ℕ → List ℕ → Type 0
 Adds d cycles shown old new idle text =
     (file : PlayedFile) × (written : List ℕ) × IsPlayIn d cycles text file × IsShown shown file written
     × Appends old new written × (idle ≡ idle_lines file)
 
--- Where the text of the scenario is known, that of a run with it was written, and the lines are told that struck
+-- Where the text of the scenario is known, that of a run with it was written, and the lines are reported that struck
 -- nothing in it. A refusal but `Write` leaves the writer as it was.
 abbrev pub Prints : Description → ℕ → Shown → Option (List ℕ) → Option (List ℕ) → Option (List ℕ)
     → Result (Vec ℕ) PlayError

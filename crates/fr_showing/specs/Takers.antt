@@ -1,5 +1,5 @@
 -- What took a transmission: the receive buffers and the queues of the nodes, each by what its node sees of the window
--- (chapter 9; the queue, and channel A before B, are own profile).
+-- (chapter 9; the queue, and channel A before B, are project-defined).
 use Rattle.std.specs.Prelude.{ℕ, ◌+◌, Bool, true, false, List, [], ◌∷◌, ◌++◌, codes, Option, Some, None}
 use Rattle.std.specs.Prelude.{if◌then◌else◌}
 use Rattle.std.specs.Fmt.{decimal}

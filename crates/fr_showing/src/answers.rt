@@ -99,10 +99,10 @@ fn write_call<W: Write>(writer: &mut W, world: &World, call: &Call) -> io::Resul
     writeln!(writer)
 }
 
-/// Writes a line for each of the calls, in their order (own profile): the node, the task, the cycle of the run, what
-/// the task did in the words of a scenario, `=`, and the answer. That is the number of the entry of a commit, and of
-/// the commit that a withdraw took back; of a read or a pop the cycle count, the slot, the channel and the payload of
-/// the frame; and `-` for none.
+/// Writes a line for each of the calls, in their order (project-defined): the node, the task, the cycle of the run,
+/// what the task did in the words of a scenario, `=`, and the answer. That is the number of the entry of a commit, and
+/// of the commit that a withdraw took back; of a read or a pop the cycle count, the slot, the channel and the payload
+/// of the frame; and `-` for none.
 ///
 /// Fails where the writer fails, and then a part of the text may have gone out.
 pub fn write_answers<W: Write>(writer: &mut W, world: &World, calls: &[Call]) -> io::Result<()>

@@ -314,8 +314,9 @@ fn write_node<W: Write>(
     Ok(())
 }
 
-/// Writes a line for each commit of each node's journal, in the order of the nodes and of the entries (own profile):
-/// the node, the buffer, the task, the cycle of the run, the entry, the payload, `=`, and what became of it. That is
+/// Writes a line for each commit of each node's journal, in the order of the nodes and of the entries
+/// (project-defined): the node, the buffer, the task, the cycle of the run, the entry, the payload, `=`, and what
+/// became of it. That is
 /// `pending`; `withdrawn` or `overwritten`, with the cycle and the entry that did it; or `sent`, and then for each time
 /// and each channel on which it was handed to the bus the cycle of the run, the slot, the channel, how it ended there
 /// (`End`), and the receive buffers and queues that took it, in the order of the nodes, or a dash.

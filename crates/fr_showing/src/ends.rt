@@ -10,7 +10,7 @@ use fr_slots::channel::Channel;
 use fr_slots::params::Params;
 use fr_slots::window::Window;
 
-/// How a transmission ended (own profile).
+/// How a transmission ended (project-defined).
 #[derive(Clone, Copy, PartialEq, Eq)]
 pub enum End {
     /// It passed alone, as it was sent.
@@ -68,7 +68,7 @@ fn end_passed(params: &Params, sealed: &Sealed, sent: &Sent) -> End
     }
 }
 
-/// How a transmission of the window ended (own profile).
+/// How a transmission of the window ended (project-defined).
 pub fn end_of(params: &Params, sealed: &Sealed, sent: &Sent) -> End
     ensures { result ≡ end_of params.now sealed.now sent.now }
 {

@@ -1,4 +1,4 @@
-//! The fault lines of a scenario that struck nothing in a run.
+//! The fault lines of a scenario that had no effect in a run.
 ghost use Rattle.std.specs.Prelude.{◌≡◌, IfOk};
 ghost use Rattle.std.specs.List.{list_any};
 ghost use Rattle.fr_showing.specs.Idle.{has_struck, has_struck_in, idle_lines, idle_numbers, is_turned_end, shows};
@@ -58,7 +58,7 @@ fn has_struck(params: &Params, record: &[Sealed], line: &FaultLine) -> bool
     false
 }
 
-/// The numbers of the lines that struck nothing, where the lines have these numbers.
+/// The numbers of the lines that had no effect, where the lines have these numbers.
 fn idle_numbers(
     alloc: Global,
     params: &Params,
@@ -77,7 +77,7 @@ fn idle_numbers(
     Ok(idle)
 }
 
-/// The numbers of the scenario's fault lines that struck nothing in the run, in their order (own profile).
+/// The numbers of the scenario's fault lines that had no effect in the run, in their order (project-defined).
 ///
 /// A line struck something if in a window in which its fault comes a transmission shows it: of a babble line one that
 /// its node babbled on its channel, of a mute line one of its node on its channel that is muted, of a corrupt line one

@@ -43,7 +43,7 @@ pub(crate) fn brings(sent: &Sent, fault: &Fault) -> bool
     }
 }
 
-/// Whether the fault turns a bit on the channel.
+/// Whether the fault flips a bit on the channel.
 pub(crate) fn turns(channel: Channel, fault: &Fault) -> bool
     ensures { result ≡ turns channel fault.now }
 {
@@ -53,14 +53,14 @@ pub(crate) fn turns(channel: Channel, fault: &Fault) -> bool
     }
 }
 
-/// Whether the line strikes the window, and the transmission comes from it.
+/// Whether the line takes effect in the window, and the transmission comes from it.
 fn has_brought(cycle: usize, window: &Window, sent: &Sent, line: &FaultLine) -> bool
     ensures { result ≡ has_brought cycle window.now sent.now line.now }
 {
     strikes(line, cycle, window) && brings(sent, &line.fault)
 }
 
-/// Whether the line strikes the window, and turns a bit on the channel.
+/// Whether the line takes effect in the window, and flips a bit on the channel.
 fn has_turned(cycle: usize, window: &Window, channel: Channel, line: &FaultLine) -> bool
     ensures { result ≡ has_turned cycle window.now channel line.now }
 {
@@ -76,7 +76,7 @@ fn first_brought(lines: &[FaultLine], cycle: usize, window: &Window, sent: &Sent
         .position(|line| has_brought(cycle, window, sent, line))
 }
 
-/// The place of the first line that turns a bit on the channel.
+/// The place of the first line that flips a bit on the channel.
 fn first_turned(
     lines: &[FaultLine],
     cycle: usize,
@@ -111,7 +111,7 @@ pub(crate) fn origin_of_sent(
     number_at(scenario.fault_numbers(), place)
 }
 
-/// The number of the scenario's line that turns a bit on the channel of the window.
+/// The number of the scenario's line that flips a bit on the channel of the window.
 pub(crate) fn origin_of_bit(
     scenario: &Scenario,
     cycle: usize,

@@ -1,4 +1,4 @@
-//! The bus's record, a line for each transmission and each turned bit, with the scenario's line that it comes from.
+//! The bus's record, a line for each transmission and each flipped bit, with the scenario's line that it comes from.
 ghost use Rattle.std.specs.Prelude.{◌≡◌, ◌∷◌, ◌+◌, ◌<◌, ◌^◌, if◌then◌else◌};
 ghost use Rattle.std.specs.List.{flat_map};
 ghost use Rattle.fr_bus.specs.Record.{corrupt_on};
@@ -210,9 +210,9 @@ pub(crate) fn begun_with(begun: usize, sealed: &Sealed) -> usize
     }
 }
 
-/// Writes the bus's record of a run with the scenario (own profile): for each window, in their order, a line for each
-/// of its transmissions, in the order of the nodes, of a node on channel A before B and its offer before its babble,
-/// and then one for each bit that was to be turned.
+/// Writes the bus's record of a run with the scenario (project-defined): for each window, in their order, a line for
+/// each of its transmissions, in the order of the nodes, of a node on channel A before B and its offer before its
+/// babble, and then one for each bit that was to be turned.
 ///
 /// A line has the window's number, the cycle of the run, the minislot or a dash in a static slot, the slot and the
 /// channel. Those of a transmission go on with the node, `offer` or `babble`, `passed`, `blocked` or `muted`, how it

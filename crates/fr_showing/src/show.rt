@@ -15,7 +15,7 @@ use fr_schedule::cluster::Cluster;
 use std::alloc::Global;
 use std::io::{Read, Write};
 
-/// The numbers of the fault lines that struck nothing.
+/// The numbers of the fault lines that had no effect.
 fn idle_in(alloc: Global, file: &PlayedFile) -> Result<Vec<u32>, PlayError>
     ensures numbers { IfOk result (λ idle. idle.items ≡ idle_lines file.now) }
     ensures refused { IfErr result (λ e. e ≡ refusal.Text bench.Memory) }
@@ -27,12 +27,18 @@ fn idle_in(alloc: Global, file: &PlayedFile) -> Result<Vec<u32>, PlayError>
 }
 
 /// Reads a scenario file to its end, plays a run of the cluster with it for so many cycles, and writes what is to be
-/// shown of it (own profile). Gives the numbers of the scenario's fault lines that struck nothing in the run, in their
-/// order, as `idle_lines` does.
+/// shown of it (project-defined). Gives the numbers of the scenario's fault lines that had no effect in the run, in
+/// their order, as `idle_lines` does.
 ///
 /// Refused as `play_file` refuses, and then as `text_of` does. On every refusal but `Write`, which comes where the
 /// writer fails, nothing is written.
-#[tactic(auto, using(crate::proofs::ShowLemmas::unshown_of, crate::proofs::ShowLemmas::unwritten, crate::proofs::ShowLemmas::node_missing, crate::proofs::ShowLemmas::shown_of, crate::proofs::ShowLemmas::can_be_had))]
+#[tactic(auto, using(
+    crate::proofs::ShowLemmas::unshown_of,
+    crate::proofs::ShowLemmas::unwritten,
+    crate::proofs::ShowLemmas::node_missing,
+    crate::proofs::ShowLemmas::shown_of,
+    crate::proofs::ShowLemmas::can_be_had
+))]
 pub fn show_run<R: Read, W: Write>(
     alloc: Global,
     cluster: &Cluster,

@@ -33,7 +33,7 @@ use fr_slots::numbers::NodeId;
 use fr_trace::trace::write_trace;
 use std::alloc::Global;
 
-/// What is to be shown of a run (own profile).
+/// What is to be shown of a run (project-defined).
 #[derive(Clone, Copy, PartialEq, Eq)]
 pub enum Shown {
     /// Each node's report, the number of windows and that all agrees, as a run in threads prints it.
@@ -42,7 +42,7 @@ pub enum Shown {
     Answers,
     /// A line for each commit, with what became of it.
     Commits,
-    /// A line for each transmission and each turned bit of the bus's record, with the number of the scenario's line
+    /// A line for each transmission and each flipped bit of the bus's record, with the number of the scenario's line
     /// that it comes from.
     Record,
     /// What a listener on the bus hears that sends nothing, as a capture.
@@ -63,7 +63,7 @@ fn outcome_in(alloc: Global, world: &World) -> Result<Vec<u8>, PlayError>
     let windows = world.bus().record().len();
     match write_outcome(&mut text, world.interfaces(), windows) {
         Ok(()) => Ok(text),
-        // A list of bytes fails to take more for want of memory alone, here and below.
+        // A list of bytes takes no more only if an allocation fails, here and below.
         Err(_) => Err(PlayError::Text(BenchError::Memory)),
     }
 }
@@ -157,7 +157,7 @@ fn trace_in(alloc: Global, interface: &Interface) -> Result<Vec<u8>, PlayError>
     }
 }
 
-/// What is to be shown of the run (own profile).
+/// What is to be shown of the run (project-defined).
 ///
 /// Refused with `UnknownNode` where the cluster doesn't have the node that is to be shown, and with `Memory` where
 /// memory is refused.

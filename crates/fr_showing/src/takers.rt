@@ -80,7 +80,7 @@ fn came_to(params: &Params, sealed: &Sealed, node: NodeId) -> Came
     }
 }
 
-/// Writes a taker, after a comma where one was written before.
+/// Writes a receiver, after a comma where one was written before.
 #[tactic(auto, unfolding(crate::specs::Takers::after_commas))]
 fn write_taker<W: Write>(writer: &mut W, any: bool, taker: &Taker) -> io::Result<()>
     ensures { Writes W.contents writer.old writer.new result (after_commas any (taker.now ∷ [])) }
@@ -92,7 +92,7 @@ fn write_taker<W: Write>(writer: &mut W, any: bool, taker: &Taker) -> io::Result
     }
 }
 
-/// Writes a taker, if it is one, and says whether any was written by then.
+/// Writes a receiver, if it is one, and says whether any was written by then.
 #[tactic(auto, unfolding(crate::specs::Takers::after_commas))]
 fn write_if<W: Write>(
     writer: &mut W,

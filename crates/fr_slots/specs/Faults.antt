@@ -1,5 +1,5 @@
 -- The faults of a plan, and what a plan without fault gives (chapters 5 and 9; the limits, the order, and that nodes
--- divide a static slot by cycles are own profile).
+-- divide a static slot by cycles are project-defined).
 use Rattle.std.specs.Prelude.{◌≡◌, ℕ, suc, zero, ◌+◌, ◌-◌, ◌<◌, ◌≤◌, ◌==◌, nat_lt, nat_le, not, Bool, true, false, ◌&&◌}
 use Rattle.std.specs.Prelude.{◌||◌, List, [], ◌∷◌, Option, Some, None, is_some, unwrap_or, option_map, slice_get}
 use Rattle.std.specs.Prelude.{position, if◌then◌else◌}

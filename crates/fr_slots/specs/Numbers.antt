@@ -15,7 +15,7 @@ last_slot = 2047
 abbrev pub last_static_slot : ℕ
 last_static_slot = 1023
 
--- minislots are numbered from 1 (own profile)
+-- minislots are numbered from 1 (project-defined)
 abbrev pub last_minislot : ℕ
 last_minislot = 8000
 
@@ -26,7 +26,7 @@ cycle_count = 64
 abbrev pub last_cycle : ℕ
 last_cycle = 63
 
--- nodes of a cluster, and host tasks of a node, are numbered from 0 (own profile)
+-- nodes of a cluster, and host tasks of a node, are numbered from 0 (project-defined)
 abbrev pub last_node : ℕ
 last_node = 15
 
@@ -37,7 +37,7 @@ last_task = 7
 abbrev pub most_words : ℕ
 most_words = 127
 
--- the host tasks, the ownership lines or buffers, and the frames in the queue of a node (own profile)
+-- the host tasks, the ownership lines or buffers, and the frames in the queue of a node (project-defined)
 abbrev pub most_tasks : ℕ
 most_tasks = 8
 
@@ -47,7 +47,7 @@ most_lines = 64
 abbrev pub most_frames : ℕ
 most_frames = 256
 
--- the entries of a journal (own profile)
+-- the entries of a journal (project-defined)
 abbrev pub most_host_entries : ℕ
 most_host_entries = 16384
 

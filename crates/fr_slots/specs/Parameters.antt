@@ -70,7 +70,7 @@ pub record IsWithin (key : Key) (n : ℕ) : Type 0 where
   pub from_least : least_of key ≤ n
   pub at_most : n ≤ greatest_of key
 
--- ---- the sum: static segment, dynamic segment, symbol window and network idle time fill the cycle (own profile)
+-- ---- the sum: static segment, dynamic segment, symbol window and network idle time fill the cycle (project-defined)
 
 abbrev pub macroticks_of : Parameters → ℕ
 macroticks_of p = p.static_slots * p.static_mt + p.minislots * p.minislot_mt + p.symbol_mt + p.nit_mt

@@ -1,4 +1,4 @@
--- Windows: one opportunity to send, on both channels (own profile).
+-- Windows: one opportunity to send, on both channels (project-defined).
 use Rattle.std.specs.Prelude.{◌≡◌, ℕ, ◌≤◌, ◌<◌, ◌^◌, ◌==◌, nat_le, not, Bool, true, ◌&&◌, ◌||◌, Option, Some, None}
 use Rattle.std.specs.Prelude.{is_some, if◌then◌else◌}
 use Rattle.fr_slots.specs.declared.channel.Channel.{Channel}

@@ -23,10 +23,10 @@ use thiserror::Error;
 #[derive(Clone, Copy, Debug, PartialEq, Eq, Error)]
 pub enum PlanFault {
     /// The transmit buffer is for a static slot that the node doesn't own on all the buffer's channels and in all the
-    /// cycles that the buffer admits (chapter 5; the division by cycles is own profile).
+    /// cycles that the buffer admits (chapter 5; the division by cycles is project-defined).
     #[error("NotOwned {0}")]
     NotOwned(u8),
-    /// The transmit buffer is for a dynamic slot on both channels (own profile).
+    /// The transmit buffer is for a dynamic slot on both channels (project-defined).
     #[error("DynamicBoth {0}")]
     DynamicBoth(u8),
     /// Two ownership lines are for the slot on the channel in the cycle, or two transmit buffers admit it: in a cycle
@@ -34,11 +34,11 @@ pub enum PlanFault {
     #[error("Overlap {0} {1} {2}")]
     Overlap(SlotId, Channel, Cycle),
     /// A frame of the dynamic transmit buffer that begins at its channel's latest minislot would end after
-    /// the dynamic segment, where the minislots that stay idle after it don't count (own profile).
+    /// the dynamic segment, where the minislots that stay idle after it don't count (project-defined).
     #[error("TooLong {0}")]
     TooLong(u8),
     /// The plan isn't one for these parameters: an owned slot isn't static, a latest minislot isn't there, or
-    /// a transmit buffer has words of its own in a static slot or none in a dynamic one (own profile).
+    /// a transmit buffer has words of its own in a static slot or none in a dynamic one (project-defined).
     #[error("OutOfParams")]
     OutOfParams,
 }

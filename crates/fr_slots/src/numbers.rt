@@ -12,10 +12,10 @@ pub const LAST_SLOT: u16 = 2047;
 /// How many cycles there are, after which they are counted from 0 again (chapter 5).
 pub const CYCLES: u8 = 64;
 
-/// The most nodes of a cluster (own profile).
+/// The most nodes of a cluster (project-defined).
 pub const NODES: u8 = 16;
 
-/// The most host tasks of a node (own profile).
+/// The most host tasks of a node (project-defined).
 pub const TASKS: u8 = 8;
 
 /// The number of a slot: 1 to 2047 (chapter 5).
@@ -144,7 +144,7 @@ impl Cycle {
     }
 }
 
-/// The number of a node: 0 to 15 (own profile).
+/// The number of a node: 0 to 15 (project-defined).
 #[derive(Clone, Copy, Debug, PartialEq, Eq, PartialOrd, Ord, Hash)]
 pub struct NodeId(u8);
 
@@ -201,7 +201,7 @@ impl NodeId {
     }
 }
 
-/// The number of a host task of a node: 0 to 7 (own profile).
+/// The number of a host task of a node: 0 to 7 (project-defined).
 #[derive(Clone, Copy, Debug, PartialEq, Eq, PartialOrd, Ord, Hash)]
 pub struct TaskId(u8);
 

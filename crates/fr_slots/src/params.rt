@@ -13,7 +13,7 @@ use thiserror::Error;
 /// The last static slot that a cluster can have (chapter 5).
 pub const LAST_STATIC_SLOT: u16 = 1023;
 
-/// The last minislot that a cluster can have, where they are counted from 1 (own profile).
+/// The last minislot that a cluster can have, where they are counted from 1 (project-defined).
 pub const LAST_MINISLOT: u16 = 8000;
 
 /// The most words of two bytes of a payload (chapter 4).
@@ -111,7 +111,7 @@ pub enum RangeError {
 }
 
 /// The parameters of a cluster, each in its range, which together fill the cycle (chapter 5; the
-/// ranges and the sum are own profile).
+/// ranges and the sum are project-defined).
 #[derive(Clone, Copy, PartialEq, Eq)]
 pub struct Params {
     /// The number of static slots.
@@ -220,7 +220,7 @@ impl Params {
     /// The parameters that these numbers are, each of which is in its key's range.
     ///
     /// Refused with `CycleSum` where `static_slots * static_mt + minislots * minislot_mt + symbol_mt + nit_mt` isn't
-    /// `cycle_mt` (own profile).
+    /// `cycle_mt` (project-defined).
     pub fn assemble(first: Five, last: Five) -> Result<Params, RangeError>
         requires first_within { AreFirst first }
         requires last_within { AreLast last }
@@ -256,8 +256,8 @@ impl Params {
         slot.number() <= self.static_slots
     }
 
-    /// Whether the window is one of the cluster's (own profile): in a static window a static slot, and in a dynamic one
-    /// a minislot that there is, and slots after the static ones.
+    /// Whether the window is one of the cluster's (project-defined): in a static window a static slot, and in a dynamic
+    /// one a minislot that there is, and slots after the static ones.
     pub fn has_window(&self, window: &Window) -> bool
         ensures { result ≡ window_fits self.now window.now }
     {

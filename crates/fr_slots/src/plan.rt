@@ -16,20 +16,20 @@ use arrayvec::ArrayVec;
 use std::marker::Model;
 use thiserror::Error;
 
-/// The most ownership lines, and the most buffers, of a node (own profile).
+/// The most ownership lines, and the most buffers, of a node (project-defined).
 pub const LINES: usize = 64;
 
-/// The most frames in the receive queue of a node (own profile).
+/// The most frames in the receive queue of a node (project-defined).
 pub const FRAMES: u16 = 256;
 
-/// The most host entries in the journal of a node (own profile).
+/// The most host entries in the journal of a node (project-defined).
 pub const HOST_ENTRIES: u16 = 16384;
 
-/// The most slot entries in the journal of a node (own profile).
+/// The most slot entries in the journal of a node (project-defined).
 pub const SLOT_ENTRIES: u32 = 65536;
 
 /// A static slot that a node owns in the cycles that a filter admits (chapter 5; that nodes divide a static slot by
-/// cycles is own profile).
+/// cycles is project-defined).
 #[derive(Clone, Copy, Default, PartialEq, Eq)]
 pub struct Own {
     /// The slot, 1 to 1023.
@@ -47,8 +47,8 @@ impl Own {
     ghost use Rattle.std.specs.Prelude.{◌≡◌};
     ghost use Rattle.fr_slots.specs.Faults.{claims, is_undivided};
 
-    /// Whether the line is for the slot on the channel in the cycle (chapter 5; the division by cycles is own
-    /// profile).
+    /// Whether the line is for the slot on the channel in the cycle (chapter 5; the division by cycles is
+    /// project-defined).
     pub fn claims(&self, cycle: Cycle, slot: SlotId, channel: Channel) -> bool
         ensures { result ≡ claims slot channel cycle self.now }
     {
@@ -63,7 +63,7 @@ impl Own {
     }
 }
 
-/// What a buffer does (chapter 9; the names are own profile).
+/// What a buffer does (chapter 9; the names are project-defined).
 #[derive(Clone, Copy, Default, PartialEq, Eq)]
 pub enum Mode {
     /// Sends each commit at most once.
@@ -141,7 +141,7 @@ impl Buffer {
     }
 }
 
-/// The receive queue of a node (own profile).
+/// The receive queue of a node (project-defined).
 #[derive(Clone, Copy, PartialEq, Eq)]
 pub struct Queue {
     /// How many frames it holds, 1 to 256.
@@ -216,8 +216,8 @@ impl NodePlan {
     ///
     /// `latest` is the last minislot, counted from 1, at which the node begins a dynamic transmission, on
     /// channel A and on B, 0 to 8000, where 0 lets it begin none (chapter 5; a value for each channel is
-    /// own profile). `tasks` is the number of host tasks, 0 to 8, and `host_entries` and `slot_entries`
-    /// are the room of its journal, 1 to 16384 and 2 to 65536 (own profile). Refused with `OutOfRange`
+    /// project-defined). `tasks` is the number of host tasks, 0 to 8, and `host_entries` and `slot_entries`
+    /// are the room of its journal, 1 to 16384 and 2 to 65536 (project-defined). Refused with `OutOfRange`
     /// where one of these is out of its range.
     pub fn new(
         tasks: u8,
@@ -350,7 +350,7 @@ impl NodePlan {
     }
 
     /// The last minislot, counted from 1, at which the node begins a dynamic transmission on the channel,
-    /// up to 8000, or 0 where it begins none (chapter 5; a value for each channel is own profile).
+    /// up to 8000, or 0 where it begins none (chapter 5; a value for each channel is project-defined).
     pub fn latest(&self, channel: Channel) -> u16
         ensures value { result ≡ latest_on self.now channel }
         ensures lawful { IsPlan self.now }

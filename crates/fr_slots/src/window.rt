@@ -7,8 +7,8 @@ use crate::numbers::{Cycle, SlotId};
 use crate::params::LAST_MINISLOT;
 use std::marker::Model;
 
-/// One opportunity to send: a static slot, or a minislot at which a channel opens a slot (own
-/// profile).
+/// One opportunity to send: a static slot, or a minislot at which a channel opens a slot
+/// (project-defined).
 #[derive(Clone, Copy, PartialEq, Eq)]
 pub struct Window {
     /// The window's number in its run, from 0.
@@ -52,8 +52,8 @@ impl Window {
         }
     }
 
-    /// The window of a minislot, counted from 1, at which one channel or both open a slot (own
-    /// profile).
+    /// The window of a minislot, counted from 1, at which one channel or both open a slot
+    /// (project-defined).
     ///
     /// None for minislot 0 or above 8000, and where neither channel has a slot.
     pub fn dynamic(

@@ -1,4 +1,4 @@
--- The status of a slot on a channel (chapter 6). Which bit a thing seen gives is own profile.
+-- The status of a slot on a channel (chapter 6). Which bit a thing seen gives is project-defined.
 use Rattle.std.specs.Prelude.{ℕ, ◌+◌, ◌*◌, ◌==◌, Bool, true, false, not, ◌&&◌, ◌||◌, length, Option, Some, None}
 use Rattle.std.specs.Prelude.{if◌then◌else◌}
 use Rattle.fr_slots.specs.declared.channel.Channel.{Channel}

@@ -4,7 +4,7 @@ ghost use Rattle.std.specs.Prelude.{◌≡◌};
 
 use fr_frame::frame::{Bytes, duplicate_bytes};
 
-/// What a node sees on a channel in one slot, of the transmissions that came through (own profile).
+/// What a node sees on a channel in one slot, of the transmissions that came through (project-defined).
 #[derive(Drop, PartialEq, Eq)]
 pub enum Seen {
     /// No transmission came through, or the channel has no slot.

@@ -12,8 +12,8 @@ use fr_slots::channel::Channel;
 use fr_slots::numbers::{Cycle, SlotId};
 use fr_slots::params::Params;
 
-/// The status of a slot on a channel: five bits (chapter 6), of which at most one is set (own
-/// profile).
+/// The status of a slot on a channel: five bits (chapter 6), of which at most one is set
+/// (project-defined).
 #[derive(Clone, Copy, PartialEq, Eq)]
 pub struct SlotStatus {
     /// A frame that is right for the slot came, be it a data frame or a null frame.
@@ -62,7 +62,7 @@ const TRANSMISSION_CONFLICT: SlotStatus = SlotStatus {
 };
 
 /// The status of a slot of a cycle on a channel where this was seen, and the frame, which is given
-/// exactly if the status is valid (chapter 6; which bit a thing seen gives is own profile).
+/// exactly if the status is valid (chapter 6; which bit a thing seen gives is project-defined).
 ///
 /// Bytes that are no frame on this channel are a syntax error. A frame is a content error unless
 /// it has the slot's frame ID and the cycle's count, and in a static slot the payload length of

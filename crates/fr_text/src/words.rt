@@ -69,7 +69,7 @@ impl<'a> Words<'a> {
     /// it, or else the word. `None` comes when all words are taken, and from then on.
     ///
     /// A number of few digits is read while the end of its word is looked for, and `-` stands for none in lines, so
-    /// both are told without a search.
+    /// both are reported without a search.
     #[inline(always)]
     pub fn next_number_or(&mut self, bound: u64) -> Option<Result<u64, &'a [u8]>>
         ensures number { IfSome result (λ r. IfOk r (λ n. first_in (number_in bound) self.old ≡ Some n)) }
@@ -122,7 +122,7 @@ impl<'a> Words<'a> {
     /// bytes were, as `bytes_into` does, or else gives the word, and then what the bytes are isn't told. `None` comes
     /// when all words are taken, and from then on.
     ///
-    /// Digits are read while the end of their word is looked for, so a word of digits is told without a search.
+    /// Digits are read while the end of their word is looked for, so a word of digits is reported without a search.
     #[inline(always)]
     pub fn next_bytes_or<const N: usize>(
         &mut self,

@@ -1,4 +1,4 @@
--- A settling of the same interfaces and scripts.
+-- A cross-check of the same interfaces and scripts.
 use Rattle.std.proofs.Common.{◌≡◌, List, Ok, subst}
 use Rattle.fr_bus.specs.Record.{Recorded}
 use Rattle.fr_core.specs.declared.settle.Settled.{Settled}

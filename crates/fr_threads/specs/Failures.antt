@@ -1,4 +1,4 @@
--- Which failure of a run is told, and as what (own profile).
+-- Which failure of a run is reported, and as what (project-defined).
 use Rattle.std.specs.Prelude.{◌≡◌, ℕ, nat_lt, List, Option, Some, None, Result, Ok, Err, if◌then◌else◌}
 use Rattle.std.specs.List.{fold}
 use Rattle.fr_bus.specs.declared.error.BusError.{BusError}
@@ -37,9 +37,9 @@ told_after earlier (Some failure) = Some (least_of earlier failure)
 abbrev pub told_of_all : List (Option Failure) → Option Failure
 told_of_all failures = fold told_after None failures
 
--- ---- as what it is told
+-- ---- as what it is reported
 
--- want of memory is one failure wherever it was met
+-- a failed allocation is one failure wherever it was met
 abbrev pub failure_of_bus : BusError → Failure
 failure_of_bus bus.Memory = Memory
 failure_of_bus e = Bus e
@@ -70,7 +70,7 @@ error_of (Settle e) = error_of_settling e
 error_of Memory = told.Memory
 error_of Stopped = told.Thread
 
--- want of memory isn't told as a refusal of the bus or of the settling
+-- a failed allocation isn't told as a refusal of the bus or of the cross-check
 abbrev pub IsMemoryTold : RunError → Type 0
 IsMemoryTold (told.Bus e) = ¬ (e ≡ bus.Memory)
 IsMemoryTold (told.Settle e) = ¬ (e ≡ settle.Memory)

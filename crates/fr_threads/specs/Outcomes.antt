@@ -1,4 +1,4 @@
--- What `run` does with the text of a scenario (own profile).
+-- What `run` does with the text of a scenario (project-defined).
 use Rattle.std.specs.Prelude.{⊤, ◌≡◌, ◌<◌, ℕ, Bool, not, List, length, Option, None, IfSome, Result, Ok, Err}
 use Rattle.std.specs.Io.KnownBytes.{Appends}
 use Rattle.fr_commands.specs.ClusterFiles.{IsClusterOf}
@@ -49,8 +49,8 @@ Prints d cycles free text old new (Err e) = new ≡ old
 
 -- ---- why nothing was written
 
--- The text of the scenario is refused so, or the run with it, or neither is. Of a failing reader and of want of memory
--- nothing is said, nor of a failure that threads met in a run that can be had.
+-- The text of the scenario is refused so, or the run with it, or neither is. Of a failing reader and of a failed
+-- allocation nothing is said, nor of a failure that threads met in a run that the cluster accepts.
 abbrev pub Answers : Description → ℕ → List ℕ → Result (Unit {0}) OutcomeError → Type 0
 Answers d cycles text (Ok done) = RunIsRefused d cycles text None
 Answers d cycles text (Err (refusal.Run e)) = RunIsRefused d cycles text (refusal_of e)

@@ -1,4 +1,4 @@
--- The pace of a stepped run: when the lines of a cycle may be done, and its first window fetched (own profile).
+-- The pace of a stepped run: when the lines of a cycle may be done, and its first window fetched (project-defined).
 use Rattle.std.specs.Prelude.{ℕ, ◌-◌, ◌==◌, nat_le, nat_lt, Bool, true, false, not, ◌&&◌, ◌||◌, Option, Some, None}
 use Rattle.std.specs.Prelude.{if◌then◌else◌}
 use Rattle.fr_threads.specs.declared.pace.Progress.{Progress}

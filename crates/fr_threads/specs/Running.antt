@@ -1,4 +1,4 @@
--- What a run in threads answers (own profile).
+-- What a run in threads answers (project-defined).
 use Rattle.std.specs.Prelude.{◌≡◌, ℕ, Bool, true, List, length, map, Option, Some, None, IsSome, Result, Ok, Err}
 use Rattle.std.specs.Prelude.{option_map, slice_get}
 use Rattle.std.specs.List.{All}
@@ -68,7 +68,7 @@ abbrev pub refusal_told : Result Run RunError → Option RunRefusal
 refusal_told (Ok run) = None
 refusal_told (Err e) = refusal_of e
 
--- The run is refused exactly where it can't be had, and as that is told.
+-- The run is refused exactly where it can't be had, and as that is reported.
 abbrev pub RefusesRun : Description → List Scripted → List FaultLine → ℕ → Result Run RunError → Type 0
 RefusesRun d scripts faults cycles answer = Refuses d scripts faults cycles (refusal_told answer)
 
@@ -81,7 +81,7 @@ pub record IsRunOf (d : Description) (given : List Scripted) (lines : List Fault
   pub agrees : Agrees d run.interfaces.items run.bus.sealed run.scripts.items
   -- all windows of the record were settled
   pub windows : run.settled.windows ≡ length run.bus.sealed
-  -- from a faultless slot receivers hold what its owner committed
+  -- from a fault-free slot receivers hold what its owner committed
   pub receivers : Receivers d run.interfaces.items run.bus.sealed
   -- no static slot of a guarded channel carried two senders
   pub one_sender : OneSenderEach d run.bus.sealed
@@ -93,7 +93,7 @@ pub record IsRunOf (d : Description) (given : List Scripted) (lines : List Fault
   pub cycles_done : cycles_begun run.bus.sealed ≡ cycles
   -- the scripts are the given ones, and every line has an answer
   pub scripts : AreAnswered given run.scripts.items
-  -- each window of the record has the faults of the lines that strike there, and no others
+  -- each window of the record has the faults of the lines that take effect there, and no others
   pub faults : HaveFaults lines run.bus.sealed
   -- in a stepped run each line of the scripts was done in its cycle, between all windows before it and its first
   pub stepped : is_stepped ≡ true → AreStepped run.bus.sealed given run.interfaces.items

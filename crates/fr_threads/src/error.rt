@@ -12,7 +12,7 @@ use fr_runs::check::RunRefusal;
 use fr_slots::numbers::NodeId;
 use thiserror::Error;
 
-/// Why a run is refused, or fails (own profile).
+/// Why a run is refused, or fails (project-defined).
 #[derive(Clone, Copy, Debug, PartialEq, Eq, Error)]
 pub enum RunError {
     /// The number of cycles is 0 or above 1024.

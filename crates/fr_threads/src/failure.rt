@@ -31,7 +31,7 @@ pub(crate) enum Failure {
     Stopped,
 }
 
-/// Its rank among several: that of the least number is told.
+/// Its rank among several: that of the least number is reported.
 fn rank(failure: &Failure) -> u8
     ensures { result ≡ rank failure.now }
 {

@@ -10,7 +10,7 @@
 //! ```
 //!
 //! A chapter in parentheses is one of the FlexRay Protocol Specification 2.1, revision A, whose rule it is.
-//! *(own profile)* marks a rule of this project's own, which says nothing of the standard.
+//! *(project-defined)* marks a rule of this project's own, which says nothing of the standard.
 #![tactic(auto)]
 
 mod answers;

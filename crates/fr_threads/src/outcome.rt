@@ -18,7 +18,7 @@ use std::thread::Threads;
 use std::time::Clock;
 
 /// Reads a scenario file to its end, runs the cluster with it for so many cycles, and writes each node's report, the
-/// number of windows and that all agrees (own profile). A free run does a task's lines at any moment, and any other
+/// number of windows and that all agrees (project-defined). A free run does a task's lines at any moment, and any other
 /// each in its cycle.
 ///
 /// Refused as the file of the scenario is, then as the run is. On every refusal but `Write` nothing is written.
@@ -52,12 +52,12 @@ pub fn run_cluster<T: Threads + Wait + Clock + Sync, R: Read, W: Write>(
     let windows = run.settled.windows as usize;
     match write_outcome(&mut text, run.interfaces.as_slice(), windows) {
         Ok(()) => Ok(write_whole(writer, text.as_slice())?),
-        // A list of bytes fails to take more for want of memory alone.
+        // A list of bytes takes no more only if an allocation fails.
         Err(_) => Err(OutcomeError::Text(BenchError::Memory)),
     }
 }
 
-/// Reads a cluster file to its end, and then does the same with it (own profile).
+/// Reads a cluster file to its end, and then does the same with it (project-defined).
 ///
 /// Refused as the file of the cluster is before a byte of the scenario is read.
 pub fn run_text<T: Threads + Wait + Clock + Sync, F: Read, R: Read, W: Write>(

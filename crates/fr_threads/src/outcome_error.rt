@@ -10,8 +10,8 @@ use fr_outcome::file_error::FileError;
 use fr_scenario::error::ScenarioError;
 use thiserror::Error;
 
-/// Why `run` hasn't printed the outcome of a run (own profile). Printed, it is the error's name, and for an error of a
-/// crate below the names and values of that error.
+/// Why `run` hasn't printed the outcome of a run (project-defined). Printed, it is the error's name, and for an error
+/// of a crate below the names and values of that error.
 #[derive(Clone, Copy, Debug, Drop, PartialEq, Eq, Error)]
 pub enum OutcomeError {
     /// The cluster file is refused, an input couldn't be read or was too long, the output couldn't be written, or

@@ -38,7 +38,7 @@ use std::thread;
 use std::thread::{JoinHandle, Scope, Threads};
 use std::time::Clock;
 
-/// What a run leaves (own profile).
+/// What a run leaves (project-defined).
 #[derive(Drop)]
 pub struct Run {
     /// The interface of each node.
@@ -357,17 +357,18 @@ fn run_all<R: Threads + Wait + Clock + Sync, G: Gate + Sync>(
 }
 
 /// Runs the cluster for so many cycles: a thread for each task does the lines of its script, one for each controller
-/// does all windows, and one for the bus injects the faults and moves the bus on (own profile).
+/// does all windows, and one for the bus injects the faults and moves the bus on (project-defined).
 ///
 /// In a stepped run the lines of a cycle are done once all controllers have observed the whole of the cycle before, and
 /// before any of them fetches in the cycle. Else they are done at any moment, in the order of each script.
 ///
 /// Refused with `BadCycles`, `BadScript`, `BadFault` and `NoRoom`, in this order and as `check_run` refuses, before any
-/// thread starts. Of several failures that threads meet the first of these is told: `Host`, `Slot`, `Bus`, `Thread` and
+/// thread starts. Of several failures that threads meet the first of these is reported: `Host`, `Slot`, `Bus`, `Thread`
+/// and
 /// `Memory`. Where they meet none, a bus that isn't at its end after so many cycles is `Thread`, and what doesn't agree
 /// by then is `Settle`. A record with other faults than those of the lines, or in a stepped run a line that wasn't done
-/// in its cycle, is `Thread` too. All threads are joined before it answers. Its settling walks the journals in threads
-/// where these can be had, and one after another where not, and refuses nothing for that.
+/// in its cycle, is `Thread` too. All threads are joined before it answers. Its cross-check walks the journals in
+/// threads where these can be had, and one after another where not, and refuses nothing for that.
 pub fn run_threads<R: Threads + Wait + Clock + Sync, G: Gate + Sync>(
     rt: &R,
     alloc: Global,

@@ -27,7 +27,7 @@ read_none (Some text) s is = ([], refl, is, refl)
 
 -- ---- a piece without a fault
 
--- a state after a failure for want of memory has no good answer
+-- a state after a failure where an allocation fails has no good answer
 no_memory : (s s' : Progress) (bytes : List ℕ) → Reads s bytes s' → answer_of s' ≡ Ok tt → s' ≡ take_bytes s bytes
 no_memory s s' bytes (inl read) fine = read
 no_memory s s' bytes (inr out) fine = cc (ap answer_of (sym out.0) ∙ fine)

@@ -29,7 +29,7 @@ use std::alloc::Global;
 use std::marker::Model;
 use std::mem;
 
-/// The longest line, without its line feed (own profile).
+/// The longest line, without its line feed (project-defined).
 pub const LINE: usize = 1200;
 
 /// What the next line may be, in a text of the version that its first line names.
@@ -298,7 +298,7 @@ fn too_long(phase: &Phase) -> TraceError
     }
 }
 
-/// Reads a trace in pieces (own profile).
+/// Reads a trace in pieces (project-defined).
 #[derive(Drop)]
 pub struct Auditor {
     alloc: Global,

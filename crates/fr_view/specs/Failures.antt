@@ -1,4 +1,4 @@
--- The exit status of each of the program's failures (own profile).
+-- The exit status of each of the program's failures (project-defined).
 use Rattle.std.specs.Prelude.{ℕ}
 use Rattle.fr_view.specs.declared.failure.Failure.{Failure}
 use Rattle.fr_view.specs.declared.failure.Failure.TheVariants.{Words}

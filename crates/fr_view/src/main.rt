@@ -3,7 +3,7 @@
 //!
 //! What it prints on standard output comes only once the command has accepted all its input, but for `--until-fault`,
 //! and for `why`, whose answer it is. A refusal is one line on standard error; of a run that was played each fault line
-//! that struck nothing has a line there too.
+//! that had no effect has a line there too.
 //!
 //! ```text
 //! fr_view schedule cluster.toml > cycle.svg          a picture of a cycle: who sends where, when guardians are open
@@ -21,7 +21,7 @@
 //! ```
 //!
 //! A chapter in parentheses is one of the FlexRay Protocol Specification 2.1, revision A, whose rule it is.
-//! *(own profile)* marks a rule of this project's own, which says nothing of the standard.
+//! *(project-defined)* marks a rule of this project's own, which says nothing of the standard.
 #![tactic(auto)]
 
 mod failure;
@@ -107,7 +107,7 @@ fn shown_of(asked: Asked) -> Option<Shown> {
     }
 }
 
-/// Tells on standard error of each fault line that struck nothing; by now all is written.
+/// Tells on standard error of each fault line that had no effect; by now all is written.
 fn tell_idle<R: Eprint>(rt: &R, idle: &[u32]) {
     for number in idle {
         let _ = eprintln!(rt; "line {number} struck nothing");

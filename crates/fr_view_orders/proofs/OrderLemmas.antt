@@ -31,7 +31,7 @@ pub are_free : is_simple_and_free the_commands ≡ true
 unfolding clap_on_literals
 are_free = refl
 
--- an error for which there is a fault, or none for which there is want of memory
+-- an error for which there is a fault, or none for which there is a failed allocation
 pub refused_for : (words : List Text) (e : Error) → HasKind (fault_of the_commands words) e
     → IsAnswerTo words (Err (order_error_of (kind_of e)))
 refused_for words e (inl memory) = rw memory tt

@@ -75,7 +75,7 @@ matrix_drawn =
 abbrev pub matrix_command : App
 matrix_command = with_run matrix_drawn
 
--- with the commands that show what is told of a run in lines
+-- with the commands that show what is reported of a run in lines
 abbrev pub with_outcome : App
 with_outcome = with_subcommand file_commands (of_run (codes "outcome")).top
 
@@ -245,7 +245,7 @@ is_help (word ∷ []) = bytes_eq word (codes "--help")
 is_help words = false
 
 -- The order is the one that the words enter, where `clap` finds no fault with them. Where it finds one they are no
--- command, and else only where they enter none; for want of memory either may stay unanswered.
+-- command, and else only where they enter none; where an allocation fails either may stay unanswered.
 abbrev pub IsAnswerTo : List Text → Result Order OrderError → Type 0
 IsAnswerTo words (Ok order) = (fault_of the_commands words ≡ []) × IsOrder (subcommand_of the_commands words) order
 IsAnswerTo words (Err refusal.Usage) = (0 < length (fault_of the_commands words))

@@ -2,7 +2,7 @@
 
 use fr_slots::channel::Channel;
 
-/// What is to be shown of a run (own profile).
+/// What is to be shown of a run (project-defined).
 #[derive(Clone, Copy, PartialEq, Eq)]
 pub enum Asked {
     /// Its outcome.
@@ -11,7 +11,7 @@ pub enum Asked {
     Answers,
     /// A line for each commit, with what became of it.
     Commits,
-    /// A line for each transmission and each turned bit.
+    /// A line for each transmission and each flipped bit.
     Record,
     /// What a listener on the bus hears, as a capture.
     Heard,
@@ -28,7 +28,7 @@ pub enum Asked {
     },
 }
 
-/// What the program is asked to do (own profile).
+/// What the program is asked to do (project-defined).
 #[derive(Clone, Copy, PartialEq, Eq)]
 pub enum Order<'a> {
     /// Read the cluster file of this name and print a picture of one of its cycles.

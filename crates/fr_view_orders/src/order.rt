@@ -80,7 +80,7 @@ fn matrix_command<'a>(alloc: Global) -> Result<Command<'a>, AllocError>
     of_run(alloc, drawn)
 }
 
-/// The commands that read one file, as `clap` is told of them.
+/// The commands that read one file, as `clap` reads them.
 fn file_commands<'a>(alloc: Global) -> Result<Command<'a>, AllocError>
     ensures { IfOk result (λ c. app_of c ≡ file_commands) }
 {
@@ -90,7 +90,7 @@ fn file_commands<'a>(alloc: Global) -> Result<Command<'a>, AllocError>
     third.subcommand(schedule_command(alloc)?)
 }
 
-/// With these the commands that show what is told of a run in lines.
+/// With these the commands that show what is reported of a run in lines.
 fn line_commands<'a>(alloc: Global, files: Command<'a>) -> Result<Command<'a>, AllocError>
     requires { app_of files ≡ file_commands }
     ensures { IfOk result (λ c. app_of c ≡ line_commands) }
@@ -105,7 +105,7 @@ fn line_commands<'a>(alloc: Global, files: Command<'a>) -> Result<Command<'a>, A
     third.subcommand(recorded)
 }
 
-/// The commands, as `clap` is told of them.
+/// The commands, as `clap` reads them.
 fn commands<'a>(alloc: Global) -> Result<Command<'a>, AllocError>
     ensures { IfOk result (λ c. app_of c ≡ the_commands) }
 {
@@ -278,7 +278,7 @@ fn is_help(words: &[&str]) -> bool
     }
 }
 
-/// The order that the words after the program's name give (own profile).
+/// The order that the words after the program's name give (project-defined).
 ///
 /// Refused with `Memory` where memory for the parse was refused, and else with `Usage` for all words that are no
 /// command. A call for help is the word `--help` alone. A cycle of a picture is 0 to 63, the first one of a matrix 0 to

@@ -1,4 +1,4 @@
--- The refusal of a line or of a call is told with its own reason, and a wrong answer with the entry that is due.
+-- The refusal of a line or of a call is reported with its own reason, and a wrong answer with the entry that is due.
 use Rattle.std.proofs.Common.{◌≡◌, ℕ, ◌+◌, Bool, true, false, List, [], ◌∷◌, ◌++◌, length, Option, Some, None, Result}
 use Rattle.std.proofs.Common.{Ok, Err, inl, inr, refl, sym, ap, ◌∙◌, subst, arith, is_some}
 use Rattle.std.proofs.lemmas.Bool.{cases_Bool, cases_lt}

@@ -1,4 +1,5 @@
--- What a command does that says why a text is refused, and one that shows what was seen up to that fault (own profile).
+-- What a command does that says why a text is refused, and one that shows what was seen up to that fault
+-- (project-defined).
 use Rattle.std.specs.Prelude.{⊤, ◌≡◌, ℕ, ◌+◌, ◌≤◌, List, [], length, take, Option, Some, None, Result, Ok, Err, Vec}
 use Rattle.std.specs.declared.alloc.Global.{Global}
 use Rattle.std.specs.Io.KnownBytes.{Keeps, Appends}
@@ -57,7 +58,7 @@ IsReadWhole text (Err e) = ⊤
 
 -- ---- until the fault
 
--- what the lines show, once the plan is told
+-- what the lines show, once the plan is reported
 abbrev pub shown_so_far : Form → Option State → List ℕ
 shown_so_far form None = []
 shown_so_far form (Some s) = text_of form s

@@ -1,4 +1,4 @@
--- The line at which a text is refused, and what the lines before it have told (own profile).
+-- The line at which a text is refused, and what the lines before it have told (project-defined).
 use Rattle.std.specs.Prelude.{◌≡◌, ℕ, ◌+◌, Bool, true, false, List, [], ◌∷◌, ◌++◌, Option, Some, None, Err, IfSome}
 use Rattle.std.specs.Prelude.{count_by}
 use Rattle.fr_interface.specs.State.{State}
@@ -37,7 +37,7 @@ pub record IsAtFault (e : TraceError) (text front line rest : List ℕ) : Type 0
 
 -- ---- what was told before
 
--- the state of the interface, once its plan is told
+-- the state of the interface, once its plan is reported
 abbrev pub state_in : Phase → Option State
 state_in magic = None
 state_in (params v) = None

@@ -32,7 +32,7 @@ IsFound text (Accepted s lines) = (outcome_of (take_bytes fresh text) ≡ Ok s) 
     × (lines ≡ feed_count text) × (length text ≤ longest_text)
 IsFound text (Refused f) = IsFaultIn text f
 
--- an error that no text gives is told at once
+-- an error that no text gives is reported at once
 abbrev pub found_of : TraceError → Fault → Result Found TraceError
 found_of Read f = Err Read
 found_of Write f = Err Write

@@ -1,5 +1,5 @@
 -- What the lines of a text have told, but for the state of the interface. It serves the code, which asks an auditor for
--- that state only where it is needed. What is told of a line that is refused doesn't matter.
+-- that state only where it is needed. What is reported of a line that is refused doesn't matter.
 use Rattle.std.specs.Prelude.{◌≡◌, ℕ, ℤ, List, [], Option, Some, None, is_none, Result, Ok, Err, if◌then◌else◌}
 use Rattle.std.specs.Str.{bytes_eq}
 use Rattle.fr_lines.specs.declared.plan_lines.PlanLine.{PlanLine}

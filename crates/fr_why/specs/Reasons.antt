@@ -1,4 +1,4 @@
--- What the refusal of a line rests on, by what the lines before it have told (own profile).
+-- What the refusal of a line rests on, by what the lines before it have told (project-defined).
 use Rattle.std.specs.Prelude.{⊤, ℕ, ℤ, Bool, true, false, ◌||◌, List, [], ◌∷◌, codes, Option, Some, None, is_none}
 use Rattle.std.specs.Prelude.{option_map, Result, Ok, Err, if◌then◌else◌}
 use Rattle.std.specs.Str.{bytes_eq}
@@ -128,7 +128,8 @@ reason_for e before line = Plain
 
 -- ---- that nothing is left out
 
--- a refusal of a line or of a call is told with its own reason, and a wrong answer with the entry that the call makes
+-- a refusal of a line or of a call is reported with its own reason, and a wrong answer with the entry that the call
+-- makes
 abbrev pub IsReasonOf : TraceError → Reason → Type 0
 IsReasonOf (refusal.BadLine n) (Line misfit) = ⊤
 IsReasonOf (refusal.Refused n) (Params e) = ⊤

@@ -1,4 +1,4 @@
--- What is written about a text: that it is accepted, or where and why it is refused (own profile).
+-- What is written about a text: that it is accepted, or where and why it is refused (project-defined).
 use Rattle.std.specs.Prelude.{ℕ, ◌+◌, ◌==◌, nat_le, not, Bool, ◌&&◌, List, [], ◌∷◌, ◌++◌, codes, take, if◌then◌else◌}
 use Rattle.std.specs.Fmt.{decimal}
 use Rattle.std.specs.List.{flat_map}

@@ -77,7 +77,7 @@ fn fault_words(alloc: Global, text: &[u8], fault: &Fault) -> Result<Vec<u8>, Tra
     let before = fault.before as u64;
     match write_refused(&mut words, fault.error, before, line, &reason, windows) {
         Ok(()) => Ok(words),
-        // A list of bytes fails to take more for want of memory alone, here and below.
+        // A list of bytes takes no more only if an allocation fails, here and below.
         Err(_) => Err(TraceError::Memory),
     }
 }
@@ -116,7 +116,7 @@ fn explained(alloc: Global, text: &[u8]) -> Result<(Verdict, Vec<u8>), TraceErro
     }
 }
 
-/// Reads a trace to its end, and writes why an audit refuses it, or that it accepts it (own profile).
+/// Reads a trace to its end, and writes why an audit refuses it, or that it accepts it (project-defined).
 ///
 /// Of an accepted trace these lines are written:
 ///

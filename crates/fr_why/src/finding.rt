@@ -12,7 +12,7 @@ use fr_trace::error::TraceError;
 use memchr::memchr;
 use std::alloc::Global;
 
-/// The line at which a text is refused (own profile).
+/// The line at which a text is refused (project-defined).
 #[derive(Drop)]
 pub struct Fault {
     /// The audit's answer.
@@ -27,7 +27,7 @@ pub struct Fault {
     pub head: Head,
 }
 
-/// What an audit makes of a whole text (own profile).
+/// What an audit makes of a whole text (project-defined).
 #[derive(Drop)]
 pub enum Found {
     /// It accepts it as this interface, with so many lines.
@@ -59,8 +59,8 @@ fn accepted(interface: Interface, lines: usize) -> Found
     Found::Accepted(interface, lines)
 }
 
-/// Whether an audit accepts the text, or at which line it refuses it (own profile). The lines are fed to an auditor one
-/// after another.
+/// Whether an audit accepts the text, or at which line it refuses it (project-defined). The lines are fed to an auditor
+/// one after another.
 ///
 /// Refused with `Memory` where memory for the text's interface is refused.
 pub(crate) fn find(alloc: Global, text: &[u8]) -> Result<Found, TraceError>

@@ -12,7 +12,7 @@ use fr_slots::params::Params;
 use fr_slots::plan::NodePlan;
 use std::mem;
 
-/// What the lines of a trace have told, none of which was refused (own profile).
+/// What the lines of a trace have told, none of which was refused (project-defined).
 #[derive(Drop)]
 pub enum Head {
     /// No line has come.

@@ -5,7 +5,7 @@ use fr_journal::entry::Entry;
 use fr_slots::fault::PlanFault;
 use fr_slots::params::RangeError;
 
-/// Why a line can't stand where it does (own profile).
+/// Why a line can't stand where it does (project-defined).
 #[derive(Clone, Copy, PartialEq, Eq)]
 pub enum Misfit {
     /// No line that begins with its first word may stand here.
@@ -20,7 +20,7 @@ pub enum Misfit {
     After,
 }
 
-/// What the refusal of a line of a trace rests on (own profile).
+/// What the refusal of a line of a trace rests on (project-defined).
 #[derive(Drop)]
 pub enum Reason {
     /// The error of the line says all.

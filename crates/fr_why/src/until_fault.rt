@@ -34,7 +34,7 @@ fn show_before<W: Write>(
 }
 
 /// Reads a trace to its end, and writes what was seen in it, in this form; of a trace that an audit refuses it writes
-/// what was seen up to the line at fault, or up to where the trace breaks off (own profile).
+/// what was seen up to the line at fault, or up to where the trace breaks off (project-defined).
 ///
 /// Refused as an audit refuses it, with the error of the first line at fault, once what was seen in the lines before is
 /// written; where these haven't told the plan yet, nothing is. Refused too with `Read` where the reader fails and with

@@ -1,6 +1,6 @@
 //! How a trace was judged.
 
-/// How a trace was judged that was read whole (own profile).
+/// How a trace was judged that was read whole (project-defined).
 #[derive(Clone, Copy, Debug, PartialEq, Eq)]
 pub enum Verdict {
     /// An audit accepts it.

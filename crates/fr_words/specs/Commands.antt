@@ -58,7 +58,7 @@ cycles_in word = option_and_then (λ n. if n == 0 then None else Some n) (number
 
 -- ---- refusals
 
--- want of memory alone is no fault of the words
+-- a failed allocation alone is no fault of the words
 abbrev pub order_error_of : ErrorKind → OrderError
 order_error_of kind.OutOfMemory = refusal.Memory
 order_error_of _ = refusal.Usage

@@ -8,7 +8,7 @@ use clap::error::ErrorKind;
 use std::alloc::AllocError;
 use thiserror::Error;
 
-/// Why words give no order; printed, it is what a program says on standard error (own profile).
+/// Why words give no order; printed, it is what a program says on standard error (project-defined).
 #[derive(Clone, Copy, Debug, Drop, PartialEq, Eq, Error)]
 pub enum OrderError {
     /// The words are no command: an unknown word, one too many, or one that isn't what it has to be.
@@ -20,7 +20,7 @@ pub enum OrderError {
 }
 
 impl OrderError {
-    /// The exit status of a program that is given such words: 2 where they are no command, 1 for want of memory.
+    /// The exit status of a program that is given such words: 2 where they are no command, 1 where an allocation fails.
     pub fn status(&self) -> u8
         ensures { result ≡ status_of_words self.now }
     {

@@ -8,7 +8,7 @@
 //! let mut output = WaitingWriter::new(&rt, io::writer(&rt));
 //! ```
 //!
-//! *(own profile)* marks a project-defined rule, which the standard doesn't have.
+//! *(project-defined)* marks a project-defined rule, which the standard doesn't have.
 #![tactic(auto)]
 
 pub mod commands;

@@ -10,7 +10,7 @@
 //! fails, 2 where the words are no command. Such a refusal is one line on standard error. That of a request is its
 //! reply.
 //!
-//! *(own profile)* marks a rule of this project's own, which says nothing of the standard.
+//! *(project-defined)* marks a rule of this project's own, which says nothing of the standard.
 #![tactic(auto)]
 
 mod command;
