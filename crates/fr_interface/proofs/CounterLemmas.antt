@@ -1,5 +1,5 @@
 -- The status counters, with one more entry.
-use Rattle.std.proofs.Common.{◌≡◌, ℕ, ◌+◌, ◌≤◌, Bool, true, false, cond, List, [], ◌∷◌, ◌++◌, length, Option, Some}
+use Rattle.std.proofs.Common.{◌≡◌, ℕ, ◌+◌, ◌^◌, ◌≤◌, Bool, true, false, cond, List, [], ◌∷◌, ◌++◌, length, Option, Some}
 use Rattle.std.proofs.Common.{None, refl, ap, ◌∙◌, arith, option_map}
 use Rattle.fr_interface.specs.Known.{with_seen}
 use Rattle.fr_interface.specs.Seeing.{status_seen}
@@ -121,7 +121,7 @@ count_most : (bit : SlotStatus → Bool) (params : Parameters) (channel : Channe
     → count_of bit params channel xs ≤ length xs
 count_most bit params channel xs = count_most_from (has_bit bit params channel) [] xs
 
-fits_on : (params : Parameters) (channel : Channel) (xs : List Entry) (s : SlotStatus) → length xs ≤ 81920
+fits_on : (params : Parameters) (channel : Channel) (xs : List Entry) (s : SlotStatus) → length xs + 2 ≤ 2 ^ 32
     → FitsBits (five (counts_on params channel xs)) s
 fits_on params channel xs s few = record {
   valid = omega (arith, few, count_most (λ t. t.valid) params channel xs, digit_most s.valid);
@@ -131,11 +131,11 @@ fits_on params channel xs s few = record {
   conflict = omega (arith, few, count_most (λ t. t.conflict) params channel xs, digit_most s.conflict);
 }
 
-pub room_on_a : (params : Parameters) (xs : List Entry) (s : SlotStatus) → length xs ≤ 81920
+pub room_on_a : (params : Parameters) (xs : List Entry) (s : SlotStatus) → length xs + 2 ≤ 2 ^ 32
     → HasRoom (counters_of params xs) A s
 room_on_a params xs s few = fits_on params A xs s few
 
-pub room_on_b : (params : Parameters) (xs : List Entry) (o : Option SlotStatus) (s : SlotStatus) → length xs ≤ 81920
-    → HasRoom (with_seen (counters_of params xs) A o) B s
+pub room_on_b : (params : Parameters) (xs : List Entry) (o : Option SlotStatus) (s : SlotStatus)
+    → length xs + 2 ≤ 2 ^ 32 → HasRoom (with_seen (counters_of params xs) A o) B s
 room_on_b params xs None s few = fits_on params B xs s few
 room_on_b params xs (Some t) s few = fits_on params B xs s few

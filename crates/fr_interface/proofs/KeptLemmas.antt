@@ -2,7 +2,8 @@
 use Rattle.std.proofs.Common.{◌≡◌, ℕ, zero, suc, ◌+◌, ◌≤◌, ◌<◌, ◌^◌, Bool, true, false, cond, List, [], ◌∷◌, ◌++◌, take}
 use Rattle.std.proofs.Common.{length, Option, Some, None, refl, sym, ap, subst, ◌∙◌, arith, option_map}
 use Rattle.std.proofs.lemmas.List.{take-append-le, take_all}
-use Rattle.std.specs.Prelude.{IfSome, IsSomeAnd, slice_get, is_some}
+use Rattle.std.specs.Prelude.{IfSome, IsSomeAnd, slice_get, is_some, count_by}
+use Rattle.fr_journal.specs.Entries.{is_slot}
 use Rattle.std.specs.Option.{option_and_then, ForSome}
 use Rattle.fr_buffers.specs.Transmitting.{Transmitter}
 use Rattle.fr_buffers.specs.Waiting.{Waiting, without_oldest}
@@ -46,7 +47,7 @@ module _ (plan : Plan) (xs : List Entry) (number : ℕ) (line : Buffer) (there :
   number_there = omega (arith, length-each (transmitter_of xs) 0 plan.buffers,
       below_there plan.buffers number line there)
 
-  pub commits_fit : length xs ≤ 81920 → IfSome (slice_get (transmitters plan xs) number)
+  pub commits_fit : length xs + 2 ≤ 2 ^ 32 → IfSome (slice_get (transmitters plan xs) number)
       (λ b. b.tally.committed + 1 < 2 ^ 32)
   commits_fit few =
       let is : slice_get (transmitters plan xs) number ≡ Some (transmitter_of xs number line.mode) =
@@ -104,10 +105,10 @@ module _ (params : Parameters) (plan : Plan) (xs : List Entry) where
   queue-observe n a b window legal opened (Some q) there = ap Some
       (waiting-observe params plan q there xs n a b window legal opened)
 
-  pub losses_fit : length xs ≤ 81920 → (o : Option Queue) → IfSome (option_map (waiting_of params plan xs) o)
-      (λ w. w.lost + 2 < 2 ^ 32)
-  losses_fit few None = tt
-  losses_fit few (Some q) = omega (arith, few, lost-most params plan q xs)
+  pub losses_fit : count_by is_slot xs + 2 ≤ 2 ^ 32 → (w : Opportunity) → open_window xs ≡ Some w → (o : Option Queue)
+      → IfSome (option_map (waiting_of params plan xs) o) (λ w. w.lost + 2 < 2 ^ 32)
+  losses_fit few w opened None = tt
+  losses_fit few w opened (Some q) = omega (arith, few, lost-most params plan q xs w opened)
 
 pub for_some : {T : Type 0} (P : T → Type 0) (o : Option T) → IfSome o P → ForSome o P
 for_some P None h = λ x e. absurd cc

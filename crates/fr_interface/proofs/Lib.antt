@@ -3,12 +3,14 @@ pub mod AnswerLemmas
 pub mod ChangeLemmas
 pub mod CounterLemmas
 pub mod HandingLemmas
+pub mod InterfaceLemmas
 pub mod KeptLemmas
 pub mod NamingLemmas
 pub mod OpeningLemmas
 pub mod RangeLemmas
 pub mod ReceiveLemmas
 pub mod SenderLemmas
+pub mod StandingLemmas
 pub mod TestLemmas
 pub mod TransmitLemmas
 pub mod WaitingLemmas

@@ -4,7 +4,10 @@ use Rattle.std.proofs.Common.{Option, Some, None, refl, sym, ap, subst, ◌∙�
 use Rattle.std.proofs.Common.{append_assoc, append-nil}
 use Rattle.std.specs.Prelude.{min, count_by, is_some, option_to_list, slice_get}
 use Rattle.std.proofs.lemmas.Bool.{ltb-true, ltb-false}
-use Rattle.std.proofs.lemmas.List.Sums.{fold-append, sum_by-append}
+use Rattle.std.proofs.lemmas.List.Sums.{fold-append, sum_by-append, sum_by-cons}
+use Rattle.fr_journal.specs.Entries.{is_slot}
+use Rattle.fr_journal.proofs.OpenWindowLemmas.{open_window-snoc}
+use Rattle.fr_slots.specs.History.{last_after}
 use Rattle.fr_buffers.specs.Waiting.{Waiting, with_frame, without_oldest}
 use Rattle.fr_interface.specs.Known.{waiting_of, queued_on, with_arrival}
 use Rattle.fr_journal.specs.Arrivals.{Move, arrives, pops, arrive_all, moves_at, moves, arrived, length_after}
@@ -85,6 +88,10 @@ arrival-by capacity popped ms (Some a) h = (frame-arrives capacity popped ms a h
 popped_more : (xs : List Entry) (e : Entry) → count_by is_answered_pop (xs ++ e ∷ []) ≡ count_by is_answered_pop xs +
     cond (is_answered_pop e) 1 0
 popped_more xs e = omega (arith, sum_by-append (λ x. cond (is_answered_pop x) 1 0) xs (e ∷ []))
+
+start_closed : open_window [] ≡ None
+unfolding last_after
+start_closed = refl
 
 module _ (params : Parameters) (plan : Plan) (q : Queue) where
   pub waiting-none : waiting_of params plan [] q ≡ record { capacity = q.capacity; frames = []; lost = 0 }
@@ -198,24 +205,70 @@ module _ (params : Parameters) (plan : Plan) (q : Queue) where
             (data_frame_seen params window B b)),
       )
 
-  few_at : (before : List Entry) (e : Entry) → length (arrived (moves_at params plan q before e)) ≤ 2
-  few_at before (Commit task buffer payload) = omega arith
-  few_at before (Withdraw task buffer of) = omega arith
-  few_at before (Read task buffer from) = omega arith
-  few_at before (Pop task from) = omega arith
-  few_at before (Fetch window a b) = omega arith
-  few_at before (Observe window a b) =
-      omega (arith, ap length (arrived-all (queue_arrivals_in params plan q (length before) a b (open_window before))),
-          two_at_most (length before) a b (open_window before))
+  -- an observe that closes a window brings two frames at most, and its fetch stands before it
+  open_one : List Entry → ℕ
+  open_one xs = cond {A = ℕ} (is_some (open_window xs)) 1 0
 
-  few_from : (before xs : List Entry) → length (arrived (each_after (moves_at params plan q) before xs)) ≤ 2 * length xs
+  digit_one : (t : Bool) → cond {A = ℕ} t 1 0 ≤ 1
+  digit_one true = omega arith
+  digit_one false = omega arith
+
+  at_open : (number : ℕ) (a b : Seen) (o : Option Opportunity)
+      → length (queue_arrivals_in params plan q number a b o) ≤ 2 * cond {A = ℕ} (is_some o) 1 0
+  at_open number a b None = omega arith
+  at_open number a b (Some window) = omega (arith, two_at_most number a b (Some window))
+
+  marked : (before : List Entry) (e : Entry) (o : Option Opportunity) → open_window (before ++ e ∷ []) ≡ o
+      → open_one (before ++ e ∷ []) ≡ cond {A = ℕ} (is_some o) 1 0
+  unfolding open_one
+  marked before e o is = ap (λ (w : Option Opportunity). cond {A = ℕ} (is_some w) 1 0) is
+
+  step : (before : List Entry) (e : Entry) → length (arrived (moves_at params plan q before e)) + open_one
+      (before ++ e ∷ []) ≤ cond {A = ℕ} (is_slot e) 1 0 + open_one before
+  unfolding open_one
+  step before (Commit task buffer payload) = omega (arith, marked before (Commit task buffer payload)
+      (open_window before) (open_window-snoc before (Commit task buffer payload)))
+  step before (Withdraw task buffer of) = omega (arith, marked before (Withdraw task buffer of) (open_window before)
+      (open_window-snoc before (Withdraw task buffer of)))
+  step before (Read task buffer from) = omega (arith, marked before (Read task buffer from) (open_window before)
+      (open_window-snoc before (Read task buffer from)))
+  step before (Pop task from) = omega (arith, marked before (Pop task from) (open_window before)
+      (open_window-snoc before (Pop task from)))
+  step before (Fetch window a b) = omega (arith, marked before (Fetch window a b) (Some window)
+      (open_window-snoc before (Fetch window a b)))
+  step before (Observe window a b) =
+      let arrivals : length (arrived (moves_at params plan q before (Observe window a b))) ≡ length
+          (queue_arrivals_in params plan q (length before) a b (open_window before)) =
+      ap length (arrived-all (queue_arrivals_in params plan q (length before) a b (open_window before))) in
+      let most : length (queue_arrivals_in params plan q (length before) a b (open_window before)) ≤ 2 * cond {A = ℕ}
+          (is_some (open_window before)) 1 0 = at_open (length before) a b (open_window before) in
+      let closed : open_one (before ++ Observe window a b ∷ []) ≡ 0 =
+          marked before (Observe window a b) None (open_window-snoc before (Observe window a b)) in
+      let one : cond {A = ℕ} (is_some (open_window before)) 1 0 ≤ 1 = digit_one (is_some (open_window before)) in
+      omega (arith, closed, arrivals, most, one)
+
+  few_from : (before xs : List Entry) → length (arrived (each_after (moves_at params plan q) before xs)) + open_one
+      (before ++ xs) ≤ count_by is_slot xs + open_one before
   unfolding each_after
-  few_from before [] = omega arith
+  few_from before [] = omega (arith, ap open_one (append-nil before))
   few_from before (e ∷ xs) =
       let here : List Move = moves_at params plan q before e in
       let rest : List Move = each_after (moves_at params plan q) (before ++ e ∷ []) xs in
-      omega (arith, ap length (arrived-append here rest), length-append (arrived here) (arrived rest), few_at before e,
-          few_from (before ++ e ∷ []) xs)
+      omega (
+        arith,
+        ap length (arrived-append here rest),
+        length-append (arrived here) (arrived rest),
+        step before e,
+        few_from (before ++ e ∷ []) xs,
+        ap open_one (append_assoc before (e ∷ []) xs),
+        sum_by-cons (λ x. cond (is_slot x) 1 0) e xs,
+      )
 
-  pub lost-most : (xs : List Entry) → queue_lost params plan q xs ≤ 2 * length xs
-  lost-most xs = omega (arith, few_from [] xs)
+  -- fewer were lost than there are entries of the controller, where a window is open
+  pub lost-most : (xs : List Entry) (w : Opportunity) → open_window xs ≡ Some w
+      → queue_lost params plan q xs + 1 ≤ count_by is_slot xs
+  unfolding open_one
+  lost-most xs w opened =
+      let one : open_one xs ≡ 1 = ap (λ (o : Option Opportunity). cond {A = ℕ} (is_some o) 1 0) opened in
+      let none : open_one [] ≡ 0 = ap (λ (o : Option Opportunity). cond {A = ℕ} (is_some o) 1 0) start_closed in
+      omega (arith, few_from [] xs, one, none)

@@ -1,21 +1,18 @@
 -- The fields of `Interface` as its state.
-use Rattle.std.specs.Prelude.{◌≡◌, option_map, map}
+use Rattle.std.specs.Prelude.{◌≡◌, None}
 use Rattle.fr_interface.specs.declared.interface.Interface.TheInside.{Inside}
-use Rattle.fr_interface.specs.Known.{opening_of, transmitters, held_in, waiting_of}
-use Rattle.fr_interface.specs.State.{State, IsLegalInterface}
-use Rattle.fr_journal.specs.Counts.{counters_of}
+use Rattle.fr_interface.specs.Standing.{IsHistory}
+use Rattle.fr_interface.specs.State.{State}
+use Rattle.fr_slots.specs.Faults.{plan_fault}
+use Rattle.fr_slots.specs.Plans.{IsPlan}
 
 abbrev pub state_in : Inside → State
-state_in i = record { params = i.params; plan = i.plan; entries = i.journal.entries }
+state_in i = record { params = i.state.params; plan = i.state.plan; entries = i.journal.entries }
 
--- The journal has the plan's limits, the interface is legal, and what stands beside the journal is what the journal
--- gives.
+-- The journal has the plan's limits, and is a legal history that leaves what is at hand. The plan is a node's.
 pub record IsLawful (i : Inside) : Type 0 where
-  pub host_limit : i.journal.host_limit ≡ i.plan.host_entries
-  pub slot_limit : i.journal.slot_limit ≡ i.plan.slot_entries
-  pub legal : IsLegalInterface (state_in i)
-  pub opening_is : i.opening ≡ opening_of i.journal.entries
-  pub transmit_is : i.transmit.items ≡ transmitters i.plan i.journal.entries
-  pub receive_is : i.receive.items ≡ map (held_in i.params i.journal.entries) i.plan.buffers
-  pub queue_is : i.queue ≡ option_map (waiting_of i.params i.plan i.journal.entries) i.plan.queue
-  pub counters_are : i.counters ≡ counters_of i.params i.journal.entries
+  pub host_limit : i.journal.host_limit ≡ i.state.plan.host_entries
+  pub slot_limit : i.journal.slot_limit ≡ i.state.plan.slot_entries
+  pub plan_is : IsPlan i.state.plan
+  pub faultless : plan_fault i.state.params i.state.plan ≡ None
+  pub history : IsHistory i.state (state_in i)

@@ -7,4 +7,6 @@ pub mod Known
 pub mod Ranges
 pub mod Seeing
 pub mod Sending
+pub mod Standing
 pub mod State
+pub mod StateFields

@@ -9,17 +9,10 @@ ghost use Rattle.fr_slots.specs.Windows.{IsInRange, IsSlotOrNone};
 
 use crate::errors::{HostError, InterfaceError, SlotError};
 use crate::handing::bytes_in_entry;
-use crate::index::IndexedPlan;
+use crate::state::InterfaceState;
 use crate::naming::frame_named;
-use crate::observed::{Told, arrive_all, count_seen, store_all};
-use crate::offers::{Outgoing, outgoing_on, spelled_by};
-use crate::opening::Opening;
-use crate::receiving::{arrival_at, observed_at, pop_from, receive_buffers, receive_queue};
-use crate::sending::{commit_at, commit_to, send_from, tally_at, transmit_buffers, withdraw_from};
+use crate::offers::Outgoing;
 use crate::source::Source;
-use fr_buffers::queue::ReceiveQueue;
-use fr_buffers::receive::RxBuffer;
-use fr_buffers::transmit::TxBuffer;
 use fr_frame::frame::{Bytes, Frame};
 use fr_frame::payload::Payload;
 use fr_journal::entry::{Arrival, Entry, Offered, Origin};
@@ -56,14 +49,8 @@ pub struct Receipt {
 /// The interface between the tasks of a host and a controller.
 #[derive(Drop)]
 pub struct Interface {
-    params: Params,
-    plan: IndexedPlan,
+    state: InterfaceState,
     journal: Journal,
-    opening: Opening,
-    transmit: Vec<TxBuffer>,
-    receive: Vec<RxBuffer>,
-    queue: Option<ReceiveQueue>,
-    counters: Counters,
 }
 
 impl Model for Interface {
@@ -105,22 +92,8 @@ impl Interface {
     {
         let host = u32::from(plan.host_entries());
         let journal = Journal::with_limits(alloc, host, plan.slot_entries())?;
-        let transmit = transmit_buffers(alloc, plan.buffers())?;
-        let receive = receive_buffers(alloc, plan.buffers())?;
-        let queue = receive_queue(alloc, plan.queue())?;
-        let indexed = IndexedPlan::new(alloc, plan)?;
-        // Field by field, since what holds of parameters is stated where one of them is read.
-        let params = Params { ..*params };
-        Ok(Interface {
-            params,
-            plan: indexed,
-            journal,
-            opening: Opening::NONE,
-            transmit,
-            receive,
-            queue,
-            counters: Counters::NONE,
-        })
+        let state = InterfaceState::new(alloc, params, plan, host, plan.slot_entries())?;
+        Ok(Interface { state, journal })
     }
 
     /// Gives a transmit buffer a payload for a task (chapter 9). The buffer then holds this commit, in place of the one
@@ -141,24 +114,7 @@ impl Interface {
         ensures accepted { OnOk result (self.new ≡ with_entry self.old (entries.Commit task buffer payload.now)) }
         ensures refused { OnErr result (self.new ≡ self.old) }
     {
-        if task.number() >= self.plan.tasks() {
-            return Err(HostError::UnknownTask);
-        }
-        let Some(line) = self.plan.buffer(buffer) else {
-            return Err(HostError::UnknownBuffer);
-        };
-        if line.mode.is_receive() {
-            return Err(HostError::NotTransmit);
-        }
-        if !has_words(&self.params, &line, payload) {
-            return Err(HostError::WrongLength);
-        }
-        if self.journal.host_room() == 0 {
-            return Err(HostError::HostFull);
-        }
-        let entry = self.journal.len();
-        let payload = kept_payload(payload);
-        commit_to(&mut self.transmit, buffer, entry, payload);
+        let entry = self.state.commit(task, buffer, payload)?;
         self.journal.push_commit(task, buffer, payload);
         Ok(Receipt { task, entry })
     }
@@ -177,19 +133,7 @@ impl Interface {
         ensures accepted { OnOk result (self.new ≡ with_entry self.old (withdraw_entry self.old task buffer)) }
         ensures refused { OnErr result (self.new ≡ self.old) }
     {
-        if task.number() >= self.plan.tasks() {
-            return Err(HostError::UnknownTask);
-        }
-        let Some(line) = self.plan.buffer(buffer) else {
-            return Err(HostError::UnknownBuffer);
-        };
-        if line.mode.is_receive() {
-            return Err(HostError::NotTransmit);
-        }
-        if self.journal.host_room() == 0 {
-            return Err(HostError::HostFull);
-        }
-        let of = withdraw_from(&mut self.transmit, buffer);
+        let of = self.state.withdraw(task, buffer)?;
         self.journal.push_host(Entry::Withdraw { task, buffer, of });
         Ok(of)
     }
@@ -205,19 +149,7 @@ impl Interface {
         ensures accepted { OnOk result (self.new ≡ with_entry self.old (read_entry self.old task buffer)) }
         ensures refused { OnErr result (self.new ≡ self.old) }
     {
-        if task.number() >= self.plan.tasks() {
-            return Err(HostError::UnknownTask);
-        }
-        let Some(line) = self.plan.buffer(buffer) else {
-            return Err(HostError::UnknownBuffer);
-        };
-        if !line.mode.is_receive() {
-            return Err(HostError::NotReceive);
-        }
-        if self.journal.host_room() == 0 {
-            return Err(HostError::HostFull);
-        }
-        let held = arrival_at(&self.receive, buffer);
+        let held = self.state.read(task, buffer)?;
         let from = origin_in(&held);
         self.journal.push_host(Entry::Read { task, buffer, from });
         Ok(frame_in(held))
@@ -234,16 +166,7 @@ impl Interface {
         ensures accepted { OnOk result (self.new ≡ with_entry self.old (pop_entry self.old task)) }
         ensures refused { OnErr result (self.new ≡ self.old) }
     {
-        if task.number() >= self.plan.tasks() {
-            return Err(HostError::UnknownTask);
-        }
-        if self.plan.queue().is_none() {
-            return Err(HostError::NoQueue);
-        }
-        if self.journal.host_room() == 0 {
-            return Err(HostError::HostFull);
-        }
-        let oldest = pop_from(&mut self.queue);
+        let oldest = self.state.pop(task)?;
         let from = origin_in(&oldest);
         self.journal.push_host(Entry::Pop { task, from });
         Ok(frame_in(oldest))
@@ -326,19 +249,7 @@ impl Interface {
     fn check_fetch(&self, window: &Window) -> Result<(), SlotError>
         ensures { result_err result ≡ fetch_refusal self.now window.now }
     {
-        if self.opening.window.is_some() {
-            return Err(SlotError::NotObserved);
-        }
-        if !self.params.has_window(window) {
-            return Err(SlotError::BadWindow);
-        }
-        if is_not_above(window.number, self.opening.last) {
-            return Err(SlotError::WindowOrder);
-        }
-        if self.journal.slot_room() < 2 {
-            return Err(SlotError::SlotFull);
-        }
-        Ok(())
+        self.state.check_fetch(window)
     }
 
     /// What goes out on the channel, once the window is fetched.
@@ -347,7 +258,7 @@ impl Interface {
         ensures offered { result.offered ≡ offered self.now.plan self.now.entries window.now channel }
         ensures fits { IsOffered result.offered }
     {
-        outgoing_on(&self.plan, self.transmit.as_slice(), window, channel)
+        self.state.outgoing_on(window, channel)
     }
 
     /// Puts the bytes that go out on the channel in the place of those that were there.
@@ -364,18 +275,7 @@ impl Interface {
         ensures bytes { bytes.new ≡ bytes_of channel
             (frame_offered self.now.params self.now.plan self.now.entries window.now channel) }
     {
-        match outgoing.offered {
-            Offered::Nothing => {
-                // Most windows hand nothing out, and nothing needn't be written over nothing.
-                if bytes.is_some() {
-                    *bytes = None;
-                }
-            }
-            Offered::Null | Offered::Data(_) => {
-                let (params, buffers) = (&self.params, self.transmit.as_slice());
-                *bytes = spelled_by(params, &self.plan, buffers, window, channel, outgoing);
-            }
-        }
+        self.state.hand_out(window, channel, outgoing, bytes)
     }
 
     /// Appends the fetch of a window that isn't refused, in which this goes out on channels A and B.
@@ -387,15 +287,9 @@ impl Interface {
         requires fits_b { IsOffered b.now.offered }
         ensures { self.new ≡ with_entry self.old (fetch_entry self.old window.now) }
     {
-        send_from(&mut self.transmit, a.sender);
-        send_from(&mut self.transmit, b.sender);
-        let window = kept_window(window);
-        self.opening = Opening {
-            window: Some(window),
-            last: Some(window.number),
-        };
+        self.state.fetch(window, a, b);
         self.journal.push_slot(Entry::Fetch {
-            window,
+            window: *window,
             a: a.offered,
             b: b.offered,
         });
@@ -409,27 +303,8 @@ impl Interface {
         ensures accepted { OnOk result (self.new ≡ with_entry self.old (entries.Observe number a.now b.now)) }
         ensures refused { OnErr result (self.new ≡ self.old) }
     {
-        let Some(window) = self.opening.window else {
-            return Err(SlotError::NotFetched);
-        };
-        if window.number != number {
-            return Err(SlotError::WrongWindow);
-        }
-        let entry = self.journal.len();
-        let told_a = Told::of(&self.params, &window, Channel::A, a);
-        let told_b = Told::of(&self.params, &window, Channel::B, b);
-        count_seen(&mut self.counters, Channel::A, told_a.status);
-        count_seen(&mut self.counters, Channel::B, told_b.status);
-        let (frame_a, frame_b) = (&told_a.frame, &told_b.frame);
-        let plan = &self.plan;
-        store_all(&mut self.receive, plan, entry, &window, frame_a, frame_b);
-        arrive_all(&mut self.queue, plan, entry, &window, frame_a, frame_b);
-        self.opening = Opening {
-            window: None,
-            last: self.opening.last,
-        };
-        self.journal
-            .push_observe(number, seen_within(a), seen_within(b));
+        self.state.observe(number, a, b)?;
+        self.journal.push_observe(number, a, b);
         Ok(())
     }
 
@@ -438,12 +313,7 @@ impl Interface {
     pub fn held(&self, buffer: u8) -> Option<Source>
         ensures { result ≡ source_of self.now buffer }
     {
-        let line = self.plan.buffer(buffer)?;
-        if line.mode.is_receive() {
-            observed_at(&self.receive, buffer)
-        } else {
-            commit_at(&self.transmit, buffer)
-        }
+        self.state.held(buffer)
     }
 
     /// What became of the commits on a transmit buffer (project-defined). None for a receive buffer, and for one that
@@ -454,11 +324,7 @@ impl Interface {
         ensures fates { IfSome result (λ t. t.committed ≡ t.sent + t.overwritten + t.pending + t.withdrawn) }
         ensures one_pending { IfSome result (λ t. t.pending ≤ 1) }
     {
-        let line = self.plan.buffer(buffer)?;
-        if line.mode.is_receive() {
-            return None;
-        }
-        tally_at(&self.transmit, buffer)
+        self.state.tally(buffer)
     }
 
     /// The frame that a receive buffer holds, and where it comes from (chapter 9). None for an empty buffer, for a
@@ -466,11 +332,7 @@ impl Interface {
     pub fn received(&self, buffer: u8) -> Option<Arrival>
         ensures { result ≡ received_by self.now buffer }
     {
-        let line = self.plan.buffer(buffer)?;
-        if !line.mode.is_receive() {
-            return None;
-        }
-        arrival_at(&self.receive, buffer)
+        self.state.received(buffer)
     }
 
     /// The valid data frame that the origin names: that of the observe of its number on its channel (chapter 9). None
@@ -478,7 +340,7 @@ impl Interface {
     pub fn frame_at(&self, origin: Origin) -> Option<Frame>
         ensures { result ≡ frame_named self.now.params self.now.entries origin }
     {
-        frame_named(&self.params, &self.journal, origin)
+        frame_named(self.state.params(), &self.journal, origin)
     }
 
     /// The bytes that the fetch of this entry handed to the bus on the channel (chapters 5 and 9). None where it handed
@@ -488,8 +350,8 @@ impl Interface {
     {
         let told = self.journal.get(entry)?;
         bytes_in_entry(
-            &self.params,
-            &self.plan,
+            self.state.params(),
+            self.state.plan(),
             &self.journal,
             entry,
             channel,
@@ -503,10 +365,7 @@ impl Interface {
         ensures value { result ≡ length_of self.now }
         ensures within { IfSome result (λ n. IfSome self.now.plan.queue (λ q. n ≤ q.capacity)) }
     {
-        match &self.queue {
-            Some(queue) => Some(queue.len()),
-            None => None,
-        }
+        self.state.queue_len()
     }
 
     /// How many frames the receive queue lost since others took their places (project-defined). None where the plan has
@@ -517,10 +376,7 @@ impl Interface {
         ensures balance { IfSome result (λ lost. IfSome self.now.plan.queue
             (λ q. arrived_of self.now q ≡ popped_of self.now + queued_of self.now q + lost)) }
     {
-        match &self.queue {
-            Some(queue) => Some(queue.lost()),
-            None => None,
-        }
+        self.state.queue_lost()
     }
 
     /// How many observed windows had each bit of the slot status on each channel (chapter 6). A channel without a
@@ -528,7 +384,7 @@ impl Interface {
     pub fn counters(&self) -> Counters
         ensures { result ≡ counters_of self.now.params self.now.entries }
     {
-        self.counters
+        self.state.counters()
     }
 
     /// The journal, which holds each accepted call.
@@ -546,7 +402,7 @@ impl Interface {
         ensures value { result.now ≡ self.now.params }
         ensures legal { IsLegalInterface self.now }
     {
-        &self.params
+        self.state.params()
     }
 
     /// The plan that the interface was made with.
@@ -554,7 +410,7 @@ impl Interface {
         ensures value { result.now ≡ self.now.plan }
         ensures legal { IsLegalInterface self.now }
     {
-        self.plan.as_plan()
+        self.state.plan().as_plan()
     }
 }
 
@@ -567,7 +423,7 @@ fn slot_number(slot: Option<SlotId>) -> Option<u16>
 
 /// A copy of the window. Its numbers are read because only a call of theirs tells their ranges, which the journal asks
 /// of an entry.
-fn kept_window(window: &Window) -> Window
+pub(crate) fn kept_window(window: &Window) -> Window
     ensures value { result ≡ window.now }
     ensures fits { IsInRange window.now }
 {
@@ -579,14 +435,14 @@ fn kept_window(window: &Window) -> Window
 }
 
 /// Whether the payload has the words that the transmit buffer sends.
-fn has_words(params: &Params, buffer: &Buffer, payload: &Payload) -> bool
+pub(crate) fn has_words(params: &Params, buffer: &Buffer, payload: &Payload) -> bool
     ensures { result ≡ has_words params.now buffer.now payload.now }
 {
     payload.as_slice().len() == 2 * usize::from(buffer.words(params))
 }
 
 /// The payload, whose bytes are counted for the same reason as a window's numbers are read.
-fn kept_payload(payload: &Payload) -> &Payload
+pub(crate) fn kept_payload(payload: &Payload) -> &Payload
     ensures value { result.now ≡ payload.now }
     ensures is_payload { IsPayload payload.now }
     ensures bytes { AreBytes payload.now }
@@ -603,7 +459,7 @@ fn count_of(bytes: &[u8]) -> usize
 }
 
 /// What was seen, with its bytes counted, as a payload's are.
-fn seen_within(seen: &Seen) -> &Seen
+pub(crate) fn seen_within(seen: &Seen) -> &Seen
     ensures value { result.now ≡ seen.now }
     ensures fits { IsSeen seen.now }
 {
@@ -614,7 +470,7 @@ fn seen_within(seen: &Seen) -> &Seen
 }
 
 /// Where a frame that arrived comes from.
-fn origin_in(arrival: &Option<Arrival>) -> Option<Origin>
+pub(crate) fn origin_in(arrival: &Option<Arrival>) -> Option<Origin>
     ensures value { result ≡ option_map origin_of arrival.now }
     ensures fits { IsOrigin result }
 {
@@ -629,7 +485,7 @@ fn frame_in(arrival: Option<Arrival>) -> Option<Frame>
 }
 
 /// Whether a window's number isn't above that of the last one.
-fn is_not_above(number: u32, last: Option<u32>) -> bool
+pub(crate) fn is_not_above(number: u32, last: Option<u32>) -> bool
     ensures { result ≡ is_not_above number last }
 {
     match last {

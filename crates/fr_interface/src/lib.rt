@@ -24,3 +24,4 @@ mod opening;
 mod receiving;
 mod sending;
 pub mod source;
+pub mod state;

@@ -1,10 +1,17 @@
-use Rattle.std.proofs.Common.{length, Some, ap, sym, ◌∙◌, option_map}
-use Rattle.fr_buffers.specs.Waiting.{Waiting}
+use Rattle.std.proofs.Common.{◌≡◌, ℕ, ◌≤◌, Option, Some, None, ap, arith, sym, subst, ◌∙◌}
+use Rattle.std.specs.Prelude.{IfSome}
 use Rattle.fr_interface.specs.InterfaceFields.{state_in}
-use Rattle.fr_interface.proofs.AnswerLemmas.{length-place}
+use Rattle.fr_interface.specs.State.{State, length_of}
+use Rattle.fr_interface.proofs.StandingLemmas.{answer-length, length-within}
 use Rattle.fr_interface.proofs.interface.Interface.queue_len.Goals as goal
 
-pub returns-in-Some-clause-value : goal.returns-in-Some-clause-value
-returns-in-Some-clause-value c =
-    rw (sym c.self.view_is) (ap Some c.len.ensures.value ∙ ap (option_map (λ (w : Waiting). length w.frames))
-        (sym c.in-Some.is) ∙ length-place (state_in c.self.inside) c.self.inside.queue c.self.invariant.queue_is)
+pub returns-clause-value : goal.returns-clause-value
+returns-clause-value c = c.queue_len.ensures ∙ answer-length c.self.inside.state
+    (state_in c.self.inside) c.self.invariant.history ∙ ap length_of c.self.view_is
+
+pub returns-clause-within : goal.returns-clause-within
+returns-clause-within c =
+    subst (λ (o : Option ℕ). IfSome o (λ n. IfSome c.args.self.now.plan.queue (λ q. n ≤ q.capacity)))
+    (sym (c.queue_len.ensures ∙ answer-length c.self.inside.state (state_in c.self.inside) c.self.invariant.history
+        ∙ ap length_of c.self.view_is))
+    (length-within c.args.self.now)

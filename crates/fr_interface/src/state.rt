@@ -1,0 +1,432 @@
+//! What an interface has at hand to go on: all that its calls need, and none of the calls before.
+
+ghost use Rattle.fr_interface.specs.Standing.{IsHistory, ForEachHistory};
+
+use crate::errors::{HostError, InterfaceError, SlotError};
+use crate::index::IndexedPlan;
+use crate::interface::{has_words, is_not_above, kept_payload, kept_window, origin_in, seen_within};
+use crate::observed::{Told, arrive_all, count_seen, store_all};
+use crate::offers::{Outgoing, outgoing_on, spelled_by};
+use crate::opening::Opening;
+use crate::receiving::{arrival_at, observed_at, pop_from, receive_buffers, receive_queue};
+use crate::sending::{commit_at, commit_to, send_from, tally_at, transmit_buffers, withdraw_from};
+use crate::source::Source;
+use fr_buffers::queue::ReceiveQueue;
+use fr_buffers::receive::RxBuffer;
+use fr_buffers::transmit::TxBuffer;
+use fr_frame::frame::Bytes;
+use fr_frame::payload::Payload;
+use fr_journal::entry::{Arrival, Offered};
+use fr_journal::fate::Tally;
+use fr_slots::channel::Channel;
+use fr_slots::numbers::TaskId;
+use fr_slots::params::Params;
+use fr_slots::plan::NodePlan;
+use fr_slots::window::Window;
+use fr_status::counters::Counters;
+use fr_status::seen::Seen;
+use std::alloc::Global;
+use std::marker::Model;
+
+/// What is at hand after some calls of a host and of a controller.
+#[derive(Drop)]
+pub struct InterfaceState {
+    params: Params,
+    plan: IndexedPlan,
+    host_limit: u32,
+    slot_limit: u32,
+    hosts: u32,
+    slots: u32,
+    opening: Opening,
+    transmit: Vec<TxBuffer>,
+    receive: Vec<RxBuffer>,
+    queue: Option<ReceiveQueue>,
+    counters: Counters,
+}
+
+impl Model for InterfaceState {
+    ghost use Rattle.fr_interface.specs.Standing.{Standing};
+
+    ghost Value = { Standing };
+
+    ghost use Rattle.fr_interface.specs.StateFields.{standing_in, HasHistory};
+
+    ghost view = { standing_in };
+
+    ghost invariant = { HasHistory };
+}
+
+impl InterfaceState {
+    ghost use Rattle.std.specs.Prelude.{◌≡◌, ◌+◌, ◌^◌, ◌≤◌, ◌<◌, [], None, length, count_by, IfOk, IfSome, OnOk, OnErr, option_map, slice_get};
+    ghost use Rattle.std.specs.Result.{result_err};
+    ghost use Rattle.fr_journal.specs.declared.entry.Entry.TheVariants as entries;
+    ghost use Rattle.fr_journal.specs.Entries.{is_host, is_slot, IsOffered};
+    ghost use Rattle.fr_interface.specs.State.{with_entry, withdraw_entry, read_entry, pop_entry, fetch_entry, received_by};
+    ghost use Rattle.fr_interface.specs.Standing.{after_commit, after_read, after_fetch, after_observe};
+    ghost use Rattle.fr_interface.specs.Standing.{commit_refused, read_refused, fetch_refused, observe_refused, entries_before};
+    ghost use Rattle.fr_interface.specs.Sending.{outgoing_on, pending_at, frame_by};
+    ghost use Rattle.fr_interface.specs.Standing.{withdraw_refused, pop_refused, oldest_at, source_at, tally_at, received_at};
+    ghost use Rattle.fr_journal.specs.Offers.{IsHandedOut, bytes_of};
+    ghost use Rattle.fr_interface.specs.Standing.{with_limits, KeepsTerms};
+
+    /// What is at hand before any call, with room for so many entries of the host and of the controller, whatever room
+    /// the plan gives. Refused with `Memory` alone.
+    pub fn new(
+        alloc: Global,
+        params: &Params,
+        plan: &NodePlan,
+        host_limit: u32,
+        slot_limit: u32,
+    ) -> Result<InterfaceState, InterfaceError>
+        requires { host_limit + slot_limit + 3 ≤ 2 ^ 32 }
+        ensures plan { IfOk result (λ h. h.plan ≡ plan.now) }
+        ensures history { IfOk result (λ h. IsHistory h (record {
+          params = params.now;
+          plan = with_limits plan.now host_limit slot_limit;
+          entries = [];
+        })) }
+    {
+        let transmit = transmit_buffers(alloc, plan.buffers())?;
+        let receive = receive_buffers(alloc, plan.buffers())?;
+        let queue = receive_queue(alloc, plan.queue())?;
+        let indexed = IndexedPlan::new(alloc, plan)?;
+        let params = Params { ..*params };
+        Ok(InterfaceState {
+            params,
+            plan: indexed,
+            host_limit,
+            slot_limit,
+            hosts: 0,
+            slots: 0,
+            opening: Opening::NONE,
+            transmit,
+            receive,
+            queue,
+            counters: Counters::NONE,
+        })
+    }
+
+    /// The number of the next entry.
+    pub fn entries(&self) -> u32
+        ensures value { result ≡ entries_before self.now }
+        ensures history { ForEachHistory self.now (λ s. result ≡ length s.entries) }
+        ensures few { result + 2 ≤ 2 ^ 32 }
+    {
+        self.hosts + self.slots
+    }
+
+    /// Gives a transmit buffer a payload for a task, as `Interface::commit` does, and answers the number of the entry
+    /// that this call is.
+    pub fn commit(&mut self, task: TaskId, buffer: u8, payload: &Payload) -> Result<u32, HostError>
+        ensures refusal { result_err result ≡ commit_refused self.old task buffer payload.now }
+        ensures entry { IfOk result (λ n. n ≡ entries_before self.old) }
+        ensures after { OnOk result (self.new ≡ after_commit self.old buffer payload.now) }
+        ensures history { ForEachHistory self.old (λ s. OnOk result
+            (IsHistory self.new (with_entry s (entries.Commit task buffer payload.now)))) }
+        ensures refused { OnErr result (self.new ≡ self.old) }
+        ensures terms { KeepsTerms self.old self.new }
+    {
+        if task.number() >= self.plan.tasks() {
+            return Err(HostError::UnknownTask);
+        }
+        let Some(line) = self.plan.buffer(buffer) else {
+            return Err(HostError::UnknownBuffer);
+        };
+        if line.mode.is_receive() {
+            return Err(HostError::NotTransmit);
+        }
+        if !has_words(&self.params, &line, payload) {
+            return Err(HostError::WrongLength);
+        }
+        if self.hosts >= self.host_limit {
+            return Err(HostError::HostFull);
+        }
+        let entry = self.entries();
+        let payload = kept_payload(payload);
+        commit_to(&mut self.transmit, buffer, entry, payload);
+        self.hosts += 1;
+        Ok(entry)
+    }
+
+    /// Reads a receive buffer for a task, as `Interface::read` does, with the origin of what it holds.
+    pub fn read(&mut self, task: TaskId, buffer: u8) -> Result<Option<Arrival>, HostError>
+        ensures refusal { result_err result ≡ read_refused self.old task buffer }
+        ensures answer { ForEachHistory self.old (λ s. IfOk result (λ a. a ≡ received_by s buffer)) }
+        ensures after { OnOk result (self.new ≡ after_read self.old) }
+        ensures history { ForEachHistory self.old (λ s. OnOk result
+            (IsHistory self.new (with_entry s (read_entry s task buffer)))) }
+        ensures refused { OnErr result (self.new ≡ self.old) }
+        ensures terms { KeepsTerms self.old self.new }
+    {
+        if task.number() >= self.plan.tasks() {
+            return Err(HostError::UnknownTask);
+        }
+        let Some(line) = self.plan.buffer(buffer) else {
+            return Err(HostError::UnknownBuffer);
+        };
+        if !line.mode.is_receive() {
+            return Err(HostError::NotReceive);
+        }
+        if self.hosts >= self.host_limit {
+            return Err(HostError::HostFull);
+        }
+        let held = arrival_at(&self.receive, buffer);
+        let _from = origin_in(&held);
+        self.hosts += 1;
+        Ok(held)
+    }
+
+    /// Takes the last commit on a transmit buffer back for a task, as `Interface::withdraw` does.
+    pub fn withdraw(&mut self, task: TaskId, buffer: u8) -> Result<Option<u32>, HostError>
+        ensures refusal { result_err result ≡ withdraw_refused self.old task buffer }
+        ensures answer { IfOk result (λ of. of ≡ pending_at self.old.transmit buffer) }
+        ensures history { ForEachHistory self.old (λ s. OnOk result
+            (IsHistory self.new (with_entry s (withdraw_entry s task buffer)))) }
+        ensures refused { OnErr result (self.new ≡ self.old) }
+        ensures terms { KeepsTerms self.old self.new }
+    {
+        if task.number() >= self.plan.tasks() {
+            return Err(HostError::UnknownTask);
+        }
+        let Some(line) = self.plan.buffer(buffer) else {
+            return Err(HostError::UnknownBuffer);
+        };
+        if line.mode.is_receive() {
+            return Err(HostError::NotTransmit);
+        }
+        if self.hosts >= self.host_limit {
+            return Err(HostError::HostFull);
+        }
+        let of = withdraw_from(&mut self.transmit, buffer);
+        self.hosts += 1;
+        Ok(of)
+    }
+
+    /// Takes the oldest frame of the receive queue for a task, as `Interface::pop` does, with its origin.
+    pub fn pop(&mut self, task: TaskId) -> Result<Option<Arrival>, HostError>
+        ensures refusal { result_err result ≡ pop_refused self.old task }
+        ensures answer { IfOk result (λ a. a ≡ oldest_at self.old) }
+        ensures history { ForEachHistory self.old (λ s. OnOk result
+            (IsHistory self.new (with_entry s (pop_entry s task)))) }
+        ensures refused { OnErr result (self.new ≡ self.old) }
+        ensures terms { KeepsTerms self.old self.new }
+    {
+        if task.number() >= self.plan.tasks() {
+            return Err(HostError::UnknownTask);
+        }
+        if self.plan.queue().is_none() {
+            return Err(HostError::NoQueue);
+        }
+        if self.hosts >= self.host_limit {
+            return Err(HostError::HostFull);
+        }
+        let oldest = pop_from(&mut self.queue);
+        let _from = origin_in(&oldest);
+        self.hosts += 1;
+        Ok(oldest)
+    }
+
+    /// Refuses the window where `fetch` does.
+    pub fn check_fetch(&self, window: &Window) -> Result<(), SlotError>
+        ensures { result_err result ≡ fetch_refused self.now window.now }
+    {
+        if self.opening.window.is_some() {
+            return Err(SlotError::NotObserved);
+        }
+        if !self.params.has_window(window) {
+            return Err(SlotError::BadWindow);
+        }
+        if is_not_above(window.number, self.opening.last) {
+            return Err(SlotError::WindowOrder);
+        }
+        if self.slot_limit < self.slots + 2 {
+            return Err(SlotError::SlotFull);
+        }
+        Ok(())
+    }
+
+    /// What goes out on the channel, once the window is fetched.
+    pub(crate) fn outgoing_on(&self, window: &Window, channel: Channel) -> Outgoing
+        ensures value { result ≡ outgoing_on self.now.plan self.now.transmit window.now channel }
+        ensures fits { IsOffered result.offered }
+    {
+        outgoing_on(&self.plan, self.transmit.as_slice(), window, channel)
+    }
+
+    /// Puts the bytes that go out on the channel in the place of those that were there.
+    pub(crate) fn hand_out(
+        &self,
+        window: &Window,
+        channel: Channel,
+        outgoing: &Outgoing,
+        bytes: &mut Option<Bytes>,
+    )
+        requires { outgoing.now ≡ outgoing_on self.now.plan self.now.transmit window.now channel }
+        ensures spelled { IsHandedOut channel
+            (frame_by self.now.params self.now.plan self.now.transmit window.now channel outgoing.now) bytes.new }
+        ensures bytes { bytes.new ≡ bytes_of channel
+            (frame_by self.now.params self.now.plan self.now.transmit window.now channel outgoing.now) }
+    {
+        match outgoing.offered {
+            Offered::Nothing => {
+                // Most windows hand nothing out, and nothing needn't be written over nothing.
+                if bytes.is_some() {
+                    *bytes = None;
+                }
+            }
+            Offered::Null | Offered::Data(_) => {
+                let (params, buffers) = (&self.params, self.transmit.as_slice());
+                *bytes = spelled_by(params, &self.plan, buffers, window, channel, outgoing);
+            }
+        }
+    }
+
+    /// Opens a window, as `Interface::fetch_offered` does, and answers what the node offers on channels A and B.
+    pub fn fetch_offered(&mut self, window: &Window) -> Result<(Offered, Offered), SlotError>
+        ensures refusal { result_err result ≡ fetch_refused self.old window.now }
+        ensures offered_a { IfOk result (λ o. o.0
+            ≡ (outgoing_on self.old.plan self.old.transmit window.now Channel.A).offered) }
+        ensures offered_b { IfOk result (λ o. o.1
+            ≡ (outgoing_on self.old.plan self.old.transmit window.now Channel.B).offered) }
+        ensures history { ForEachHistory self.old (λ s. OnOk result
+            (IsHistory self.new (with_entry s (fetch_entry s window.now)))) }
+        ensures refused { OnErr result (self.new ≡ self.old) }
+        ensures terms { KeepsTerms self.old self.new }
+    {
+        self.check_fetch(window)?;
+        let a = self.outgoing_on(window, Channel::A);
+        let b = self.outgoing_on(window, Channel::B);
+        self.fetch(window, &a, &b);
+        Ok((a.offered, b.offered))
+    }
+
+    /// The window is fetched, and this goes out.
+    pub(crate) fn fetch(&mut self, window: &Window, a: &Outgoing, b: &Outgoing)
+        requires accepted { fetch_refused self.old window.now ≡ None }
+        requires outgoing_a { a.now ≡ outgoing_on self.old.plan self.old.transmit window.now Channel.A }
+        requires outgoing_b { b.now ≡ outgoing_on self.old.plan self.old.transmit window.now Channel.B }
+        requires fits_a { IsOffered a.now.offered }
+        requires fits_b { IsOffered b.now.offered }
+        ensures after { self.new ≡ after_fetch self.old window.now a.now.sender b.now.sender }
+        ensures history { ForEachHistory self.old (λ s. IsHistory self.new (with_entry s (fetch_entry s window.now))) }
+        ensures terms { KeepsTerms self.old self.new }
+    {
+        send_from(&mut self.transmit, a.sender);
+        send_from(&mut self.transmit, b.sender);
+        let window = kept_window(window);
+        self.opening = Opening {
+            window: Some(window),
+            last: Some(window.number),
+        };
+        self.slots += 1;
+    }
+
+    /// Closes the window of this number, as `Interface::observe` does.
+    pub fn observe(&mut self, number: u32, a: &Seen, b: &Seen) -> Result<(), SlotError>
+        ensures refusal { result_err result ≡ observe_refused self.old number }
+        ensures history { ForEachHistory self.old (λ s. OnOk result
+            (IsHistory self.new (with_entry s (entries.Observe number a.now b.now)))) }
+        ensures refused { OnErr result (self.new ≡ self.old) }
+        ensures terms { KeepsTerms self.old self.new }
+    {
+        let Some(window) = self.opening.window else {
+            return Err(SlotError::NotFetched);
+        };
+        if window.number != number {
+            return Err(SlotError::WrongWindow);
+        }
+        let entry = self.entries();
+        let told_a = Told::of(&self.params, &window, Channel::A, a);
+        let told_b = Told::of(&self.params, &window, Channel::B, b);
+        count_seen(&mut self.counters, Channel::A, told_a.status);
+        count_seen(&mut self.counters, Channel::B, told_b.status);
+        let (frame_a, frame_b) = (&told_a.frame, &told_b.frame);
+        let plan = &self.plan;
+        store_all(&mut self.receive, plan, entry, &window, frame_a, frame_b);
+        arrive_all(&mut self.queue, plan, entry, &window, frame_a, frame_b);
+        self.opening = Opening {
+            window: None,
+            last: self.opening.last,
+        };
+        self.slots += 1;
+        let (_a, _b) = (seen_within(a), seen_within(b));
+        Ok(())
+    }
+
+    /// Where what the buffer holds comes from.
+    pub fn held(&self, buffer: u8) -> Option<Source>
+        ensures { result ≡ source_at self.now buffer }
+    {
+        let line = self.plan.buffer(buffer)?;
+        if line.mode.is_receive() {
+            observed_at(&self.receive, buffer)
+        } else {
+            commit_at(&self.transmit, buffer)
+        }
+    }
+
+    /// What became of the commits on a transmit buffer.
+    pub fn tally(&self, buffer: u8) -> Option<Tally>
+        ensures value { result ≡ tally_at self.now buffer }
+        ensures fates { IfSome result (λ t. t.committed ≡ t.sent + t.overwritten + t.pending + t.withdrawn) }
+        ensures one_pending { IfSome result (λ t. t.pending ≤ 1) }
+    {
+        let line = self.plan.buffer(buffer)?;
+        if line.mode.is_receive() {
+            return None;
+        }
+        tally_at(&self.transmit, buffer)
+    }
+
+    /// The frame that a receive buffer holds, and where it comes from.
+    pub fn received(&self, buffer: u8) -> Option<Arrival>
+        ensures { result ≡ received_at self.now buffer }
+    {
+        let line = self.plan.buffer(buffer)?;
+        if !line.mode.is_receive() {
+            return None;
+        }
+        arrival_at(&self.receive, buffer)
+    }
+
+    /// How many frames the receive queue holds.
+    pub fn queue_len(&self) -> Option<u32>
+        ensures { result ≡ option_map (λ w. length w.frames) self.now.queue }
+    {
+        match &self.queue {
+            Some(queue) => Some(queue.len()),
+            None => None,
+        }
+    }
+
+    /// How many frames the receive queue lost.
+    pub fn queue_lost(&self) -> Option<u32>
+        ensures { result ≡ option_map (λ w. w.lost) self.now.queue }
+    {
+        match &self.queue {
+            Some(queue) => Some(queue.lost()),
+            None => None,
+        }
+    }
+
+    /// How many observed windows had each bit of the slot status on each channel.
+    pub fn counters(&self) -> Counters
+        ensures { result ≡ self.now.counters }
+    {
+        self.counters
+    }
+
+    /// The parameters.
+    pub fn params(&self) -> &Params
+        ensures { result.now ≡ self.now.params }
+    {
+        &self.params
+    }
+
+    /// The plan, with its index.
+    pub(crate) fn plan(&self) -> &IndexedPlan
+        ensures { result.now ≡ self.now.plan }
+    {
+        &self.plan
+    }
+}
