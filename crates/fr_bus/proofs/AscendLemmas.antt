@@ -125,17 +125,31 @@ least_is : (p q : Bool) (x y m : ℕ) → least_of (cond p (Some x) None) (cond 
 least_is false false x y m e = absurd (let none : ⊥ = cc in none)
 least_is true false x y m e =
     let same : x ≡ m = cc in
-    record { first = λ h. omega (arith, same); second = λ h. absurd (let none : ⊥ = cc in none); between =
-        λ lo hi f g. (let w = f refl in (omega (arith, same, w.0), omega (arith, same, w.1))) }
+    record {
+      first = λ h. omega (arith, same);
+      second = λ h. absurd (let none : ⊥ = cc in none);
+      between =
+          λ lo hi f g. (let w = f refl in (omega (arith, same, w.0), omega (arith, same, w.1)));
+    }
 least_is false true x y m e =
     let same : y ≡ m = cc in
-    record { first = λ h. absurd (let none : ⊥ = cc in none); second = λ h. omega (arith, same); between =
-        λ lo hi f g. (let w = g refl in (omega (arith, same, w.0), omega (arith, same, w.1))) }
+    record {
+      first = λ h. absurd (let none : ⊥ = cc in none);
+      second = λ h. omega (arith, same);
+      between =
+          λ lo hi f g. (let w = g refl in (omega (arith, same, w.0), omega (arith, same, w.1)));
+    }
 least_is true true x y m e =
     let same : min x y ≡ m = cc in
-    record { first = λ h. omega (arith, same); second = λ h. omega (arith, same); between =
-        λ lo hi f g. (let v = f refl in let w = g refl in (omega (arith, same, v.0, w.0),
-        omega (arith, same, v.1, w.1))) }
+    record {
+      first = λ h. omega (arith, same);
+      second = λ h. omega (arith, same);
+      between =
+          λ lo hi f g. (let v = f refl in let w = g refl in (
+            omega (arith, same, v.0, w.0),
+            omega (arith, same, v.1, w.1),
+          ));
+    }
 
 abbrev row_of : Standing → Bool
 row_of lane = is_row lane.params lane.slot lane.begins
@@ -149,14 +163,14 @@ row_between : (p : Parameters) (used : ℕ) (lane : Standing) → IsAhead p used
     → (used < lane.begins) × (lane.begins ≤ p.minislots)
 row_between p used lane ahead row =
     let fits : lane.begins ≤ lane.params.minislots = leb-true lane.begins lane.params.minislots
-        (and_left (nat_le lane.begins lane.params.minislots) (nat_le lane.slot last_slot) row) in
+    (and_left (nat_le lane.begins lane.params.minislots) (nat_le lane.slot last_slot) row) in
     (ahead.later row, subst (λ (q : Parameters). lane.begins ≤ q.minislots) ahead.params_are fits)
 
 minislot_between : (c : Standpoint) (m : ℕ) → (course : IsCourse c) → least_of (next_in c.a) (next_in c.b) ≡ Some m
     → (course.used < m) × (m ≤ c.params.minislots)
 minislot_between c m course e =
     (least_in c m e).between course.used c.params.minislots (row_between c.params course.used c.a course.ahead_a)
-        (row_between c.params course.used c.b course.ahead_b)
+    (row_between c.params course.used c.b course.ahead_b)
 
 pub and_right : (p q : Bool) → (p && q) ≡ true → q ≡ true
 and_right true q e = e
@@ -179,11 +193,14 @@ ahead_more : (p : Parameters) (used m bytes : ℕ) (lane : Standing) (opens : Bo
 ahead_more p used m bytes lane true lawful ahead opens least =
     let at = eqb-true lane.begins m (and_right (row_of lane) (lane.begins == m) opens) in
     let words : 1 ≤ lane.params.words_per_minislot = subst (λ (q : Parameters). 1 ≤ q.words_per_minislot)
-        (sym ahead.params_are) lawful.words_per_minislot_fit.from_least in
+    (sym ahead.params_are) lawful.words_per_minislot_fit.from_least in
     record { params_are = ahead.params_are; later = λ row. omega (arith, at, row_has_one lane.params bytes words) }
 ahead_more p used m bytes lane false lawful ahead opens least =
-    record { params_are = ahead.params_are; later = λ row. not_at lane.begins m
-        (and_open (row_of lane) (lane.begins == m) opens row) (least row) }
+    record {
+      params_are = ahead.params_are;
+      later = λ row. not_at lane.begins m
+          (and_open (row_of lane) (lane.begins == m) opens row) (least row);
+    }
 
 -- what a dynamic window leaves, once it is known to be one
 abbrev dynamic_passed : Standpoint → ℕ → ℕ → ℕ → Standpoint
@@ -238,7 +255,7 @@ later_stays c w a b course next later = elim (next_case c w next) [
         (static_is_course c (cycle_of c) a b course static.some static.further)
     | inr dynamic ↦ subst (λ (v : Opportunity). IsCourse (later_passed c v a b)) (sym dynamic.is)
         (subst IsCourse (sym (dynamic_passed_is c dynamic.minislot a b (not_static c w course dynamic)))
-            (dynamic_is_course c dynamic.minislot a b course dynamic.some dynamic.least))
+        (dynamic_is_course c dynamic.minislot a b course dynamic.some dynamic.least))
   ]
 ]
 
@@ -261,6 +278,6 @@ first_stays c w course next opens = elim (next_case c w next) [
     no_dynamic : IsDynamic c w → ⊥
     no_dynamic dynamic =
         let static : (dynamic.minislot == 0) ≡ true = and_left (dynamic.minislot == 0) _
-            (ap opens_cycle (sym dynamic.is) ∙ opens) in
+        (ap opens_cycle (sym dynamic.is) ∙ opens) in
         let not_so = not_static c w course dynamic in
         cc

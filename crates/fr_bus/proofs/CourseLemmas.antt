@@ -38,20 +38,20 @@ counts_more : (channel : Channel) (done : List Recorded) (r : Recorded) (b : Boo
     → counts_on channel (done ++ r ∷ []) ≡ counts_on channel done ++ cond b (longest channel r.sent ∷ []) []
 counts_more channel done r true e =
     ap (λ (rs : List Recorded). map (λ (s : Recorded). longest channel s.sent) rs)
-        (filter_more (is_row_of channel) done r true e)
+    (filter_more (is_row_of channel) done r true e)
     ∙ map-append (λ (s : Recorded). longest channel s.sent) (filter (is_row_of channel) done) (r ∷ [])
 counts_more channel done r false e =
     ap (λ (rs : List Recorded). map (λ (s : Recorded). longest channel s.sent) rs)
-        (filter_more (is_row_of channel) done r false e)
+    (filter_more (is_row_of channel) done r false e)
     ∙ map-append (λ (s : Recorded). longest channel s.sent) (filter (is_row_of channel) done) []
 
 lane_more : (p : Parameters) (channel : Channel) (done : List Recorded) (r : Recorded) (b : Bool)
     → is_row_of channel r ≡ b
     → lane_on p channel (done ++ r ∷ []) ≡ cond b (closed (lane_on p channel done) (longest channel r.sent))
-        (lane_on p channel done)
+    (lane_on p channel done)
 lane_more p channel done r true e =
     ap (standing_after p) (counts_more channel done r true e) ∙ sym
-        (closed_more p (counts_on channel done) (longest channel r.sent))
+    (closed_more p (counts_on channel done) (longest channel r.sent))
 lane_more p channel done r false e =
     ap (standing_after p) (counts_more channel done r false e ∙ append-nil (counts_on channel done))
 
@@ -67,13 +67,21 @@ first_more p cycles rs r e =
     let begun : cycles_begun (rs ++ r ∷ []) ≡ cycles_begun rs + 1 = count_more begins_cycle rs r true e in
     let static = is_static_if (is_static_one r) (is_first_slot r.window.a) e in
     let statics : statics_of (this_cycle (rs ++ r ∷ [])) ≡ 1 =
-        ap statics_of cycle ∙ count_more is_static_one [] r true static in
+    ap statics_of cycle ∙ count_more is_static_one [] r true static in
     let a : lane_on p A (this_cycle (rs ++ r ∷ [])) ≡ standing_after p [] =
-        ap (lane_on p A) cycle ∙ lane_more p A [] r false (no_row (is_static_one r) (is_some r.window.a) static) in
+    ap (lane_on p A) cycle ∙ lane_more p A [] r false (no_row (is_static_one r) (is_some r.window.a) static) in
     let b : lane_on p B (this_cycle (rs ++ r ∷ [])) ≡ standing_after p [] =
-        ap (lane_on p B) cycle ∙ lane_more p B [] r false (no_row (is_static_one r) (is_some r.window.b) static) in
-    λ i. record { params = p; cycles = cycles; windows = windows i; begun = begun i; statics = statics i; a = a i; b =
-        b i }
+    ap (lane_on p B) cycle ∙ lane_more p B [] r false (no_row (is_static_one r) (is_some r.window.b) static) in
+    λ i. record {
+      params = p;
+      cycles = cycles;
+      windows = windows i;
+      begun = begun i;
+      statics = statics i;
+      a = a i;
+      b =
+          b i;
+    }
   where
     afresh : (c : Bool) → c ≡ true → cond c (r ∷ []) (this_cycle rs ++ r ∷ []) ≡ r ∷ []
     afresh true is = refl
@@ -90,21 +98,29 @@ first_more p cycles rs r e =
 -- any other window
 later_more : (p : Parameters) (cycles : ℕ) (rs : List Recorded) (r : Recorded) → begins_cycle r ≡ false
     → course_of p cycles (rs ++ r ∷ []) ≡ later_passed (course_of p cycles rs) r.window (longest A r.sent)
-        (longest B r.sent)
+    (longest B r.sent)
 later_more p cycles rs r e =
     let cycle : this_cycle (rs ++ r ∷ []) ≡ this_cycle rs ++ r ∷ [] =
-        fold_more with_window [] rs r ∙ going (begins_cycle r) e in
+    fold_more with_window [] rs r ∙ going (begins_cycle r) e in
     let windows = windows_more rs r in
     let begun : cycles_begun (rs ++ r ∷ []) ≡ cycles_begun rs =
-        count_more begins_cycle rs r false e ∙ zero_more (cycles_begun rs) in
+    count_more begins_cycle rs r false e ∙ zero_more (cycles_begun rs) in
     let statics : statics_of (this_cycle (rs ++ r ∷ [])) ≡ statics_of (this_cycle rs) + cond (is_static_one r) 1 0 =
-        ap statics_of cycle ∙ count_more is_static_one (this_cycle rs) r (is_static_one r) refl in
+    ap statics_of cycle ∙ count_more is_static_one (this_cycle rs) r (is_static_one r) refl in
     let a : lane_on p A (this_cycle (rs ++ r ∷ [])) ≡ ended A (lane_on p A (this_cycle rs)) r.window
-        (longest A r.sent) = ap (lane_on p A) cycle ∙ lane_more p A (this_cycle rs) r (is_row_of A r) refl in
+    (longest A r.sent) = ap (lane_on p A) cycle ∙ lane_more p A (this_cycle rs) r (is_row_of A r) refl in
     let b : lane_on p B (this_cycle (rs ++ r ∷ [])) ≡ ended B (lane_on p B (this_cycle rs)) r.window
-        (longest B r.sent) = ap (lane_on p B) cycle ∙ lane_more p B (this_cycle rs) r (is_row_of B r) refl in
-    λ i. record { params = p; cycles = cycles; windows = windows i; begun = begun i; statics = statics i; a = a i; b =
-        b i }
+    (longest B r.sent) = ap (lane_on p B) cycle ∙ lane_more p B (this_cycle rs) r (is_row_of B r) refl in
+    λ i. record {
+      params = p;
+      cycles = cycles;
+      windows = windows i;
+      begun = begun i;
+      statics = statics i;
+      a = a i;
+      b =
+          b i;
+    }
   where
     going : (c : Bool) → c ≡ false → cond c (r ∷ []) (this_cycle rs ++ r ∷ []) ≡ this_cycle rs ++ r ∷ []
     going true is = absurd (let none : ⊥ = cc in none)
@@ -117,6 +133,6 @@ course_more p cycles rs r = by_case (begins_cycle r) refl
   where
     by_case : (b : Bool) → begins_cycle r ≡ b
         → course_of p cycles (rs ++ r ∷ []) ≡ cond b (first_passed (course_of p cycles rs))
-            (later_passed (course_of p cycles rs) r.window (longest A r.sent) (longest B r.sent))
+        (later_passed (course_of p cycles rs) r.window (longest A r.sent) (longest B r.sent))
     by_case true e = first_more p cycles rs r e
     by_case false e = later_more p cycles rs r e

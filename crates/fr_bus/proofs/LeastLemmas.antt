@@ -31,7 +31,7 @@ find_at test start (suc n) x least below passes fails = elim (eqb_tells start x)
   | inr other ↦
       find_later test start (range_with_len (start + 1) n) (fails start (omega arith) (omega (arith, least, other.1)))
       ∙ find_at test (start + 1) n x (omega (arith, least, other.1)) (omega (arith, below)) passes
-          (λ m from before. fails m (omega (arith, from)) before)
+      (λ m from before. fails m (omega (arith, from)) before)
 ]
 
 -- one number, where it is there
@@ -55,25 +55,25 @@ and_false false x m before = refl
 -- of two lanes, of which each opens its next slot at a minislot from 1 up to n, or opens none
 pub find_least : (a b : Bool) (x y n : ℕ) → (a ≡ true → (1 ≤ x) × (x ≤ n)) → (b ≡ true → (1 ≤ y) × (y ≤ n))
     → find (λ m. (a && x == m) || (b && y == m)) (range_with_len 1 n) ≡ least_of (cond a (Some x) None)
-        (cond b (Some y) None)
+    (cond b (Some y) None)
 find_least false false x y n within_a within_b = find_none (λ m. (false && x == m) || (false && y == m)) 1 n
     (λ m from below. refl)
 find_least true false x y n within_a within_b =
     let w = within_a refl in
     find_at (λ m. (true && x == m) || (false && y == m)) 1 n x w.0 (omega (arith, w.1))
-        (or_left (x == x) false (eq-eqb x x refl))
+    (or_left (x == x) false (eq-eqb x x refl))
     (λ m from before. or_false (x == m) false (single_none x m before) refl)
 find_least false true x y n within_a within_b =
     let w = within_b refl in
     find_at (λ m. (false && x == m) || (true && y == m)) 1 n y w.0 (omega (arith, w.1)) (eq-eqb y y refl)
-        (λ m from before. single_none y m before)
+    (λ m from before. single_none y m before)
 find_least true true x y n within_a within_b =
     let v = within_a refl in
     let w = within_b refl in
     find_at (λ m. (true && x == m) || (true && y == m)) 1 n (min x y) (omega (arith, v.0, w.0))
-        (omega (arith, v.1, w.1)) (at_least x y (nat_le x y) refl)
+    (omega (arith, v.1, w.1)) (at_least x y (nat_le x y) refl)
     (λ m from before. or_false (x == m) (y == m) (single_none x m (omega (arith, before)))
-        (single_none y m (omega (arith, before))))
+    (single_none y m (omega (arith, before))))
   where
     at_least : (x y : ℕ) (b : Bool) → nat_le x y ≡ b → (x == min x y || y == min x y) ≡ true
     at_least x y true e = or_left (x == min x y) (y == min x y) (eq-eqb x (min x y) (omega (arith, leb-true x y e)))

@@ -35,8 +35,11 @@ next_on p channel rows = cond (has_row_after p (counts_on channel rows))
 
 within : (p : Parameters) (counts : List ℕ) → has_row_after p counts ≡ true
     → (1 ≤ first_minislot p counts) × (first_minislot p counts ≤ p.minislots)
-within p counts e = (omega arith, leb-true (first_minislot p counts) p.minislots
-    (and_left (nat_le (first_minislot p counts) p.minislots) (nat_le (slot_after p counts) last_slot) e))
+within p counts e = (
+  omega arith,
+  leb-true (first_minislot p counts) p.minislots
+      (and_left (nat_le (first_minislot p counts) p.minislots) (nat_le (slot_after p counts) last_slot) e),
+)
 
 pub next_minislot_is : (p : Parameters) (rows : List Recorded)
     → find (opens_any p rows) (range_with_len 1 p.minislots) ≡ least_of (next_on p A rows) (next_on p B rows)
@@ -44,16 +47,16 @@ next_minislot_is p rows =
     let a = counts_on A rows in
     let b = counts_on B rows in
     find_same (opens_any p rows) (λ m. (has_row_after p (counts_on A rows) && first_minislot p (counts_on A rows) == m)
-        || (has_row_after p (counts_on B rows) && first_minislot p (counts_on B rows) == m))
-        (range_with_len 1 p.minislots)
+    || (has_row_after p (counts_on B rows) && first_minislot p (counts_on B rows) == m))
+    (range_with_len 1 p.minislots)
     (λ m. ap (λ c. c || is_some (opened_on p B rows m)) (some_if
-        (has_row_after p (counts_on A rows) && first_minislot p (counts_on A rows) == m)
-        (slot_after p (counts_on A rows)))
+    (has_row_after p (counts_on A rows) && first_minislot p (counts_on A rows) == m)
+    (slot_after p (counts_on A rows)))
     ∙ ap (λ c. (has_row_after p (counts_on A rows) && first_minislot p (counts_on A rows) == m) || c)
-        (some_if (has_row_after p (counts_on B rows) && first_minislot p (counts_on B rows) == m)
-        (slot_after p (counts_on B rows))))
+    (some_if (has_row_after p (counts_on B rows) && first_minislot p (counts_on B rows) == m)
+    (slot_after p (counts_on B rows))))
     ∙ find_least (has_row_after p a) (has_row_after p b) (first_minislot p a) (first_minislot p b) p.minislots
-        (within p a) (within p b)
+    (within p a) (within p b)
 
 not_empty : {X : Type 0} (n : ℕ) (x y : X) → cond (suc n == 0) x y ≡ y
 not_empty n x y = ap (λ b. cond b x y) (ne_eqb (suc n) 0 (λ same. let none : ⊥ = omega (arith, same) in none))
@@ -67,5 +70,5 @@ next_is p cycles (r ∷ rs) =
     let c = course_of p cycles (r ∷ rs) in
     not_empty (length rs) (first_next c) (option_or (inner_next c) (first_next c))
     ∙ ap (λ (o : Option ℕ). option_or (cond (nat_lt (statics_of done) p.static_slots)
-        (Some (static_window c.windows ((c.begun - 1) % 64) (c.statics + 1))) (option_map (opening c) o))
-        (first_next c)) (sym (next_minislot_is p done))
+    (Some (static_window c.windows ((c.begun - 1) % 64) (c.statics + 1))) (option_map (opening c) o))
+    (first_next c)) (sym (next_minislot_is p done))

@@ -48,11 +48,11 @@ one_case channel n t false = refl
 
 one_offer : (channel c : Channel) (n node : ℕ) (babble : Bool) (fate : Fate) (bytes : Bytes)
     → offer_in channel n (transmission node c babble fate bytes) ≡ cond
-        (node == n && is_channel c channel && not babble) (if_bytes bytes) None
+    (node == n && is_channel c channel && not babble) (if_bytes bytes) None
 one_offer channel c n node babble fate None = sym (neither (node == n && is_channel c channel && not babble))
 one_offer channel c n node babble fate (Some bytes) =
     one_case channel n (record { node = node; channel = c; babble = babble; bytes = bytes; fate = fate })
-        (length bytes.items == 0)
+    (length bytes.items == 0)
 
 -- of a node's two sides: its offer on the channel, if it is this node
 of_side : (d : Description) (w : Opportunity) (channel c : Channel) (n node : ℕ) (side : Side) (slot : Option ℕ)
@@ -61,12 +61,12 @@ of_side : (d : Description) (w : Opportunity) (channel c : Channel) (n node : �
 of_side d w channel c n node side None mine on e f = sym (neither (mine && on))
 of_side d w channel c n node side (Some slot) mine on e f =
     offer_append channel n (transmission node c false (fate_of side.mute (passes d node w c)) side.offer)
-        (transmission node c true (fate_of false (passes d node w c)) side.babble)
+    (transmission node c true (fate_of false (passes d node w c)) side.babble)
     ∙ ap (λ (o : Bytes). option_or o (offer_in channel n (transmission node c true
-        (fate_of false (passes d node w c)) side.babble))) (one_offer channel c n node false
-        (fate_of side.mute (passes d node w c)) side.offer)
+    (fate_of false (passes d node w c)) side.babble))) (one_offer channel c n node false
+    (fate_of side.mute (passes d node w c)) side.offer)
     ∙ ap (option_or (cond (node == n && is_channel c channel && true) (if_bytes side.offer) None))
-        (one_offer channel c n node true (fate_of false (passes d node w c)) side.babble)
+    (one_offer channel c n node true (fate_of false (passes d node w c)) side.babble)
     ∙ rw (e, f) (settled mine on (if_bytes side.offer) (if_bytes side.babble))
   where
     settled : (p q : Bool) (o b : Bytes) → option_or (cond (p && q && true) o None) (cond (p && q && false) b None) ≡
@@ -79,13 +79,13 @@ of_side d w channel c n node side (Some slot) mine on e f =
 of_node : (d : Description) (w : Opportunity) (channel : Channel) (n node : ℕ) (s : Station) (mine : Bool)
     → (node == n) ≡ mine
     → offer_in channel n (sent_of d w node s) ≡ cond mine (recordable (slot_of w channel) (side_on channel s).offer)
-        None
+    None
 of_node d w A n node s mine e =
     offer_append A n (sent_in d w node A s.a (slot_of w A)) (sent_in d w node B s.b (slot_of w B))
     ∙ ap (λ (o : Bytes). option_or o (offer_in A n (sent_in d w node B s.b (slot_of w B))))
-        (of_side d w A A n node s.a (slot_of w A) mine true e refl)
+    (of_side d w A A n node s.a (slot_of w A) mine true e refl)
     ∙ ap (option_or (cond (mine && true) (recordable (slot_of w A) s.a.offer) None))
-        (of_side d w A B n node s.b (slot_of w B) mine false e refl)
+    (of_side d w A B n node s.b (slot_of w B) mine false e refl)
     ∙ first mine (recordable (slot_of w A) s.a.offer) (recordable (slot_of w B) s.b.offer)
   where
     first : (m : Bool) (o p : Bytes) → option_or (cond (m && true) o None) (cond (m && false) p None) ≡ cond m o None
@@ -94,9 +94,9 @@ of_node d w A n node s mine e =
 of_node d w B n node s mine e =
     offer_append B n (sent_in d w node A s.a (slot_of w A)) (sent_in d w node B s.b (slot_of w B))
     ∙ ap (λ (o : Bytes). option_or o (offer_in B n (sent_in d w node B s.b (slot_of w B))))
-        (of_side d w B A n node s.a (slot_of w A) mine false e refl)
+    (of_side d w B A n node s.a (slot_of w A) mine false e refl)
     ∙ ap (option_or (cond (mine && false) (recordable (slot_of w A) s.a.offer) None))
-        (of_side d w B B n node s.b (slot_of w B) mine true e refl)
+    (of_side d w B B n node s.b (slot_of w B) mine true e refl)
     ∙ second mine (recordable (slot_of w A) s.a.offer) (recordable (slot_of w B) s.b.offer)
   where
     second : (m : Bool) (o p : Bytes) → option_or (cond (m && false) o None) (cond (m && true) p None) ≡ cond m p None
@@ -109,25 +109,25 @@ before_all d w channel n start [] below = refl
 before_all d w channel n start (s ∷ ss) below =
     offer_append channel n (sent_of d w start s) (sent_from d w (start + 1) ss)
     ∙ ap (λ (o : Bytes). option_or o (offer_in channel n (sent_from d w (start + 1) ss)))
-        (of_node d w channel n start s false (ne_eqb start n
-        (λ same. let none : ⊥ = omega (arith, below, same) in none)))
+    (of_node d w channel n start s false (ne_eqb start n
+    (λ same. let none : ⊥ = omega (arith, below, same) in none)))
     ∙ before_all d w channel n (start + 1) ss (omega (arith, below))
 
 -- the offer that the record has of a node is the one of its station
 pub offer_of_station : (d : Description) (w : Opportunity) (channel : Channel) (n start k : ℕ) (ss : List Station)
     → n ≡ start + k → k < length ss
     → offer_in channel n (sent_from d w start ss) ≡ recordable (slot_of w channel)
-        (side_on channel (slice_index_or ss k idle_station)).offer
+    (side_on channel (slice_index_or ss k idle_station)).offer
 offer_of_station d w channel n start k [] e within = absurd (let none : ⊥ = omega (arith, within) in none)
 offer_of_station d w channel n start zero (s ∷ ss) e within =
     offer_append channel n (sent_of d w start s) (sent_from d w (start + 1) ss)
     ∙ ap (λ (o : Bytes). option_or o (offer_in channel n (sent_from d w (start + 1) ss)))
-        (of_node d w channel n start s true (eq-eqb start n (omega (arith, e))))
+    (of_node d w channel n start s true (eq-eqb start n (omega (arith, e))))
     ∙ ap (option_or (recordable (slot_of w channel) (side_on channel s).offer))
-        (before_all d w channel n (start + 1) ss (omega (arith, e)))
+    (before_all d w channel n (start + 1) ss (omega (arith, e)))
     ∙ or_none (recordable (slot_of w channel) (side_on channel s).offer)
 offer_of_station d w channel n start (suc k) (s ∷ ss) e within =
     offer_append channel n (sent_of d w start s) (sent_from d w (start + 1) ss)
     ∙ ap (λ (o : Bytes). option_or o (offer_in channel n (sent_from d w (start + 1) ss)))
-        (of_node d w channel n start s false (ne_eqb start n (λ same. let none : ⊥ = omega (arith, e, same) in none)))
+    (of_node d w channel n start s false (ne_eqb start n (λ same. let none : ⊥ = omega (arith, e, same) in none)))
     ∙ offer_of_station d w channel n (start + 1) k ss (omega (arith, e)) (omega (arith, within))

@@ -55,7 +55,7 @@ pub opened_is_next : (b : BusState) (c : Standpoint) (w : Opportunity) → IsRun
     → next_of c ≡ Some w
 opened_is_next b c w run course collecting opened =
     ap next_of course ∙ next_is b.cluster.params b.cycles b.sealed ∙ sym (stands_open b.phase b collecting run.stands).0
-        ∙ opened
+    ∙ opened
 
 at_end : {X : Type 0} (xs : List X) (x : X) → slice_get (xs ++ x ∷ []) (length xs) ≡ Some x
 at_end [] x = refl
@@ -69,9 +69,10 @@ last_more xs x =
 -- what is appended is the next window's outcome
 recorded_more : (b : BusState) (w : Opportunity) → IsRun b → collects b.phase ≡ true → b.opened ≡ Some w
     → IsRecorded b.cluster b.cycles b.sealed (outcome_of b w)
-recorded_more b w run collecting opened =
-    (sym (stands_open b.phase b collecting run.stands).0 ∙ opened,
-        record { stations = b.stations; one_each = run.one_each; sent_is = refl })
+recorded_more b w run collecting opened = (
+  sym (stands_open b.phase b collecting run.stands).0 ∙ opened,
+  record { stations = b.stations; one_each = run.one_each; sent_is = refl },
+)
 
 abbrev with_sealed : BusState → List Recorded → BusState
 with_sealed b sealed = record b { phase = InSealed; sealed = sealed }
@@ -86,15 +87,18 @@ run_sealed b w sealed same run collecting opened =
       one_each = run.one_each;
       recorded = AllAfter-snoc (IsRecorded b.cluster b.cycles) b.sealed (outcome_of b w) run.recorded
           (recorded_more b w run collecting opened);
-      stands = (opened ∙ sym (ap (λ o. option_map (λ (r : Recorded). r.window) o)
-          (last_more b.sealed (outcome_of b w))), ap is_some opened);
+      stands = (
+        opened ∙ sym (ap (λ o. option_map (λ (r : Recorded). r.window) o)
+            (last_more b.sealed (outcome_of b w))),
+        ap is_some opened,
+      );
     })
 
 -- and the course that passed the window is that of the record
 pub course_sealed : (b : BusState) (w : Opportunity) (c new : Standpoint) (x y : ℕ) (sealed : List Recorded)
     → new ≡ passed c w x y → c ≡ course_of b.cluster.params b.cycles b.sealed
     → x ≡ longest A (outcome_of b w).sent → y ≡ longest B (outcome_of b w).sent
-        → sealed ≡ b.sealed ++ outcome_of b w ∷ [] → new ≡ course_of b.cluster.params b.cycles sealed
+    → sealed ≡ b.sealed ++ outcome_of b w ∷ [] → new ≡ course_of b.cluster.params b.cycles sealed
 course_sealed b w c new x y sealed passes course on_a on_b same =
     passes
     ∙ (λ i. passed (course i) w (on_a i) (on_b i))
@@ -141,7 +145,7 @@ all_begun p cycles (r ∷ rs) e = by_case (nat_lt (cycles_begun (r ∷ rs)) cycl
   where
     by_case : (b : Bool) → nat_lt (cycles_begun (r ∷ rs)) cycles ≡ b → (inner : Option Opportunity)
         → option_or inner (cond b (Some (static_window (length (r ∷ rs)) (cycles_begun (r ∷ rs) % 64) 1)) None) ≡ None
-            → cycles ≤ cycles_begun (r ∷ rs)
+        → cycles ≤ cycles_begun (r ∷ rs)
     by_case b f (Some w) e = absurd (let none : ⊥ = cc in none)
     by_case true f None e = absurd (let none : ⊥ = cc in none)
     by_case false f None e = ltb-false (cycles_begun (r ∷ rs)) cycles f

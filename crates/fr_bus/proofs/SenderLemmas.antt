@@ -40,13 +40,19 @@ channel_case B A e = absurd (let none : ⊥ = cc in none)
 channel_case B B e = refl
 
 one_passes : (d : Description) (w : Opportunity) (node : ℕ) (c : Channel) (babble muted : Bool) (bytes : ArrayVec ℕ)
-    → IsLetPass d w (record { node = node; channel = c; babble = babble; bytes = bytes; fate =
-        fate_of muted (passes d node w c) })
+    → IsLetPass d w (record {
+      node = node;
+      channel = c;
+      babble = babble;
+      bytes = bytes;
+      fate =
+          fate_of muted (passes d node w c);
+    })
 one_passes d w node c babble muted bytes channel e =
     let passed = is_passed (fate_of muted (passes d node w c)) in
     subst (λ (other : Channel). passes d node w other ≡ true)
-        (channel_case c channel (and_left (is_channel c channel) passed e))
-        (fate_case muted (passes d node w c) (and_right (is_channel c channel) passed e))
+    (channel_case c channel (and_left (is_channel c channel) passed e))
+    (fate_case muted (passes d node w c) (and_right (is_channel c channel) passed e))
 
 in_transmission : (d : Description) (w : Opportunity) (node : ℕ) (c : Channel) (babble muted : Bool)
     (bytes : Option (ArrayVec ℕ))
@@ -100,16 +106,16 @@ pub passed_sends : (d : Description) → IsCluster d → (r : Recorded) → All 
 passed_sends d cluster r sent channel slot t static guarded opened of_passed =
     let passed : All (λ (u : Sent). passes d u.node r.window channel ≡ true) (all_passed channel r.sent) =
     All-kept (passed_on channel) (λ (u : Sent). passes d u.node r.window channel ≡ true) r.sent
-        (λ k x within. sent k x within channel) in
+    (λ k x within. sent k x within channel) in
     passing_sends d cluster t.node slot r.window channel static guarded opened
     (All-contains (λ (u : Sent). passes d u.node r.window channel ≡ true)
-        (all_passed channel r.sent) t passed of_passed)
+    (all_passed channel r.sent) t passed of_passed)
 
 pub one_sender : (b : BusState) → IsRun b → OneSenderEach b.cluster b.sealed
 one_sender b run r channel slot t of_record static guarded opened of_passed =
     let d = b.cluster in
     let outcome : IsOutcome d r = All-contains (IsOutcome d) b.sealed r
-        (All-each (IsRecorded d b.cycles) (IsOutcome d) (λ before x h. h.1) [] b.sealed run.recorded) of_record in
+    (All-each (IsRecorded d b.cycles) (IsOutcome d) (λ before x h. h.1) [] b.sealed run.recorded) of_record in
     let sent : All (IsLetPass d r.window) r.sent = All-same (IsLetPass d r.window) r.sent
-        (sent_from d r.window 0 outcome.stations) outcome.sent_is (in_all d r.window 0 outcome.stations) in
+    (sent_from d r.window 0 outcome.stations) outcome.sent_is (in_all d r.window 0 outcome.stations) in
     passed_sends d run.lawful r sent channel slot t static guarded opened of_passed

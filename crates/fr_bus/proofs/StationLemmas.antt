@@ -30,7 +30,7 @@ length_stations [] ts [] put taken = refl
 pub station_is : (ps ts : List Bool) (ss : List Sides) (n : ℕ) (d : Station) (p t : Bool) (s : Sides) → n < length ss
     → length ss ≤ length ps → length ss ≤ length ts
     → slice_index_or (stations_of ps ts ss) n d ≡ station_of (slice_index_or ps n p) (slice_index_or ts n t)
-        (slice_index_or ss n s)
+    (slice_index_or ss n s)
 station_is (p ∷ ps) (t ∷ ts) (s ∷ ss) zero d q u v within put taken = refl
 station_is (p ∷ ps) (t ∷ ts) (s ∷ ss) (suc n) d q u v within put taken =
     station_is ps ts ss n d q u v (omega (arith, within)) (omega (arith, put)) (omega (arith, taken))
@@ -41,7 +41,7 @@ station_is [] ts (s ∷ ss) n d q u v within put taken = absurd (let none : ⊥ 
 -- what is set of one node is set in its station
 pub station_set : (ps ts : List Bool) (ss : List Sides) (n : ℕ) (p t : Bool) (s : Sides)
     → slice_set (stations_of ps ts ss) n (station_of p t s) ≡ stations_of (slice_set ps n p) (slice_set ts n t)
-        (slice_set ss n s)
+    (slice_set ss n s)
 station_set (q ∷ ps) (u ∷ ts) (v ∷ ss) zero p t s = refl
 station_set (q ∷ ps) (u ∷ ts) (v ∷ ss) (suc n) p t s = ap (λ zs. station_of q u v ∷ zs) (station_set ps ts ss n p t s)
 station_set (q ∷ ps) (u ∷ ts) [] zero p t s = refl
@@ -64,31 +64,31 @@ sides_here : (i : Inside) → HasRoom i → (now : List Station) → stations_in
 sides_here i room now view =
     sym (ap length view)
     ∙ length_stations i.put i.taken i.sides.items (omega (arith, room.put_long, room.few))
-        (omega (arith, room.taken_long, room.few))
+    (omega (arith, room.taken_long, room.few))
 
 -- what is read of one node
 pub read_station : (i : Inside) → HasRoom i → (now : List Station) → stations_in i ≡ now → (m n : ℕ) → m ≡ n
     → n < length now → (q u : Bool) (v : Sides)
     → slice_index_or now n idle_station ≡ station_of (slice_index_or i.put m q) (slice_index_or i.taken m u)
-        (slice_index_or i.sides.items m v)
+    (slice_index_or i.sides.items m v)
 read_station i room now view m n is within q u v =
     sym (λ j. slice_index_or (view j) (is j) idle_station)
     ∙ station_is i.put i.taken i.sides.items m idle_station q u v
     (omega (arith, is, within, sides_here i room now view)) (omega (arith, room.put_long, room.few))
-        (omega (arith, room.taken_long, room.few))
+    (omega (arith, room.taken_long, room.few))
 
 -- what is written of one node
 pub write_station : (i : Inside) → HasRoom i → (now : List Station) → stations_in i ≡ now → (m n : ℕ) → m ≡ n
     → n < length now
     → (q u : Bool) (v : Sides) (p t : Bool) (s : Sides) (f : Station → Station)
     → f (station_of (slice_index_or i.put m q) (slice_index_or i.taken m u) (slice_index_or i.sides.items m v))
-        ≡ station_of p t s
+    ≡ station_of p t s
     → stations_of (slice_set i.put m p) (slice_set i.taken m t) (slice_set i.sides.items m s) ≡ slice_set now n
-        (f (slice_index_or now n idle_station))
+    (f (slice_index_or now n idle_station))
 write_station i room now view m n is within q u v p t s f changed =
     sym (station_set i.put i.taken i.sides.items m p t s)
     ∙ ap (λ (x : Station). slice_set (stations_in i) m x) (sym changed ∙ ap f
-        (sym (read_station i room now view m n is within q u v)))
+    (sym (read_station i room now view m n is within q u v)))
     ∙ (λ j. slice_set (view j) (is j) (f (slice_index_or now n idle_station)))
 
 -- all are idle again
@@ -120,7 +120,7 @@ muting_is B p t s = refl
 
 sent_next : (d : Description) (w : Opportunity) (n k : ℕ) (ss : List Station) → n < length ss
     → sent_from d w k (drop n ss) ≡ sent_of d w k (slice_index_or ss n idle_station) ++ sent_from d w (k + 1)
-        (drop (suc n) ss)
+    (drop (suc n) ss)
 sent_next d w n k [] within = absurd (let none : ⊥ = omega (arith, within) in none)
 sent_next d w zero k (s ∷ ss) within = refl
 sent_next d w (suc n) k (s ∷ ss) within = sent_next d w n k ss (omega (arith, within))
@@ -128,7 +128,7 @@ sent_next d w (suc n) k (s ∷ ss) within = sent_next d w n k ss (omega (arith, 
 -- what the stations from one on send is what that one sends, and then what those after it do
 pub sent_more : (d : Description) (w : Opportunity) (n k : ℕ) (ss : List Station) → n < length ss
     → sent_from d w k (drop n ss) ≡ sent_of d w k (slice_index_or ss n idle_station) ++ sent_from d w (k + 1)
-        (drop (n + 1) ss)
+    (drop (n + 1) ss)
 sent_more d w n k ss within =
     sent_next d w n k ss within
     ∙ ap (λ m. sent_of d w k (slice_index_or ss n idle_station) ++ sent_from d w (k + 1) (drop m ss)) (sym (add-one n))

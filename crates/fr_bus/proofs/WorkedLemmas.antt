@@ -20,20 +20,36 @@ use Rattle.fr_status.specs.declared.seen.Seen.{Seen}
 use Rattle.fr_status.specs.declared.seen.Seen.TheVariants.{Silence, Own as Owns, Conflict, Noise, Bytes}
 
 abbrev one_word : Parameters
-one_word = record { static_slots = 3; minislots = 4; static_words = 1; static_mt = 20; minislot_mt = 5; symbol_mt = 0;
-    nit_mt = 10; cycle_mt = 90; idle = 0; words_per_minislot = 5 }
+one_word = record {
+  static_slots = 3;
+  minislots = 4;
+  static_words = 1;
+  static_mt = 20;
+  minislot_mt = 5;
+  symbol_mt = 0;
+  nit_mt = 10;
+  cycle_mt = 90;
+  idle = 0;
+  words_per_minislot = 5;
+}
 
 abbrev owning_in : CycleClass → ℕ → Plan
-owning_in cycles slot = record (empty_plan 2 0 0 256 4096) { owned =
-    record { slot = slot; channels = channels.Both; sync = false; startup = false; cycles = cycles } ∷ [] }
+owning_in cycles slot = record (empty_plan 2 0 0 256 4096) {
+  owned =
+      record { slot = slot; channels = channels.Both; sync = false; startup = false; cycles = cycles } ∷ [];
+}
 
 abbrev owning : ℕ → Plan
 owning slot = owning_in (record { base = 0; repetition = 1 }) slot
 
 -- nodes 0 and 1 own slots 1 and 2, and channel A is guarded
 abbrev three_nodes : Description
-three_nodes = record { params = one_word; guard = Some channels.A; plans =
-    owning 1 ∷ owning 2 ∷ empty_plan 2 4 0 256 4096 ∷ [] }
+three_nodes = record {
+  params = one_word;
+  guard = Some channels.A;
+  plans =
+      owning 1 ∷ owning 2 ∷ empty_plan 2 4 0 256 4096 ∷ [];
+}
 
 abbrev second_slot : Opportunity
 second_slot = static_window 1 0 2
@@ -122,8 +138,19 @@ a_divided_slot_is_guarded_by_cycles = (refl, refl, refl, refl)
 -- ---- a dynamic segment: ten minislots of four words, one idle after a transmission
 
 abbrev four_words : Parameters
-four_words = record { static_slots = 3; minislots = 10; static_words = 1; static_mt = 20; minislot_mt = 5; symbol_mt =
-    4; nit_mt = 6; cycle_mt = 120; idle = 1; words_per_minislot = 4 }
+four_words = record {
+  static_slots = 3;
+  minislots = 10;
+  static_words = 1;
+  static_mt = 20;
+  minislot_mt = 5;
+  symbol_mt =
+      4;
+  nit_mt = 6;
+  cycle_mt = 120;
+  idle = 1;
+  words_per_minislot = 4;
+}
 
 abbrev quiet : Opportunity → Recorded
 quiet w = record { window = w; sent = []; corrupt_a = None; corrupt_b = None }
@@ -153,8 +180,8 @@ static_slots_come_first = (refl, refl)
 pub a_long_slot_leaves_the_other_channel_alone :
     (following four_words 2 (static_part ++ first_minislot_sealed ∷ []) ≡ Some (dynamic 4 2 (Some 5) None))
     × (following four_words 2 (static_part ++ first_minislot_sealed ∷ quiet (dynamic 4 2 (Some 5) None) ∷ []) ≡ Some
-        (dynamic 5 3 (Some 6) None))
+    (dynamic 5 3 (Some 6) None))
     × (following four_words 2 (static_part ++ first_minislot_sealed ∷ quiet (dynamic 4 2 (Some 5) None) ∷ quiet
-        (dynamic 5 3 (Some 6) None) ∷ [])
+    (dynamic 5 3 (Some 6) None) ∷ [])
     ≡ Some (dynamic 6 4 (Some 7) (Some 5)))
 a_long_slot_leaves_the_other_channel_alone = (refl, refl, refl)

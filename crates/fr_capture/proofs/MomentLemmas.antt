@@ -105,7 +105,7 @@ time_same : (p : Parameters) (before : List Entry) (m : Moment) → m.place ≡ 
     → m.rounds ≡ rounds p before → time_of p before m.window ≡ time_at p m
 time_same p before m place over =
     ap (λ (n : ℕ). n * round_length p + place_in_round p m.window) (sym over) ∙ ap
-        (λ (n : ℕ). m.rounds * round_length p + n) (sym place)
+    (λ (n : ℕ). m.rounds * round_length p + n) (sym place)
 
 window_same : (s : State) (before : List Entry) (last : Option Moment) (a b : Seen) → IsMoment s.params before last
     → in_window s before (last_window before) a b ≡ in_moment s last a b
@@ -113,9 +113,9 @@ window_same s before None a b h = ap (λ (o : Option Opportunity). in_window s b
 window_same s before (Some m) a b h =
     ap (λ (o : Option Opportunity). in_window s before o a b) h.0
     ∙ ap (λ (t : ℕ). sighting s t (last_fetch before) m.window a b A ∷ sighting s t
-        (last_fetch before) m.window a b B ∷ []) (time_same s.params before m h.1 h.2)
+    (last_fetch before) m.window a b B ∷ []) (time_same s.params before m h.1 h.2)
     ∙ ap (λ (f : Option ℕ). sighting s (time_at s.params m) f m.window a b A ∷ sighting s
-        (time_at s.params m) f m.window a b B ∷ []) h.3
+    (time_at s.params m) f m.window a b B ∷ []) h.3
 
 pub seen_same : (s : State) (before : List Entry) (last : Option Moment) (e : Entry) → IsMoment s.params before last
     → sightings_at s before e ≡ seen_after s last e

@@ -52,14 +52,14 @@ seen_read p w channel takers Noise handed = refl
 seen_read p w channel takers Overrun handed = refl
 seen_read p w channel takers (Bytes bytes) handed =
     ap (λ (f : Option Fields). content_text (refusal channel bytes.items) f takers bytes.items)
-        (valid_read p w.cycle (slot_of w channel) (decoded channel bytes.items))
+    (valid_read p w.cycle (slot_of w channel) (decoded channel bytes.items))
 
 module _ (all : Bool) (s : State) (m : Moment) (a b : Seen) where
   -- the line as the code writes it is that of the sighting
   pub line_same : (channel : Channel) (came_a came_b : Bool) (told : Channel) (seen : Seen) (word : List ℕ)
       (frame : Option Fields)
       → came_a ≡ is_some (data_frame_seen s.params m.window A a)
-          → came_b ≡ is_some (data_frame_seen s.params m.window B b)
+      → came_b ≡ is_some (data_frame_seen s.params m.window B b)
       → told ≡ channel → seen ≡ seen_on channel a b
       → word ≡ seen_word s.params m.window.cycle (slot_of m.window channel) channel (seen_on channel a b)
       → frame ≡ frame_on s.params m.window channel (seen_on channel a b)
@@ -68,10 +68,10 @@ module _ (all : Bool) (s : State) (m : Moment) (a b : Seen) where
       let on = seen_on channel a b in
       let handed = handed_by s (Some m.entry) channel in
       let front = first_text (time_at s.params m) m.window.cycle (slot_of m.window channel) channel
-          (seen_word s.params m.window.cycle (slot_of m.window channel) channel on) in
+      (seen_word s.params m.window.cycle (slot_of m.window channel) channel on) in
       (λ i. line_by all s m came_a came_b (told_is i) (seen_is i) (word_is i) (frame_is i))
       ∙ ap (λ (takers : List Taker). if is_told all (slot_of m.window channel) on then
-          front ++ seen_by channel takers on handed (frame_on s.params m.window channel on) else [])
+      front ++ seen_by channel takers on handed (frame_on s.params m.window channel on) else [])
       (takers_is s.params s.plan m.window a b came_a came_b a_is b_is channel)
       ∙ ap (λ (t : List ℕ). if is_told all (slot_of m.window channel) on then front ++ t else [])
       (seen_read s.params m.window channel (takers_of s.params s.plan m.window a b channel) on handed)

@@ -35,27 +35,32 @@ module _ (form : Form) (s : State) (entries : List Entry) (start : Option (List 
   pub shown_none : (piece : List ℕ) → piece ≡ heading form → IsShown form s entries 0 start start piece None
   unfolding Rattle.fr_slots.specs.History.each_after Rattle.fr_slots.specs.History.last_after
       Rattle.fr_slots.specs.History.count_after
-  shown_none piece is = record { handed = []; written = Appends-nil start; text_is =
-      is ∙ sym (append-nil (heading form)); moment_is = (refl, refl) }
+  shown_none piece is = record {
+    handed = [];
+    written = Appends-nil start;
+    text_is =
+        is ∙ sym (append-nil (heading form));
+    moment_is = (refl, refl);
+  }
 
   more-texts : (before : List Entry) (last : Option Moment) (e : Entry) → IsMoment s.params before last
       → flat_map (shown form s.params) (sightings_in s (before ++ e ∷ [])) ≡ flat_map (shown form s.params)
-          (sightings_in s before) ++ flat_map (shown form s.params) (seen_after s last e)
+      (sightings_in s before) ++ flat_map (shown form s.params) (seen_after s last e)
   more-texts before last e moment =
       ap (flat_map (shown form s.params)) (sightings-snoc s before e)
       ∙ flat_map-append (shown form s.params) (sightings_in s before) (sightings_at s before e)
       ∙ ap (λ (more : List Sighting). flat_map (shown form s.params) (sightings_in s before) ++ flat_map
-          (shown form s.params) more) (seen_same s before last e moment)
+      (shown form s.params) more) (seen_same s before last e moment)
 
   pub shown_entry : (count : ℕ) (e : Entry) (now : Option (List ℕ)) (piece next : List ℕ) (last : Option Moment)
       → count < length entries → e ≡ get_or entries count e
       → IsShown form s entries count start now piece last → next ≡ piece ++ flat_map (shown form s.params)
-          (seen_after s last e)
+      (seen_after s last e)
       → IsShown form s entries (count + 1) start now next (moment_after s.params last count e)
   shown_entry count e now piece next last lt at h is =
       let before = take count entries in
       let longer : take (count + 1) entries ≡ before ++ e ∷ [] =
-          take_more entries count e lt ∙ ap (λ (x : Entry). before ++ x ∷ []) (sym at) in
+      take_more entries count e lt ∙ ap (λ (x : Entry). before ++ x ∷ []) (sym at) in
       let number_is : count ≡ length before = omega (arith, length-take count entries, lt) in
       let more = flat_map (shown form s.params) (seen_after s last e) in
       let so_far = flat_map (shown form s.params) (sightings_in s before) in
@@ -89,8 +94,8 @@ module _ (form : Form) (s : State) (entries : List Entry) (start : Option (List 
   shown_all (Err e) count now next piece last h all handed = tt
   shown_all (Ok x) count now next piece last h all handed =
       let text : h.handed ++ piece ≡ shown_of form s entries =
-          h.text_is ∙ ap (λ (es : List Entry). heading form ++ flat_map (shown form s.params) (sightings_in s es))
-          (take_all count entries all) in
+      h.text_is ∙ ap (λ (es : List Entry). heading form ++ flat_map (shown form s.params) (sightings_in s es))
+      (take_all count entries all) in
       subst (λ (t : List ℕ). Appends start next t) text (Appends-trans start now next h.handed piece h.written handed)
 
   pub shown_rounds : (count most : ℕ) (now : Option (List ℕ)) (piece : List ℕ) (last : Option Moment)

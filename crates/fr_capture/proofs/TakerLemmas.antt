@@ -62,7 +62,7 @@ starts first all old = record { then_all = λ new more. more; same_any = refl }
 pub goes_on : (first : Bool) (all : List Taker) (old now mid : Option (List ℕ)) (any then : Bool)
     (left part rest : List Taker) → left ≡ part ++ rest
     → Appends now mid (after_commas any part) → then ≡ (any || is_any part) → IsGoing first all old now any left
-        → IsGoing first all old mid then rest
+    → IsGoing first all old mid then rest
 goes_on first all old now mid any then left part rest cut one then_is so_far = record {
   then_all = λ new more.
       so_far.then_all new (
@@ -71,7 +71,7 @@ goes_on first all old now mid any then left part rest cut one then_is so_far = r
       (subst (λ (b : Bool). Appends mid new (after_commas b rest)) then_is more)));
   same_any =
       ap (λ (b : Bool). b || is_any rest) then_is ∙ sym (or_assoc any (is_any part) (is_any rest)) ∙ ap
-          (λ (b : Bool). any || b) (sym (ap is_any cut ∙ any-append part rest))
+      (λ (b : Bool). any || b) (sym (ap is_any cut ∙ any-append part rest))
       ∙ so_far.same_any;
 }
 
@@ -93,18 +93,18 @@ ends_any first all old now any left none so_far =
 pub after_both : {E : Type 0} (r : Result Bool E) (any then : Bool) (old mid new : Option (List ℕ)) (xs ys : List Taker)
     → Appends old mid (after_commas any xs)
     → then ≡ (any || is_any xs) → OnOk r (Appends mid new (after_commas then ys))
-        → OnOk r (Appends old new (after_commas any (xs ++ ys)))
+    → OnOk r (Appends old new (after_commas any (xs ++ ys)))
 after_both (Ok x) any then old mid new xs ys one then_is two =
     subst (λ (t : List ℕ). Appends old new t) (sym (commas-append any xs ys))
     (Appends-trans old mid new (after_commas any xs) (after_commas (any || is_any xs) ys) one
-        (subst (λ (b : Bool). Appends mid new (after_commas b ys)) then_is two))
+    (subst (λ (b : Bool). Appends mid new (after_commas b ys)) then_is two))
 after_both (Err e) any then old mid new xs ys one then_is two = tt
 
 any_both : (any then : Bool) (xs ys : List Taker) → then ≡ (any || is_any xs)
     → (then || is_any ys) ≡ (any || is_any (xs ++ ys))
 any_both any then xs ys then_is =
     ap (λ (b : Bool). b || is_any ys) then_is ∙ sym (or_assoc any (is_any xs) (is_any ys)) ∙ ap (λ (b : Bool). any || b)
-        (sym (any-append xs ys))
+    (sym (any-append xs ys))
 
 -- ---- the words of all
 
@@ -138,7 +138,7 @@ module _ (p : Parameters) (plan : Plan) (w : Opportunity) (a b : Seen) where
   takers_is came_a came_b a_is b_is channel =
       (λ i. takers_by plan w (a_is i) (b_is i) channel)
       ∙ (λ i. buffers_is p w a b channel 0 plan.buffers i ++ taker_if
-          (queue_is p w a b plan channel plan.queue i) taker.Queue)
+      (queue_is p w a b plan channel plan.queue i) taker.Queue)
 
 -- ---- what is answered
 

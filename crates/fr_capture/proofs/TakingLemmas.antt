@@ -23,7 +23,7 @@ takes_words receives admits_a admits_b a b B = receives && cond (a && admits_a) 
 by_tests : (receives admits_a admits_b : Bool) (a b : Option Fields) (channel : Channel)
     → takes_words receives admits_a admits_b (is_some a) (is_some b) channel
     ≡ (receives && is_from channel (option_or (cond admits_a (option_map (arrival_of 0 A) a) None)
-        (cond admits_b (option_map (arrival_of 0 B) b) None)))
+    (cond admits_b (option_map (arrival_of 0 B) b) None)))
 by_tests false admits_a admits_b a b A = refl
 by_tests false admits_a admits_b a b B = refl
 by_tests true true admits_b (Some x) b A = refl
@@ -56,13 +56,13 @@ by_tests true false false (Some x) None B = refl
 module _ (p : Parameters) (w : Opportunity) (a b : Seen) where
   pub takes_is : (channel : Channel) (line : Buffer)
       → takes_by w (is_some (data_frame_seen p w A a)) (is_some (data_frame_seen p w B b)) channel line
-          ≡ buffer_takes p w a b channel line
+      ≡ buffer_takes p w a b channel line
   takes_is A line =
       by_tests (is_receive line.mode) (admits_window line.filter w A) (admits_window line.filter w B)
-          (data_frame_seen p w A a) (data_frame_seen p w B b) A
+      (data_frame_seen p w A a) (data_frame_seen p w B b) A
   takes_is B line =
       by_tests (is_receive line.mode) (admits_window line.filter w A) (admits_window line.filter w B)
-          (data_frame_seen p w A a) (data_frame_seen p w B b) B
+      (data_frame_seen p w A a) (data_frame_seen p w B b) B
 
   pub queue_is : (plan : Plan) (channel : Channel) (q : Option Queue)
       → queue_takes_by plan w (is_some (data_frame_seen p w A a)) (is_some (data_frame_seen p w B b)) channel q

@@ -47,7 +47,7 @@ of_nodes-more text node (suc place) (x ∷ xs) item is =
     let here : node + 1 + place ≡ node + suc place = omega arith in
     ap (λ (n : ℕ). of_nodes text node (take n (x ∷ xs))) next
     ∙ ap (λ (t : List ℕ). text node x ++ t) (of_nodes-more text (node + 1) place xs item is ∙ ap
-        (λ (n : ℕ). of_nodes text (node + 1) (take place xs) ++ text n item) here)
+    (λ (n : ℕ). of_nodes text (node + 1) (take place xs) ++ text n item) here)
     ∙ sym (append_assoc (text node x) (of_nodes text (node + 1) (take place xs)) (text (node + suc place) item))
 
 -- the texts of so many nodes have been written
@@ -67,7 +67,7 @@ one_node text xs count item old mid new is h more =
     record {
       added = subst (λ (t : List ℕ). Appends old new t)
           (sym (of_nodes-more text 0 count xs item is ∙ ap (λ (n : ℕ). of_nodes text 0 (take count xs) ++ text n item)
-              here))
+          here))
           (Appends-trans old mid new (of_nodes text 0 (take count xs)) (text count item) h.added more);
     }
 
@@ -81,7 +81,7 @@ all_nodes {X = X} text xs count old new h all = subst (λ (xs : List X). Appends
 
 of_nodes-none : (text : ℕ → Plan → List ℕ) (node : ℕ) (plans : List Plan)
     → ((place : ℕ) (plan : Plan) → slice_get plans place ≡ Some plan → text (node + place) plan ≡ [])
-        → of_nodes text node plans ≡ []
+    → of_nodes text node plans ≡ []
 unfolding of_nodes
 of_nodes-none text node [] none = refl
 of_nodes-none text node (x ∷ plans) none =
@@ -95,7 +95,7 @@ of_nodes-none text node (x ∷ plans) none =
 of_nodes-one : (text : ℕ → Plan → List ℕ) (node : ℕ) (plans : List Plan) (m : ℕ) (plan : Plan)
     → slice_get plans m ≡ Some plan
     → ((place : ℕ) (other : Plan) → slice_get plans place ≡ Some other → (place ≡ m → ⊥)
-        → text (node + place) other ≡ [])
+    → text (node + place) other ≡ [])
     → of_nodes text node plans ≡ text (node + m) plan
 unfolding of_nodes
 of_nodes-one text node [] m plan at others = cc at
@@ -107,7 +107,7 @@ of_nodes-one text node (x ∷ plans) zero plan at others =
     (λ place other there.
     let next : node + 1 + place ≡ node + suc place = omega arith in
     ap (λ (n : ℕ). text n other) next ∙ others (suc place) other there
-        (λ zero_is. let none : ⊥ = omega (arith, zero_is) in none)))
+    (λ zero_is. let none : ⊥ = omega (arith, zero_is) in none)))
     ∙ append-nil (text node x) ∙ ap (text node) same ∙ ap (λ (n : ℕ). text n plan) here
 of_nodes-one text node (x ∷ plans) (suc m) plan at others =
     let here : node ≡ node + 0 = omega arith in
@@ -126,7 +126,7 @@ begun_claims : (slot : ℕ) (channel : Channel) (base : ℕ) (own : Own) → IsO
     → claims slot channel base own ≡ true
 begun_claims slot channel base own lawful begins =
     let (front, first) = and_parts (own.slot == slot && includes own.channels channel)
-        (own.cycles.base == base) begins in
+    (own.cycles.base == base) begins in
     let base_is = eqb-true own.cycles.base base first in
     let below : base < own.cycles.repetition = omega (arith, base_is, lawful.cycles_are.base_below) in
     and_from _ _ front (eq-eqb (base % own.cycles.repetition) own.cycles.base (mod-eq_of_lt below ∙ sym base_is))
@@ -158,7 +158,7 @@ module _ (d : Description) (lawful : IsCluster d) (slot : ℕ) (channel : Channe
       → owner_text slot channel base node plan ≡ []
   no_line n plan at never node =
       unowned_text slot channel base node plan.owned (each_at
-          (IsNode d.params) d.plans n plan lawful.nodes_are at).0.owned_are
+      (IsNode d.params) d.plans n plan lawful.nodes_are at).0.owned_are
       (false_from_ne_true _ (λ owns. never (owner_is n plan at owns)))
 
   from_zero : (n : ℕ) → 0 + n ≡ n
@@ -171,7 +171,7 @@ module _ (d : Description) (lawful : IsCluster d) (slot : ℕ) (channel : Channe
       of_nodes-one (owner_text slot channel base) 0 d.plans n plan at
       (λ place other there differ.
       no_line place other there (λ sends. differ (lawful.one_sender base slot channel place n few sends sender))
-          (0 + place))
+      (0 + place))
       ∙ ap (λ (k : ℕ). owner_text slot channel base k plan) (from_zero n)
 
   pub no_owner : ((n : ℕ) → IsSender d base slot channel n → ⊥) → base_text d.plans slot channel base ≡ []
@@ -202,7 +202,7 @@ late_text slot channel base node most (own ∷ owned) lawful within late =
     (cond-false (begins_at slot channel base own) (slot_line slot channel node own.cycles) []
     (false_from_ne_true _ (λ begins.
     let (front, first) = and_parts (own.slot == slot && includes own.channels channel)
-        (own.cycles.base == base) begins in
+    (own.cycles.base == base) begins in
     let base_is = eqb-true own.cycles.base base first in
     let no : ⊥ = omega (arith, base_is, lawful.0.cycles_are.base_below, within.0, late) in no)))
     ∙ late_text slot channel base node most owned lawful.1 within.1 late
@@ -213,9 +213,9 @@ none_begins d lawful slot channel base late =
     of_nodes-none (owner_text slot channel base) 0 d.plans
     (λ place plan at.
     late_text slot channel base (0 + place) (cycles_told d) plan.owned
-        (each_at (IsNode d.params) d.plans place plan lawful.nodes_are at).0.owned_are
+    (each_at (IsNode d.params) d.plans place plan lawful.nodes_are at).0.owned_are
     (of_plan (λ own. own.cycles.repetition ≤ cycles_told d) d.plans place plan (within_period (all_owned d.plans)) at)
-        late)
+    late)
 
 nothing_from : (text : ℕ → List ℕ) (first : ℕ) → ((n : ℕ) → first ≤ n → text n ≡ []) → (count : ℕ)
     → flat_map text (range_with_len first count) ≡ []
@@ -234,7 +234,7 @@ range-split first (suc m) n =
     let next : first + 1 + m ≡ first + suc m = omega arith in
     ap (range_with_len first) all
     ∙ ap (λ (xs : List ℕ). first ∷ xs) (range-split (first + 1) m n ∙ ap
-        (λ (k : ℕ). range_with_len (first + 1) m ++ range_with_len k n) next)
+    (λ (k : ℕ). range_with_len (first + 1) m ++ range_with_len k n) next)
 
 -- the lines of the cycles below the greatest repetition are all lines
 pub owners_all : (d : Description) → IsCluster d → (slot : ℕ) (channel : Channel) (cycles : ℕ) → cycles ≡ cycles_told d
@@ -260,7 +260,7 @@ range-more first (suc count) =
     let here : first + 1 + count ≡ first + suc count = omega arith in
     ap (λ (n : ℕ). range_with_len first n) next
     ∙ ap (λ (xs : List ℕ). first ∷ xs) (range-more (first + 1) count ∙ ap
-        (λ (n : ℕ). range_with_len (first + 1) count ++ n ∷ []) here)
+    (λ (n : ℕ). range_with_len (first + 1) count ++ n ∷ []) here)
 
 -- one number more
 pub one_more : (text : ℕ → List ℕ) (first count : ℕ) (old mid new : Option (List ℕ))
@@ -271,7 +271,7 @@ one_more text first count old mid new before more =
     ∙ flat_map-append text (range_with_len first count) ((first + count) ∷ [])
     ∙ ap (λ (t : List ℕ). flat_map text (range_with_len first count) ++ t) (append-nil (text (first + count))) in
     subst (λ (t : List ℕ). Appends old new t) (sym texts) (Appends-trans old mid new
-        (flat_map text (range_with_len first count)) (text (first + count)) before more)
+    (flat_map text (range_with_len first count)) (text (first + count)) before more)
 
 -- ---- guards
 
@@ -313,7 +313,7 @@ one_cycle d node channel cycle old mid new before here =
 pub plan_done : {X E : Type 0} (r : Result X E) (d : Description) (nodes : ℕ) (old first second new : Option (List ℕ))
     → nodes ≡ length d.plans
     → Appends old first (static_text d) → Appends first second (dynamic_text d)
-        → OnOk r (Adds (AreGuardTexts d nodes) second new)
+    → OnOk r (Adds (AreGuardTexts d nodes) second new)
     → OnOk r (Adds (IsPlanText d) old new)
 plan_done (Err e) d nodes old first second new all slots buffers guards = tt
 plan_done (Ok x) d nodes old first second new all slots buffers guards =

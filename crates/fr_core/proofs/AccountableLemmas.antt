@@ -50,9 +50,9 @@ transmitter_same : (plan : Plan) (w : Opportunity) (channel : Channel) (slot cyc
     → transmitter plan w channel ≡ transmitter plan (turn_of slot cycle) channel
 transmitter_same plan w channel slot cycle is timed =
     ap (λ (c : ℕ). position (λ (b : Buffer). transmits b && admits_slot b.filter c channel (slot_of w channel))
-        plan.buffers) timed
+    plan.buffers) timed
     ∙ ap (λ (o : Option ℕ). position (λ (b : Buffer). transmits b && admits_slot b.filter (cycle % 64) channel o)
-        plan.buffers) (is ∙ sym (turn_slot slot cycle channel))
+    plan.buffers) (is ∙ sym (turn_slot slot cycle channel))
 
 -- ---- who owns
 
@@ -61,10 +61,10 @@ owner_line : (owned : List Own) (slot : ℕ) (channel : Channel) (cycle : ℕ) �
 owner_line owned slot channel cycle e =
     let (k, own, below, is, claimed) = Any-from_list_any (claims slot channel cycle) owned e in
     let found = found_in (claims slot channel cycle) owned k own (position (claims slot channel cycle) owned) refl
-        (slice_get-get_or owned k own below ∙ ap (λ (o : Own). Some o) is) claimed in
+    (slice_get-get_or owned k own below ∙ ap (λ (o : Own). Some o) is) claimed in
     let first = position-Some (claims slot channel cycle) owned found.place own found.at in
     ap (λ (o : Option ℕ). is_some (option_and_then (slice_get owned) o)) found.at ∙ ap is_some
-        (slice_get-get_or owned found.place own first.0)
+    (slice_get-get_or owned found.place own first.0)
 
 -- an owner offers what is ready, or a null frame
 offers : (plan : Plan) (before : List Entry) (w : Opportunity) (channel : Channel) (slot : ℕ) → is_static w ≡ true
@@ -74,7 +74,7 @@ offers plan before w channel slot still is owned =
     let ready_there = option_and_then (ready_in plan before) (transmitter plan w channel) in
     ap (offered_at plan before w channel) is
     ∙ ap (λ (t : Bool). data_or (cond (is_some (cond t (ownership plan.owned slot channel w.cycle) None)) Null Nothing)
-        (cond (t || nat_le w.minislot (latest_on plan channel)) ready_there None)) still
+    (cond (t || nat_le w.minislot (latest_on plan channel)) ready_there None)) still
     ∙ ap (λ (t : Bool). data_or (cond t Null Nothing) ready_there) (owner_line plan.owned slot channel w.cycle owned)
 
 -- ---- the frames
@@ -87,10 +87,17 @@ module _ (p : Parameters) (plan : Plan) (before : List Entry) (w : Opportunity) 
 
   null_same : null_frame p plan w channel slot ≡ null_frame p plan (turn_of slot cycle) channel slot
   null_same =
-      let frame : Option Own → ℕ → Fields = λ o c. record { preamble = false; has_data = false; sync = sync_of o;
-          startup = startup_of o; id = slot; payload = replicate (2 * p.static_words) 0; cycle = c } in
+      let frame : Option Own → ℕ → Fields = λ o c. record {
+        preamble = false;
+        has_data = false;
+        sync = sync_of o;
+        startup = startup_of o;
+        id = slot;
+        payload = replicate (2 * p.static_words) 0;
+        cycle = c;
+      } in
       ap (λ (o : Option Own). frame o w.cycle) line_same ∙ ap
-          (frame (line_of plan (turn_of slot cycle) channel slot)) timed
+      (frame (line_of plan (turn_of slot cycle) channel slot)) timed
 
   data_same : (number : ℕ) → data_frame_of plan before w channel slot number ≡ frame_by p plan
       (turn_of slot cycle) channel slot (Some (payload_of before number))
@@ -105,10 +112,10 @@ module _ (p : Parameters) (plan : Plan) (before : List Entry) (w : Opportunity) 
         cycle = c;
       } in
       ap (λ (t : Option ℕ). frame t (line_of plan w channel slot) w.cycle)
-          (transmitter_same plan w channel slot cycle is timed)
+      (transmitter_same plan w channel slot cycle is timed)
       ∙ ap (λ (o : Option Own). frame (transmitter plan (turn_of slot cycle) channel) o w.cycle) line_same
       ∙ ap (frame (transmitter plan (turn_of slot cycle) channel) (line_of plan (turn_of slot cycle) channel slot))
-          timed
+      timed
 
   frame_cases : (o : Option ℕ) (l : Option (List ℕ)) → l ≡ option_map (payload_of before) o
       → frame_of_offer p plan before w channel slot (data_or Null o) ≡ Some
@@ -124,7 +131,7 @@ static_on : (p : Parameters) (w : Opportunity) (channel : Channel) (slot : ℕ) 
     → slot_of w channel ≡ Some slot → window_fits p w ≡ true → is_static_slot p slot ≡ true
 static_on p w channel slot still is fits =
     on channel is (ap (λ (t : Bool). cond t (static_slot_fits p w.a && static_slot_fits p w.b)
-        (nat_le w.minislot p.minislots && dynamic_slot_fits p w.a && dynamic_slot_fits p w.b)) (sym still) ∙ fits)
+    (nat_le w.minislot p.minislots && dynamic_slot_fits p w.a && dynamic_slot_fits p w.b)) (sym still) ∙ fits)
   where
     on : (c : Channel) → slot_of w c ≡ Some slot → (static_slot_fits p w.a && static_slot_fits p w.b) ≡ true
         → is_static_slot p slot ≡ true
@@ -138,10 +145,10 @@ no_receive true e = absurd (let none : ⊥ = cc in none)
 module _ (p : Parameters) (plan : Plan) (before : List Entry) (w : Opportunity) (channel : Channel) (slot : ℕ)
     (is : slot_of w channel ≡ Some slot) (static : is_static_slot p slot ≡ true) (one : HasOneSender plan)
     (legal : AllAfter (IsLegal p plan) [] before) (ranges : AllAfter
-        (λ (b : List Entry) (e : Entry). IsEntry e) [] before) (timed : (s : ℕ) → AllAfter (IsTimed s) [] before) where
+    (λ (b : List Entry) (e : Entry). IsEntry e) [] before) (timed : (s : ℕ) → AllAfter (IsTimed s) [] before) where
   of_buffer : (k : ℕ) (found : Option Buffer) → buffer_at plan k ≡ found → transmitter plan w channel ≡ Some k
       → option_and_then (λ (b : Buffer). left_over b k (account plan slot before)) found ≡ option_map
-          (payload_of before) (option_and_then (λ (b : Buffer). ready b.mode k before) found)
+      (payload_of before) (option_and_then (λ (b : Buffer). ready b.mode k before) found)
   of_buffer k None at e = refl
   of_buffer k (Some b) at e =
       let a = transmitter_admits plan w channel k b e at in
@@ -150,11 +157,11 @@ module _ (p : Parameters) (plan : Plan) (before : List Entry) (w : Opportunity) 
       ap (λ (s : ℕ). left_over b k (account plan s before)) (sym same)
       ∙ account_is_ready p plan k b at (ap (is_static_slot p) same ∙ static) sends_it one
       (both (transmits b) (b.filter.slot == b.filter.slot) sends_it (eq-eqb b.filter.slot b.filter.slot refl))
-          (no_receive (is_receive b.mode) sends_it) before legal ranges (timed b.filter.slot)
+      (no_receive (is_receive b.mode) sends_it) before legal ranges (timed b.filter.slot)
 
   of_transmitter : (t : Option ℕ) → transmitter plan w channel ≡ t
       → option_and_then (left_over_in plan (account plan slot before)) t ≡ option_map (payload_of before)
-          (option_and_then (ready_in plan before) t)
+      (option_and_then (ready_in plan before) t)
   of_transmitter None e = refl
   of_transmitter (Some k) e = of_buffer k (buffer_at plan k) refl e
 
@@ -175,23 +182,23 @@ accountable s lawful before after w a b channel slot cycle cut timed still is ow
     let legal_all = subst (λ (l : List Entry). AllAfter (IsLegal s.params s.plan) [] l) cut lawful.legal in
     let ranges_all = subst (λ (l : List Entry). AreEntries l) cut lawful.entries_are in
     let legal : IsLegalFetch s.params s.plan before w a b = AllAfter-cut (IsLegal s.params s.plan) [] before
-        (Fetch w a b) after legal_all in
+    (Fetch w a b) after legal_all in
     let one = (faultless s.params s.plan lawful.faultless).one_sender in
     let left = of_transmitter s.params s.plan before w channel slot is
-        (static_on s.params w channel slot still is legal.fits) one
+    (static_on s.params w channel slot still is legal.fits) one
     (AllAfter-front (IsLegal s.params s.plan) [] before rest legal_all)
-        (AllAfter-front (λ (x : List Entry) (e : Entry). IsEntry e) [] before rest ranges_all)
+    (AllAfter-front (λ (x : List Entry) (e : Entry). IsEntry e) [] before rest ranges_all)
     timed (transmitter s.plan w channel) refl in
     ap (λ (o : Offered). bytes_of channel (frame_with s.params s.plan before w channel o))
-        (sym (offer_is s before w a b channel legal) ∙ offers s.plan before w channel slot still is owned)
+    (sym (offer_is s before w a b channel legal) ∙ offers s.plan before w channel slot still is owned)
     ∙ ap (λ (x : Option ℕ). bytes_of channel (option_and_then
-        (λ n. frame_of_offer s.params s.plan before w channel n
-        (data_or Null (option_and_then (ready_in s.plan before) (transmitter s.plan w channel)))) x)) is
+    (λ n. frame_of_offer s.params s.plan before w channel n
+    (data_or Null (option_and_then (ready_in s.plan before) (transmitter s.plan w channel)))) x)) is
     ∙ ap (bytes_of channel) (
     frame_cases s.params s.plan before w channel slot cycle still is at_cycle
-        (option_and_then (ready_in s.plan before) (transmitter s.plan w channel))
+    (option_and_then (ready_in s.plan before) (transmitter s.plan w channel))
     (option_and_then (left_over_in s.plan (account s.plan slot before)) (transmitter s.plan w channel)) left
     ∙ ap (λ (t : Option ℕ). Some (frame_by s.params s.plan (turn_of slot cycle) channel slot
-        (option_and_then (left_over_in s.plan (account s.plan slot before)) t)))
-        (transmitter_same s.plan w channel slot cycle is at_cycle)
+    (option_and_then (left_over_in s.plan (account s.plan slot before)) t)))
+    (transmitter_same s.plan w channel slot cycle is at_cycle)
     )

@@ -82,7 +82,7 @@ keeps_node w n i c few a within step =
       a_station_each = length-set w.interfaces n i ∙ as_many;
       each = λ k below. each_node w w' n others k
           (moved (get_or-set_same w.interfaces n i no_interface within)
-              (get_or-set_same w.carried n c Idle within_c) refl (step (a.each n within_s)))
+          (get_or-set_same w.carried n c Idle within_c) refl (step (a.each n within_s)))
           (a.each k below);
     }
 
@@ -107,7 +107,7 @@ as_view b s = record { params = b.cluster.params; sealed = b.sealed; phase = b.p
 keeps_station : (w : WorldState) (n : ℕ) (s : Station) (c : Carried) → length w.interfaces ≡ length w.carried
     → Agreement w → n < length w.interfaces
     → (AgreesAt w n → NodeAgrees n (interface_at w n) c (as_view w.bus s))
-        → Agreement (with_carried (with_bus w (with_station w.bus n s)) n c)
+    → Agreement (with_carried (with_bus w (with_station w.bus n s)) n c)
 keeps_station w n s c few a within step =
     let as_many = a.a_station_each in
     let within_c : n < length w.carried = omega (arith, few, within) in
@@ -123,15 +123,15 @@ keeps_station w n s c few a within step =
       a_station_each = as_many ∙ sym still;
       each = λ k below. each_node w w' n others k
           (moved refl (get_or-set_same w.carried n c Idle within_c)
-              (ap (as_view w.bus) (get_or-set_same w.bus.stations n s idle_station within_s))
-              (step (a.each n within_s)))
+          (ap (as_view w.bus) (get_or-set_same w.bus.stations n s idle_station within_s))
+          (step (a.each n within_s)))
           (a.each k (subst (λ (m : ℕ). k < m) still below));
     }
 
 keeps_faults : (w : WorldState) (n : ℕ) (s : Station) → length w.interfaces ≡ length w.carried → Agreement w
     → n < length w.interfaces
     → (AgreesAt w n → NodeAgrees n (interface_at w n) (carried_at w n) (as_view w.bus s))
-        → Agreement (with_bus w (with_station w.bus n s))
+    → Agreement (with_bus w (with_station w.bus n s))
 keeps_faults w n s few a within step =
     let e = set-get_or w.carried n Idle in
     rw e at (keeps_station w n s (carried_at w n) few a within step)
@@ -145,11 +145,11 @@ carrying {n = n} {i = i} {v = v} e a = subst (λ (c : Carried). NodeAgrees n i c
 keeps_host : (w : WorldState) (n : ℕ) (e : Entry) → handed_at (interface_at w n).params (interface_at w n).plan
     (interface_at w n).entries e ≡ []
     → sight_at (interface_at w n).entries e ≡ [] → window_mark (interface_at w n).entries e ≡ None
-        → length w.interfaces ≡ length w.carried → Agreement w → n < length w.interfaces
+    → length w.interfaces ≡ length w.carried → Agreement w → n < length w.interfaces
     → Agreement (with_interface w n (with_entry (interface_at w n) e))
 keeps_host w n e hands sees mark few a within =
     keeps_interface w n (with_entry (interface_at w n) e) few a within
-        (λ h. agrees_host n (interface_at w n) (carried_at w n) (view_for w.bus n) e hands sees mark h)
+    (λ h. agrees_host n (interface_at w n) (carried_at w n) (view_for w.bus n) e hands sees mark h)
 
 keeps_look : (w : WorldState) (n : ℕ) (c : Carried) (opened : Option Opportunity) → carried_at w n ≡ c
     → collecting_of w.bus ≡ opened → look_in_turn w c ≡ None
@@ -158,7 +158,7 @@ keeps_look w n c None is shown free few a within = a
 keeps_look w n Idle (Some x) is shown free few a within =
     keeps_carried w n (Knows x) few a within
     (λ h. agrees_look n (interface_at w n) (view_for w.bus n) x (kept_if (collects w.bus.phase) w.bus.opened x shown)
-        (kept (collects w.bus.phase) w.bus.opened x shown) (carrying is h))
+    (kept (collects w.bus.phase) w.bus.opened x shown) (carrying is h))
 keeps_look w n (Knows y) (Some x) is shown free few a within = absurd (let none : ⊥ = cc in none)
 keeps_look w n (Offers y o) (Some x) is shown free few a within = absurd (let none : ⊥ = cc in none)
 keeps_look w n (Waits y) (Some x) is shown free few a within = absurd (let none : ⊥ = cc in none)
@@ -169,7 +169,7 @@ keeps_fetch : (w : WorldState) (n : ℕ) (c : Carried) → carried_at w n ≡ c 
 keeps_fetch w n Idle is few a within = a
 keeps_fetch w n (Knows x) is few a within =
     keeps_node w n (with_entry (interface_at w n) (fetch_entry (interface_at w n) x))
-        (Offers x (offer_of (interface_at w n) x)) few a within
+    (Offers x (offer_of (interface_at w n) x)) few a within
     (λ h. agrees_fetch n (interface_at w n) x (view_for w.bus n) (carrying is h))
 keeps_fetch w n (Offers x o) is few a within = a
 keeps_fetch w n (Waits x) is few a within = a
@@ -181,7 +181,7 @@ keeps_put w n Idle is few a within = a
 keeps_put w n (Knows x) is few a within = a
 keeps_put w n (Offers x o) is few a within =
     keeps_station w n (offering (station_at w.bus n) o) (Waits x) few a within
-        (λ h. agrees_put n (interface_at w n) x o (view_for w.bus n) (carrying is h))
+    (λ h. agrees_put n (interface_at w n) x o (view_for w.bus n) (carrying is h))
 keeps_put w n (Waits x) is few a within = a
 keeps_put w n (Took x p q) is few a within = a
 
@@ -211,11 +211,11 @@ keeps_take w n (Knows x) is free few a within = a
 keeps_take w n (Offers x o) is free few a within = a
 keeps_take w n (Waits x) is free few a within =
     let sealed : seals w.bus.phase ≡ true = taking (is_node w.bus n) (seals w.bus.phase) _ _ _
-        (none_of _ (take_refusal w.bus n x.number) free) in
+    (none_of _ (take_refusal w.bus n x.number) free) in
     keeps_station w n (record (station_at w.bus n) { taken = true })
-        (Took x (seen_last w.bus A n) (seen_last w.bus B n)) few a within
+    (Took x (seen_last w.bus A n) (seen_last w.bus B n)) few a within
     (λ h. carrying (same_took x _ _ _ _ (seen_is w.bus A n (last_recorded w.bus))
-        (seen_is w.bus B n (last_recorded w.bus)))
+    (seen_is w.bus B n (last_recorded w.bus)))
     (agrees_take n (interface_at w n) x (view_for w.bus n) sealed (carrying is h)))
 keeps_take w n (Took x p q) is free few a within = a
 
@@ -248,7 +248,7 @@ keeps_fault : (w : WorldState) (n : ℕ) (s : Station) → IsOtherwise s (statio
     → Agreement (with_bus w (with_station w.bus n s))
 keeps_fault w n s same few a within =
     keeps_faults w n s few a within (λ h. agrees_inject n (interface_at w n) (carried_at w n)
-        (view_for w.bus n) s same.0 same.1 same.2 same.3 h)
+    (view_for w.bus n) s same.0 same.1 same.2 same.3 h)
 
 injecting : (known collecting more : Bool) (e f g : BusError)
     → ◌≡◌ {A = Option BusError} (cond (not known) (Some e) (cond (not collecting) (Some f) (cond more (Some g) None)))
@@ -261,17 +261,17 @@ keeps_inject : (w : WorldState) (fault : Fault) → inject_refusal w.bus fault �
 keeps_inject w (Babble n channel bytes) free few a =
     let there : n < length w.bus.stations =
     ltb-true n (length w.bus.stations) (injecting (is_node w.bus n) (collects w.bus.phase)
-        (has_fault w.bus (Babble n channel bytes)) _ _ _ free) in
+    (has_fault w.bus (Babble n channel bytes)) _ _ _ free) in
     let as_many = a.a_station_each in
     keeps_fault w n (babbling channel bytes (station_at w.bus n)) (babbling_is channel bytes (station_at w.bus n)) few a
-        (omega (arith, as_many, there))
+    (omega (arith, as_many, there))
 keeps_inject w (Mute n channel) free few a =
     let there : n < length w.bus.stations =
     ltb-true n (length w.bus.stations) (injecting (is_node w.bus n) (collects w.bus.phase)
-        (has_fault w.bus (Mute n channel)) _ _ _ free) in
+    (has_fault w.bus (Mute n channel)) _ _ _ free) in
     let as_many = a.a_station_each in
     keeps_fault w n (muting channel (station_at w.bus n)) (muting_is channel (station_at w.bus n)) few a
-        (omega (arith, as_many, there))
+    (omega (arith, as_many, there))
 keeps_inject w (Corrupt A bit) free few a = record { a_station_each = a.a_station_each; each = a.each }
 keeps_inject w (Corrupt B bit) free few a = record { a_station_each = a.a_station_each; each = a.each }
 
@@ -298,7 +298,7 @@ keeps_seal w (Some x) is free a =
       a_station_each = a.a_station_each;
       each = λ n within.
           agrees_seal n (interface_at w n) (carried_at w n) (view_for w.bus n) (outcome_of w.bus x) tests.0
-              (all_at is_put w.bus.stations n within tests.1) is
+          (all_at is_put w.bus.stations n within tests.1) is
           (offer_of_station w.bus.cluster x A n 0 n w.bus.stations (omega arith) within)
           (offer_of_station w.bus.cluster x B n 0 n w.bus.stations (omega arith) within)
           (a.each n within);
@@ -323,8 +323,13 @@ keeps_advance w free a =
       each = λ n within.
           let within_s : n < length w.bus.stations = subst (λ (m : ℕ). n < m) as_many within in
           subst (λ (s : Station). NodeAgrees n (interface_at w n) (carried_at w n)
-          (record { params = w.bus.cluster.params; sealed = w.bus.sealed; phase = phase_at next; opened = next;
-              station = s })) (sym (idle_at (length w.bus.stations) n))
+          (record {
+            params = w.bus.cluster.params;
+            sealed = w.bus.sealed;
+            phase = phase_at next;
+            opened = next;
+            station = s;
+          })) (sym (idle_at (length w.bus.stations) n))
           (agrees_advance n (interface_at w n) (carried_at w n) (view_for w.bus n) (phase_at next) next tests.0
           (all_at is_taken w.bus.stations n within_s tests.1) (fresh next) (a.each n within_s));
     }
@@ -381,5 +386,5 @@ agreement_opens d cycles =
       each = λ n within.
           let new = new_at d.params d.plans n (subst (λ (m : ℕ). n < m) as_many within) in
           moved new.1 (idle_carried (length d.plans) n) (ap (as_view w.bus) (idle_at (length d.plans) n))
-              (opening_agrees n d.params new.0 w.bus.opened);
+          (opening_agrees n d.params new.0 w.bus.opened);
     }

@@ -81,7 +81,7 @@ keeps_last p plan sofar e h legal number among = subst (IsAtMostLast number)
     step (Observe window a b) l (inr here) = absurd (let none : ⊥ = cc in none)
     step (Fetch w a b) l (inl before) =
         let below = below_later number w.number (last_number sofar)
-            (h number before) l.later in record { highest = w.number; is = refl; at_most = omega (arith, below) }
+        (h number before) l.later in record { highest = w.number; is = refl; at_most = omega (arith, below) }
     step (Fetch w a b) l (inr here) = let same = eqb-true w.number number here
         in record { highest = w.number; is = refl; at_most = omega (arith, same) }
 
@@ -91,7 +91,7 @@ unfetched : (p : Parameters) (plan : Plan) (before : List Entry) (w : Opportunit
 unfetched p plan before w a b false e all legal = refl
 unfetched p plan before w a b true e all legal =
     let last : AreAtMostLast before = AllAfter-induction (IsLegal p plan) AreAtMostLast [] before
-        (λ number among. absurd (let none : ⊥ = cc in none)) (keeps_last p plan) all in
+    (λ number among. absurd (let none : ⊥ = cc in none)) (keeps_last p plan) all in
     let below = below_later w.number w.number (last_number before) (last w.number e) legal.later in
     absurd (let none : ⊥ = omega (arith, below) in none)
 
@@ -115,7 +115,7 @@ pub account_before : (s : State) (slot : ℕ) (before after : List Entry) (w : O
 account_before s slot before after w a b lawful cut =
     let legal_all = subst (λ (l : List Entry). AllAfter (IsLegal s.params s.plan) [] l) cut lawful.legal in
     let none = unfetched s.params s.plan before w a b (list_any (is_fetch_of w.number) before) refl
-        (AllAfter-front (IsLegal s.params s.plan) [] before (Fetch w a b ∷ after) legal_all)
+    (AllAfter-front (IsLegal s.params s.plan) [] before (Fetch w a b ∷ after) legal_all)
     (AllAfter-cut (IsLegal s.params s.plan) [] before (Fetch w a b) after legal_all) in
     ap (λ (l : List Entry). account s.plan slot (before_fetch w.number l)) cut
     ∙ ap (account s.plan slot) (before_is w.number before (Fetch w a b) after none (eq-eqb w.number w.number refl))
@@ -125,7 +125,7 @@ account_before s slot before after w a b lawful cut =
 same_frame : (p q : Parameters) (plan other : Plan) (slot : ℕ) (channel : Channel) (cycle : ℕ) (kept more : List Kept)
     → p ≡ q → plan ≡ other → kept ≡ more
     → bytes_of channel (Some (frame_by_account p plan slot channel cycle kept)) ≡ bytes_of channel
-        (Some (frame_by_account q other slot channel cycle more))
+    (Some (frame_by_account q other slot channel cycle more))
 same_frame p q plan other slot channel cycle kept more e f g =
     ap (λ (x : Parameters). bytes_of channel (Some (frame_by_account x plan slot channel cycle kept))) e
     ∙ ap (λ (x : Plan). bytes_of channel (Some (frame_by_account q x slot channel cycle kept))) f
@@ -135,54 +135,54 @@ same_owner : (owner : ℕ) (channel : Channel) (m o : Bool) (a b c e : Option (A
     → of_owner owner channel m a c ≡ of_owner owner channel o b e
 same_owner owner channel m o a b c e f g h =
     ap (λ (x : Bool). of_owner owner channel x a c) f ∙ ap (λ (x : Option (ArrayVec ℕ)). of_owner owner channel o x c) g
-        ∙ ap (λ (x : Option (ArrayVec ℕ)). of_owner owner channel o b x) h
+    ∙ ap (λ (x : Option (ArrayVec ℕ)). of_owner owner channel o b x) h
 
 -- two recorded windows with the same part of their owner
 pub same_part : (p : Parameters) (r t : Recorded) (cycle : ℕ) (mine theirs : State) (owner : ℕ) (channel : Channel)
     (slot : ℕ) → IsLegalInterface mine → IsLegalInterface theirs → mine.params ≡ theirs.params → mine.plan ≡ theirs.plan
     → IsSeenByAccount p r cycle mine owner channel slot → IsSeenByAccount p t cycle theirs owner channel slot
-        → IsSamePart slot owner channel r t mine theirs
+    → IsSamePart slot owner channel r t mine theirs
     → (n : ℕ) → seen_by p r channel n ≡ seen_by p t channel n
 same_part p r t cycle mine theirs owner channel slot legal_mine legal_theirs params plan x y same n =
     let offer = bytes_of channel (Some (frame_by_account mine.params mine.plan slot channel cycle
-        (account mine.plan slot x.before))) in
+    (account mine.plan slot x.before))) in
     let other = bytes_of channel (Some (frame_by_account theirs.params theirs.plan slot channel cycle
-        (account theirs.plan slot y.before))) in
+    (account theirs.plan slot y.before))) in
     let offers : offer ≡ other =
     same_frame mine.params theirs.params mine.plan theirs.plan slot channel cycle (account mine.plan slot x.before)
-        (account theirs.plan slot y.before) params plan
+    (account theirs.plan slot y.before) params plan
     (sym (account_before mine slot x.before x.after r.window x.a x.b legal_mine x.cut) ∙ same.accounts
-        ∙ account_before theirs slot y.before y.after t.window y.a y.b legal_theirs y.cut) in
+    ∙ account_before theirs slot y.before y.after t.window y.a y.b legal_theirs y.cut) in
     let sent : sent_by_account mine owner channel slot cycle x.before (own channel owner r.sent)
-        ≡ sent_by_account theirs owner channel slot cycle y.before (own channel owner t.sent) =
+    ≡ sent_by_account theirs owner channel slot cycle y.before (own channel owner t.sent) =
     same_owner owner channel (mute_of (own channel owner r.sent)) (mute_of (own channel owner t.sent)) offer other
-        (babble_of (own channel owner r.sent)) (babble_of (own channel owner t.sent)) same.mutes offers same.babbles in
+    (babble_of (own channel owner r.sent)) (babble_of (own channel owner t.sent)) same.mutes offers same.babbles in
     x.seen n
     ∙ ap (λ (l : List Sent). seen_of p (turn_of slot cycle) (corrupt_on r channel) n (all_passed channel l)) sent
     ∙ ap (λ (c : Option ℕ). seen_of p (turn_of slot cycle) c n
-        (all_passed channel (sent_by_account theirs owner channel slot cycle y.before (own channel owner t.sent))))
-        same.corrupts
+    (all_passed channel (sent_by_account theirs owner channel slot cycle y.before (own channel owner t.sent))))
+    same.corrupts
     ∙ sym (y.seen n)
 
 -- two harmless runs of one cluster are alike
 pub alike : (d : Description) (interfaces others : List State) (rs ts : List Recorded) → IsHarmless d interfaces rs
     → IsHarmless d others ts → AreTimed rs → AreTimed ts
     → ((n : ℕ) (s : State) → slice_get interfaces n ≡ Some s → IsLegalInterface s)
-        → ((n : ℕ) (s : State) → slice_get others n ≡ Some s → IsLegalInterface s)
+    → ((n : ℕ) (s : State) → slice_get others n ≡ Some s → IsLegalInterface s)
     → ((n : ℕ) (mine theirs : State) → slice_get interfaces n ≡ Some mine → slice_get others n ≡ Some theirs
-        → mine.params ≡ theirs.params)
+    → mine.params ≡ theirs.params)
     → ((n : ℕ) (mine theirs : State) → slice_get interfaces n ≡ Some mine → slice_get others n ≡ Some theirs
-        → mine.plan ≡ theirs.plan)
+    → mine.plan ≡ theirs.plan)
     → AreAlike d interfaces rs others ts
 alike d interfaces others rs ts h g timed_r timed_t lawful legal params plans =
     λ k j owner slot r t mine theirs channel at there mine_at theirs_at static still guarded on_r on_t own_it cycle same
-        n.
+    n.
     let x = h.owned k owner slot r mine channel at mine_at static guarded on_r own_it in
     let own_there : IsOwner d t.window.cycle slot channel owner =
-        subst (λ (c : ℕ). IsOwner d c slot channel owner) (same_cycle rs ts k j r t timed_r timed_t at there static
-        still cycle) own_it in
+    subst (λ (c : ℕ). IsOwner d c slot channel owner) (same_cycle rs ts k j r t timed_r timed_t at there static
+    still cycle) own_it in
     let y = g.owned j owner slot t theirs channel there theirs_at still guarded on_t own_there in
     same_part d.params r t (recorded_cycle rs k) mine theirs owner channel slot (lawful owner mine mine_at)
-        (legal owner theirs theirs_at) (params owner mine theirs mine_at theirs_at)
-        (plans owner mine theirs mine_at theirs_at) x
+    (legal owner theirs theirs_at) (params owner mine theirs mine_at theirs_at)
+    (plans owner mine theirs mine_at theirs_at) x
     (subst (λ (c : ℕ). IsSeenByAccount d.params t c theirs owner channel slot) (sym cycle) y) same n

@@ -42,7 +42,7 @@ entered_here : (w : WorldState) (n m : ℕ) (e : Entry) → n < length w.interfa
 entered_here w n m e there same =
     subst (λ k. entered w n e k ≡ counted w k + digit (is_commit e)) same
     (ap commits_of (get_or-set_same w.interfaces n (with_entry (interface_at w n) e) no_interface there) ∙ one_more
-        (interface_at w n) e)
+    (interface_at w n) e)
 
 -- or another
 entered_there : (w : WorldState) (n m : ℕ) (e : Entry) → m ≢ n → entered w n e m ≡ counted w m
@@ -53,10 +53,16 @@ entered_there w n m e other = ap commits_of (get_or-set_other w.interfaces n m
 commit_counts : (w : WorldState) (n m task buffer : ℕ) (payload : List ℕ) → n < length w.interfaces
     → entered w n (entries.Commit task buffer payload) m ≡ counted w m + digit (eqb n m && true)
 commit_counts w n m task buffer payload there = elim (eqb_tells n m) [
-  | inl same ↦ omega (arith, entered_here w n m (entries.Commit task buffer payload) there same.1,
-      ap (λ b. digit (b && true)) same.0)
-  | inr other ↦ omega (arith, entered_there w n m (entries.Commit task buffer payload) (λ same. other.1 (sym same)),
-      ap (λ b. digit (b && true)) other.0)
+  | inl same ↦ omega (
+    arith,
+    entered_here w n m (entries.Commit task buffer payload) there same.1,
+    ap (λ b. digit (b && true)) same.0,
+  )
+  | inr other ↦ omega (
+    arith,
+    entered_there w n m (entries.Commit task buffer payload) (λ same. other.1 (sym same)),
+    ap (λ b. digit (b && true)) other.0,
+  )
 ]
 
 -- another entry counts nowhere
@@ -116,12 +122,20 @@ there_is w n refusal free = ltb-true n (length w.interfaces) (known_node (has_no
 done_counts : (w : WorldState) (event : Event) (m : ℕ) → step_refusal w event ≡ None
     → counted (step_done w event) m ≡ counted w m + digit (is_commit_at m event && true)
 done_counts w (Commit n task buffer payload) m free = commit_counts w n m task buffer payload (there_is w n _ free)
-done_counts w (Withdraw n task buffer) m free = omega (arith,
-    other_counts w n m (withdraw_entry (interface_at w n) task buffer) refl (there_is w n _ free))
-done_counts w (Read n task buffer) m free = omega (arith, other_counts w n m (read_entry (interface_at w n) task buffer)
-    refl (there_is w n _ free))
-done_counts w (Pop n task) m free = omega (arith, other_counts w n m (pop_entry (interface_at w n) task) refl
-    (there_is w n _ free))
+done_counts w (Withdraw n task buffer) m free = omega (
+  arith,
+  other_counts w n m (withdraw_entry (interface_at w n) task buffer) refl (there_is w n _ free),
+)
+done_counts w (Read n task buffer) m free = omega (
+  arith,
+  other_counts w n m (read_entry (interface_at w n) task buffer)
+      refl (there_is w n _ free),
+)
+done_counts w (Pop n task) m free = omega (
+  arith,
+  other_counts w n m (pop_entry (interface_at w n) task) refl
+      (there_is w n _ free),
+)
 done_counts w (Look n) m free = omega (arith, looked_counts w n m (collecting_of w.bus))
 done_counts w (Fetch n) m free = omega (arith, fetched_counts w n m (carried_at w n) (there_is w n _ free))
 done_counts w (Put n) m free = omega (arith, put_counts w n m (carried_at w n))
@@ -139,5 +153,8 @@ pub step_counts : (old : WorldState) (event : Event) (answer : Answer) (new : Wo
     → Steps old event answer new → counted new m ≡ counted old m + commits_by m event answer
 step_counts old event (Ok reply) new m step = ap (λ (w : WorldState). counted w m) step.2 ∙ done_counts old event m
     step.0
-step_counts old event (Err e) new m step = omega (arith, ap (λ (w : WorldState). counted w m) step.1,
-    refused_counts (is_commit_at m event))
+step_counts old event (Err e) new m step = omega (
+  arith,
+  ap (λ (w : WorldState). counted w m) step.1,
+  refused_counts (is_commit_at m event),
+)

@@ -37,7 +37,7 @@ world_follows w kept n s at =
     let as_many = kept.agrees.a_station_each in
     let station : n < length w.bus.stations = omega (arith, within, as_many) in
     follows_as w n (interface_at w n) s (get_or_from_slice_get w.interfaces n s no_interface at)
-        (kept.agrees.each n station)
+    (kept.agrees.each n station)
 
 -- a node's interface has the cluster's parameters and the node's plan
 pub record IsConfigured (w : WorldState) (n : ℕ) (s : State) : Type 0 where
@@ -65,7 +65,7 @@ pub world_receivers : (w : WorldState) → IsWorld w → IsRun w.bus → All IsL
     → Receivers w.bus.cluster w.interfaces w.bus.sealed
 world_receivers w kept run lawful =
     receivers w.bus.cluster w.interfaces w.bus.sealed run.lawful
-        (are_judged w.bus.cluster w.bus.cycles w.bus.sealed run.recorded)
+    (are_judged w.bus.cluster w.bus.cycles w.bus.sealed run.recorded)
     (legal_at w.interfaces lawful) (world_follows w kept)
 
 -- in a world a babbling node is harmless in guarded static slots
@@ -92,8 +92,8 @@ pub worlds_alike : (w v : WorldState) → IsWorld w → IsWorld v → IsRun w.bu
 worlds_alike w v kept other run_w run_v harmless_w harmless_v lawful legal = λ same.
     alike w.bus.cluster w.interfaces v.interfaces w.bus.sealed v.bus.sealed harmless_w
     (subst (λ (d : Description). IsHarmless d v.interfaces v.bus.sealed) (sym same) harmless_v)
-        (are_timed w.bus.cluster w.bus.cycles w.bus.sealed run_w.recorded)
-        (are_timed v.bus.cluster v.bus.cycles v.bus.sealed run_v.recorded)
+    (are_timed w.bus.cluster w.bus.cycles w.bus.sealed run_w.recorded)
+    (are_timed v.bus.cluster v.bus.cycles v.bus.sealed run_v.recorded)
     (legal_at w.interfaces lawful) (legal_at v.interfaces legal)
     (λ n mine theirs at there. let e = same_node w v kept other same n mine theirs at there in e.0)
     (λ n mine theirs at there. let e = same_node w v kept other same n mine theirs at there in e.1)

@@ -72,7 +72,7 @@ pub last_is_commit : (buffer number : ℕ) (entries : List Entry) → last_commi
 last_is_commit buffer number entries e =
     let c = last_after-at (commit_on buffer) [] entries number e in
     subst (λ (l : List Entry). IsCommitAt l number) (sym c.cut)
-        (commit_here buffer number c.inner c.after c.here c.holds)
+    (commit_here buffer number c.inner c.after c.here c.holds)
 
 ready_is : (m : Mode) (buffer number : ℕ) (entries : List Entry) → ready m buffer entries ≡ Some number
     → IsCommitAt entries number
@@ -120,8 +120,11 @@ zeros_fit words most =
 
 null_is_frame : (p : Parameters) (plan : Plan) (w : Opportunity) (channel : Channel) (slot : ℕ) → IsParameters p
     → IsInRange w → slot < 2 ^ 11 → IsFrame (null_frame p plan w channel slot)
-null_is_frame p plan w channel slot params range fits = record { id_fits = fits; cycle_fits = range.cycle_fits;
-    payload_fits = zeros_fit p.static_words params.static_words_fit.at_most }
+null_is_frame p plan w channel slot params range fits = record {
+  id_fits = fits;
+  cycle_fits = range.cycle_fits;
+  payload_fits = zeros_fit p.static_words params.static_words_fit.at_most;
+}
 
 data_is_frame : (plan : Plan) (entries : List Entry) (w : Opportunity) (channel : Channel) (slot number : ℕ)
     → IsInRange w → slot < 2 ^ 11 → IsPayload (payload_of entries number)
@@ -136,7 +139,7 @@ same_frame : (g f : Fields) (channel : Channel) (bytes : ArrayVec ℕ) → IsFra
 same_frame g f channel bytes is e decodes =
     let same : ◌≡◌ {A = ArrayVec ℕ} (record { items = encoded g channel }) bytes = same_some _ bytes e in
     same_some g f (sym (encoded_is_decoded g channel is) ∙ ap (λ (x : ArrayVec ℕ). decoded channel x.items) same
-        ∙ decodes)
+    ∙ decodes)
 
 -- a data frame among what was handed over is a commit's
 pub record IsDataOf (entries : List Entry) (o : Offered) (f : Fields) : Type 0 where
@@ -147,18 +150,18 @@ pub record IsDataOf (entries : List Entry) (o : Offered) (f : Fields) : Type 0 w
 module _ (p : Parameters) (plan : Plan) (entries : List Entry) (w : Opportunity) (channel : Channel)
     (params : IsParameters p) (range : IsInRange w)
     (payloads : (number : ℕ) → IsPayload (payload_of entries number)) (f : Fields) (bytes : ArrayVec ℕ)
-        (decodes : decoded channel bytes.items ≡ Some f) (has_data : f.has_data ≡ true) where
+    (decodes : decoded channel bytes.items ≡ Some f) (has_data : f.has_data ≡ true) where
   data_in : (slot : ℕ) (o : Offered) → slot < 2 ^ 11 → bytes_of channel (frame_of_offer p plan entries w channel slot o)
       ≡ Some bytes → IsDataOf entries o f
   data_in slot Nothing fits e = absurd (let none : ⊥ = cc in none)
   data_in slot Null fits e =
       let same = same_frame (null_frame p plan w channel slot) f channel bytes
-          (null_is_frame p plan w channel slot params range fits) e decodes in
+      (null_is_frame p plan w channel slot params range fits) e decodes in
       let null : false ≡ true = ap (λ (x : Fields). x.has_data) same ∙ has_data in
       absurd (let none : ⊥ = cc in none)
   data_in slot (Data number) fits e =
       let same = same_frame (data_frame_of plan entries w channel slot number) f channel bytes
-          (data_is_frame plan entries w channel slot number range fits (payloads number)) e decodes in
+      (data_is_frame plan entries w channel slot number range fits (payloads number)) e decodes in
       record { commit = number; offer_is = refl; payload_is = sym (ap (λ (x : Fields). x.payload) same) }
 
   data_at : (o : Offered) (slot : Option ℕ) → slot_of w channel ≡ slot
@@ -179,8 +182,12 @@ pub record IsFetchOf (s : State) (before : List Entry) (e : Entry) (h : Handed) 
   pub a : Offered
   pub b : Offered
   pub entry_is : e ≡ Fetch window a b
-  pub handed_is : record { window = window; a = bytes_of A (frame_with s.params s.plan before window A a); b =
-      bytes_of B (frame_with s.params s.plan before window B b) } ≡ h
+  pub handed_is : record {
+    window = window;
+    a = bytes_of A (frame_with s.params s.plan before window A a);
+    b =
+        bytes_of B (frame_with s.params s.plan before window B b);
+  } ≡ h
 
 only_one : {X : Type 0} (x y : X) (k : ℕ) → slice_get (x ∷ []) k ≡ Some y → x ≡ y
 only_one x y zero e = cc
@@ -193,16 +200,28 @@ fetch_in s before (Withdraw task buffer of) h k e = absurd (let none : ⊥ = cc 
 fetch_in s before (Read task buffer from) h k e = absurd (let none : ⊥ = cc in none)
 fetch_in s before (Pop task from) h k e = absurd (let none : ⊥ = cc in none)
 fetch_in s before (Observe w a b) h k e = absurd (let none : ⊥ = cc in none)
-fetch_in s before (Fetch w a b) h k e = record { window = w; a = a; b = b; entry_is = refl; handed_is =
-    only_one _ h k e }
+fetch_in s before (Fetch w a b) h k e = record {
+  window = w;
+  a = a;
+  b = b;
+  entry_is = refl;
+  handed_is =
+      only_one _ h k e;
+}
 
 -- what is handed over at some place, a fetch hands over
 pub fetch_of : (s : State) (k : ℕ) (h : Handed) → slice_get (fetched s) k ≡ Some h
     → IsCutAt (λ before e. IsFetchOf s before e h) [] s.entries
 fetch_of s k h e =
     let c = each_after-at (handed_at s.params s.plan) [] s.entries k h e in
-    record { inner = c.inner; here = c.here; after = c.after; cut = c.cut; holds =
-        fetch_in s c.inner c.here h c.holds.place c.holds.at }
+    record {
+      inner = c.inner;
+      here = c.here;
+      after = c.after;
+      cut = c.cut;
+      holds =
+          fetch_in s c.inner c.here h c.holds.place c.holds.at;
+    }
 
 abbrev pub handed_on : Channel → Handed → Option (ArrayVec ℕ)
 handed_on A h = h.a
@@ -211,7 +230,7 @@ handed_on B h = h.b
 pub bytes_on : (s : State) (before : List Entry) (e : Entry) (h : Handed) (channel : Channel)
     (f : IsFetchOf s before e h)
     → bytes_of channel (frame_with s.params s.plan before f.window channel (offered_on channel f.a f.b))
-        ≡ handed_on channel h
+    ≡ handed_on channel h
 bytes_on s before e h A f = ap (λ (x : Handed). x.a) f.handed_is
 bytes_on s before e h B f = ap (λ (x : Handed). x.b) f.handed_is
 
@@ -249,7 +268,7 @@ payloads_before : (entries before rest : List Entry) → entries ≡ before ++ r
 payloads_before entries before rest cut all number =
     payload_if before number (slice_get before number) refl
     (λ x is. entry_at [] entries number x all (ap (λ (l : List Entry). slice_get l number) cut
-        ∙ get-append before rest number x is))
+    ∙ get-append before rest number x is))
 
 -- ---- a data frame that was handed over
 
@@ -278,28 +297,28 @@ at_fetch s channel f before after w a b cut d m =
 at_entry : (s : State) (h : Handed) (channel : Channel) (bytes : ArrayVec ℕ) (f : Fields) (before after : List Entry)
     (e : Entry) → IsLegalInterface s → s.entries ≡ before ++ e ∷ after
     → IsFetchOf s before e h → handed_on channel h ≡ Some bytes → decoded channel bytes.items ≡ Some f
-        → f.has_data ≡ true → HandsOver s h.window channel f
+    → f.has_data ≡ true → HandsOver s h.window channel f
 at_entry s h channel bytes f before after e lawful cut x handed decodes has_data =
     let entries : s.entries ≡ before ++ Fetch x.window x.a x.b ∷ after =
-        cut ∙ ap (λ (y : Entry). before ++ y ∷ after) x.entry_is in
+    cut ∙ ap (λ (y : Entry). before ++ y ∷ after) x.entry_is in
     let legal : IsLegalFetch s.params s.plan before x.window x.a x.b =
     AllAfter-cut (IsLegal s.params s.plan) [] before (Fetch x.window x.a x.b) after
-        (subst (λ (l : List Entry). AllAfter (IsLegal s.params s.plan) [] l) entries lawful.legal) in
+    (subst (λ (l : List Entry). AllAfter (IsLegal s.params s.plan) [] l) entries lawful.legal) in
     let ranges = AllAfter-cut (λ (b : List Entry) (y : Entry). IsEntry y) [] before (Fetch x.window x.a x.b) after
-        (subst (λ (l : List Entry). AreEntries l) entries lawful.entries_are) in
+    (subst (λ (l : List Entry). AreEntries l) entries lawful.entries_are) in
     let d = data_handed s.params s.plan before x.window channel lawful.params_are ranges.window_is
     (payloads_before s.entries before (Fetch x.window x.a x.b ∷ after) entries lawful.entries_are) f bytes decodes
-        has_data
+    has_data
     (offered_on channel x.a x.b) (bytes_on s before e h channel x ∙ handed) in
     subst (λ (w : Opportunity). HandsOver s w channel f) (ap (λ (y : Handed). y.window) x.handed_is)
     (at_fetch s channel f before after x.window x.a x.b entries d
     (offered_is_commit s.plan before x.window channel d.commit
-        (offer_is s before x.window x.a x.b channel legal ∙ d.offer_is)))
+    (offer_is s before x.window x.a x.b channel legal ∙ d.offer_is)))
 
 pub hands_over : (s : State) (k : ℕ) (h : Handed) (channel : Channel) (bytes : ArrayVec ℕ) (f : Fields)
     → IsLegalInterface s → slice_get (fetched s) k ≡ Some h
     → handed_on channel h ≡ Some bytes → decoded channel bytes.items ≡ Some f → f.has_data ≡ true
-        → HandsOver s h.window channel f
+    → HandsOver s h.window channel f
 hands_over s k h channel bytes f lawful at handed decodes has_data =
     let c = fetch_of s k h at in
     at_entry s h channel bytes f c.inner c.after c.here lawful c.cut c.holds handed decodes has_data

@@ -47,7 +47,7 @@ module _ (m : Mode) (k : ℕ) (es : List Entry) where
       let all : List Entry = es ++ Commit task j payload ∷ [] in
       let paid : option_map (payload_of all) (ready m k all) ≡ Some payload =
       ap (option_map (payload_of all)) (ready-new k es (Commit task j payload) m sending here) ∙ ap Some
-          (payload_of-next es task j payload) in
+      (payload_of-next es task j payload) in
       let waits : is_some (pending_commit k all) ≡ true = ap is_some (pending-new k es (Commit task j payload) here) in
       λ i. record { payload = paid i; pending = waits i }
 
@@ -55,14 +55,14 @@ module _ (m : Mode) (k : ℕ) (es : List Entry) where
   left_same : (e : Entry) → is_commit_on k e ≡ false → ((number : ℕ) → last_commit k es ≡ Some number
       → sends number e ≡ false)
       → ((number : ℕ) → last_commit k es ≡ Some number → takes_back number e ≡ false)
-          → left_by m k (es ++ e ∷ []) ≡ left_by m k es
+      → left_by m k (es ++ e ∷ []) ≡ left_by m k es
   left_same e off unsent untaken =
       let paid : option_map (payload_of (es ++ e ∷ [])) (ready m k (es ++ e ∷ [])) ≡ option_map (payload_of es)
-          (ready m k es) =
+      (ready m k es) =
       ap (option_map (payload_of (es ++ e ∷ []))) (ready-same k es e off m unsent untaken) ∙ ready_paid e in
       let waits : is_some (pending_commit k (es ++ e ∷ [])) ≡ is_some (pending_commit k es) =
       ap is_some (pending-same k es e off (λ number last. neither (sends number e) (takes_back number e)
-          (unsent number last) (untaken number last))) in
+      (unsent number last) (untaken number last))) in
       λ i. record { payload = paid i; pending = waits i }
     where
       neither : (p q : Bool) → p ≡ false → q ≡ false → (p || q) ≡ false
@@ -74,17 +74,17 @@ module _ (m : Mode) (k : ℕ) (es : List Entry) where
       → left_by m k (es ++ Withdraw task j of ∷ []) ≡ taken_back (left_by m k es)
   left_withdrawn task j None is =
       left_same (Withdraw task j None) refl (λ number last. refl) (λ number last. refl) ∙ ap
-          (λ (o : Option ℕ). cond (is_some o) empty (left_by m k es)) is
+      (λ (o : Option ℕ). cond (is_some o) empty (left_by m k es)) is
   left_withdrawn task j (Some number) is =
       let all : List Entry = es ++ Withdraw task j (Some number) ∷ [] in
       let taken : takes_back number (Withdraw task j (Some number)) ≡ true = eq-eqb number number refl in
       let paid : option_map (payload_of all) (ready m k all) ≡ None =
       ap (option_map (payload_of all)) (ready-taken k es (Withdraw task j (Some number)) refl m number (λ i. refl)
-          (sym is) taken) in
+      (sym is) taken) in
       let waits : is_some (pending_commit k all) ≡ false =
       ap is_some (ready-taken k es (Withdraw task j (Some number)) refl mode.Event number (λ i. refl) (sym is) taken) in
       (λ i. record { payload = paid i; pending = waits i }) ∙ ap
-          (λ (o : Option ℕ). cond (is_some o) empty (left_by m k es)) is
+      (λ (o : Option ℕ). cond (is_some o) empty (left_by m k es)) is
 
 or_first : (p q : Bool) → p ≡ true → (p || q) ≡ true
 or_first true q e = refl
@@ -101,8 +101,11 @@ module _ (k : ℕ) (es : List Entry) (w : Opportunity) (x y : Offered) where
   left_sent : (m : Mode) → is_receive m ≡ false → ((number : ℕ) → ready m k es ≡ Some number
       → sends number (Fetch w x y) ≡ true)
       → ((number : ℕ) → last_commit k es ≡ Some number → sends number (Fetch w x y) ≡ true → ready m k es ≡ Some number)
-      → left_by m k (es ++ Fetch w x y ∷ []) ≡ record { payload =
-          cond (is_event m) None (option_map (payload_of es) (ready m k es)); pending = false }
+      → left_by m k (es ++ Fetch w x y ∷ []) ≡ record {
+        payload =
+            cond (is_event m) None (option_map (payload_of es) (ready m k es));
+        pending = false;
+      }
   left_sent mode.Event sending sent is_ready =
       let gone = sent_gone mode.Event sending sent in
       λ i. record { payload = option_map (payload_of (es ++ Fetch w x y ∷ [])) (gone i); pending = is_some (gone i) }
@@ -110,9 +113,9 @@ module _ (k : ℕ) (es : List Entry) (w : Opportunity) (x y : Offered) where
       let gone = sent_gone mode.State sending sent in
       let held : held_commit k (es ++ Fetch w x y ∷ []) ≡ held_commit k es =
       held-other k es (Fetch w x y) refl (λ number last. refl)
-          (λ number last out. (held_is k es number (is_ready number last out)).1) in
+      (λ number last out. (held_is k es number (is_ready number last out)).1) in
       let paid = ap (option_map (payload_of (es ++ Fetch w x y ∷ []))) held ∙ ready_paid mode.State k es
-          (Fetch w x y) in
+      (Fetch w x y) in
       λ i. record { payload = paid i; pending = is_some (gone i) }
   left_sent mode.Receive sending sent is_ready = absurd (let none : ⊥ = cc in none)
 
@@ -134,7 +137,7 @@ module _ (plan : Plan) (slot k : ℕ) (b : Buffer) (at : buffer_at plan k ≡ So
   Takes true before e =
       ((number : ℕ) → ready b.mode k before ≡ Some number → sends number e ≡ true)
       × ((number : ℕ) → last_commit k before ≡ Some number → sends number e ≡ true
-          → ready b.mode k before ≡ Some number)
+      → ready b.mode k before ≡ Some number)
   Takes false before e = (number : ℕ) → last_commit k before ≡ Some number → sends number e ≡ false
 
   abbrev pub IsTaking : List Entry → Entry → Type 0
@@ -170,14 +173,14 @@ module _ (plan : Plan) (slot k : ℕ) (b : Buffer) (at : buffer_at plan k ≡ So
   commit_even es task j payload true here even =
       more es (Commit task j payload)
       ∙ ap (λ (t : Bool). left_after b k (left_after b k empty (account plan slot es))
-          (cond t (commits j payload ∷ []) [])) (known j here)
+      (cond t (commits j payload ∷ []) [])) (known j here)
       ∙ ap (λ (t : Bool). cond t (given payload) (left_after b k empty (account plan slot es))) here
       ∙ sym (left_new b.mode k es task j payload sends_it here)
   commit_even es task j payload false here even =
       let now : Left = left_after b k empty (account plan slot es) in
       more es (Commit task j payload)
       ∙ other_kept (is_buffer_of slot (buffer_at plan j)) (commits j payload) now
-          (ap (λ (t : Bool). cond t (given payload) now) here)
+      (ap (λ (t : Bool). cond t (given payload) now) here)
       ∙ even
       ∙ sym (left_same b.mode k es (Commit task j payload) here (λ number last. refl) (λ number last. refl))
 
@@ -197,19 +200,19 @@ module _ (plan : Plan) (slot k : ℕ) (b : Buffer) (at : buffer_at plan k ≡ So
   withdraw_even es task j of true here found even =
       more es (Withdraw task j of)
       ∙ ap (λ (t : Bool). left_after b k (left_after b k empty (account plan slot es)) (cond t (withdraws j ∷ []) []))
-          (known j here)
+      (known j here)
       ∙ ap (λ (t : Bool). cond t (taken_back (left_after b k empty (account plan slot es)))
-          (left_after b k empty (account plan slot es))) here
+      (left_after b k empty (account plan slot es))) here
       ∙ ap taken_back even
       ∙ sym (left_withdrawn b.mode k es task j of (found ∙ ap (λ (i : ℕ). pending_commit i es) (eqb-true j k here)))
   withdraw_even es task j of false here found even =
       let now : Left = left_after b k empty (account plan slot es) in
       more es (Withdraw task j of)
       ∙ other_kept (is_buffer_of slot (buffer_at plan j)) (withdraws j) now
-          (ap (λ (t : Bool). cond t (taken_back now) now) here)
+      (ap (λ (t : Bool). cond t (taken_back now) now) here)
       ∙ even
       ∙ sym (left_same b.mode k es (Withdraw task j of) refl (λ number last. refl)
-          (λ number last. not_taken es task j number of (takes_back number (Withdraw task j of)) refl found here last))
+      (λ number last. not_taken es task j number of (takes_back number (Withdraw task j of)) refl found here last))
 
   turn_kept : (t takes : Bool) (cycle : ℕ) (now : Left) → is_turn_of b cycle ≡ takes
       → left_after b k now (cond t (turns cycle ∷ []) []) ≡ cond (t && takes) (sent_out b now) now
@@ -219,7 +222,7 @@ module _ (plan : Plan) (slot k : ℕ) (b : Buffer) (at : buffer_at plan k ≡ So
   fetch_even : (es : List Entry) (w : Opportunity) (x y : Offered) (takes : Bool) → Takes takes es (Fetch w x y)
       → IsEven es
       → cond takes (sent_out b (left_after b k empty (account plan slot es)))
-          (left_after b k empty (account plan slot es)) ≡ left_by b.mode k (es ++ Fetch w x y ∷ [])
+      (left_after b k empty (account plan slot es)) ≡ left_by b.mode k (es ++ Fetch w x y ∷ [])
   fetch_even es w x y true t even = ap (sent_out b) even ∙ sym (left_sent k es w x y b.mode sends_it t.0 t.1)
   fetch_even es w x y false t even = even ∙ sym (left_same b.mode k es (Fetch w x y) refl t (λ number last. refl))
 

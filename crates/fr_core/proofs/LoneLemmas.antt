@@ -42,8 +42,12 @@ pub seen_of-bytes : (p : Parameters) (w : Opportunity) (n : ℕ) (ts : List Sent
     → seen_of p w None n ts ≡ Bytes bytes → IsLone ts bytes
 seen_of-bytes p w n [] bytes e = absurd (let none : ⊥ = cc in none)
 seen_of-bytes p w n (t ∷ []) bytes e =
-    record { sender = t; only = refl; bytes_are = lone_bytes (is_of n t) (overruns p w (length t.bytes.items)) t.bytes
-        bytes e }
+    record {
+      sender = t;
+      only = refl;
+      bytes_are = lone_bytes (is_of n t) (overruns p w (length t.bytes.items)) t.bytes
+          bytes e;
+    }
 seen_of-bytes p w n (t ∷ u ∷ ts) bytes e = not_bytes (list_any (is_of n) (t ∷ u ∷ ts)) bytes e
 
 -- ---- it is the owner's offer
@@ -84,7 +88,7 @@ module _ (d : Description) (w : Opportunity) (channel : Channel) (owner : ℕ) (
       → u.fate ≡ f → is_judged_in d w u ≡ true → is_clean channel owner u ≡ true
       → (all_passed channel us ≡ t ∷ [] → offer_in channel owner us ≡ Some t.bytes)
       → cond (on && is_passed f) (u ∷ all_passed channel us) (all_passed channel us) ≡ t ∷ []
-          → offer_in channel owner (u ∷ us) ≡ Some t.bytes
+      → offer_in channel owner (u ∷ us) ≡ Some t.bytes
   lone_step u us t false f on_is is judged clean rest e = rw
       (no_offer_elsewhere (is_of owner u) (is_channel u.channel channel) u.babble on_is) (rest e)
   lone_step u us t true Passed on_is is judged clean rest e =
@@ -92,26 +96,26 @@ module _ (d : Description) (w : Opportunity) (channel : Channel) (owner : ℕ) (
       let there : u.channel ≡ channel = same_channel u.channel channel on_is in
       let passed : passes d u.node w channel ≡ true =
       ap (λ (c : Channel). passes d u.node w c) (sym there) ∙ ap
-          (λ (f : Fate). is_judged f (passes d u.node w u.channel)) (sym is) ∙ judged in
+      (λ (f : Fate). is_judged f (passes d u.node w u.channel)) (sym is) ∙ judged in
       let own : is_of owner u ≡ true = eq-eqb u.node owner (alone u.node passed) in
       rw (offer_if_clean (is_of owner u) (is_channel u.channel channel) u.babble (is_muted u.fate) own on_is clean)
-          (ap (λ (x : Sent). Some x.bytes) same)
+      (ap (λ (x : Sent). Some x.bytes) same)
   lone_step u us t true Blocked on_is is judged clean rest e =
       let there : u.channel ≡ channel = same_channel u.channel channel on_is in
       let blocked : not (passes d u.node w channel) ≡ true =
       ap (λ (c : Channel). not (passes d u.node w c)) (sym there) ∙ ap
-          (λ (f : Fate). is_judged f (passes d u.node w u.channel)) (sym is) ∙ judged in
+      (λ (f : Fate). is_judged f (passes d u.node w u.channel)) (sym is) ∙ judged in
       let other : is_of owner u ≡ false =
       ne_eqb u.node owner (λ same. let h : not true ≡ true =
-          ap not (sym passing ∙ ap (λ (n : ℕ). passes d n w channel) (sym same)) ∙ blocked in let none : ⊥ = cc in none)
-          in
+      ap not (sym passing ∙ ap (λ (n : ℕ). passes d n w channel) (sym same)) ∙ blocked in let none : ⊥ = cc in none)
+      in
       rw (no_offer_of_other (is_of owner u) (is_channel u.channel channel) u.babble other) (rest e)
   lone_step u us t true Muted on_is is judged clean rest e =
       let muted : not ((is_of owner u && is_channel u.channel channel) && (u.babble || true)) ≡ true =
       ap (λ (f : Fate). not ((is_of owner u && is_channel u.channel channel) && (u.babble || is_muted f))) (sym is)
-          ∙ clean in
+      ∙ clean in
       rw (no_offer_of_other (is_of owner u) (is_channel u.channel channel) u.babble
-          (other_if_muted (is_of owner u) (is_channel u.channel channel) u.babble on_is muted)) (rest e)
+      (other_if_muted (is_of owner u) (is_channel u.channel channel) u.babble on_is muted)) (rest e)
 
   lone_offer : (sent : List Sent) (t : Sent) → list_all (is_judged_in d w) sent ≡ true
       → list_all (is_clean channel owner) sent ≡ true
@@ -122,7 +126,7 @@ module _ (d : Description) (w : Opportunity) (channel : Channel) (owner : ℕ) (
       (both_first (is_judged_in d w u) (list_all (is_judged_in d w) us) judged)
       (both_first (is_clean channel owner u) (list_all (is_clean channel owner) us) clean)
       (lone_offer us t (both_rest (is_judged_in d w u) (list_all (is_judged_in d w) us) judged)
-          (both_rest (is_clean channel owner u) (list_all (is_clean channel owner) us) clean))
+      (both_rest (is_clean channel owner u) (list_all (is_clean channel owner) us) clean))
       e
 
   -- what a node sees as bytes there is the owner's offer
@@ -131,5 +135,5 @@ module _ (d : Description) (w : Opportunity) (channel : Channel) (owner : ℕ) (
       → corrupt_on r channel ≡ None → seen_by p r channel n ≡ Bytes bytes → offer_in channel owner r.sent ≡ Some bytes
   seen_offer p n r bytes judged clean whole seen =
       let l = seen_of-bytes p r.window n (all_passed channel r.sent) bytes
-          (ap (λ (c : Option ℕ). seen_of p r.window c n (all_passed channel r.sent)) (sym whole) ∙ seen) in
+      (ap (λ (c : Option ℕ). seen_of p r.window c n (all_passed channel r.sent)) (sym whole) ∙ seen) in
       lone_offer r.sent l.sender judged clean l.only ∙ ap Some l.bytes_are

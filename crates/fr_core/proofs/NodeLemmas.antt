@@ -106,7 +106,7 @@ bytes_kept : (slot : ℕ) (channel : Channel) (f : Option Fields)
 bytes_kept slot channel None = refl
 bytes_kept slot channel (Some f) =
     let some : (length (encoded f channel) == 0) ≡ false = ne_eqb (length (encoded f channel)) 0
-        (λ none. let h : ⊥ = omega (arith, length-encoded f channel, none) in h) in
+    (λ none. let h : ⊥ = omega (arith, length-encoded f channel, none) in h) in
     ap (λ (b : Bool). cond b None (Some (record { items = encoded f channel }))) some
 
 -- what a frame of an offer is spelled by is recorded as it is
@@ -144,7 +144,7 @@ agrees_fetch n i w v a = record {
 
 put_step : (n : ℕ) (i : State) (w : Opportunity) (o : Offer) (v : BusView) (p : Phase) (opened : Option Opportunity)
     → NodeAgrees n i (Offers w o) (record v { phase = p; opened = opened })
-        → NodeAgrees n i (Waits w) (record v { phase = p; opened = opened; station = offering v.station o })
+    → NodeAgrees n i (Waits w) (record v { phase = p; opened = opened; station = offering v.station o })
 put_step n i w o v Collect opened a = record {
   fetches = a.fetches;
   sees = a.sees;
@@ -164,16 +164,16 @@ agrees_put n i w o v a = put_step n i w o v v.phase v.opened a
 seal_step : (n : ℕ) (i : State) (c : Carried) (v : BusView) (p : Phase) (made : Recorded) → collects p ≡ true
     → v.station.put ≡ true → v.opened ≡ Some made.window
     → offer_in A n made.sent ≡ recordable (slot_of made.window A) v.station.a.offer
-        → offer_in B n made.sent ≡ recordable (slot_of made.window B) v.station.b.offer
+    → offer_in B n made.sent ≡ recordable (slot_of made.window B) v.station.b.offer
     → NodeAgrees n i c (record v { phase = p }) → NodeAgrees n i c
-        (record v { phase = InSealed; sealed = v.sealed ++ made ∷ [] })
+    (record v { phase = InSealed; sealed = v.sealed ++ made ∷ [] })
 seal_step n i (Waits w) v Collect made e put at on_a on_b a =
     let window : made.window ≡ w = (let both : ◌≡◌ {A = Option Opportunity} (Some made.window) (Some w) =
-        sym at ∙ a.turn.2 in cc) in
+    sym at ∙ a.turn.2 in cc) in
     let offer_a : offer_in A n made.sent ≡ v.station.a.offer =
-        on_a ∙ ap (λ (x : Opportunity). recordable (slot_of x A) v.station.a.offer) window ∙ a.fits.on_a in
+    on_a ∙ ap (λ (x : Opportunity). recordable (slot_of x A) v.station.a.offer) window ∙ a.fits.on_a in
     let offer_b : offer_in B n made.sent ≡ v.station.b.offer =
-        on_b ∙ ap (λ (x : Opportunity). recordable (slot_of x B) v.station.b.offer) window ∙ a.fits.on_b in
+    on_b ∙ ap (λ (x : Opportunity). recordable (slot_of x B) v.station.b.offer) window ∙ a.fits.on_b in
     let last = last_of-more v.sealed made in
     record {
       fetches = a.fetches ∙ ap (λ l. map (offers_of n) v.sealed ++ l) (sym (handed_same window offer_a offer_b)) ∙ sym
@@ -182,7 +182,7 @@ seal_step n i (Waits w) v Collect made e put at on_a on_b a =
       sees = ap (λ l. l ++ sight_of (last_seen v.params (v.sealed ++ made ∷ []) A n)
           (last_seen v.params (v.sealed ++ made ∷ []) B n) w ∷ []) (sym (append-nil (observed i)) ∙ a.sees)
           ∙ ap (λ l. map (sights_of v.params n) v.sealed ++ l)
-              (sight_same (sym window) (ap (sight_in v.params A n) last) (ap (sight_in v.params B n) last))
+          (sight_same (sym window) (ap (sight_in v.params A n) last) (ap (sight_in v.params B n) last))
           ∙ sym (map-append (sights_of v.params n) v.sealed (made ∷ []));
       opens = a.opens;
       fits = a.fits;
@@ -198,7 +198,7 @@ seal_step n i c v Finished made e put at on_a on_b a = absurd (let none : ⊥ = 
 pub agrees_seal : (n : ℕ) (i : State) (c : Carried) (v : BusView) (made : Recorded) → collects v.phase ≡ true
     → v.station.put ≡ true → v.opened ≡ Some made.window
     → offer_in A n made.sent ≡ recordable (slot_of made.window A) v.station.a.offer
-        → offer_in B n made.sent ≡ recordable (slot_of made.window B) v.station.b.offer
+    → offer_in B n made.sent ≡ recordable (slot_of made.window B) v.station.b.offer
     → NodeAgrees n i c v → NodeAgrees n i c (record v { phase = InSealed; sealed = v.sealed ++ made ∷ [] })
 agrees_seal n i c v made e put at on_a on_b a = seal_step n i c v v.phase made e put at on_a on_b a
 
@@ -207,7 +207,7 @@ agrees_seal n i c v made e put at on_a on_b a = seal_step n i c v v.phase made e
 take_step : (n : ℕ) (i : State) (w : Opportunity) (v : BusView) (p : Phase) → seals p ≡ true
     → NodeAgrees n i (Waits w) (record v { phase = p })
     → NodeAgrees n i (Took w (last_seen v.params v.sealed A n) (last_seen v.params v.sealed B n))
-        (record v { phase = p; station = record v.station { taken = true } })
+    (record v { phase = p; station = record v.station { taken = true } })
 take_step n i w v Collect e a = absurd (let none : ⊥ = cc in none)
 take_step n i w v InSealed e a = record { fetches = a.fetches; sees = a.sees; opens = a.opens; fits = tt; turn = refl }
 take_step n i w v Finished e a = absurd (let none : ⊥ = cc in none)
@@ -215,7 +215,7 @@ take_step n i w v Finished e a = absurd (let none : ⊥ = cc in none)
 pub agrees_take : (n : ℕ) (i : State) (w : Opportunity) (v : BusView) → seals v.phase ≡ true
     → NodeAgrees n i (Waits w) v
     → NodeAgrees n i (Took w (last_seen v.params v.sealed A n) (last_seen v.params v.sealed B n))
-        (record v { station = record v.station { taken = true } })
+    (record v { station = record v.station { taken = true } })
 agrees_take n i w v e a = take_step n i w v v.phase e a
 
 -- ---- Observe
@@ -289,11 +289,19 @@ pub record IsReady (c : Carried) (v w : BusView) (n : ℕ) : Type 0 where
 advance_ready : (c : Carried) (v : BusView) (p q : Phase) (next : Option Opportunity) (n : ℕ) → seals p ≡ true
     → v.station.taken ≡ true → seals q ≡ false
     → Turn c p v.opened v.station.put v.station.taken → IsReady c (record v { phase = p })
-        (record v { phase = q; opened = next; station = idle_station }) n
-advance_ready Idle v InSealed Collect next n e was new t = record { same_ahead = refl; same_behind = refl; fits = tt;
-    turn = (refl, refl) }
-advance_ready Idle v InSealed Finished next n e was new t = record { same_ahead = refl; same_behind = refl; fits = tt;
-    turn = tt }
+    (record v { phase = q; opened = next; station = idle_station }) n
+advance_ready Idle v InSealed Collect next n e was new t = record {
+  same_ahead = refl;
+  same_behind = refl;
+  fits = tt;
+  turn = (refl, refl);
+}
+advance_ready Idle v InSealed Finished next n e was new t = record {
+  same_ahead = refl;
+  same_behind = refl;
+  fits = tt;
+  turn = tt;
+}
 advance_ready (Took w x y) v InSealed Collect next n e was new t =
     record { same_ahead = refl; same_behind = refl; fits = tt; turn = (refl, refl) }
 advance_ready (Took w x y) v InSealed Finished next n e was new t =
@@ -323,6 +331,6 @@ agrees_advance n i c v q next e was new a =
 -- a node agrees at the opening
 pub opening_agrees : (n : ℕ) (p : Parameters) (plan : Plan) (opened : Option Opportunity)
     → NodeAgrees n (record { params = p; plan = plan; entries = [] }) Idle
-        (record { params = p; sealed = []; phase = Collect; opened = opened; station = idle_station })
+    (record { params = p; sealed = []; phase = Collect; opened = opened; station = idle_station })
 unfolding each_after last_after
 opening_agrees n p plan opened = record { fetches = refl; sees = refl; opens = refl; fits = tt; turn = (refl, refl) }

@@ -45,7 +45,7 @@ module _ (d : Description) (w : Opportunity) (channel : Channel) (owner : ℕ)
   passed_is_own u true Passed on_is is judged other =
       let passed : passes d u.node w channel ≡ true =
       ap (λ (c : Channel). passes d u.node w c) (sym (same_channel u.channel channel on_is)) ∙ ap
-          (λ (f : Fate). is_judged f (passes d u.node w u.channel)) (sym is) ∙ judged in
+      (λ (f : Fate). is_judged f (passes d u.node w u.channel)) (sym is) ∙ judged in
       let mine : is_of owner u ≡ true = eq-eqb u.node owner (alone u.node passed) in
       differ (ap (λ (b : Bool). b && is_channel u.channel channel) mine ∙ on_is) other
 
@@ -56,22 +56,22 @@ module _ (d : Description) (w : Opportunity) (channel : Channel) (owner : ℕ)
       (u ∷ l) l) rest
   own_step u us false is judged rest =
       ap (λ (b : Bool). cond b (u ∷ all_passed channel us) (all_passed channel us))
-          (passed_is_own u (is_channel u.channel channel) u.fate refl refl judged is) ∙ rest
+      (passed_is_own u (is_channel u.channel channel) u.fate refl refl judged is) ∙ rest
 
   pub passed_own : (sent : List Sent) → list_all (is_judged_in d w) sent ≡ true
       → all_passed channel sent ≡ all_passed channel (own channel owner sent)
   passed_own [] judged = refl
   passed_own (u ∷ us) judged =
       own_step u us (is_own channel owner u) refl (both_first (is_judged_in d w u)
-          (list_all (is_judged_in d w) us) judged)
+      (list_all (is_judged_in d w) us) judged)
       (passed_own us (both_rest (is_judged_in d w u) (list_all (is_judged_in d w) us) judged))
 
 -- what each node sees is what the owner's transmissions alone give
 pub seen_alone : (d : Description) (p : Parameters) (r : Recorded) (channel : Channel) (owner : ℕ)
     → ((other : ℕ) → passes d other r.window channel ≡ true → other ≡ owner)
     → list_all (is_judged_in d r.window) r.sent ≡ true → (n : ℕ)
-        → seen_by p r channel n ≡ seen_of p r.window (corrupt_on r channel) n
-        (all_passed channel (own channel owner r.sent))
+    → seen_by p r channel n ≡ seen_of p r.window (corrupt_on r channel) n
+    (all_passed channel (own channel owner r.sent))
 seen_alone d p r channel owner alone judged n = ap (seen_of p r.window (corrupt_on r channel) n)
     (passed_own d r.window channel owner alone r.sent judged)
 
@@ -85,7 +85,7 @@ none_step d w channel u true Blocked nobody on_is is judged = refl
 none_step d w channel u true Muted nobody on_is is judged = refl
 none_step d w channel u true Passed nobody on_is is judged =
     differ (ap (λ (c : Channel). passes d u.node w c) (sym (same_channel u.channel channel on_is)) ∙ ap
-        (λ (f : Fate). is_judged f (passes d u.node w u.channel)) (sym is) ∙ judged) (nobody u.node)
+    (λ (f : Fate). is_judged f (passes d u.node w u.channel)) (sym is) ∙ judged) (nobody u.node)
 
 none_passed : (d : Description) (w : Opportunity) (channel : Channel) (sent : List Sent)
     → ((node : ℕ) → passes d node w channel ≡ false) → list_all (is_judged_in d w) sent ≡ true
@@ -94,7 +94,7 @@ none_passed d w channel [] nobody judged = refl
 none_passed d w channel (u ∷ us) nobody judged =
     ap (λ (b : Bool). cond b (u ∷ all_passed channel us) (all_passed channel us))
     (none_step d w channel u (is_channel u.channel channel) u.fate nobody refl refl
-        (both_first (is_judged_in d w u) (list_all (is_judged_in d w) us) judged))
+    (both_first (is_judged_in d w u) (list_all (is_judged_in d w) us) judged))
     ∙ none_passed d w channel us nobody (both_rest (is_judged_in d w u) (list_all (is_judged_in d w) us) judged)
 
 pub silent : (d : Description) (p : Parameters) (r : Recorded) (channel : Channel) (n : ℕ)
@@ -116,7 +116,7 @@ one_case channel n t false = refl
 
 own_one : (channel c : Channel) (n node : ℕ) (babble : Bool) (fate : Fate) (bytes : Option (ArrayVec ℕ))
     → own channel n (transmission node c babble fate bytes) ≡ cond (node == n && is_channel c channel)
-        (transmission node c babble fate bytes) []
+    (transmission node c babble fate bytes) []
 own_one channel c n node babble fate None = sym (neither (node == n && is_channel c channel))
 own_one channel c n node babble fate (Some bytes) = one_case channel n
     (record { node = node; channel = c; babble = babble; bytes = bytes; fate = fate }) (length bytes.items == 0)
@@ -127,30 +127,30 @@ joined false xs ys = refl
 
 own_side : (d : Description) (w : Opportunity) (channel c : Channel) (n node : ℕ) (side : Side) (slot : Option ℕ)
     → own channel n (sent_in d w node c side slot) ≡ cond (node == n && is_channel c channel)
-        (sent_in d w node c side slot) []
+    (sent_in d w node c side slot) []
 own_side d w channel c n node side None = sym (neither (node == n && is_channel c channel))
 own_side d w channel c n node side (Some slot) =
     let offer = transmission node c false (fate_of side.mute (passes d node w c)) side.offer in
     let babble = transmission node c true (fate_of false (passes d node w c)) side.babble in
     filter-append (is_own channel n) offer babble
     ∙ ap (λ (l : List Sent). l ++ own channel n babble) (own_one channel c n node false
-        (fate_of side.mute (passes d node w c)) side.offer)
+    (fate_of side.mute (passes d node w c)) side.offer)
     ∙ ap (λ (l : List Sent). cond (node == n && is_channel c channel) offer [] ++ l)
-        (own_one channel c n node true (fate_of false (passes d node w c)) side.babble)
+    (own_one channel c n node true (fate_of false (passes d node w c)) side.babble)
     ∙ joined (node == n && is_channel c channel) offer babble
 
 own_node : (d : Description) (w : Opportunity) (channel : Channel) (n node : ℕ) (s : Station) (mine : Bool)
     → (node == n) ≡ mine
     → own channel n (sent_of d w node s) ≡ cond mine (sent_in d w node channel (side_on channel s) (slot_of w channel))
-        []
+    []
 own_node d w A n node s mine e =
     let a = sent_in d w node A s.a (slot_of w A) in
     let b = sent_in d w node B s.b (slot_of w B) in
     filter-append (is_own A n) a b
     ∙ ap (λ (l : List Sent). l ++ own A n b) (own_side d w A A n node s.a (slot_of w A) ∙ ap
-        (λ (m : Bool). cond (m && true) a []) e)
+    (λ (m : Bool). cond (m && true) a []) e)
     ∙ ap (λ (l : List Sent). cond (mine && true) a [] ++ l) (own_side d w A B n node s.b (slot_of w B) ∙ ap
-        (λ (m : Bool). cond (m && false) b []) e)
+    (λ (m : Bool). cond (m && false) b []) e)
     ∙ first mine a b
   where
     first : (m : Bool) (x y : List Sent) → cond (m && true) x [] ++ cond (m && false) y [] ≡ cond m x []
@@ -161,9 +161,9 @@ own_node d w B n node s mine e =
     let b = sent_in d w node B s.b (slot_of w B) in
     filter-append (is_own B n) a b
     ∙ ap (λ (l : List Sent). l ++ own B n b) (own_side d w B A n node s.a (slot_of w A) ∙ ap
-        (λ (m : Bool). cond (m && false) a []) e)
+    (λ (m : Bool). cond (m && false) a []) e)
     ∙ ap (λ (l : List Sent). cond (mine && false) a [] ++ l)
-        (own_side d w B B n node s.b (slot_of w B) ∙ ap (λ (m : Bool). cond (m && true) b []) e)
+    (own_side d w B B n node s.b (slot_of w B) ∙ ap (λ (m : Bool). cond (m && true) b []) e)
     ∙ second mine a b
   where
     second : (m : Bool) (x y : List Sent) → cond (m && false) x [] ++ cond (m && true) y [] ≡ cond m y []
@@ -176,28 +176,28 @@ own_before d w channel n start [] below = refl
 own_before d w channel n start (s ∷ ss) below =
     filter-append (is_own channel n) (sent_of d w start s) (sent_from d w (start + 1) ss)
     ∙ ap (λ (l : List Sent). l ++ own channel n (sent_from d w (start + 1) ss))
-        (own_node d w channel n start s false (ne_eqb start n
-        (λ same. let none : ⊥ = omega (arith, below, same) in none)))
+    (own_node d w channel n start s false (ne_eqb start n
+    (λ same. let none : ⊥ = omega (arith, below, same) in none)))
     ∙ own_before d w channel n (start + 1) ss (omega (arith, below))
 
 pub own_from : (d : Description) (w : Opportunity) (channel : Channel) (n start k : ℕ) (ss : List Station)
     → n ≡ start + k → k < length ss
     → own channel n (sent_from d w start ss) ≡ sent_in d w n channel
-        (side_on channel (slice_index_or ss k idle_station)) (slot_of w channel)
+    (side_on channel (slice_index_or ss k idle_station)) (slot_of w channel)
 own_from d w channel n start k [] e within = absurd (let none : ⊥ = omega (arith, within) in none)
 own_from d w channel n start zero (s ∷ ss) e within =
     let same : start ≡ n = omega (arith, e) in
     filter-append (is_own channel n) (sent_of d w start s) (sent_from d w (start + 1) ss)
     ∙ ap (λ (l : List Sent). l ++ own channel n (sent_from d w (start + 1) ss))
-        (own_node d w channel n start s true (eq-eqb start n same))
+    (own_node d w channel n start s true (eq-eqb start n same))
     ∙ ap (λ (l : List Sent). sent_in d w start channel (side_on channel s) (slot_of w channel) ++ l)
-        (own_before d w channel n (start + 1) ss (omega (arith, e)))
+    (own_before d w channel n (start + 1) ss (omega (arith, e)))
     ∙ append-nil (sent_in d w start channel (side_on channel s) (slot_of w channel))
     ∙ ap (λ (m : ℕ). sent_in d w m channel (side_on channel s) (slot_of w channel)) same
 own_from d w channel n start (suc k) (s ∷ ss) e within =
     filter-append (is_own channel n) (sent_of d w start s) (sent_from d w (start + 1) ss)
     ∙ ap (λ (l : List Sent). l ++ own channel n (sent_from d w (start + 1) ss))
-        (own_node d w channel n start s false (ne_eqb start n (λ same. let none : ⊥ = omega (arith, e, same) in none)))
+    (own_node d w channel n start s false (ne_eqb start n (λ same. let none : ⊥ = omega (arith, e, same) in none)))
     ∙ own_from d w channel n (start + 1) k ss (omega (arith, e)) (omega (arith, within))
 
 -- ---- with the offer that the record has
@@ -210,7 +210,7 @@ same_transmission node c babble fate (Some bytes) = by_length (length bytes.item
   where
     by_length : (b : Bool) → (length bytes.items == 0) ≡ b
         → transmission node c babble fate (cond b None (Some bytes)) ≡ cond b []
-            (record { node = node; channel = c; babble = babble; bytes = bytes; fate = fate } ∷ [])
+        (record { node = node; channel = c; babble = babble; bytes = bytes; fate = fate } ∷ [])
     by_length true e = refl
     by_length false e = ap (λ (b : Bool). cond b []
         (record { node = node; channel = c; babble = babble; bytes = bytes; fate = fate } ∷ [])) e
@@ -219,11 +219,11 @@ same_transmission node c babble fate (Some bytes) = by_length (length bytes.item
 pub own_is : (d : Description) (w : Opportunity) (channel : Channel) (owner slot : ℕ) (side : Side)
     → slot_of w channel ≡ Some slot → passes d owner w channel ≡ true
     → sent_in d w owner channel side (slot_of w channel) ≡ of_owner owner channel side.mute
-        (recordable (slot_of w channel) side.offer) side.babble
+    (recordable (slot_of w channel) side.offer) side.babble
 own_is d w channel owner slot side is passing =
     ap (sent_in d w owner channel side) is
     ∙ ap (λ (b : Bool). transmission owner channel false (fate_of side.mute b) side.offer ++ transmission owner channel
-        true (fate_of false b) side.babble) passing
+    true (fate_of false b) side.babble) passing
     ∙ ap (λ (l : List Sent). l ++ transmission owner channel true (fate_of false true) side.babble)
-        (sym (same_transmission owner channel false (fate_of side.mute true) side.offer))
+    (sym (same_transmission owner channel false (fate_of side.mute true) side.offer))
     ∙ ap (λ (o : Option ℕ). of_owner owner channel side.mute (recordable o side.offer) side.babble) (sym is)

@@ -58,7 +58,7 @@ module _ (k : ℕ) (es : List Entry) (e : Entry) where
       → list_any p (drop (number + 1) (es ++ e ∷ [])) ≡ (list_any p (drop (number + 1) es) || p e)
   later number within p =
       ap (list_any p) (drop-front es (e ∷ []) (number + 1) (omega (arith, within))) ∙ list_any-append p
-          (drop (number + 1) es) (e ∷ [])
+      (drop (number + 1) es) (e ∷ [])
       ∙ ap (λ (b : Bool). list_any p (drop (number + 1) es) || b) (or_none (p e))
 
   still_pending : (number : ℕ) → number < length es → is_commit_on k e ≡ false
@@ -68,7 +68,7 @@ module _ (k : ℕ) (es : List Entry) (e : Entry) where
       let w : Bool = list_any (takes_back number) (drop (number + 1) es) in
       let c : Bool = list_any (is_commit_on k) (drop (number + 1) es) in
       (λ i. is_pending (fate_by (later number within (sends number) i) (later number within (takes_back number) i)
-          (later number within (is_commit_on k) i)))
+      (later number within (is_commit_on k) i)))
       ∙ ap (λ (b : Bool). is_pending (fate_by (s || sends number e) (w || takes_back number e) (c || b))) off
       ∙ pending_then s w c (sends number e) (takes_back number e)
 
@@ -90,7 +90,7 @@ module _ (k : ℕ) (es : List Entry) (e : Entry) where
       by_last (Some number) within h =
           ap (λ (b : Bool). cond {A = Option ℕ} b (Some number) None)
           (still_pending number within off ∙ ap (λ (b : Bool). pending_at k es number && not b) (h number refl)
-              ∙ and_true (pending_at k es number))
+          ∙ and_true (pending_at k es number))
 
   -- what ends a pending commit leaves none
   pub pending-gone : is_commit_on k e ≡ false → ((number : ℕ) → pending_commit k es ≡ Some number → ends number ≡ true)
@@ -132,7 +132,7 @@ pub paid-same : (k : ℕ) (es : List Entry) (e : Entry) (o : Option ℕ)
 paid-same k es e None last = refl
 paid-same k es e (Some number) last =
     ap Some (payload_of-front es e number (subst (λ (o : Option ℕ). IfSome o (λ j. j < length es)) (last number refl)
-        (last_commit-below k es)))
+    (last_commit-below k es)))
 
 -- ---- what is ready with one more entry
 
@@ -159,8 +159,8 @@ module _ (k : ℕ) (es : List Entry) (e : Entry) where
         → takes_back number e ≡ true → ready m k (es ++ e ∷ []) ≡ None
     ready-taken mode.Event number unsent pending taken =
         let here : IfSome (pending_commit k es) (λ j. takes_back j e ≡ true) =
-            subst (λ (o : Option ℕ). IfSome o (λ j. takes_back j e ≡ true)) (sym pending) taken in
+        subst (λ (o : Option ℕ). IfSome o (λ j. takes_back j e ≡ true)) (sym pending) taken in
         pending-gone k es e off (λ j is. or_rest (sends j e) (takes_back j e)
-            (subst (λ (o : Option ℕ). IfSome o (λ i. takes_back i e ≡ true)) is here))
+        (subst (λ (o : Option ℕ). IfSome o (λ i. takes_back i e ≡ true)) is here))
     ready-taken mode.State number unsent pending taken = held-taken k es e off unsent number pending taken
     ready-taken mode.Receive number unsent pending taken = refl

@@ -59,8 +59,12 @@ spelled p cycle slot channel Own f e = absurd (let none : ⊥ = cc in none)
 spelled p cycle slot channel Conflict f e = absurd (let none : ⊥ = cc in none)
 spelled p cycle slot channel Noise f e = absurd (let none : ⊥ = cc in none)
 spelled p cycle slot channel Overrun f e = absurd (let none : ⊥ = cc in none)
-spelled p cycle slot channel (Bytes bytes) f e = record { bytes = bytes; seen_is = refl; decodes =
-    passed_is p cycle slot (decoded channel bytes.items) f e }
+spelled p cycle slot channel (Bytes bytes) f e = record {
+  bytes = bytes;
+  seen_is = refl;
+  decodes =
+      passed_is p cycle slot (decoded channel bytes.items) f e;
+}
 
 spelled_at : (p : Parameters) (cycle : ℕ) (channel : Channel) (seen : Seen) (f : Fields) (slot : Option ℕ)
     → option_and_then (λ s. frame_in p cycle s channel seen) slot ≡ Some f → IsSpelledBy channel seen f
@@ -111,15 +115,15 @@ record IsRecordedSight (p : Parameters) (rs : List Recorded) (n : ℕ) (x y : Se
 -- what an observe saw is what the record has of the window
 sight_is_recorded : (p : Parameters) (rs : List Recorded) (n : ℕ) (mine : State) → Follows p rs n mine
     → (before after : List Entry) (number : ℕ) (x y : Seen) (w : Opportunity)
-        → mine.entries ≡ before ++ Observe number x y ∷ after → open_window before ≡ Some w
+    → mine.entries ≡ before ++ Observe number x y ∷ after → open_window before ≡ Some w
     → IsRecordedSight p rs n x y w
 sight_is_recorded p rs n mine follows before after number x y w cut opened =
     let place = length (each_after sight_at [] before) in
     let there : slice_get (observed mine) place ≡ Some (sight_of x y w) =
-        sight_here mine.entries before after number x y w cut opened in
+    sight_here mine.entries before after number x y w cut opened in
     let mapped : slice_get (map (sights_of p n) rs) place ≡ Some (sight_of x y w) =
     ap (λ (l : List Sight). slice_get l place) (sym follows.sees) ∙ get-append (observed mine) follows.unseen place
-        (sight_of x y w) there in
+    (sight_of x y w) there in
     let m = get-map (sights_of p n) rs place (sight_of x y w) mapped in
     record { place = place; recorded = m.source; at = m.at; value = m.value }
 
@@ -140,20 +144,20 @@ handed_is_offered owner r B = refl
 from_owner : (d : Description) (rs : List Recorded) (n owner k : ℕ) (theirs : State) (r : Recorded) (channel : Channel)
     (bytes : ArrayVec ℕ) (f : Fields)
     → IsCluster d → AreJudged d rs → IsLegalInterface theirs → Follows d.params rs owner theirs
-        → slice_get rs k ≡ Some r → IsFaultlessAt d r channel owner
+    → slice_get rs k ≡ Some r → IsFaultlessAt d r channel owner
     → seen_by d.params r channel n ≡ Bytes bytes → decoded channel bytes.items ≡ Some f → f.has_data ≡ true
-        → HandsOver theirs r.window channel f
+    → HandsOver theirs r.window channel f
 from_owner d rs n owner k theirs r channel bytes f cluster judged lawful follows at faultless seen decodes has_data =
     let passing : passes d owner r.window channel ≡ true = owner_is_let d r channel owner faultless in
     let offer : offer_in channel owner r.sent ≡ Some bytes =
     seen_offer d r.window channel owner passing (passes_alone d cluster owner r.window channel passing faultless.static
-        faultless.guarded)
+    faultless.guarded)
     d.params n r bytes (judged k r at) faultless.clean faultless.whole seen in
     let there : slice_get (fetched theirs) k ≡ Some (offers_of owner r) =
     ap (λ (l : List Handed). slice_get l k) follows.fetches ∙ get-append (map (offers_of owner) rs) follows.under_way k
-        (offers_of owner r) (map-get (offers_of owner) rs k r at) in
+    (offers_of owner r) (map-get (offers_of owner) rs k r at) in
     hands_over theirs k (offers_of owner r) channel bytes f lawful there
-        (handed_is_offered owner r channel ∙ offer) decodes has_data
+    (handed_is_offered owner r channel ∙ offer) decodes has_data
 
 -- ---- what is held
 
@@ -174,14 +178,14 @@ received_from : (d : Description) (interfaces : List State) (rs : List Recorded)
     → ((k : ℕ) (s : State) → slice_get interfaces k ≡ Some s → Follows d.params rs k s)
     → Follows d.params rs n mine
     → (before after : List Entry) (e : Entry) → mine.entries ≡ before ++ e ∷ after → IsSeenBy mine.params before e a
-        → take a.origin.entry mine.entries ≡ before
+    → take a.origin.entry mine.entries ≡ before
     → IsReceived d interfaces rs mine a
 received_from d interfaces rs n mine a cluster judged lawful follow follows before after e cut s front =
     let frame = with_data_is _ a.frame s.brought.frame_is in
     let b = spelled_at mine.params s.window.cycle a.origin.channel (seen_on a.origin.channel s.x s.y) a.frame
-        (slot_of s.window a.origin.channel) frame.0 in
+    (slot_of s.window a.origin.channel) frame.0 in
     let found = sight_is_recorded d.params rs n mine follows before after s.number s.x s.y s.window
-        (cut ∙ ap (λ (x : Entry). before ++ x ∷ after) s.entry_is) s.opened in
+    (cut ∙ ap (λ (x : Entry). before ++ x ∷ after) s.entry_is) s.opened in
     let window : s.window ≡ found.recorded.window = sym (ap (λ (x : Sight). x.window) found.value) in
     let seen : seen_by d.params found.recorded a.origin.channel n ≡ Bytes b.bytes =
     seen_there d.params n found.recorded s.x s.y s.window a.origin.channel found.value ∙ b.seen_is in
@@ -192,7 +196,7 @@ received_from d interfaces rs n mine a cluster judged lawful follow follows befo
       seen_in = ap open_window front ∙ s.opened ∙ ap (λ (w : Opportunity). Some w) window;
       of_owner = λ owner theirs theirs_at faultless.
           from_owner d rs n owner found.place theirs found.recorded a.origin.channel b.bytes a.frame cluster judged
-              (lawful owner theirs theirs_at) (follow owner theirs theirs_at)
+          (lawful owner theirs theirs_at) (follow owner theirs theirs_at)
           found.at faultless seen b.decodes frame.1;
     }
 
@@ -205,6 +209,6 @@ receivers d interfaces rs cluster judged lawful follow n mine a mine_at holds =
     let c = holds_is_seen mine a holds in
     let front : take a.origin.entry mine.entries ≡ c.inner =
     ap (λ (i : ℕ). take i mine.entries) c.holds.brought.entry_is ∙ ap
-        (λ (l : List Entry). take (length c.inner) l) c.cut ∙ take-after c.inner (c.here ∷ c.after) in
+    (λ (l : List Entry). take (length c.inner) l) c.cut ∙ take-after c.inner (c.here ∷ c.after) in
     received_from d interfaces rs n mine a cluster judged lawful follow
-        (follow n mine mine_at) c.inner c.after c.here c.cut c.holds front
+    (follow n mine mine_at) c.inner c.after c.here c.cut c.holds front

@@ -118,7 +118,7 @@ module _ (s : State) (scripts : List Scripted) (n : ℕ) where
   done_at task k e o at is =
       let within : k < length s.entries = slice_get_within s.entries k e at in
       ap (λ m. option_to_list (deed_in s task m e)) (length-take-le k s.entries (omega (arith, within)))
-          ∙ ap option_to_list is
+      ∙ ap option_to_list is
 
   course_past : (task k : ℕ) (x : Course) (e : Entry) → IsCourse s scripts n task k x → slice_get s.entries k ≡ Some e
       → deed_in s task k e ≡ None → IsCourse s scripts n task (k + 1) x
@@ -138,7 +138,7 @@ module _ (s : State) (scripts : List Scripted) (n : ℕ) where
       let one_more = next.deeds in
       let given : deed_at s task (take k s.entries) e ≡ d ∷ [] = done_at task k e (Some d) at is in
       let here : slice_get (deeds_of s task) x.deeds ≡ Some d =
-          stands (deed_at s task) s.entries k x.deeds e at far.as_many d given in
+      stands (deed_at s task) s.entries k x.deeds e at far.as_many d given in
       record {
         as_many = as_many_on (deed_at s task) s.entries k x.deeds e at far.as_many d given ∙ sym next.deeds;
         few = omega (arith, few, one_more);
@@ -147,9 +147,9 @@ module _ (s : State) (scripts : List Scripted) (n : ℕ) where
               elim (eqb_tells j x.deeds) [
                 | inl same ↦ λ other there.
                     let alike : d ≡ other = some_alike d other
-                        (sym here ∙ ap (slice_get (deeds_of s task)) (sym same.1) ∙ there) in
+                    (sym here ∙ ap (slice_get (deeds_of s task)) (sym same.1) ∙ there) in
                     subst (λ m. HaveLines scripts n task m other) (sym same.1)
-                        (subst (HaveLines scripts n task x.deeds) alike both.1)
+                    (subst (HaveLines scripts n task x.deeds) alike both.1)
                 | inr other ↦ far.fits.0 both.0 j (let less : j < x.deeds =
                     omega (arith, below, one_more, other.1) in less)
               ],
@@ -163,12 +163,19 @@ module _ (s : State) (scripts : List Scripted) (n : ℕ) where
   -- ---- the courses of all tasks
 
   pub courses_first : AreCourses s scripts n 0 new_courses
-  courses_first = record { as_many = refl; each = λ task x at. subst (IsCourse s scripts n task 0)
-      (new_course task x at) (first task) }
+  courses_first = record {
+    as_many = refl;
+    each = λ task x at. subst (IsCourse s scripts n task 0)
+        (new_course task x at) (first task);
+  }
     where
       first : (task : ℕ) → IsCourse s scripts n task 0 (record { deeds = 0; agrees = true })
-      first task = record { as_many = ap length (nil_of (deed_at s task)); few = omega arith; fits =
-          (λ yes j below. absurd (omega (arith, below)), λ all. refl) }
+      first task = record {
+        as_many = ap length (nil_of (deed_at s task));
+        few = omega arith;
+        fits =
+            (λ yes j below. absurd (omega (arith, below)), λ all. refl);
+      }
 
   pub courses_past : (k : ℕ) (xs : List Course) (e : Entry) → AreCourses s scripts n k xs
       → slice_get s.entries k ≡ Some e → done_by s k e ≡ None → AreCourses s scripts n (k + 1) xs
@@ -180,19 +187,19 @@ module _ (s : State) (scripts : List Scripted) (n : ℕ) where
   pub courses_on : (k : ℕ) (xs : List Course) (e : Entry) (done : ℕ × Deed) (x y : Course) → AreCourses s scripts n k xs
       → slice_get s.entries k ≡ Some e
       → done_by s k e ≡ Some done → slice_get xs done.0 ≡ Some x → CourseNext scripts n done.0 done.1 x y
-          → AreCourses s scripts n (k + 1) (set xs done.0 y)
+      → AreCourses s scripts n (k + 1) (set xs done.0 y)
   courses_on k xs e done x y far at is there next = record {
     as_many = length_set xs done.0 y ∙ far.as_many;
     each = λ task z here.
         elim (eqb_tells done.0 task) [
           | inl same ↦
               let alike : y ≡ z = some_alike y z (sym (get_set_here xs done.0 x y there) ∙ ap
-                  (slice_get (set xs done.0 y)) same.1 ∙ here) in
+              (slice_get (set xs done.0 y)) same.1 ∙ here) in
               subst (λ m. IsCourse s scripts n m (k + 1) z) same.1 (subst (IsCourse s scripts n done.0 (k + 1)) alike
               (course_on done.0 k x y e done.1 (far.each done.0 x there) at (own_done s k e done is) next))
           | inr other ↦
               course_past task k z e (far.each task z (sym (get_set_other xs done.0 task y (λ same. other.1 (sym same)))
-                  ∙ here)) at (others_done s k task e done is other.1)
+              ∙ here)) at (others_done s k task e done is other.1)
         ];
   }
 
@@ -206,14 +213,14 @@ module _ (s : State) (scripts : List Scripted) (n : ℕ) where
   pub courses_set : (k : ℕ) (xs : List Course) (e : Entry) (done : ℕ × Deed) (place : ℕ) (x y : Course)
       → AreCourses s scripts n k xs → slice_get s.entries k ≡ Some e
       → done_by s k e ≡ Some done → place ≡ done.0 → place < most_tasks
-          → CourseNext scripts n done.0 done.1 (get_or xs place x) y → AreCourses s scripts n (k + 1) (set xs place y)
+      → CourseNext scripts n done.0 done.1 (get_or xs place x) y → AreCourses s scripts n (k + 1) (set xs place y)
   courses_set k xs e done place x y far at is same few next =
       let many = far.as_many in
       let there : slice_get xs place ≡ Some (get_or xs place x) =
-          slice_get-get_or xs place x (omega (arith, few, many)) in
+      slice_get-get_or xs place x (omega (arith, few, many)) in
       subst (λ m. AreCourses s scripts n (k + 1) (set xs m y)) (sym same)
       (courses_on k xs e done (get_or xs place x) y far at is
-          (subst (λ m. slice_get xs m ≡ Some (get_or xs place x)) same there) next)
+      (subst (λ m. slice_get xs m ≡ Some (get_or xs place x)) same there) next)
 
   -- ---- all that was done
 
@@ -242,7 +249,7 @@ module _ (scripts : List Scripted) (n task : ℕ) (deeds : List Deed) (x : Cours
   suits_are suits = record {
     given = λ k. lines_from (slice_get scripts k)
         (λ j d there. all.fits.0 suits.agrees j (let long = all.as_many in let within : j < length deeds =
-            slice_get_within deeds j d there in omega (arith, long, within)) d there k)
+        slice_get_within deeds j d there in omega (arith, long, within)) d there k)
         (suits.given k);
     missing = λ none. none_left deeds (all.as_many ∙ suits.missing none);
   }
@@ -278,7 +285,7 @@ module _ (scripts : List Scripted) (n task : ℕ) (deeds : List Deed) (x : Cours
 pub task_found : (scripts : List Scripted) (n : ℕ) (deeds : ℕ → List Deed) (xs : List Course) (r : Option ℕ)
     → length xs ≡ most_tasks
     → ((task : ℕ) (x : Course) → slice_get xs task ≡ Some x → IsWhole scripts n task (deeds task) x)
-        → FindsTask (SuitsAt scripts n xs) r
+    → FindsTask (SuitsAt scripts n xs) r
     → FindsTask (λ task. AreScripts scripts n task (deeds task)) r
 task_found scripts n deeds xs r many all found = by_result r found
   where
@@ -310,4 +317,4 @@ pub task_found_new : (scripts : List Scripted) (n : ℕ) (xs : List Course) (r :
     → FindsTask (λ task. AreScripts scripts n task []) r
 task_found_new scripts n xs r is found =
     task_found scripts n (λ task. []) new_courses r refl (whole_new scripts n)
-        (subst (λ l. FindsTask (SuitsAt scripts n l) r) is found)
+    (subst (λ l. FindsTask (SuitsAt scripts n l) r) is found)

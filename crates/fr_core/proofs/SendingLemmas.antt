@@ -98,20 +98,20 @@ module _ (p : Parameters) (plan : Plan) (k : ℕ) (b : Buffer) (at : buffer_at p
       let own_slot : (b.filter.slot == slot) ≡ true = eq-eqb slot slot refl in
       let sends_it : sends_at slot channel w.cycle b ≡ true =
       both (transmits b) ((b.filter.slot == slot && includes b.filter.channels channel)
-          && cycle_admitted b.filter.cycles w.cycle) transmitting
+      && cycle_admitted b.filter.cycles w.cycle) transmitting
       (both (b.filter.slot == slot && includes b.filter.channels channel) (cycle_admitted b.filter.cycles w.cycle)
-          (both (b.filter.slot == slot) (includes b.filter.channels channel) own_slot included) admitted) in
+      (both (b.filter.slot == slot) (includes b.filter.channels channel) own_slot included) admitted) in
       let passes : is_admitting w channel b ≡ true = ap (λ (o : Option ℕ). transmits b && admits_slot b.filter w.cycle
-          channel o) is ∙ sends_it in
+      channel o) is ∙ sends_it in
       let found = found_in (is_admitting w channel) plan.buffers k b
-          (position (is_admitting w channel) plan.buffers) refl at passes in
+      (position (is_admitting w channel) plan.buffers) refl at passes in
       let first = position-Some (is_admitting w channel) plan.buffers found.place b found.at in
       let other = get_or plan.buffers found.place b in
       let other_sends : sends_at slot channel w.cycle other ≡ true =
-          ap (λ (o : Option ℕ). transmits other && admits_slot other.filter w.cycle channel o) (sym is) ∙ first.1 in
+      ap (λ (o : Option ℕ). transmits other && admits_slot other.filter w.cycle channel o) (sym is) ∙ first.1 in
       found.at ∙ ap Some (one slot channel w.cycle found.place k other b cycle_fits slot_fits
       (record { at = slice_get-get_or plan.buffers found.place b first.0; sends = other_sends })
-          (record { at = at; sends = sends_it }))
+      (record { at = at; sends = sends_it }))
 
   offers_ready : (before : List Entry) (w : Opportunity) (channel : Channel) (slot number : ℕ) → is_static w ≡ true
       → slot_of w channel ≡ Some slot → transmitter plan w channel ≡ Some k
@@ -120,7 +120,7 @@ module _ (p : Parameters) (plan : Plan) (k : ℕ) (b : Buffer) (at : buffer_at p
       let otherwise = cond (owns plan w channel slot) Null Nothing in
       ap (offered_at plan before w channel) is
       ∙ ap (λ (t : Bool). data_or otherwise (cond (t || nat_le w.minislot (latest_on plan channel))
-          (option_and_then (ready_in plan before) (transmitter plan w channel)) None)) still
+      (option_and_then (ready_in plan before) (transmitter plan w channel)) None)) still
       ∙ ap (λ (t : Option ℕ). data_or otherwise (option_and_then (ready_in plan before) t)) transmitter_is
       ∙ ap (λ (o : Option Buffer). data_or otherwise (option_and_then (λ (x : Buffer). ready x.mode k before) o)) at
       ∙ ap (data_or otherwise) ready_is
@@ -129,23 +129,23 @@ module _ (p : Parameters) (plan : Plan) (k : ℕ) (b : Buffer) (at : buffer_at p
   sent : (before : List Entry) (w : Opportunity) (x y : Offered) (number cycle : ℕ) → IsLegalFetch p plan before w x y
       → IsInRange w
       → (is_window_of b.filter.slot w ≡ true → cycle % 64 ≡ w.cycle)
-          → (is_window_of b.filter.slot w && is_turn_of b cycle) ≡ true
+      → (is_window_of b.filter.slot w && is_turn_of b cycle) ≡ true
       → ready b.mode k before ≡ Some number → sends number (Fetch w x y) ≡ true
   sent before w x y number cycle legal range timed taking ready_is =
       let window : is_window_of b.filter.slot w ≡ true = both_first (is_window_of b.filter.slot w) (is_turn_of b cycle)
-          taking in
+      taking in
       let still : is_static w ≡ true = both_first (is_static w) (is_slot_at b.filter.slot w.a) window in
       let on_a : w.a ≡ Some b.filter.slot = slot_at b.filter.slot w.a
-          (both_rest (is_static w) (is_slot_at b.filter.slot w.a) window) in
+      (both_rest (is_static w) (is_slot_at b.filter.slot w.a) window) in
       let admitted : cycle_admitted b.filter.cycles w.cycle ≡ true =
       ap (cycle_admitted b.filter.cycles) (sym (timed window)) ∙ both_rest (is_window_of b.filter.slot w)
-          (is_turn_of b cycle) taking in
+      (is_turn_of b cycle) taking in
       let c = included b.filter.channels in
       let is : slot_of w c.channel ≡ Some b.filter.slot = slot_on w c.channel b.filter.slot range still on_a in
       let slot_fits : IsSlot b.filter.slot = subst IsSlotOrNone on_a range.slot_a in
       sends_on number w x y plan before c.channel legal.offer_a legal.offer_b
       (offers_ready before w c.channel b.filter.slot number still is
-          (transmits_there w c.channel range.cycle_fits slot_fits is c.is admitted) ready_is)
+      (transmits_there w c.channel range.cycle_fits slot_fits is c.is admitted) ready_is)
 
   -- ---- over a journal
 
@@ -153,7 +153,7 @@ module _ (p : Parameters) (plan : Plan) (k : ℕ) (b : Buffer) (at : buffer_at p
     fetch_takes : (before : List Entry) (w : Opportunity) (x y : Offered) (t : Bool)
         → (is_window_of b.filter.slot w && is_turn_of b (run_cycle (before ++ Fetch w x y ∷ []))) ≡ t
         → IsLegalFetch p plan before w x y → IsInRange w → (is_window_of b.filter.slot w ≡ true
-            → run_cycle (before ++ Fetch w x y ∷ []) % 64 ≡ w.cycle)
+        → run_cycle (before ++ Fetch w x y ∷ []) % 64 ≡ w.cycle)
         → Takes plan b.filter.slot k b at of_slot sending t before (Fetch w x y)
     fetch_takes before w x y true is legal range timed = (
       λ number ready_is. sent before w x y number (run_cycle (before ++ Fetch w x y ∷ [])) legal range timed is
@@ -162,7 +162,7 @@ module _ (p : Parameters) (plan : Plan) (k : ℕ) (b : Buffer) (at : buffer_at p
     )
     fetch_takes before w x y false is legal range timed =
         λ number last. unsent p plan k b at static before w x y number
-            (run_cycle (before ++ Fetch w x y ∷ [])) legal range timed last is
+        (run_cycle (before ++ Fetch w x y ∷ [])) legal range timed last is
 
     entry_takes : (before : List Entry) (e : Entry) → IsLegal p plan before e → IsEntry e
         → IsTimed b.filter.slot before e → IsTaking plan b.filter.slot k b at of_slot sending before e
@@ -172,7 +172,7 @@ module _ (p : Parameters) (plan : Plan) (k : ℕ) (b : Buffer) (at : buffer_at p
     entry_takes before (Pop task from) legal range timed = tt
     entry_takes before (Fetch w x y) legal range timed =
         fetch_takes before w x y (is_window_of b.filter.slot w && is_turn_of b (run_cycle (before ++ Fetch w x y ∷ [])))
-            refl legal range.window_is timed
+        refl legal range.window_is timed
     entry_takes before (Observe number x y) legal range timed = tt
 
     all_take : (before es : List Entry) → AllAfter (IsLegal p plan) before es
@@ -180,8 +180,10 @@ module _ (p : Parameters) (plan : Plan) (k : ℕ) (b : Buffer) (at : buffer_at p
         → AllAfter (IsTaking plan b.filter.slot k b at of_slot sending) before es
     unfolding AllAfter
     all_take before [] legal ranges timed = tt
-    all_take before (e ∷ es) legal ranges timed = (entry_takes before e legal.0 ranges.0 timed.0,
-        all_take (before ++ e ∷ []) es legal.1 ranges.1 timed.1)
+    all_take before (e ∷ es) legal ranges timed = (
+      entry_takes before e legal.0 ranges.0 timed.0,
+      all_take (before ++ e ∷ []) es legal.1 ranges.1 timed.1,
+    )
 
     -- in a legal journal the account leaves over the payload that the buffer has ready
     pub account_is_ready : (es : List Entry) → AllAfter (IsLegal p plan) [] es

@@ -29,8 +29,14 @@ unless p false x e = both (p x) true e refl
 -- a transmission of the node, with the fate that its guardian gives
 abbrev pub fated : Description → Opportunity → ℕ → Channel → Bool → Bool → ArrayVec ℕ → Sent
 fated d w node channel babble muted bytes =
-    record { node = node; channel = channel; babble = babble; bytes = bytes; fate =
-        fate_of muted (passes d node w channel) }
+    record {
+      node = node;
+      channel = channel;
+      babble = babble;
+      bytes = bytes;
+      fate =
+          fate_of muted (passes d node w channel);
+    }
 
 module _ (d : Description) (w : Opportunity) (p : Sent → Bool) (nodes : ℕ)
     (each : (node : ℕ) (channel : Channel) (babble muted : Bool) (bytes : ArrayVec ℕ) → node < nodes

@@ -31,17 +31,24 @@ one_more P number node same before here n below =
 pub found_at : (P : ℕ → ℕ → Type 0) (number node place : ℕ) → node ≡ number → ((n : ℕ) → n < number → (k : ℕ) → P n k)
     → number ≤ last_node → IsFirst (P node) place
     → (node ≤ last_node) × IsFirst (λ n. (k : ℕ) → P n k) node × IsFirst (P node) place
-found_at P number node place same before few first =
-    (omega (arith, same, few), record { fails = λ all. first.fails (all place); before =
-        λ m below. before m (omega (arith, below, same)) }, first)
+found_at P number node place same before few first = (
+  omega (arith, same, few),
+  record {
+    fails = λ all. first.fails (all place);
+    before =
+        λ m below. before m (omega (arith, below, same));
+  },
+  first,
+)
 
 -- the first node that fails, and its first task
 found_task : (P : ℕ → ℕ → Type 0) (number node task : ℕ) → node ≡ number → ((n : ℕ) → n < number → EachTask (P n))
     → task ≤ last_task → IsFirst (P node) task
     → IsFirst (λ n. EachTask (P n)) node × IsFirst (P node) task
-found_task P number node task same before few first =
-    (record { fails = λ all. first.fails (all task few); before = λ m below. before m (omega (arith, below, same)) },
-        first)
+found_task P number node task same before few first = (
+  record { fails = λ all. first.fails (all task few); before = λ m below. before m (omega (arith, below, same)) },
+  first,
+)
 
 -- ---- one node further
 
@@ -54,7 +61,7 @@ places_on P number node None (Some place) same few before first = found_at P num
 
 tasks_on : (P : ℕ → ℕ → Type 0) (number node : ℕ) (found : Option (ℕ × ℕ)) (here : Option ℕ) → node ≡ number
     → FindsScriptBelow number P found → FindsTask (P node) here
-        → FindsScriptBelow (number + 1) P (found_or found node here)
+    → FindsScriptBelow (number + 1) P (found_or found node here)
 tasks_on P number node (Some found) here same before first = before
 tasks_on P number node None None same before all = one_more (λ n. EachTask (P n)) number node same before all
 tasks_on P number node None (Some task) same before first = found_task P number node task same before first.0 first.1
@@ -73,8 +80,11 @@ module _ (is : List State) (scripts : List Scripted) (n : ℕ) where
   scripts_found None all = λ task few. scripts_agree task (all task few)
   scripts_found (Some task) first = (
     first.0,
-    record { fails = λ agrees. first.1.fails (agreeing_scripts task agrees); before =
-        λ m below. scripts_agree m (first.1.before m below) },
+    record {
+      fails = λ agrees. first.1.fails (agreeing_scripts task agrees);
+      before =
+          λ m below. scripts_agree m (first.1.before m below);
+    },
   )
 
 module _ (p : Parameters) (is : List State) (rs : List Recorded) (scripts : List Scripted) where
@@ -93,26 +103,26 @@ module _ (p : Parameters) (is : List State) (rs : List Recorded) (scripts : List
   window_on number node has o r same told before next =
       let w : IsTrue has ↔ WindowsAgree is rs number = subst (λ m. IsTrue has ↔ WindowsAgree is rs m) same told in
       next_below (WindowsAgree is rs) (IsTrue has) number o r w.0 w.1 before
-          (subst (λ m. FindsNext (IsTrue has) m o r) same next)
+      (subst (λ m. FindsNext (IsTrue has) m o r) same next)
 
   pub differences_on : (number node : ℕ) (x y : Differences) (found : Findings) → node ≡ number → number ≤ last_node
       → AreDifferences p is rs scripts number x
       → AreFindings p (slice_get is node) rs scripts node found
-          → FindsNext (IsTrue found.has_windows) node x.window y.window
+      → FindsNext (IsTrue found.has_windows) node x.window y.window
       → y.offer ≡ found_or x.offer node found.offer → y.sight ≡ found_or x.sight node found.sight
-          → y.script ≡ found_or x.script node found.task
+      → y.script ≡ found_or x.script node found.task
       → AreDifferences p is rs scripts (number + 1) y
   differences_on number node x y found same few before here window offer sight script = record {
     windows = window_on number node found.has_windows x.window y.window same here.windows before.windows window;
     offers = subst (FindsPlaceBelow (number + 1) (λ n k. IfThere (slice_get is n) (IsHandedAt rs n k))) (sym offer)
         (places_on (λ n k. IfThere (slice_get is n) (IsHandedAt rs n k)) number node x.offer found.offer same few
-            before.offers here.offers);
+        before.offers here.offers);
     sights = subst (FindsPlaceBelow (number + 1) (λ n k. IfThere (slice_get is n) (IsShownAt p rs n k))) (sym sight)
         (places_on (λ n k. IfThere (slice_get is n) (IsShownAt p rs n k)) number node x.sight found.sight same few
-            before.sights here.sights);
+        before.sights here.sights);
     scripts = subst (FindsScriptBelow (number + 1) (ScriptAgrees is scripts)) (sym script)
         (tasks_on (ScriptAgrees is scripts) number node x.script found.task same before.scripts
-            (scripts_found is scripts node found.task here.scripts));
+        (scripts_found is scripts node found.task here.scripts));
   }
 
 -- ---- of two kinds that which comes first
@@ -148,10 +158,16 @@ module _ (P Q R : ℕ → ℕ → Type 0) (join : (n k : ℕ) → P n k → Q n 
       → ((j : ℕ) → j < x.1 → Q x.0 j) → FindsPlace R (Some x)
   first_here x first nodes places = (
     first.0,
-    record { fails = λ all. first.2.fails (left x.0 x.1 (all x.1)); before =
-        λ m below k. join m k (first.1.before m below k) (nodes m below k) },
-    record { fails = λ holds. first.2.fails (left x.0 x.1 holds); before =
-        λ j below. join x.0 j (first.2.before j below) (places j below) },
+    record {
+      fails = λ all. first.2.fails (left x.0 x.1 (all x.1));
+      before =
+          λ m below k. join m k (first.1.before m below k) (nodes m below k);
+    },
+    record {
+      fails = λ holds. first.2.fails (left x.0 x.1 holds);
+      before =
+          λ j below. join x.0 j (first.2.before j below) (places j below);
+    },
   )
 
   first_alone : (x : ℕ × ℕ) → FindsPlace P (Some x) → FindsPlace Q None → FindsPlace R (Some x)
@@ -190,9 +206,9 @@ pub offers_found : (d : Description) (is : List State) (rs : List Recorded) (a b
     → FindsPlace (IsFatedAt d rs) b → FindsPlace (λ n k. IsOfferedAt d rs n (slice_get is n) k) (earlier a b)
 offers_found d is rs a b =
     earlier_is (λ n k. IfThere (slice_get is n) (IsHandedAt rs n k)) (IsFatedAt d rs)
-        (λ n k. IsOfferedAt d rs n (slice_get is n) k)
+    (λ n k. IsOfferedAt d rs n (slice_get is n) k)
     (λ n k handed fated. record { offers = handed; fates = fated }) (λ n k offered. offered.offers)
-        (λ n k offered. offered.fates) a b
+    (λ n k offered. offered.fates) a b
 
 -- of all nodes that may be
 pub each_node : (P : ℕ → Type 0) → ((n : ℕ) → n < last_node + 1 → P n) → EachNode P

@@ -108,18 +108,18 @@ same_windows p n rs s fetches sees = record {
 fetched_long : (rs : List Recorded) (s : State) → HasWindows rs s → length (fetched s) ≡ length rs
 fetched_long rs s h =
     sym (length-map (fetched s) (λ (x : Handed). x.window)) ∙ ap length (fetched_windows s ∙ h.fetches) ∙ length-map rs
-        (λ (r : Recorded). r.window)
+    (λ (r : Recorded). r.window)
 
 observed_long : (rs : List Recorded) (s : State) → HasWindows rs s → length (observed s) ≡ length rs
 observed_long rs s h =
     sym (length-map (observed s) (λ (x : Sight). x.window)) ∙ ap length (observed_windows s ∙ h.observes)
-        ∙ length-map rs (λ (r : Recorded). r.window)
+    ∙ length-map rs (λ (r : Recorded). r.window)
 
 both_past : {A : Type 0} (xs : List A) (g : Recorded → A) (rs : List Recorded) (k : ℕ) → length xs ≡ length rs
     → length rs ≤ k → slice_get xs k ≡ slice_get (map g rs) k
 both_past xs g rs k long past =
     slice_get_past xs k (omega (arith, long, past)) ∙ sym (get_map g rs k ∙ ap (option_map g)
-        (slice_get_past rs k past))
+    (slice_get_past rs k past))
 
 offered_past : (d : Description) (rs : List Recorded) (n k : ℕ) (o : Option State) → IfThere o (HasWindows rs)
     → length rs ≤ k → IsOfferedAt d rs n o k
@@ -173,7 +173,7 @@ one_fetch before (Observe number a b) = omega arith
 pub few_windows : (rs : List Recorded) (s : State) → HasWindows rs s → length rs ≤ length s.entries
 few_windows rs s h =
     let same : length (windows_fetched s) ≡ length rs = ap length h.fetches ∙ length-map rs (λ (r : Recorded). r.window)
-        in
+    in
     omega (arith, same, few_after fetches_at one_fetch [] s.entries)
 
 -- ---- what follows from an agreement
@@ -195,10 +195,10 @@ each_follows d is rs given cluster a n s at =
     let few : n ≤ last_node = omega (arith, below, most) in
     let fetches : fetched s ≡ map (offers_of n) rs =
     same_places (fetched s) (map (offers_of n) rs) (λ k. subst (λ o. IfThere o (IsHandedAt rs n k)) at
-        (a.offers n few k).offers) in
+    (a.offers n few k).offers) in
     let sees : observed s ≡ map (sights_of d.params n) rs =
     same_places (observed s) (map (sights_of d.params n) rs)
-        (λ k. subst (λ o. IfThere o (IsShownAt d.params rs n k)) at (a.sights n few k)) in
+    (λ k. subst (λ o. IfThere o (IsShownAt d.params rs n k)) at (a.sights n few k)) in
     record {
       under_way = [];
       unseen = [];
@@ -239,18 +239,24 @@ or_first false q e = refl
 
 module _ (d : Description) (w : Opportunity) (n : ℕ) where
   right : (node : ℕ) (channel : Channel) (babble muted : Bool) (bytes : ArrayVec ℕ) → node < length d.plans
-      → is_right d n w (record { node = node; channel = channel; babble = babble; bytes = bytes; fate =
-          fate_of muted (passes d node w channel) }) ≡ true
+      → is_right d n w (record {
+        node = node;
+        channel = channel;
+        babble = babble;
+        bytes = bytes;
+        fate =
+            fate_of muted (passes d node w channel);
+      }) ≡ true
   right node channel babble muted bytes within =
       elim (eqb_tells node n) [
         | inl same ↦
             let below : nat_lt n (length d.plans) ≡ true = lt_of n (length d.plans)
-                (subst (λ m. m < length d.plans) same.1 within) in
+            (subst (λ m. m < length d.plans) same.1 within) in
             let fated : is_due (fate_of muted (passes d node w channel)) (passes d n w channel) ≡ true =
             ap (λ m. is_due (fate_of muted (passes d node w channel)) (passes d m w channel)) (sym same.1) ∙ due muted
-                (passes d node w channel) in
+            (passes d node w channel) in
             or_rest (not (node == n)) (nat_lt n (length d.plans) && is_due (fate_of muted (passes d node w channel))
-                (passes d n w channel)) (both (nat_lt n (length d.plans)) _ below fated)
+            (passes d n w channel)) (both (nat_lt n (length d.plans)) _ below fated)
         | inr other ↦ or_first (node == n) _ other.0
       ]
 
@@ -259,7 +265,7 @@ outcome_right d n r o =
     let as_many = o.one_each in
     ap (list_all (is_right d n r.window)) o.sent_is
     ∙ of_all d r.window (is_right d n r.window) (length d.plans) (right d r.window n) 0 o.stations
-        (omega (arith, as_many))
+    (omega (arith, as_many))
 
 pub outcome_at : (d : Description) (cycles : ℕ) (before rs : List Recorded) (k : ℕ) (r : Recorded)
     → AllAfter (IsRecorded d cycles) before rs → slice_get rs k ≡ Some r → IsOutcome d r
@@ -286,11 +292,11 @@ planned p [] (plan ∷ plans) e n = absurd (let none : ⊥ = cc in none)
 planned p (i ∷ is) [] e n = absurd (let none : ⊥ = cc in none)
 planned p (i ∷ is) (plan ∷ plans) e zero =
     let same = heads (without_entries i) (new_interface p plan) (map without_entries is)
-        (map (new_interface p) plans) e in
+    (map (new_interface p) plans) e in
     (ap (λ (s : State). s.params) same, ap (λ (s : State). s.plan) same)
 planned p (i ∷ is) (plan ∷ plans) e (suc n) =
     planned p is plans (tails (without_entries i) (new_interface p plan) (map without_entries is)
-        (map (new_interface p) plans) e) n
+    (map (new_interface p) plans) e) n
 
 all_get : (cs : List Carried) (n : ℕ) → list_all is_between cs ≡ true → is_between (get_or cs n Idle) ≡ true
 all_get [] n e = refl
@@ -331,7 +337,7 @@ level_at w world between n s at =
           (nothing_ahead (carried_at w n) (view_for w.bus n) idle) ∙ append-nil (map (offers_of n) rs);
       sees = sym (append-nil (observed (interface_at w n)))
           ∙ ap (λ l. observed (interface_at w n) ++ l) (sym (nothing_behind n (carried_at w n) (view_for w.bus n) idle))
-              ∙ agrees.sees;
+          ∙ agrees.sees;
     })
 
 if_there : (is : List State) (n : ℕ) (P : State → Type 0) → ((s : State) → slice_get is n ≡ Some s → P s)
@@ -380,7 +386,7 @@ pub between_windows : (d : Description) (is : List State) (b : BusState) (given 
     → IsBetweenWindows d is b → DiffersInScriptsAlone answer
 between_windows d is b given answer told w =
     scripts_alone is b w.carried w.world w.run w.between given answer
-        (subst (λ (c : Description). Settles c is b.sealed given answer) (sym w.cluster_is) told)
+    (subst (λ (c : Description). Settles c is b.sealed given answer) (sym w.cluster_is) told)
 
 -- ---- the answer
 

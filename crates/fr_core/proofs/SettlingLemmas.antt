@@ -46,7 +46,7 @@ numbered d r cluster o =
     let few = cluster.few_nodes in
     ap (list_all is_numbered) o.sent_is
     ∙ of_all d r.window is_numbered (last_node + 1) (λ node channel babble muted bytes within. lt_of node
-        (last_node + 1) within)
+    (last_node + 1) within)
     0 o.stations (omega (arith, as_many, few))
 
 -- ---- fates that are right for each node are those of the guardians
@@ -74,7 +74,7 @@ unfolding is_numbered
 all_judged d w [] right few = refl
 all_judged d w (t ∷ ts) right few =
     let below : t.node < last_node + 1 = ltb-true t.node (last_node + 1)
-        (both_first (is_numbered t) (list_all is_numbered ts) few) in
+    (both_first (is_numbered t) (list_all is_numbered ts) few) in
     let own : list_all (is_right d t.node w) (t ∷ ts) ≡ true = right t.node (omega (arith, below)) in
     both (is_judged_in d w t) (list_all (is_judged_in d w) ts)
     (right_judged d w t (both_first (is_right d t.node w t) (list_all (is_right d t.node w) ts) own))
@@ -115,7 +115,7 @@ one_sender d rs cluster judged r channel slot t of_record static guarded opened 
     let at : slice_get rs of_record.0 ≡ Some r =
     slice_get-get_or rs of_record.0 r within ∙ ap (λ (x : Recorded). Some x) of_record.2 in
     passed_sends d cluster r (all_let_pass d r.window r.sent (judged of_record.0 r at)) channel slot t static guarded
-        opened of_passed
+    opened of_passed
 
 -- ---- the answer
 
@@ -129,8 +129,8 @@ answer_one_sender d is b given (Err e) cluster run told = tt
 pub answer_receivers : (d : Description) (is : List State) (b : BusState) (given : List Scripted)
     (answer : Result Settled SettleError)
     → IsCluster d → IsRun b → All IsLegalInterface is → Settles d is b.sealed given answer
-        → OnOk answer (Receivers d is b.sealed)
+    → OnOk answer (Receivers d is b.sealed)
 answer_receivers d is b given (Ok x) cluster run lawful told =
     receivers d is b.sealed cluster (agreed_judged d is b given run told.0) (legal_at is lawful)
-        (each_follows d is b.sealed given cluster told.0)
+    (each_follows d is b.sealed given cluster told.0)
 answer_receivers d is b given (Err e) cluster run lawful told = tt

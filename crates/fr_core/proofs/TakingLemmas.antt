@@ -41,7 +41,7 @@ by_entry : (k number : ℕ) (before after : List Entry) (e : Entry) → commit_o
     → IsCommitBy (before ++ e ∷ after) number k
 by_entry k number before after (Commit task j payload) e =
     let place : length before ≡ number = same_some (length before) number
-        (kept (j == k) (Some (length before)) number e) in
+    (kept (j == k) (Some (length before)) number e) in
     let same : j ≡ k = eqb-true j k (kept_if (j == k) (Some (length before)) number e) in
     record {
       task = task;
@@ -94,8 +94,13 @@ by_transmitter : (plan : Plan) (es : List Entry) (w : Opportunity) (channel : Ch
     → transmitter plan w channel ≡ t → option_and_then (ready_in plan es) t ≡ Some number
     → IsOfferedBy plan es w channel number
 by_transmitter plan es w channel number None is e = absurd (let none : ⊥ = cc in none)
-by_transmitter plan es w channel number (Some j) is e = record { buffer = j; at = is; is_ready = e; last =
-    ready_last_of j number es (buffer_at plan j) e }
+by_transmitter plan es w channel number (Some j) is e = record {
+  buffer = j;
+  at = is;
+  is_ready = e;
+  last =
+      ready_last_of j number es (buffer_at plan j) e;
+}
 
 in_slot : (plan : Plan) (es : List Entry) (w : Opportunity) (channel : Channel) (number : ℕ) (slot : Option ℕ)
     → offered_at plan es w channel slot ≡ Data number → IsOfferedBy plan es w channel number
@@ -116,7 +121,7 @@ admits_in : (f : Filter) (w : Opportunity) (channel : Channel) (o : Option ℕ) 
 admits_in f w channel None is e = absurd (let none : ⊥ = cc in none)
 admits_in f w channel (Some s) is e =
     let here : (f.slot == s) ≡ true = both_first (f.slot == s) (includes f.channels channel)
-        (both_first (f.slot == s && includes f.channels channel) (cycle_admitted f.cycles w.cycle) e) in
+    (both_first (f.slot == s && includes f.channels channel) (cycle_admitted f.cycles w.cycle) e) in
     record {
       slot_is = is ∙ ap Some (sym (eqb-true f.slot s here));
       cycle_is = both_rest (f.slot == s && includes f.channels channel) (cycle_admitted f.cycles w.cycle) e;
@@ -127,16 +132,16 @@ pub transmitter_admits : (plan : Plan) (w : Opportunity) (channel : Channel) (k 
 transmitter_admits plan w channel k b e at =
     let found = position-Some (is_admitting w channel) plan.buffers k b e in
     let passes : is_admitting w channel b ≡ true = ap (is_admitting w channel)
-        (sym (get_or_from_slice_get plan.buffers k b b at)) ∙ found.1 in
+    (sym (get_or_from_slice_get plan.buffers k b b at)) ∙ found.1 in
     admits_in b.filter w channel (slot_of w channel) refl (both_rest (transmits b)
-        (admits_window b.filter w channel) passes)
+    (admits_window b.filter w channel) passes)
 
 pub transmitter_transmits : (plan : Plan) (w : Opportunity) (channel : Channel) (k : ℕ) (b : Buffer)
     → transmitter plan w channel ≡ Some k → buffer_at plan k ≡ Some b → transmits b ≡ true
 transmitter_transmits plan w channel k b e at =
     let found = position-Some (is_admitting w channel) plan.buffers k b e in
     both_first (transmits b) (admits_window b.filter w channel)
-        (ap (is_admitting w channel) (sym (get_or_from_slice_get plan.buffers k b b at)) ∙ found.1)
+    (ap (is_admitting w channel) (sym (get_or_from_slice_get plan.buffers k b b at)) ∙ found.1)
 
 -- ---- a static slot is in static windows
 
@@ -150,15 +155,15 @@ dynamic_none p slot o is static fits =
 window_is_static : (p : Parameters) (w : Opportunity) (channel : Channel) (slot : ℕ) (t : Bool) → is_static w ≡ t
     → slot_of w channel ≡ Some slot → is_static_slot p slot ≡ true
     → cond t (static_slot_fits p w.a && static_slot_fits p w.b)
-        (nat_le w.minislot p.minislots && dynamic_slot_fits p w.a && dynamic_slot_fits p w.b) ≡ true
-        → is_static w ≡ true
+    (nat_le w.minislot p.minislots && dynamic_slot_fits p w.a && dynamic_slot_fits p w.b) ≡ true
+    → is_static w ≡ true
 window_is_static p w channel slot true t_is is static fits = t_is
 window_is_static p w A slot false t_is is static fits =
     absurd (dynamic_none p slot w.a is static (both_rest (nat_le w.minislot p.minislots) (dynamic_slot_fits p w.a)
-        (both_first (nat_le w.minislot p.minislots && dynamic_slot_fits p w.a) (dynamic_slot_fits p w.b) fits)))
+    (both_first (nat_le w.minislot p.minislots && dynamic_slot_fits p w.a) (dynamic_slot_fits p w.b) fits)))
 window_is_static p w B slot false t_is is static fits =
     absurd (dynamic_none p slot w.b is static (both_rest (nat_le w.minislot p.minislots && dynamic_slot_fits p w.a)
-        (dynamic_slot_fits p w.b) fits))
+    (dynamic_slot_fits p w.b) fits))
 
 slot_on_a : (w : Opportunity) (channel : Channel) (slot : ℕ) → IsInRange w → is_static w ≡ true
     → slot_of w channel ≡ Some slot → w.a ≡ Some slot
@@ -181,24 +186,24 @@ module _ (p : Parameters) (plan : Plan) (k : ℕ) (b : Buffer) (at : buffer_at p
   takes : (before : List Entry) (w : Opportunity) (channel : Channel) (number cycle : ℕ) → IsInRange w
       → window_fits p w ≡ true
       → (is_window_of b.filter.slot w ≡ true → cycle % 64 ≡ w.cycle) → last_commit k before ≡ Some number
-          → offered plan before w channel ≡ Data number
+      → offered plan before w channel ≡ Data number
       → (is_window_of b.filter.slot w && is_turn_of b cycle) ≡ true
   takes before w channel number cycle range fits timed last e =
       let o = in_slot plan before w channel number (slot_of w channel) e in
       let mine : o.buffer ≡ k = same_buffer o.buffer k number before o.last last in
       let a = transmitter_admits plan w channel k b (o.at ∙ ap Some mine) at in
       let still : is_static w ≡ true = window_is_static p w channel b.filter.slot
-          (is_static w) refl a.slot_is static fits in
+      (is_static w) refl a.slot_is static fits in
       let on_a : is_slot_at b.filter.slot w.a ≡ true = ap (is_slot_at b.filter.slot)
-          (slot_on_a w channel b.filter.slot range still a.slot_is) ∙ eq-eqb b.filter.slot b.filter.slot refl in
+      (slot_on_a w channel b.filter.slot range still a.slot_is) ∙ eq-eqb b.filter.slot b.filter.slot refl in
       let window : is_window_of b.filter.slot w ≡ true = both (is_static w) (is_slot_at b.filter.slot w.a) still on_a in
       both (is_window_of b.filter.slot w) (is_turn_of b cycle) window
-          (ap (cycle_admitted b.filter.cycles) (timed window) ∙ a.cycle_is)
+      (ap (cycle_admitted b.filter.cycles) (timed window) ∙ a.cycle_is)
 
   unsent_on : (before : List Entry) (w : Opportunity) (channel : Channel) (number cycle : ℕ) (o : Offered) (t : Bool)
       → is_data_of number o ≡ t → o ≡ offered plan before w channel → IsInRange w
       → window_fits p w ≡ true → (is_window_of b.filter.slot w ≡ true → cycle % 64 ≡ w.cycle)
-          → last_commit k before ≡ Some number
+      → last_commit k before ≡ Some number
       → (is_window_of b.filter.slot w && is_turn_of b cycle) ≡ false → is_data_of number o ≡ false
   unsent_on before w channel number cycle o false is same range fits timed last none = is
   unsent_on before w channel number cycle o true is same range fits timed last none =
@@ -221,7 +226,7 @@ module _ (p : Parameters) (plan : Plan) (k : ℕ) (b : Buffer) (at : buffer_at p
       let o = in_slot plan before w channel number (slot_of w channel) e in
       let mine : o.buffer ≡ k = same_buffer o.buffer k number before o.last last in
       ap (λ (found : Option Buffer). option_and_then (λ (x : Buffer). ready x.mode k before) found) (sym at) ∙ ap
-          (ready_in plan before) (sym mine) ∙ o.is_ready
+      (ready_in plan before) (sym mine) ∙ o.is_ready
 
   one_of : (p q : Bool) → (p || q) ≡ true → (p ≡ true) ⊎ (q ≡ true)
   one_of true q e = inl refl

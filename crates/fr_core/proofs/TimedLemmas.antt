@@ -35,11 +35,11 @@ counted_fetch : (sofar : List Recorded) (r : Recorded) (before : List Entry) (w 
     → count_by begins_cycle_at (before ++ Fetch w a b ∷ []) ≡ cycles_begun (sofar ++ r ∷ [])
 counted_fetch sofar r before w a b is same =
     let begun : cond {A = ℕ} (opens_cycle w) 1 0 ≡ cond {A = ℕ} (opens_cycle r.window) 1 0 =
-        ap (λ (x : Opportunity). cond {A = ℕ} (opens_cycle x) 1 0) is in
+    ap (λ (x : Opportunity). cond {A = ℕ} (opens_cycle x) 1 0) is in
     let entries : count_by begins_cycle_at (before ++ Fetch w a b ∷ []) ≡ count_by begins_cycle_at before + cond {A = ℕ}
-        (opens_cycle w) 1 0 = count_more begins_cycle_at before (Fetch w a b) in
+    (opens_cycle w) 1 0 = count_more begins_cycle_at before (Fetch w a b) in
     let records : cycles_begun (sofar ++ r ∷ []) ≡ cycles_begun sofar + cond {A = ℕ} (opens_cycle r.window) 1 0 =
-        count_more begins_cycle sofar r in
+    count_more begins_cycle sofar r in
     omega (arith, begun, entries, records, same)
 
 fetch_timed : (slot : ℕ) (sofar : List Recorded) (r : Recorded) (before : List Entry) (w : Opportunity) (a b : Offered)
@@ -48,29 +48,39 @@ fetch_timed : (slot : ℕ) (sofar : List Recorded) (r : Recorded) (before : List
 fetch_timed slot sofar r before w a b is same on_time window =
     let on_time_w : IsOnTime (cycles_begun sofar) w = subst (IsOnTime (cycles_begun sofar)) (sym is) on_time in
     ap (λ n. (n - 1) % 64) (count_more begins_cycle_at before (Fetch w a b) ∙ ap
-        (λ n. n + cond {A = ℕ} (opens_cycle w) 1 0) same) ∙ sym (on_time_w (both_first (is_static w) _ window))
+    (λ n. n + cond {A = ℕ} (opens_cycle w) 1 0) same) ∙ sym (on_time_w (both_first (is_static w) _ window))
 
 journal_timed : (p : Parameters) (plan : Plan) (slot n : ℕ) (sofar rs : List Recorded) (before es : List Entry)
     → count_by begins_cycle_at before ≡ cycles_begun sofar
     → each_after (handed_at p plan) before es ≡ map (offers_of n) rs → AreOnTime sofar rs
-        → AllAfter (IsTimed slot) before es
+    → AllAfter (IsTimed slot) before es
 unfolding AllAfter each_after
 journal_timed p plan slot n sofar rs before [] same is on_time = tt
-journal_timed p plan slot n sofar rs before (Commit task buffer payload ∷ es) same is on_time =
-    (tt, journal_timed p plan slot n sofar rs (before ++ Commit task buffer payload ∷ []) es
-        (counted_none (cycles_begun sofar) before (Commit task buffer payload) refl same) is on_time)
-journal_timed p plan slot n sofar rs before (Withdraw task buffer of ∷ es) same is on_time =
-    (tt, journal_timed p plan slot n sofar rs (before ++ Withdraw task buffer of ∷ []) es
-        (counted_none (cycles_begun sofar) before (Withdraw task buffer of) refl same) is on_time)
-journal_timed p plan slot n sofar rs before (Read task buffer from ∷ es) same is on_time =
-    (tt, journal_timed p plan slot n sofar rs (before ++ Read task buffer from ∷ []) es
-        (counted_none (cycles_begun sofar) before (Read task buffer from) refl same) is on_time)
-journal_timed p plan slot n sofar rs before (Pop task from ∷ es) same is on_time =
-    (tt, journal_timed p plan slot n sofar rs (before ++ Pop task from ∷ []) es
-        (counted_none (cycles_begun sofar) before (Pop task from) refl same) is on_time)
-journal_timed p plan slot n sofar rs before (Observe number a b ∷ es) same is on_time =
-    (tt, journal_timed p plan slot n sofar rs (before ++ Observe number a b ∷ []) es
-        (counted_none (cycles_begun sofar) before (Observe number a b) refl same) is on_time)
+journal_timed p plan slot n sofar rs before (Commit task buffer payload ∷ es) same is on_time = (
+  tt,
+  journal_timed p plan slot n sofar rs (before ++ Commit task buffer payload ∷ []) es
+      (counted_none (cycles_begun sofar) before (Commit task buffer payload) refl same) is on_time,
+)
+journal_timed p plan slot n sofar rs before (Withdraw task buffer of ∷ es) same is on_time = (
+  tt,
+  journal_timed p plan slot n sofar rs (before ++ Withdraw task buffer of ∷ []) es
+      (counted_none (cycles_begun sofar) before (Withdraw task buffer of) refl same) is on_time,
+)
+journal_timed p plan slot n sofar rs before (Read task buffer from ∷ es) same is on_time = (
+  tt,
+  journal_timed p plan slot n sofar rs (before ++ Read task buffer from ∷ []) es
+      (counted_none (cycles_begun sofar) before (Read task buffer from) refl same) is on_time,
+)
+journal_timed p plan slot n sofar rs before (Pop task from ∷ es) same is on_time = (
+  tt,
+  journal_timed p plan slot n sofar rs (before ++ Pop task from ∷ []) es
+      (counted_none (cycles_begun sofar) before (Pop task from) refl same) is on_time,
+)
+journal_timed p plan slot n sofar rs before (Observe number a b ∷ es) same is on_time = (
+  tt,
+  journal_timed p plan slot n sofar rs (before ++ Observe number a b ∷ []) es
+      (counted_none (cycles_begun sofar) before (Observe number a b) refl same) is on_time,
+)
 journal_timed p plan slot n sofar [] before (Fetch w a b ∷ es) same is on_time = absurd (let none : ⊥ = cc in none)
 journal_timed p plan slot n sofar (r ∷ rs) before (Fetch w a b ∷ es) same is on_time =
     let window : w ≡ r.window = ap (λ (h : Handed). h.window) (same_head _ _ _ _ is) in (
@@ -85,7 +95,7 @@ journal_timed p plan slot n sofar (r ∷ rs) before (Fetch w a b ∷ es) same is
 cut_given : {A : Type 0} (give : List Entry → Entry → List A) (entries inner : List Entry) (here : Entry)
     (after : List Entry) (out : List A) → entries ≡ inner ++ here ∷ after
     → each_after give [] entries ≡ out → each_after give [] inner ++
-        (give inner here ++ each_after give (inner ++ here ∷ []) after) ≡ out
+    (give inner here ++ each_after give (inner ++ here ∷ []) after) ≡ out
 cut_given give entries inner here after out cut is = sym (each_after-cut give [] inner here after) ∙ sym
     (ap (each_after give []) cut) ∙ is
 
@@ -104,11 +114,11 @@ fetch_of_window node s rs k r f on_time at =
     let give = handed_at s.params s.plan in
     let there : slice_get (fetched s) k ≡ Some (offers_of node r) =
     ap (λ (l : List Handed). slice_get l k) f.fetches ∙ get-append (map (offers_of node) rs) f.under_way k
-        (offers_of node r) (map-get (offers_of node) rs k r at) in
+    (offers_of node r) (map-get (offers_of node) rs k r at) in
     let c = each_after-placed give [] s.entries k (offers_of node r) there in
     let first = each_after give [] c.inner in
     let all : first ++ (give c.inner c.here ++ each_after give (c.inner ++ c.here ∷ []) c.after) ≡ map
-        (offers_of node) rs ++ f.under_way =
+    (offers_of node) rs ++ f.under_way =
     cut_given give s.entries c.inner c.here c.after (map (offers_of node) rs ++ f.under_way) c.cut f.fetches in
     let within : k < length rs = slice_get_within rs k r at in
     let place = c.place_is in
@@ -121,7 +131,7 @@ fetch_of_window node s rs k r f on_time at =
       is = fetch_in s c.inner c.here (offers_of node r) c.place c.at;
       timed = λ slot. journal_timed s.params s.plan slot node [] (take (length first) rs) [] c.inner refl
           (front-map (offers_of node) first (give c.inner c.here ++ each_after give (c.inner ++ c.here ∷ []) c.after)
-              f.under_way rs all few)
+          f.under_way rs all few)
           (AllAfter-take (λ (b : List Recorded) (x : Recorded). IsOnTime (cycles_begun b) x.window)
-              (length first) [] rs on_time);
+          (length first) [] rs on_time);
     }

@@ -39,7 +39,7 @@ AreTimed rs = (k : ℕ) (r : Recorded) → slice_get rs k ≡ Some r → is_stat
 pub same_cycle : (rs ts : List Recorded) (k j : ℕ) (r t : Recorded) → AreTimed rs → AreTimed ts
     → slice_get rs k ≡ Some r → slice_get ts j ≡ Some t
     → is_static r.window ≡ true → is_static t.window ≡ true → recorded_cycle rs k ≡ recorded_cycle ts j
-        → r.window.cycle ≡ t.window.cycle
+    → r.window.cycle ≡ t.window.cycle
 same_cycle rs ts k j r t timed others at there still static same =
     timed k r at still ∙ ap (λ n. n % 64) same ∙ sym (others j t there static)
 
@@ -84,7 +84,7 @@ at_first : (cycles number begun : ℕ) (w : Opportunity) → first_of_cycle cycl
 at_first cycles number begun w e =
     let first = static_window number (begun % 64) 1 in
     subst (IsFirst begun) (same_some first w (kept (nat_lt begun cycles) (Some first) w e))
-        (record { on_time = λ still. ap (λ n. n % 64) (one_more begun); begins_it = refl })
+    (record { on_time = λ still. ap (λ n. n % 64) (one_more begun); begins_it = refl })
 
 -- a later static window of a cycle is on time
 at_static : (number begun statics : ℕ) (w : Opportunity) → 1 ≤ statics
@@ -93,7 +93,7 @@ at_static : (number begun statics : ℕ) (w : Opportunity) → 1 ≤ statics
 at_static number begun statics w some e =
     let later = static_window number ((begun - 1) % 64) (statics + 1) in
     let other : (statics + 1 == 1) ≡ false = ne_eqb (statics + 1) 1
-        (λ same. let none : ⊥ = omega (arith, some, same) in none) in
+    (λ same. let none : ⊥ = omega (arith, some, same) in none) in
     subst (IsOnTime begun) (same_some later w e)
     (λ still. ap (λ n. n % 64) (none_more begun) ∙ ap (λ (b : Bool). ((begun + cond b 1 0) - 1) % 64) (sym other))
 
@@ -120,11 +120,11 @@ at_dynamic p number cycle begun rows w (Some m) behind e =
 in_cycle : (p : Parameters) (number begun : ℕ) (done : List Recorded) (w : Opportunity) (more : Bool)
     → 1 ≤ statics_of done
     → cond more (Some (static_window number ((begun - 1) % 64) (statics_of done + 1)))
-        (next_dynamic p number ((begun - 1) % 64) done) ≡ Some w → IsOnTime begun w
+    (next_dynamic p number ((begun - 1) % 64) done) ≡ Some w → IsOnTime begun w
 in_cycle p number begun done w true some e = at_static number begun (statics_of done) w some e
 in_cycle p number begun done w false some e =
     at_dynamic p number ((begun - 1) % 64) begun done w (find (opens_any p done) (range_with_len 1 p.minislots))
-        (λ m. found_after (opens_any p done) 1 p.minislots m (omega arith)) e
+    (λ m. found_after (opens_any p done) 1 p.minislots m (omega arith)) e
 
 either : (begun : ℕ) (w : Opportunity) (x y : Option Opportunity) → (x ≡ Some w → IsOnTime begun w)
     → (y ≡ Some w → IsOnTime begun w) → option_or x y ≡ Some w → IsOnTime begun w
@@ -161,7 +161,7 @@ keeps_started : (p : Parameters) (cycles : ℕ) (rs : List Recorded) (r : Record
     → following p cycles rs ≡ Some r.window → HasStarted (rs ++ r ∷ [])
 keeps_started p cycles rs r started e =
     λ long. subst (λ (l : List Recorded). 1 ≤ statics_of l) (sym (fold_more with_window [] rs r))
-        (with_one (this_cycle rs) r (begins_cycle r) refl (begun rs started e))
+    (with_one (this_cycle rs) r (begins_cycle r) refl (begun rs started e))
   where
     begun : (before : List Recorded) → HasStarted before → following p cycles before ≡ Some r.window
         → begins_cycle r ≡ false → 1 ≤ statics_of (this_cycle before)
@@ -187,8 +187,8 @@ are_timed d cycles rs all k r at still =
     let c = cut-at rs k r at in
     let on_time : IsOnTime (cycles_begun c.before) r.window =
     AllAfter-cut (λ (b : List Recorded) (x : Recorded). IsOnTime (cycles_begun b) x.window) [] c.before r c.after
-        (subst (λ (l : List Recorded). AreOnTime [] l) c.cut (are_on_time d cycles rs all)) in
+    (subst (λ (l : List Recorded). AreOnTime [] l) c.cut (are_on_time d cycles rs all)) in
     let place : k + 1 ≡ suc (length c.before) = omega (arith, c.place_is) in
     let front : take (k + 1) rs ≡ c.before ++ r ∷ [] = ap (λ n. take n rs) place ∙ ap (take (suc (length c.before)))
-        c.cut ∙ take_cut c.before r c.after in
+    c.cut ∙ take_cut c.before r c.after in
     on_time still ∙ ap (λ n. (n - 1) % 64) (sym (ap cycles_begun front ∙ count_more begins_cycle c.before r))

@@ -20,9 +20,15 @@ module _ (owner : ℕ) (channel : Channel) where
 
   babbled : (bytes : ArrayVec ℕ) (none : Bool) → (length bytes.items == 0) ≡ none
       → babbles (babble_of (cond none []
-          (record { node = owner; channel = channel; babble = true; bytes = bytes; fate = fate_of false true } ∷ [])))
-      ≡ cond none [] (record { node = owner; channel = channel; babble = true; bytes = bytes; fate =
-          fate_of false true } ∷ [])
+      (record { node = owner; channel = channel; babble = true; bytes = bytes; fate = fate_of false true } ∷ [])))
+      ≡ cond none [] (record {
+        node = owner;
+        channel = channel;
+        babble = true;
+        bytes = bytes;
+        fate =
+            fate_of false true;
+      } ∷ [])
   babbled bytes true e = refl
   babbled bytes false e = ap (λ (b : Bool). cond b []
       (record { node = owner; channel = channel; babble = true; bytes = bytes; fate = fate_of false true } ∷ [])) e
@@ -44,20 +50,32 @@ module _ (owner : ℕ) (channel : Channel) where
             ++ babbles babble)) true;
       } ∷ [])
       ++ babbles (babble_of (cond none []
-          (record { node = owner; channel = channel; babble = false; bytes = bytes; fate = fate_of mute true } ∷ []) ++
-          babbles babble))
-      ≡ cond none [] (record { node = owner; channel = channel; babble = false; bytes = bytes; fate =
-          fate_of mute true } ∷ []) ++ babbles babble
+      (record { node = owner; channel = channel; babble = false; bytes = bytes; fate = fate_of mute true } ∷ []) ++
+      babbles babble))
+      ≡ cond none [] (record {
+        node = owner;
+        channel = channel;
+        babble = false;
+        bytes = bytes;
+        fate =
+            fate_of mute true;
+      } ∷ []) ++ babbles babble
   offered_again mute bytes babble true e = babbles_again babble
   offered_again mute bytes babble false e =
       ap (λ (m : Bool). record { node = owner; channel = channel; babble = false; bytes = bytes; fate = fate_of m true }
-          ∷ babbles (babble_of (babbles babble))) (muted_is mute)
-      ∙ ap (λ (l : List Sent). record { node = owner; channel = channel; babble = false; bytes = bytes; fate =
-          fate_of mute true } ∷ l) (babbles_again babble)
+      ∷ babbles (babble_of (babbles babble))) (muted_is mute)
+      ∙ ap (λ (l : List Sent). record {
+        node = owner;
+        channel = channel;
+        babble = false;
+        bytes = bytes;
+        fate =
+            fate_of mute true;
+      } ∷ l) (babbles_again babble)
 
   told_again : (mute : Bool) (offer babble : Option (ArrayVec ℕ))
       → of_owner owner channel (mute_of (of_owner owner channel mute offer babble)) offer
-          (babble_of (of_owner owner channel mute offer babble)) ≡ of_owner owner channel mute offer babble
+      (babble_of (of_owner owner channel mute offer babble)) ≡ of_owner owner channel mute offer babble
   told_again mute None babble = babbles_again babble
   told_again mute (Some bytes) babble = offered_again mute bytes babble (length bytes.items == 0) refl
 
@@ -67,4 +85,4 @@ module _ (owner : ℕ) (channel : Channel) where
       → sent ≡ of_owner owner channel (mute_of sent) offer (babble_of sent)
   told sent mute offer babble e =
       e ∙ sym (told_again mute offer babble) ∙ ap (λ (l : List Sent). of_owner owner channel (mute_of l) offer
-          (babble_of l)) (sym e)
+      (babble_of l)) (sym e)

@@ -99,7 +99,7 @@ module _ {X A : Type 0} (f : List X → X → List A) where
   step xs k x at =
       let within : k < length xs = slice_get_within xs k x at in
       ap (each_after f []) (take_more xs k x within ∙ ap (λ y. take k xs ++ y ∷ []) (get_or_from_slice_get xs k x x at))
-          ∙ each_after-snoc f (take k xs) x
+      ∙ each_after-snoc f (take k xs) x
 
   -- all of them are the first ones, and more
   rest : (before xs : List X) → (more : List A) × (each_after f [] (before ++ xs) ≡ each_after f [] before ++ more)
@@ -122,7 +122,7 @@ module _ {X A : Type 0} (f : List X → X → List A) where
     pub as_many_past : f (take k xs) x ≡ [] → length (each_after f [] (take (k + 1) xs)) ≡ place
     as_many_past is =
         ap length (step xs k x at ∙ ap (λ l. each_after f [] (take k xs) ++ l) is ∙ append-nil
-            (each_after f [] (take k xs))) ∙ many
+        (each_after f [] (take k xs))) ∙ many
 
     module _ (y : A) (is : f (take k xs) x ≡ y ∷ []) where
       one_more : each_after f [] (take (k + 1) xs) ≡ each_after f [] (take k xs) ++ y ∷ []
@@ -136,7 +136,7 @@ module _ {X A : Type 0} (f : List X → X → List A) where
       stands =
           let more = some_rest xs (k + 1) in
           ap (λ l. slice_get l place) (more.1 ∙ ap (λ l. l ++ more.0) one_more ∙ append_assoc
-              (each_after f [] (take k xs)) (y ∷ []) more.0)
+          (each_after f [] (take k xs)) (y ∷ []) more.0)
           ∙ get_after (each_after f [] (take k xs)) y more.0 place many
 
   pub as_many_all : (xs : List X) (place : ℕ) → length (each_after f [] (take (length xs) xs)) ≡ place
@@ -147,8 +147,12 @@ module _ {X A : Type 0} (f : List X → X → List A) where
 
 module _ {X A : Type 0} (f : List X → X → List A) (xs : List X) (g : Recorded → A) (rs : List Recorded) where
   pub compared_first : IsCompared f xs (map g rs) 0 0 None
-  compared_first = record { as_many = ap length (nil f); few = omega arith; finds =
-      λ n below. absurd (omega (arith, below)) }
+  compared_first = record {
+    as_many = ap length (nil f);
+    few = omega arith;
+    finds =
+        λ n below. absurd (omega (arith, below));
+  }
 
   module _ (k place : ℕ) (found : Option ℕ) (x : X) (at : slice_get xs k ≡ Some x)
       (far : IsCompared f xs (map g rs) k place found) where
@@ -169,21 +173,21 @@ module _ {X A : Type 0} (f : List X → X → List A) (xs : List X) (g : Recorde
           finds = next_below (λ j. slice_get (each_after f [] xs) j ≡ slice_get (map g rs) j)
               (option_map g (slice_get rs place) ≡ Some y) place found next
               (λ same. here ∙ sym same ∙ sym (get_map g rs place))
-                  (λ same. sym (get_map g rs place) ∙ sym same ∙ here) far.finds told;
+              (λ same. sym (get_map g rs place) ∙ sym same ∙ here) far.finds told;
         }
 
   pub finds_rest : (k place : ℕ) (found r : Option ℕ) → k ≡ length xs → IsCompared f xs (map g rs) k place found
       → r ≡ option_or found (if nat_lt place (length rs) then Some place else None)
-          → Finds (λ j. slice_get (each_after f [] xs) j ≡ slice_get (map g rs) j) r
+      → Finds (λ j. slice_get (each_after f [] xs) j ≡ slice_get (map g rs) j) r
   finds_rest k place found r end far is =
       let whole : IsCompared f xs (map g rs) (length xs) place found =
-          subst (λ m. IsCompared f xs (map g rs) m place found) end far in
+      subst (λ m. IsCompared f xs (map g rs) m place found) end far in
       by_found found (nat_lt place (length rs)) refl (as_many_all f xs place whole.as_many) whole.finds is
     where
       by_found : (o : Option ℕ) (b : Bool) → nat_lt place (length rs) ≡ b → length (each_after f [] xs) ≡ place
           → FindsBelow place (λ j. slice_get (each_after f [] xs) j ≡ slice_get (map g rs) j) o
           → r ≡ option_or o (if b then Some place else None)
-              → Finds (λ j. slice_get (each_after f [] xs) j ≡ slice_get (map g rs) j) r
+          → Finds (λ j. slice_get (each_after f [] xs) j ≡ slice_get (map g rs) j) r
       by_found (Some j) b test long first is = subst (Finds
           (λ j. slice_get (each_after f [] xs) j ≡ slice_get (map g rs) j)) (sym is) first
       by_found None true test long below is =
@@ -199,16 +203,16 @@ module _ {X A : Type 0} (f : List X → X → List A) (xs : List X) (g : Recorde
           let great : length rs ≤ place = ltb-false place (length rs) test in
           let rows : length (map g rs) ≡ length rs = length-map rs g in
           subst (Finds (λ j. slice_get (each_after f [] xs) j ≡ slice_get (map g rs) j)) (sym is)
-              (λ n. by_place n (nat_lt n place) refl great rows below)
+          (λ n. by_place n (nat_lt n place) refl great rows below)
         where
           by_place : (n : ℕ) (t : Bool) → nat_lt n place ≡ t → length rs ≤ place → length (map g rs) ≡ length rs
               → ((m : ℕ) → m < place → slice_get (each_after f [] xs) m ≡ slice_get (map g rs) m)
-                  → slice_get (each_after f [] xs) n ≡ slice_get (map g rs) n
+              → slice_get (each_after f [] xs) n ≡ slice_get (map g rs) n
           by_place n true test great rows below = below n (ltb-true n place test)
           by_place n false test great rows below =
               let past : place ≤ n = ltb-false n place test in
               slice_get_past (each_after f [] xs) n (omega (arith, long, past)) ∙ sym
-                  (slice_get_past (map g rs) n (omega (arith, great, rows, past)))
+              (slice_get_past (map g rs) n (omega (arith, great, rows, past)))
 
 -- ---- fetches
 
@@ -241,7 +245,7 @@ handed_in : (s : State) (k : ℕ) (window : Opportunity) (a b : Offered) → sli
     → handed_at s.params s.plan (take k s.entries) (Fetch window a b) ≡ handed_by s k window ∷ []
 handed_in s k window a b at =
     let on : (channel : Channel) → bytes_handed s k channel ≡ bytes_of channel
-        (frame_with s.params s.plan (take k s.entries) window channel (offered_on channel a b)) =
+    (frame_with s.params s.plan (take k s.entries) window channel (offered_on channel a b)) =
     λ channel. ap (option_and_then (bytes_in_entry s.params s.plan (take k s.entries) channel)) at in
     let e = on A in
     let g = on B in
@@ -276,11 +280,11 @@ module _ (s : State) (n : ℕ) (rs : List Recorded) where
     fetches_on (Fetch window a b) y at next = record {
       windows = subst (λ m. IsCompared fetches_at s.entries (windows_of rs) (k + 1) m y.window) (sym next.0)
           (compared_on fetches_at s.entries (λ (r : Recorded). r.window) rs k x.count x.window
-              (Fetch window a b) at far.windows window y.window refl next.1);
+          (Fetch window a b) at far.windows window y.window refl next.1);
       offers = subst (λ m. IsCompared (handed_at s.params s.plan) s.entries (map (offers_of n) rs) (k + 1) m y.offer)
           (sym next.0)
           (compared_on (handed_at s.params s.plan) s.entries (offers_of n) rs k x.count x.offer
-              (Fetch window a b) at far.offers (handed_by s k window) y.offer
+          (Fetch window a b) at far.offers (handed_by s k window) y.offer
           (handed_in s k window a b at) next.2);
     }
 
@@ -324,7 +328,7 @@ opened_more : (xs : List Entry) (k : ℕ) (e : Entry) → slice_get xs k ≡ Som
     → open_window (take (k + 1) xs) ≡ opened_after (open_window (take k xs)) e
 opened_more xs k e at =
     ap open_window (take_more xs k e (slice_get_within xs k e at) ∙ ap (λ y. take k xs ++ y ∷ [])
-        (get_or_from_slice_get xs k e e at)) ∙ opened-snoc (take k xs) e
+    (get_or_from_slice_get xs k e e at)) ∙ opened-snoc (take k xs) e
 
 module _ (p : Parameters) (s : State) (n : ℕ) (rs : List Recorded) where
   pub observes_first : AreObserves p s n rs 0 (record { count = 0; opened = None; window = None; sight = None })
@@ -343,18 +347,18 @@ module _ (p : Parameters) (s : State) (n : ℕ) (rs : List Recorded) where
       by_sight (sight_told x.opened e) opened
       (sight_given (take k s.entries) e ∙ ap (λ w. option_to_list (sight_told w e)) (sym far.opened))
       (window_given (take k s.entries) e ∙ ap (λ w. option_to_list
-          (option_map (λ (z : Sight). z.window) (sight_told w e))) (sym far.opened)) next.sights
+      (option_map (λ (z : Sight). z.window) (sight_told w e))) (sym far.opened)) next.sights
     where
       by_sight : (o : Option Sight) → y.opened ≡ open_window (take (k + 1) s.entries)
           → sight_at (take k s.entries) e ≡ option_to_list o
           → observes_at (take k s.entries) e ≡ option_to_list (option_map (λ (z : Sight). z.window) o)
-              → SightsNext p n rs x o y → AreObserves p s n rs (k + 1) y
+          → SightsNext p n rs x o y → AreObserves p s n rs (k + 1) y
       by_sight None opened sight window told = record {
         opened = opened;
         windows = subst (λ m. IsCompared observes_at s.entries (windows_of rs) (k + 1) m y.window) (sym told.0)
             (subst (IsCompared observes_at s.entries (windows_of rs) (k + 1) x.count) (sym told.1)
             (compared_past observes_at s.entries (λ (r : Recorded). r.window) rs k x.count x.window e at far.windows
-                window));
+            window));
         sights = subst (λ m. IsCompared sight_at s.entries (map (sights_of p n) rs) (k + 1) m y.sight) (sym told.0)
             (subst (IsCompared sight_at s.entries (map (sights_of p n) rs) (k + 1) x.count) (sym told.2)
             (compared_past sight_at s.entries (sights_of p n) rs k x.count x.sight e at far.sights sight));
@@ -363,24 +367,33 @@ module _ (p : Parameters) (s : State) (n : ℕ) (rs : List Recorded) where
         opened = opened;
         windows = subst (λ m. IsCompared observes_at s.entries (windows_of rs) (k + 1) m y.window) (sym told.0)
             (compared_on observes_at s.entries (λ (r : Recorded). r.window) rs k x.count x.window e at far.windows
-                z.window y.window window told.1);
+            z.window y.window window told.1);
         sights = subst (λ m. IsCompared sight_at s.entries (map (sights_of p n) rs) (k + 1) m y.sight) (sym told.0)
             (compared_on sight_at s.entries (sights_of p n) rs k x.count x.sight e at far.sights z y.sight sight
-                told.2);
+            told.2);
       }
 
 -- ---- windows of both
 
 pub windows_told : (rs : List Recorded) (s : State) (a b : Option ℕ) (has : Bool) → has ≡ (is_none a && is_none b)
     → Finds (λ j. slice_get (windows_fetched s) j ≡ slice_get (windows_of rs) j) a
-        → Finds (λ j. slice_get (windows_observed s) j ≡ slice_get (windows_of rs) j) b
+    → Finds (λ j. slice_get (windows_observed s) j ≡ slice_get (windows_of rs) j) b
     → IsTrue has ↔ HasWindows rs s
-windows_told rs s None None has is fetches observes =
-    (λ yes. record { fetches = same_places (windows_fetched s) (windows_of rs) fetches; observes =
-        same_places (windows_observed s) (windows_of rs) observes }, λ windows. is)
-windows_told rs s (Some j) b has is first observes =
-    (λ yes. absurd (let none : ⊥ = cc in none), λ windows. absurd
-        (first.fails (ap (λ l. slice_get l j) windows.fetches)))
-windows_told rs s None (Some j) has is fetches first =
-    (λ yes. absurd (let none : ⊥ = cc in none), λ windows. absurd
-        (first.fails (ap (λ l. slice_get l j) windows.observes)))
+windows_told rs s None None has is fetches observes = (
+  λ yes. record {
+    fetches = same_places (windows_fetched s) (windows_of rs) fetches;
+    observes =
+        same_places (windows_observed s) (windows_of rs) observes;
+  },
+  λ windows. is,
+)
+windows_told rs s (Some j) b has is first observes = (
+  λ yes. absurd (let none : ⊥ = cc in none),
+  λ windows. absurd
+      (first.fails (ap (λ l. slice_get l j) windows.fetches)),
+)
+windows_told rs s None (Some j) has is fetches first = (
+  λ yes. absurd (let none : ⊥ = cc in none),
+  λ windows. absurd
+      (first.fails (ap (λ l. slice_get l j) windows.observes)),
+)

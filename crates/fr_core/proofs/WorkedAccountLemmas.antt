@@ -50,8 +50,14 @@ even_cycles m slot = record {
 -- buffer 0 is of slot 1, and buffer 1 of slot 2
 abbrev planned : Mode → Plan
 planned m = record (empty_plan 1 0 0 8 8) {
-  owned = record { slot = 1; channels = channels.A; sync = false; startup = false; cycles =
-      record { base = 0; repetition = 1 } } ∷ [];
+  owned = record {
+    slot = 1;
+    channels = channels.A;
+    sync = false;
+    startup = false;
+    cycles =
+        record { base = 0; repetition = 1 };
+  } ∷ [];
   buffers = even_cycles m 1 ∷ even_cycles m 2 ∷ [];
 }
 
@@ -84,7 +90,7 @@ third = Some (0 ∷ 3 ∷ [])
 -- cycle 1 isn't admitted, so cycle 2 has the third commit, and cycle 4 has it in state mode alone
 pub an_event_commit_is_sent_in_one_admitted_cycle :
     sent_in_cycle mode.Event 1 kept ∷ sent_in_cycle mode.Event 2 kept ∷ sent_in_cycle mode.Event 4
-        (kept ++ turns 2 ∷ [])
+    (kept ++ turns 2 ∷ [])
     ∷ sent_in_cycle mode.State 4 (kept ++ turns 2 ∷ []) ∷ sent_in_cycle mode.State 65 kept ∷ []
     ≡ None ∷ third ∷ None ∷ third ∷ None ∷ []
 an_event_commit_is_sent_in_one_admitted_cycle = refl
@@ -125,10 +131,22 @@ a_commit_is_pending_until_an_admitted_cycle = refl
 -- slot 1 is the node's on channel A in each cycle, in the even ones with sync frames
 abbrev divided : Plan
 divided = record (empty_plan 1 0 0 8 8) {
-  owned = record { slot = 1; channels = channels.A; sync = true; startup = false; cycles =
-      record { base = 0; repetition = 2 } }
-      ∷ record { slot = 1; channels = channels.A; sync = false; startup = false; cycles =
-          record { base = 1; repetition = 2 } } ∷ [];
+  owned = record {
+    slot = 1;
+    channels = channels.A;
+    sync = true;
+    startup = false;
+    cycles =
+        record { base = 0; repetition = 2 };
+  }
+      ∷ record {
+        slot = 1;
+        channels = channels.A;
+        sync = false;
+        startup = false;
+        cycles =
+            record { base = 1; repetition = 2 };
+      } ∷ [];
 }
 
 abbrev is_sync_in : ℕ → Bool
@@ -153,7 +171,7 @@ owner_sent mute babble = of_owner 0 A mute (Some sample) babble
 abbrev both_see : Option ℕ → List Sent → List Seen
 both_see corrupt sent =
     seen_of one_word (turn_of 1 0) corrupt 1 (all_passed A sent) ∷ seen_of one_word (turn_of 1 0) corrupt 0
-        (all_passed A sent) ∷ []
+    (all_passed A sent) ∷ []
 
 pub an_owner_that_babbles_beside_its_offer_makes_noise : both_see None (owner_sent false (Some babbled))
     ≡ Noise ∷ Conflict ∷ []
@@ -192,6 +210,6 @@ faults_of_others_leave_a_slot_faultless = (refl, refl)
 
 pub a_fault_of_the_owner_does_not :
     (list_all (is_clean A 0) (owner_sent true None) ≡ false) ×
-        (list_all (is_clean A 0) (owner_sent false (Some babbled)) ≡ false)
+    (list_all (is_clean A 0) (owner_sent false (Some babbled)) ≡ false)
     × (list_all (is_clean B 0) beside ≡ false)
 a_fault_of_the_owner_does_not = (refl, refl, refl)

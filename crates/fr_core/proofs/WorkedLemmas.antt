@@ -17,18 +17,40 @@ use Rattle.fr_slots.specs.Parameters.{Parameters}
 use Rattle.fr_slots.specs.Plans.{Plan, empty_plan}
 
 abbrev one_word : Parameters
-one_word = record { static_slots = 3; minislots = 4; static_words = 1; static_mt = 20; minislot_mt = 5; symbol_mt = 0;
-    nit_mt = 10; cycle_mt = 90; idle = 0; words_per_minislot = 5 }
+one_word = record {
+  static_slots = 3;
+  minislots = 4;
+  static_words = 1;
+  static_mt = 20;
+  minislot_mt = 5;
+  symbol_mt = 0;
+  nit_mt = 10;
+  cycle_mt = 90;
+  idle = 0;
+  words_per_minislot = 5;
+}
 
 abbrev owning : ℕ → Plan
-owning slot = record (empty_plan 2 0 0 256 4096) { owned =
-    record { slot = slot; channels = channels.Both; sync = false; startup = false; cycles =
-    record { base = 0; repetition = 1 } } ∷ [] }
+owning slot = record (empty_plan 2 0 0 256 4096) {
+  owned =
+      record {
+        slot = slot;
+        channels = channels.Both;
+        sync = false;
+        startup = false;
+        cycles =
+            record { base = 0; repetition = 1 };
+      } ∷ [];
+}
 
 -- nodes 0 and 1 own slots 1 and 2, and channel A is guarded
 abbrev three_nodes : Description
-three_nodes = record { params = one_word; guard = Some channels.A; plans =
-    owning 1 ∷ owning 2 ∷ empty_plan 2 4 0 256 4096 ∷ [] }
+three_nodes = record {
+  params = one_word;
+  guard = Some channels.A;
+  plans =
+      owning 1 ∷ owning 2 ∷ empty_plan 2 4 0 256 4096 ∷ [];
+}
 
 -- a refused event changes nothing
 abbrev after : WorldState → Event → Option StepError → WorldState

@@ -107,14 +107,18 @@ shape : (w : WorldState) → IsWorld w → HasShape w
 shape w kept = record { configured = kept.configured; a_controller_each = kept.a_controller_each }
 
 whole : (w : WorldState) → HasShape w → Agreement w → IsWorld w
-whole w shape agrees = record { configured = shape.configured; a_controller_each = shape.a_controller_each; agrees =
-    agrees }
+whole w shape agrees = record {
+  configured = shape.configured;
+  a_controller_each = shape.a_controller_each;
+  agrees =
+      agrees;
+}
 
 pub kept_step : (old : WorldState) (event : Event) (answer : Result Reply StepError) (new : WorldState)
     → Steps old event answer new → IsWorld old → IsWorld new
 kept_step old event (Ok reply) new step kept =
     rw step.2 (whole (step_done old event) (kept_done old event (shape old kept))
-        (keeps_done old event step.0 kept.a_controller_each kept.agrees))
+    (keeps_done old event step.0 kept.a_controller_each kept.agrees))
 kept_step old event (Err e) new step kept = rw step.1 kept
 
 -- ---- the opening world

@@ -50,7 +50,7 @@ unfolding bits_of
 bits_of-xor zero a b = refl
 bits_of-xor (suc w) a b =
     rw (bit_at_xor a b w, differ_digits (bit_at a w) (bit_at b w) (bit_at-lt a w) (bit_at-lt b w), bits_of-xor w a b)
-        refl
+    refl
 
 double_half : (a : ℕ) → a * 2 / 2 ≡ a
 double_half a = shl-shr a 1
@@ -77,7 +77,7 @@ pub stepped-bits_of : (w p r : ℕ) (bit : Bool) →
 unfolding stepped bits_of
 stepped-bits_of w p r bit =
     let shifted : bits_of w r ++ false ∷ [] ≡ bits_of (suc w) (r % 2 ^ w * 2) =
-        ap (λ (t : List Bool). t ++ false ∷ []) (sym (bits_of-mod w r)) ∙ sym (bits_of-double w (r % 2 ^ w)) in
+    ap (λ (t : List Bool). t ++ false ∷ []) (sym (bits_of-mod w r)) ∙ sym (bits_of-double w (r % 2 ^ w)) in
     xor_by_feedback (differ (bit_test r w) bit) (suc w) p (r % 2 ^ w * 2) (bits_of w r ++ false ∷ []) shifted
 
 digit_value : (d place : ℕ) → d < 2 → cond (eqb d 1) place 0 ≡ d * place
@@ -93,7 +93,7 @@ number_of-bits_of (suc w) n =
     let split : n % 2 ^ (1 + w) ≡ (n / 2 ^ w % 2 ^ 1) * 2 ^ w + n % 2 ^ w = mod-pow-add n 1 w in
     let place : 1 + w ≡ suc w = omega arith in
     rw (length-bits_of w n, digit_value (bit_at n w) (2 ^ w) (bit_at-lt n w), number_of-bits_of w n)
-        (sym (ap (λ (k : ℕ). n % 2 ^ k) (sym place) ∙ split))
+    (sym (ap (λ (k : ℕ). n % 2 ^ k) (sym place) ∙ split))
 
 -- ---- a register of `suc w` bits in a number of `k` bits
 
@@ -127,23 +127,23 @@ shifted_is w k r fits =
 pub stepped-with_feedback : (w k p r : ℕ) (bit : Bool) → suc w ≤ k → r < 2 ^ suc w
     → not (beq bit (leb (2 ^ w) r)) ≡ true
     → bits_of (suc w) (bit_xor (bit_and r (2 ^ w - 1) * 2 % 2 ^ k) p) ≡ stepped (bits_of (suc w) p)
-        (bits_of (suc w) r) bit
+    (bits_of (suc w) r) bit
 stepped-with_feedback w k p r bit fits h test =
     let f : differ (bit_test r w) bit ≡ true = ap (λ (t : Bool). differ t bit) (top_test w r h) ∙ sym
-        (feedback_test (leb (2 ^ w) r) bit) ∙ test in
+    (feedback_test (leb (2 ^ w) r) bit) ∙ test in
     rw (shifted_is w k r fits) (sym (stepped-bits_of w p r bit ∙ ap
-        (λ (t : Bool). bits_of (suc w) (cond t (bit_xor (r % 2 ^ w * 2) p) (r % 2 ^ w * 2))) f))
+    (λ (t : Bool). bits_of (suc w) (cond t (bit_xor (r % 2 ^ w * 2) p) (r % 2 ^ w * 2))) f))
 
 pub stepped-without : (w k p r : ℕ) (bit : Bool) → suc w ≤ k → r < 2 ^ suc w → not (beq bit (leb (2 ^ w) r)) ≡ false
     → bits_of (suc w) (bit_and r (2 ^ w - 1) * 2 % 2 ^ k) ≡ stepped (bits_of (suc w) p) (bits_of (suc w) r) bit
 stepped-without w k p r bit fits h test =
     let f : differ (bit_test r w) bit ≡ false = ap (λ (t : Bool). differ t bit) (top_test w r h) ∙ sym
-        (feedback_test (leb (2 ^ w) r) bit) ∙ test in
+    (feedback_test (leb (2 ^ w) r) bit) ∙ test in
     rw (shifted_is w k r fits) (sym (stepped-bits_of w p r bit ∙ ap
-        (λ (t : Bool). bits_of (suc w) (cond t (bit_xor (r % 2 ^ w * 2) p) (r % 2 ^ w * 2))) f))
+    (λ (t : Bool). bits_of (suc w) (cond t (bit_xor (r % 2 ^ w * 2) p) (r % 2 ^ w * 2))) f))
 
 pub shifted_fits : (w k r : ℕ) → suc w ≤ k → bit_and r (2 ^ w - 1) * 2 % 2 ^ k < 2 ^ suc w
 shifted_fits w k r fits =
     let below : r % 2 ^ w < 2 ^ w = mod_below r (2 ^ w) (pow_pos w) in
     rw (shifted_is w k r fits) (subst (λ (x : ℕ). r % 2 ^ w * 2 < 2 ^ x) (add_comm w 1 ∙ omega arith)
-        (shl_below (r % 2 ^ w) w 1 below))
+    (shl_below (r % 2 ^ w) w 1 below))

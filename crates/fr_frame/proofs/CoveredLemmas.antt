@@ -45,7 +45,7 @@ covered_number-joined : (sync startup : Bool) (id size s t i words : ℕ) → s 
     → i ≡ id → words ≡ size / 2
     → id < 2 ^ 11 → size ≤ 254
     → bit_or (bit_or (bit_or (s * 2 % 2 ^ 32) t * 2048 % 2 ^ 32) i * 128 % 2 ^ 32) words
-        ≡ covered_number sync startup id size
+    ≡ covered_number sync startup id size
 covered_number-joined sync startup id size s t i words s_is t_is i_is words_is id_fits short =
     let indicators = digits sync startup in
     let small : indicators < 2 ^ 2 = digits_fit sync startup in
@@ -55,7 +55,7 @@ covered_number-joined sync startup id size s t i words s_is t_is i_is words_is i
     ∙ ap (bit_or (indicators * 2048 % 2 ^ 32)) i_is
     ∙ or_is 2 11 32 indicators id small id_fits (lit≤ tt) in
     ap (λ (x : ℕ). bit_or (x * 128 % 2 ^ 32) words) second ∙ ap
-        (bit_or ((indicators * 2048 + id) * 128 % 2 ^ 32)) words_is
+    (bit_or ((indicators * 2048 + id) * 128 % 2 ^ 32)) words_is
     ∙ or_is 13 7 32 (indicators * 2048 + id) (size / 2) (omega arith) few (lit≤ tt)
 
 pub covered_joined : (f : Fields) (s t i words : ℕ) → s ≡ cond f.sync 1 0 → t ≡ cond f.startup 1 0 → i ≡ f.id
@@ -67,11 +67,11 @@ covered_joined f s t i words s_is t_is i_is words_is id_fits payload_fits =
     let indicators = digits f.sync f.startup in
     let few : length f.payload / 2 < 2 ^ 7 = omega (arith, payload_fits.short) in
     ap (bits_of 20) (covered_number-joined f.sync f.startup f.id
-        (length f.payload) s t i words s_is t_is i_is words_is id_fits payload_fits.short)
+    (length f.payload) s t i words s_is t_is i_is words_is id_fits payload_fits.short)
     ∙ bits_of-joined 13 7 (indicators * 2048 + f.id) (length f.payload / 2) few
     ∙ ap (λ (t : List Bool). t ++ bits_of 7 (length f.payload / 2)) (bits_of-joined 2 11 indicators f.id id_fits)
     ∙ ap (λ (t : List Bool). (t ++ bits_of 11 f.id) ++ bits_of 7 (length f.payload / 2))
-        (bits_of-digits f.sync f.startup)
+    (bits_of-digits f.sync f.startup)
 
 pub covered_fits : (sync startup : Bool) (id size s t i words : ℕ) → s ≡ cond sync 1 0 → t ≡ cond startup 1 0 → i ≡ id
     → words ≡ size / 2
@@ -80,4 +80,4 @@ pub covered_fits : (sync startup : Bool) (id size s t i words : ℕ) → s ≡ c
 covered_fits sync startup id size s t i words s_is t_is i_is words_is id_fits short =
     let below : covered_number sync startup id size < 2 ^ 20 = omega (arith, digits_fit sync startup, short) in
     subst (λ (n : ℕ). n < 2 ^ 20) (sym (covered_number-joined sync startup id size s t i words s_is t_is i_is words_is
-        id_fits short)) below
+    id_fits short)) below

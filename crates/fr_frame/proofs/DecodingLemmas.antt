@@ -71,10 +71,10 @@ rest_parts : (rest : List Bool) → rest ≡ ((take 11 rest ++ take 7 (drop 11 r
 rest_parts rest =
     let third : take 11 (drop 18 rest) ++ drop 29 rest ≡ drop 18 rest =
     ap (λ (t : List Bool). take 11 (drop 18 rest) ++ t) (sym (drop-drop 11 18 rest)) ∙ take-append-drop 11
-        (drop 18 rest) in
+    (drop 18 rest) in
     let second : take 7 (drop 11 rest) ++ drop 18 rest ≡ drop 11 rest =
     ap (λ (t : List Bool). take 7 (drop 11 rest) ++ t) (sym (drop-drop 7 11 rest)) ∙ take-append-drop 7
-        (drop 11 rest) in
+    (drop 11 rest) in
     sym (append_assoc (take 11 rest ++ take 7 (drop 11 rest)) (take 11 (drop 18 rest)) (drop 29 rest)
     ∙ ap (λ (t : List Bool). (take 11 rest ++ take 7 (drop 11 rest)) ++ t) third
     ∙ append_assoc (take 11 rest) (take 7 (drop 11 rest)) (drop 18 rest)
@@ -86,10 +86,10 @@ covered_part bits = flag 3 bits ∷ flag 4 bits ∷ take 11 (drop 5 bits) ++ tak
 
 header_parts : (bits : List Bool) → 5 ≤ length bits
     → bits ≡ (flag 0 bits ∷ flag 1 bits ∷ flag 2 bits ∷ []) ++ covered_part bits ++ take 11
-        (drop 23 bits) ++ drop 34 bits
+    (drop 23 bits) ++ drop 34 bits
 header_parts (a ∷ b ∷ c ∷ d ∷ e ∷ rest) long =
     rw (flag_is a, flag_is b, flag_is c, flag_is d, flag_is e)
-        (ap (λ (t : List Bool). a ∷ b ∷ c ∷ d ∷ e ∷ t) (rest_parts rest))
+    (ap (λ (t : List Bool). a ∷ b ∷ c ∷ d ∷ e ∷ t) (rest_parts rest))
 header_parts bits long = absurd (omega arith)
 
 -- ---- what is granted is spelled
@@ -99,7 +99,7 @@ length-frame_check channel bytes =
     let start = bits_of 24 (initial_of channel) in
     let wide : length start ≡ 24 = length-bits_of 24 (initial_of channel) in
     length-divided (bits_of 24 0x5D6DCB) start (bits_of_bytes bytes) (length-bits_of 24 0x5D6DCB ∙ sym wide)
-        (rw wide (lit< tt)) ∙ wide
+    (rw wide (lit< tt)) ∙ wide
 
 length-take_drop : (place count : ℕ) (bits : List Bool) → place + count ≤ length bits
     → length (take count (drop place bits)) ≡ count
@@ -123,12 +123,12 @@ covered_is_part channel bytes g =
     let bits = bits_of_bytes (take 5 bytes) in
     let len : length bits ≡ 40 = header_bits-length bytes g.long in
     let words : length (payload_of bytes) / 2 ≡ number_at 16 7 bytes =
-        omega (arith, length-payload_of channel bytes g) in
+    omega (arith, length-payload_of channel bytes g) in
     let id : bits_of 11 (number_at 5 11 bytes) ≡ take 11 (drop 5 bits) =
-        bits_of-spelled 11 (take 11 (drop 5 bits)) (length-take_drop 5 11 bits (omega (arith, len))) in
+    bits_of-spelled 11 (take 11 (drop 5 bits)) (length-take_drop 5 11 bits (omega (arith, len))) in
     let count : bits_of 7 (length (payload_of bytes) / 2) ≡ take 7 (drop 16 bits) =
     ap (bits_of 7) words ∙ bits_of-spelled 7 (take 7 (drop 16 bits))
-        (length-take_drop 16 7 bits (omega (arith, len))) in
+    (length-take_drop 16 7 bits (omega (arith, len))) in
     ap (λ (t : List Bool). flag 3 bits ∷ flag 4 bits ∷ t ++ bits_of 7 (length (payload_of bytes) / 2)) id
     ∙ ap (λ (t : List Bool). flag 3 bits ∷ flag 4 bits ∷ take 11 (drop 5 bits) ++ t) count
 
@@ -137,8 +137,12 @@ covered_part-at : (bits : List Bool) → length bits ≡ 40 → take 20 (drop 3 
 covered_part-at bits len =
     let parts = header_parts bits (omega (arith, len)) in
     let part_len : length (covered_part bits) ≡ 20 =
-    omega (arith, length-append (take 11 (drop 5 bits)) (take 7 (drop 16 bits)),
-        length-take_drop 5 11 bits (omega (arith, len)), length-take_drop 16 7 bits (omega (arith, len))) in
+    omega (
+      arith,
+      length-append (take 11 (drop 5 bits)) (take 7 (drop 16 bits)),
+      length-take_drop 5 11 bits (omega (arith, len)),
+      length-take_drop 16 7 bits (omega (arith, len)),
+    ) in
     ap (λ (t : List Bool). take 20 (drop 3 t)) parts
     ∙ ap (take 20) (append_assoc (covered_part bits) (take 11 (drop 23 bits)) (drop 34 bits))
     ∙ take_at (covered_part bits) (take 11 (drop 23 bits) ++ drop 34 bits) 20 part_len
@@ -153,12 +157,12 @@ header_is_spelled channel bytes g =
     let covered_is : covered f ≡ covered_part bits = covered_is_part channel bytes g in
     let check : take 11 (drop 23 bits) ≡ header_check (covered f) =
     same_bits 11 (take 11 (drop 23 bits)) (header_check (covered f)) (length-take_drop 23 11 bits (omega (arith, len)))
-        (length-header_check (covered f))
+    (length-header_check (covered f))
     (g.header_is ∙ ap (λ (t : List Bool). number_of (header_check t)) (covered_part-at bits len ∙ sym covered_is)) in
     let six : take 6 (drop 34 bits) ≡ drop 34 bits = take_all 6 (drop 34 bits) (omega (arith, length-drop 34 bits, len))
-        in
+    in
     let cycle : drop 34 bits ≡ bits_of 6 f.cycle = sym (bits_of-spelled 6 (take 6 (drop 34 bits))
-        (length-take_drop 34 6 bits (omega (arith, len))) ∙ six) in
+    (length-take_drop 34 6 bits (omega (arith, len))) ∙ six) in
     let start = flag 0 bits ∷ flag 1 bits ∷ flag 2 bits ∷ [] in
     header_parts bits (omega (arith, len))
     ∙ ap (λ (t : List Bool). start ++ t ++ take 11 (drop 23 bits) ++ drop 34 bits) (sym covered_is)
@@ -170,11 +174,11 @@ front_is : (bytes : List ℕ) → 8 ≤ length bytes → take 5 bytes ++ payload
 front_is bytes long =
     let sum : length bytes - 3 ≡ 5 + (length bytes - 8) = omega arith in
     let five : take 5 bytes ≡ take 5 (take (length bytes - 3) bytes) =
-        sym (take-take 5 (length bytes - 3) bytes (omega arith)) in
+    sym (take-take 5 (length bytes - 3) bytes (omega arith)) in
     let rest : payload_of bytes ≡ drop 5 (take (length bytes - 3) bytes) =
     sym (ap (λ (n : ℕ). drop 5 (take n bytes)) sum ∙ drop-take 5 (length bytes - 8) bytes) in
     ap (λ (t : List ℕ). t ++ payload_of bytes) five ∙ ap (λ (t : List ℕ). take 5 (take (length bytes - 3) bytes) ++ t)
-        rest
+    rest
     ∙ take-append-drop 5 (take (length bytes - 3) bytes)
 
 granted_is_spelled : (channel : Channel) (bytes : List ℕ) → IsGranted channel bytes
@@ -187,7 +191,7 @@ granted_is_spelled channel bytes g =
     let last_len : length last ≡ 3 = omega (arith, length-drop (length bytes - 3) bytes, g.long) in
     let payload_len : length (payload_of bytes) ≡ 2 * number_at 16 7 bytes = length-payload_of channel bytes g in
     let few : number_at 16 7 bytes < 2 ^ 7 = number-fits 7 (take 7 (drop 16 bits))
-        (length-take_drop 16 7 bits (omega (arith, len))) in
+    (length-take_drop 16 7 bits (omega (arith, len))) in
     record {
       reserved = flag_at 0 bytes;
       first = take 5 bytes;
@@ -230,9 +234,9 @@ unfolding decoded
 spelled_is_decoded f channel bytes s =
     let none : refusal channel bytes ≡ None = spelled_is_granted f channel bytes s in
     let same : fields_of bytes ≡ f = spelled_once (fields_of bytes) f channel bytes
-        (granted_is_spelled channel bytes (granted channel bytes none)) s in
+    (granted_is_spelled channel bytes (granted channel bytes none)) s in
     ap (λ (refused : Option DecodeError). cond (is_some refused) None (Some (fields_of bytes))) none ∙ ap
-        (λ (g : Fields). Some g) same
+    (λ (g : Fields). Some g) same
 
 -- what is refused isn't decoded
 pub refused_is_none : (error : DecodeError) (channel : Channel) (bytes : List ℕ) → refusal channel bytes ≡ Some error
@@ -249,7 +253,7 @@ pub decoded-from : (channel : Channel) (bytes : List ℕ) (r : Result Fields Dec
 unfolding decoded
 decoded-from channel bytes (Ok f) refused read =
     ap (λ (g : Fields). Some g) read ∙ ap (λ (refused : Option DecodeError). cond (is_some refused) None
-        (Some (fields_of bytes))) refused
+    (Some (fields_of bytes))) refused
 decoded-from channel bytes (Err error) refused read = sym (refused_is_none error channel bytes (sym refused))
 
 pub found-from : (channel : Channel) (bytes : List ℕ) (r : Result Fields DecodeError)

@@ -31,8 +31,10 @@ xor_front-twice [] [] bits same fits = refl
 xor_front-twice [] (y ∷ b) bits same fits = absurd (omega arith)
 xor_front-twice (x ∷ a) [] bits same fits = absurd (omega arith)
 xor_front-twice (x ∷ a) (y ∷ b) [] same fits = absurd (omega arith)
-xor_front-twice (x ∷ a) (y ∷ b) (z ∷ bits) same fits = rw (differ_assoc x y z,
-    xor_front-twice a b bits (omega arith) (omega arith)) refl
+xor_front-twice (x ∷ a) (y ∷ b) (z ∷ bits) same fits = rw (
+  differ_assoc x y z,
+  xor_front-twice a b bits (omega arith) (omega arith),
+) refl
 
 -- a 0 at the end of a mask changes nothing
 xor_front-padded : (mask bits : List Bool) → length mask < length bits
@@ -51,7 +53,7 @@ xor_front-zeros (x ∷ mask) = rw (differ-false_r x, xor_front-zeros mask) refl
 divide_once-register : (polynomial register : List Bool) (bit : Bool) (rest : List Bool)
     → length polynomial ≡ length register → 0 < length register → length register ≤ length rest
     → divide_once (true ∷ polynomial) (xor_front register (bit ∷ rest)) ≡ xor_front
-        (stepped polynomial register bit) rest
+    (stepped polynomial register bit) rest
 unfolding divide_once xor_front stepped
 divide_once-register polynomial [] bit rest same some fits = absurd (omega arith)
 divide_once-register polynomial (top ∷ register) bit rest same some fits = by_feedback (differ top bit)
@@ -88,16 +90,16 @@ length-stepped polynomial (top ∷ register) bit same = by_feedback (differ top 
 pub divided-step : (polynomial register : List Bool) (bit : Bool) (rest : List Bool)
     → length polynomial ≡ length register → 0 < length register
     → divided (true ∷ polynomial) register (bit ∷ rest) ≡ divided (true ∷ polynomial)
-        (stepped polynomial register bit) rest
+    (stepped polynomial register bit) rest
 unfolding divide
 divided-step polynomial register bit rest same some =
     let zeros = replicate (length register) false in
     let len : length zeros ≡ length register = length-replicate (length register) false in
     ap (divide (true ∷ polynomial) (length rest)) (divide_once-register polynomial register bit
-        (rest ++ zeros) same some (omega (arith, length-append rest zeros)))
+    (rest ++ zeros) same some (omega (arith, length-append rest zeros)))
     ∙ ap (λ (n : ℕ). divide (true ∷ polynomial) (length rest)
-        (xor_front (stepped polynomial register bit) (rest ++ replicate n false)))
-        (sym (length-stepped polynomial register bit same))
+    (xor_front (stepped polynomial register bit) (rest ++ replicate n false)))
+    (sym (length-stepped polynomial register bit same))
 
 pub divided-none : (divisor register : List Bool) → divided divisor register [] ≡ register
 unfolding divide

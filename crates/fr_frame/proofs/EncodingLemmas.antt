@@ -40,7 +40,7 @@ bits_of_bytes-high_first zero n = sym (bits_of-none n)
 bits_of_bytes-high_first (suc k) n =
     let wide : 8 + 8 * k ≡ 8 * suc k = omega arith in
     let byte : bits_of 8 (byte_at k n) ≡ bits_of 8 (n / 2 ^ (8 * k)) =
-        ap (bits_of 8) (byte_at-is k n) ∙ bits_of-mod 8 (n / 2 ^ (8 * k)) in
+    ap (bits_of 8) (byte_at-is k n) ∙ bits_of-mod 8 (n / 2 ^ (8 * k)) in
     flat_map-cons (bits_of 8) (byte_at k n) (bytes_high_first k n)
     ∙ ap (λ (t : List Bool). t ++ bits_of_bytes (bytes_high_first k n)) byte
     ∙ ap (λ (t : List Bool). bits_of 8 (n / 2 ^ (8 * k)) ++ t) (bits_of_bytes-high_first k n)
@@ -107,9 +107,9 @@ encoded_is_decoded f channel is_frame = spelled_is_decoded f channel (encoded f 
 
 pub header_joined : (f : Fields) (p d c check cycle : ℕ) → p ≡ cond f.preamble 1 0 → d ≡ cond f.has_data 1 0
     → c < 2 ^ 20 → bits_of 20 c ≡ covered f → check < 2 ^ 11 → bits_of 11 check ≡ header_check (bits_of 20 c)
-        → cycle ≡ f.cycle → f.cycle < 64
+    → cycle ≡ f.cycle → f.cycle < 64
     → bit_or (bit_or (bit_or (bit_or (p * 2 % 2 ^ 64) d * 1048576 % 2 ^ 64) c * 2048 % 2 ^ 64) check * 64 % 2 ^ 64)
-        cycle ≡ number_of (header false f)
+    cycle ≡ number_of (header false f)
 unfolding header
 header_joined f p d c check cycle p_is d_is c_fits c_is check_fits check_is cycle_is cycle_fits =
     let indicators = digits f.preamble f.has_data in
@@ -120,20 +120,20 @@ header_joined f p d c check cycle p_is d_is c_fits c_is check_fits check_is cycl
     ap (λ (x : ℕ). bit_or (x * 1048576 % 2 ^ 64) c) (digits_joined 64 f.preamble f.has_data p d (lit≤ tt) p_is d_is)
     ∙ or_is 2 20 64 indicators c small c_fits (lit≤ tt) in
     let second : bit_or (bit_or (bit_or (p * 2 % 2 ^ 64) d * 1048576 % 2 ^ 64) c * 2048 % 2 ^ 64) check ≡ upper * 2048
-        + check =
+    + check =
     ap (λ (x : ℕ). bit_or (x * 2048 % 2 ^ 64) check) first ∙ or_is 22 11 64 upper check
-        (omega (arith, small)) check_fits (lit≤ tt) in
+    (omega (arith, small)) check_fits (lit≤ tt) in
     let third : bit_or (bit_or (bit_or (bit_or (p * 2 % 2 ^ 64) d * 1048576 % 2 ^ 64) c * 2048 % 2 ^ 64) check * 64 % 2
-        ^ 64) cycle ≡ whole =
+    ^ 64) cycle ≡ whole =
     ap (λ (x : ℕ). bit_or (x * 64 % 2 ^ 64) cycle) second ∙ ap (bit_or ((upper * 2048 + check) * 64 % 2 ^ 64)) cycle_is
     ∙ or_is 33 6 64 (upper * 2048 + check) f.cycle (omega (arith, small)) cycle_fits (lit≤ tt) in
     let crc : bits_of 11 check ≡ header_check (covered f) = check_is ∙ ap header_check c_is in
     let front : bits_of 22 upper ≡ f.preamble ∷ f.has_data ∷ covered f =
     bits_of-joined 2 20 indicators c c_fits ∙ ap (λ (t : List Bool). t ++ bits_of 20 c)
-        (bits_of-digits f.preamble f.has_data)
+    (bits_of-digits f.preamble f.has_data)
     ∙ ap (λ (t : List Bool). f.preamble ∷ f.has_data ∷ t) c_is in
     let low : bits_of 39 whole ≡ f.preamble ∷ f.has_data ∷ (covered f ++ header_check (covered f)) ++ bits_of 6 f.cycle
-        =
+    =
     bits_of-joined 33 6 (upper * 2048 + check) f.cycle cycle_fits
     ∙ ap (λ (t : List Bool). t ++ bits_of 6 f.cycle) (bits_of-joined 22 11 upper check check_fits)
     ∙ ap (λ (t : List Bool). (t ++ bits_of 11 check) ++ bits_of 6 f.cycle) front

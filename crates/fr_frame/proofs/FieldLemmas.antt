@@ -18,7 +18,7 @@ bits_of-split zero k n = ap (λ (m : ℕ). bits_of m n) (omega arith)
 bits_of-split (suc w) k n =
     let more : suc w + k ≡ suc (w + k) = omega arith in
     let digit : bit_at n (w + k) ≡ bit_at (n / 2 ^ k) w = ap (λ (x : ℕ). x % 2)
-        (ap (λ (m : ℕ). n / 2 ^ m) (add_comm w k) ∙ sym (shr-shr n k w)) in
+    (ap (λ (m : ℕ). n / 2 ^ m) (add_comm w k) ∙ sym (shr-shr n k w)) in
     ap (λ (m : ℕ). bits_of m n) more ∙ rw (digit, bits_of-split w k n) refl
 
 -- a field behind others
@@ -30,16 +30,16 @@ bits_of-field before count low n =
     bits_of-split before (count + low) n ∙ ap (λ (t : List Bool). high ++ t) (bits_of-split count low n) in
     ap (λ (t : List Bool). take count (drop before t)) split
     ∙ ap (take count) (drop_at high (bits_of count (n / 2 ^ low) ++ bits_of low n) before
-        (length-bits_of before (n / 2 ^ (count + low))))
+    (length-bits_of before (n / 2 ^ (count + low))))
     ∙ take_at (bits_of count (n / 2 ^ low)) (bits_of low n) count (length-bits_of count (n / 2 ^ low))
 
 -- a byte behind a number
 pub bits_of-byte : (w a b : ℕ) → b < 256 → bits_of (w + 8) (a * 256 + b) ≡ bits_of w a ++ bits_of 8 b
 bits_of-byte w a b h =
     let low : bits_of 8 (a * 256 + b) ≡ bits_of 8 b = sym (bits_of-mod 8 (a * 256 + b)) ∙ ap (bits_of 8)
-        (mod_low a 8 b h) in
+    (mod_low a 8 b h) in
     bits_of-split w 8 (a * 256 + b) ∙ ap (λ (x : ℕ). bits_of w x ++ bits_of 8 (a * 256 + b)) (shr_high a 8 b h) ∙ ap
-        (λ (t : List Bool). bits_of w a ++ t) low
+    (λ (t : List Bool). bits_of w a ++ t) low
 
 -- ---- a number read byte by byte
 
@@ -55,7 +55,7 @@ number-more bytes i n b within small is fits below so_far =
     let more : bits_of_bytes (take (i + 1) bytes) ≡ bits_of_bytes (take i bytes) ++ bits_of 8 b =
     ap bits_of_bytes (take_more bytes i 0 within ∙ ap (λ (x : ℕ). take i bytes ++ x ∷ []) (sym is))
     ∙ flat_map-append (bits_of 8) (take i bytes) (b ∷ []) ∙ ap
-        (λ (t : List Bool). bits_of_bytes (take i bytes) ++ t) one in
+    (λ (t : List Bool). bits_of_bytes (take i bytes) ++ t) one in
     ap (λ (x : ℕ). bits_of (8 * (i + 1)) x) sum ∙ ap (λ (m : ℕ). bits_of m (n * 256 + b)) wide
     ∙ bits_of-byte (8 * i) n b fits ∙ ap (λ (t : List Bool). t ++ bits_of 8 b) so_far ∙ sym more
 
@@ -84,7 +84,7 @@ pub field-number : (before count low n : ℕ) (bits : List Bool) → bits_of (be
     → number_of (take count (drop before bits)) ≡ bit_and (n / 2 ^ low) (2 ^ count - 1)
 field-number before count low n bits e =
     ap number_of (field-bits before count low n bits e) ∙ number_of-bits_of count
-        (bit_and (n / 2 ^ low) (2 ^ count - 1))
+    (bit_and (n / 2 ^ low) (2 ^ count - 1))
     ∙ ap (λ (x : ℕ). x % 2 ^ count) (and_mask (n / 2 ^ low) count) ∙ mod-eq_of_lt
-        (mod_below (n / 2 ^ low) (2 ^ count) (pow_pos count))
+    (mod_below (n / 2 ^ low) (2 ^ count) (pow_pos count))
     ∙ sym (and_mask (n / 2 ^ low) count)

@@ -17,7 +17,7 @@ pub divided-next : (p register next bits : List Bool) (i : ℕ) (total : List Bo
     → divided (true ∷ p) register (drop i bits) ≡ total → divided (true ∷ p) next (drop (i + 1) bits) ≡ total
 divided-next p register next bits i total same some lt e so_far =
     let split : drop i bits ≡ get_or bits i false ∷ drop (i + 1) bits =
-        rw (add-one i, drop-cons bits i false lt) refl in
+    rw (add-one i, drop-cons bits i false lt) refl in
     ap (λ (r : List Bool). divided (true ∷ p) r (drop (i + 1) bits)) e
     ∙ sym (divided-step p register (get_or bits i false) (drop (i + 1) bits) same some)
     ∙ ap (divided (true ∷ p) register) (sym split)
@@ -30,19 +30,19 @@ divided-bits p register [] rest same some = refl
 divided-bits p register (bit ∷ bits) rest same some =
     divided-step p register bit (bits ++ rest) same some
     ∙ divided-bits p (stepped p register bit) bits rest (same ∙ sym (length-stepped p register bit same))
-        (omega (arith, length-stepped p register bit same))
+    (omega (arith, length-stepped p register bit same))
 
 pub divided-next_byte : (p register next : List Bool) (bytes : List ℕ) (i : ℕ) (total : List Bool)
     → length p ≡ length register → 0 < length register → i < length bytes
     → next ≡ stepped_all p register (bits_of 8 (get_or bytes i 0))
     → divided (true ∷ p) register (bits_of_bytes (drop i bytes)) ≡ total
-        → divided (true ∷ p) next (bits_of_bytes (drop (i + 1) bytes)) ≡ total
+    → divided (true ∷ p) next (bits_of_bytes (drop (i + 1) bytes)) ≡ total
 divided-next_byte p register next bytes i total same some lt e so_far =
     let split : drop i bytes ≡ get_or bytes i 0 ∷ drop (i + 1) bytes = rw (add-one i, drop-cons bytes i 0 lt) refl in
     ap (λ (r : List Bool). divided (true ∷ p) r (bits_of_bytes (drop (i + 1) bytes))) e
     ∙ sym (divided-bits p register (bits_of 8 (get_or bytes i 0)) (bits_of_bytes (drop (i + 1) bytes)) same some)
     ∙ ap (divided (true ∷ p) register) (sym (ap bits_of_bytes split ∙ flat_map-cons (bits_of 8) (get_or bytes i 0)
-        (drop (i + 1) bytes)))
+    (drop (i + 1) bytes)))
     ∙ so_far
 
 -- ---- the end
@@ -51,7 +51,7 @@ pub number-divided : (divisor : List Bool) (w n : ℕ) (rest total : List Bool) 
     → divided divisor (bits_of w n) rest ≡ total → n ≡ number_of total
 number-divided divisor w n rest total lt none so_far =
     let e : bits_of w n ≡ total = sym (divided-none divisor (bits_of w n)) ∙ ap (divided divisor (bits_of w n))
-        (sym none) ∙ so_far in
+    (sym none) ∙ so_far in
     sym (mod-eq_of_lt lt) ∙ sym (number_of-bits_of w n) ∙ ap number_of e
 
 pub bits-divided : (divisor : List Bool) (w n : ℕ) (rest total : List Bool) → rest ≡ []
@@ -67,11 +67,11 @@ unfolding stepped_all
 length-stepped_all p register [] same = refl
 length-stepped_all p register (bit ∷ bits) same =
     length-stepped_all p (stepped p register bit) bits (same ∙ sym (length-stepped p register bit same))
-        ∙ length-stepped p register bit same
+    ∙ length-stepped p register bit same
 
 pub length-divided : (p register bits : List Bool) → length p ≡ length register → 0 < length register
     → length (divided (true ∷ p) register bits) ≡ length register
 length-divided p register bits same some =
     ap length (ap (divided (true ∷ p) register) (sym (append-nil bits)) ∙ divided-bits p register bits [] same some
-        ∙ divided-none (true ∷ p) (stepped_all p register bits))
+    ∙ divided-none (true ∷ p) (stepped_all p register bits))
     ∙ length-stepped_all p register bits same

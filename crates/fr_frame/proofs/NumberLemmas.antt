@@ -12,9 +12,9 @@ use Rattle.fr_frame.proofs.FieldLemmas.{bits_of-split}
 pub bits_of-joined : (w k a b : ℕ) → b < 2 ^ k → bits_of (w + k) (a * 2 ^ k + b) ≡ bits_of w a ++ bits_of k b
 bits_of-joined w k a b h =
     let low : bits_of k (a * 2 ^ k + b) ≡ bits_of k b = sym (bits_of-mod k (a * 2 ^ k + b)) ∙ ap (bits_of k)
-        (mod_low a k b h) in
+    (mod_low a k b h) in
     bits_of-split w k (a * 2 ^ k + b) ∙ ap (λ (x : ℕ). bits_of w x ++ bits_of k (a * 2 ^ k + b)) (shr_high a k b h) ∙ ap
-        (λ (t : List Bool). bits_of w a ++ t) low
+    (λ (t : List Bool). bits_of w a ++ t) low
 
 -- the same as code joins them, in an integer of `m` bits
 pub or_is : (w k m a b : ℕ) → a < 2 ^ w → b < 2 ^ k → w + k ≤ m → bit_or (a * 2 ^ k % 2 ^ m) b ≡ a * 2 ^ k + b
@@ -63,8 +63,12 @@ pub length-bits_of_bytes : (bytes : List ℕ) → length (bits_of_bytes bytes) �
 length-bits_of_bytes [] = refl
 length-bits_of_bytes (byte ∷ bytes) =
     ap length (flat_map-cons (bits_of 8) byte bytes)
-    ∙ omega (arith, length-append (bits_of 8 byte) (bits_of_bytes bytes), length-bits_of 8 byte,
-        length-bits_of_bytes bytes)
+    ∙ omega (
+      arith,
+      length-append (bits_of 8 byte) (bits_of_bytes bytes),
+      length-bits_of 8 byte,
+      length-bits_of_bytes bytes,
+    )
 
 -- one bit, as a flag reads it
 pub flag_is : (bit : Bool) → eqb (number_of (bit ∷ [])) 1 ≡ bit

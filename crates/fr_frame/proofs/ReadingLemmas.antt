@@ -21,14 +21,14 @@ refused_length channel bytes t1 t2 = rw (t1, t2) refl
 pub refused_header : (channel : Channel) (bytes : List ℕ) → ltb (length bytes) 8 ≡ false
     → eqb (length bytes) (8 + 2 * number_at 16 7 bytes) ≡ true
     → eqb (number_at 23 11 bytes) (number_of (header_check (bits_at 3 20 bytes))) ≡ false
-        → refusal channel bytes ≡ Some HeaderCrc
+    → refusal channel bytes ≡ Some HeaderCrc
 refused_header channel bytes t1 t2 t3 = rw (t1, t2, t3) refl
 
 pub refused_frame : (channel : Channel) (bytes : List ℕ) → ltb (length bytes) 8 ≡ false
     → eqb (length bytes) (8 + 2 * number_at 16 7 bytes) ≡ true
     → eqb (number_at 23 11 bytes) (number_of (header_check (bits_at 3 20 bytes))) ≡ true
     → eqb (number_of (bits_of_bytes (drop (length bytes - 3) bytes)))
-        (number_of (frame_check channel (take (length bytes - 3) bytes))) ≡ false
+    (number_of (frame_check channel (take (length bytes - 3) bytes))) ≡ false
     → refusal channel bytes ≡ Some FrameCrc
 refused_frame channel bytes t1 t2 t3 t4 = rw (t1, t2, t3, t4) refl
 
@@ -36,7 +36,7 @@ pub not_refused : (channel : Channel) (bytes : List ℕ) → ltb (length bytes) 
     → eqb (length bytes) (8 + 2 * number_at 16 7 bytes) ≡ true
     → eqb (number_at 23 11 bytes) (number_of (header_check (bits_at 3 20 bytes))) ≡ true
     → eqb (number_of (bits_of_bytes (drop (length bytes - 3) bytes)))
-        (number_of (frame_check channel (take (length bytes - 3) bytes))) ≡ true
+    (number_of (frame_check channel (take (length bytes - 3) bytes))) ≡ true
     → refusal channel bytes ≡ None
 not_refused channel bytes t1 t2 t3 t4 = rw (t1, t2, t3, t4) refl
 
@@ -87,7 +87,7 @@ header_test h crc bytes e is same = eq-eqb _ _ (stored_is h bytes e ∙ same ∙
 pub header_test_fails : (h crc : ℕ) (bytes : List ℕ) → bits_of 40 h ≡ bits_of_bytes (take 5 bytes)
     → crc ≡ number_of (header_check (bits_of 20 (bit_and (h / 131072) 1048575)))
     → (bit_and (h / 64) 2047 ≡ crc → ⊥) → eqb (number_at 23 11 bytes) (number_of (header_check (bits_at 3 20 bytes)))
-        ≡ false
+    ≡ false
 header_test_fails h crc bytes e is other = ne_eqb _ _ (λ same. other
     (sym (stored_is h bytes e) ∙ same ∙ header_crc_is h crc bytes e is))
 
@@ -107,7 +107,7 @@ pub frame_test : (channel : Channel) (n crc : ℕ) (bytes part : List ℕ) → p
     → bits_of (8 * length part) n ≡ bits_of_bytes part → n < 2 ^ (8 * length part)
     → crc ≡ number_of (frame_check channel (take (length bytes - 3) bytes)) → n ≡ crc
     → eqb (number_of (bits_of_bytes (drop (length bytes - 3) bytes)))
-        (number_of (frame_check channel (take (length bytes - 3) bytes))) ≡ true
+    (number_of (frame_check channel (take (length bytes - 3) bytes))) ≡ true
 frame_test channel n crc bytes part is read fits crc_is same =
     eq-eqb _ _ (last_is n bytes part is read fits ∙ same ∙ crc_is)
 
@@ -115,7 +115,7 @@ pub frame_test_fails : (channel : Channel) (n crc : ℕ) (bytes part : List ℕ)
     → bits_of (8 * length part) n ≡ bits_of_bytes part → n < 2 ^ (8 * length part)
     → crc ≡ number_of (frame_check channel (take (length bytes - 3) bytes)) → (n ≡ crc → ⊥)
     → eqb (number_of (bits_of_bytes (drop (length bytes - 3) bytes)))
-        (number_of (frame_check channel (take (length bytes - 3) bytes))) ≡ false
+    (number_of (frame_check channel (take (length bytes - 3) bytes))) ≡ false
 frame_test_fails channel n crc bytes part is read fits crc_is other =
     ne_eqb _ _ (λ same. other (sym (last_is n bytes part is read fits) ∙ same ∙ sym crc_is))
 
@@ -137,13 +137,13 @@ payload_read : (bytes : List ℕ) → 8 ≤ length bytes → take (length (take 
 payload_read bytes long =
     let sum : length bytes - 3 ≡ 5 + (length bytes - 8) = omega arith in
     take_all (length (take (length bytes - 3) bytes) - 5) (drop 5 (take (length bytes - 3) bytes))
-        (omega (arith, length-drop 5 (take (length bytes - 3) bytes)))
+    (omega (arith, length-drop 5 (take (length bytes - 3) bytes)))
     ∙ ap (λ (n : ℕ). drop 5 (take n bytes)) sum ∙ drop-take 5 (length bytes - 8) bytes
 
 pub fields_read : (h cycle : ℕ) (payload bytes : List ℕ) → 8 ≤ length bytes
     → bits_of 40 h ≡ bits_of_bytes (take 5 bytes)
     → payload ≡ take (length (take (length bytes - 3) bytes) - 5) (drop 5 (take (length bytes - 3) bytes))
-        → cycle ≡ bit_and h 63
+    → cycle ≡ bit_and h 63
     → record {
       preamble = eqb (bit_and (h / 274877906944) 1) 1;
       has_data = eqb (bit_and (h / 137438953472) 1) 1;

@@ -18,12 +18,16 @@ use Rattle.fr_frame.proofs.ReadingLemmas.{not_refused}
 pub length-header_check : (bits : List Bool) → length (header_check bits) ≡ 11
 length-header_check bits =
     length-divided (bits_of 11 0x385) (bits_of 11 0x01A) bits (length-bits_of 11 0x385 ∙ sym (length-bits_of 11 0x01A))
-        (rw (length-bits_of 11 0x01A) (lit< tt)) ∙ length-bits_of 11 0x01A
+    (rw (length-bits_of 11 0x01A) (lit< tt)) ∙ length-bits_of 11 0x01A
 
 pub length-covered : (f : Fields) → length (covered f) ≡ 20
 unfolding covered
-length-covered f = omega (arith, length-append (bits_of 11 f.id) (bits_of 7 (length f.payload / 2)),
-    length-bits_of 11 f.id, length-bits_of 7 (length f.payload / 2))
+length-covered f = omega (
+  arith,
+  length-append (bits_of 11 f.id) (bits_of 7 (length f.payload / 2)),
+  length-bits_of 11 f.id,
+  length-bits_of 7 (length f.payload / 2),
+)
 
 -- the bytes before the payload, as `take` gives them
 first-is : (f : Fields) (channel : Channel) (bytes : List ℕ) (s : Spells f channel bytes) → take 5 bytes ≡ s.first
@@ -32,8 +36,13 @@ first-is f channel bytes s = ap (take 5) (s.parts ∙ append_assoc s.first f.pay
 
 length-is : (f : Fields) (channel : Channel) (bytes : List ℕ) (s : Spells f channel bytes)
     → length bytes ≡ 8 + length f.payload
-length-is f channel bytes s = ap length s.parts ∙ omega (arith, length-append (s.first ++ f.payload) s.last,
-    length-append s.first f.payload, s.first_len, s.last_len)
+length-is f channel bytes s = ap length s.parts ∙ omega (
+  arith,
+  length-append (s.first ++ f.payload) s.last,
+  length-append s.first f.payload,
+  s.first_len,
+  s.last_len,
+)
 
 bits-is : (f : Fields) (channel : Channel) (bytes : List ℕ) (s : Spells f channel bytes)
     → bits_of_bytes (take 5 bytes) ≡ header s.reserved f
@@ -43,7 +52,7 @@ payload-is : (f : Fields) (channel : Channel) (bytes : List ℕ) (s : Spells f c
     → take (length bytes - 8) (drop 5 bytes) ≡ f.payload
 payload-is f channel bytes s =
     ap (take (length bytes - 8)) (ap (drop 5) (s.parts ∙ append_assoc s.first f.payload s.last) ∙ drop_at s.first
-        (f.payload ++ s.last) 5 s.first_len)
+    (f.payload ++ s.last) 5 s.first_len)
     ∙ take_at f.payload s.last (length bytes - 8) (omega (arith, length-is f channel bytes s))
 
 -- ---- the parts of a header
@@ -61,7 +70,7 @@ check-at : (r : Bool) (f : Fields) → take 11 (drop 23 (header r f)) ≡ header
 unfolding header
 check-at r f =
     ap (λ (t : List Bool). take 11 (drop 20 t)) (append_assoc (covered f) (header_check (covered f))
-        (bits_of 6 f.cycle))
+    (bits_of 6 f.cycle))
     ∙ ap (take 11) (drop_at (covered f) (header_check (covered f) ++ bits_of 6 f.cycle) 20 (length-covered f))
     ∙ take_at (header_check (covered f)) (bits_of 6 f.cycle) 11 (length-header_check (covered f))
 
@@ -75,9 +84,9 @@ unfolding header covered tail_of
 header-is r f =
     let check = header_check (covered f) ++ bits_of 6 f.cycle in
     ap (λ (t : List Bool). r ∷ f.preamble ∷ f.has_data ∷ t) (append_assoc (covered f) (header_check (covered f))
-        (bits_of 6 f.cycle))
+    (bits_of 6 f.cycle))
     ∙ ap (λ (t : List Bool). r ∷ f.preamble ∷ f.has_data ∷ f.sync ∷ f.startup ∷ t)
-        (append_assoc (bits_of 11 f.id) (bits_of 7 (length f.payload / 2)) check)
+    (append_assoc (bits_of 11 f.id) (bits_of 7 (length f.payload / 2)) check)
 
 words-at : (r : Bool) (f : Fields) → take 7 (drop 16 (header r f)) ≡ bits_of 7 (length f.payload / 2)
 unfolding tail_of
@@ -85,14 +94,18 @@ words-at r f =
     ap (λ (t : List Bool). take 7 (drop 16 t)) (header-is r f)
     ∙ ap (take 7) (drop_at (bits_of 11 f.id) (tail_of f) 11 (length-bits_of 11 f.id))
     ∙ take_at (bits_of 7 (length f.payload / 2)) (header_check (covered f) ++ bits_of 6 f.cycle) 7
-        (length-bits_of 7 (length f.payload / 2))
+    (length-bits_of 7 (length f.payload / 2))
 
 cycle-at : (r : Bool) (f : Fields) → drop 34 (header r f) ≡ bits_of 6 f.cycle
 unfolding header
 cycle-at r f =
     drop_at (covered f ++ header_check (covered f)) (bits_of 6 f.cycle) 31
-        (omega (arith, length-append (covered f) (header_check (covered f)), length-covered f,
-        length-header_check (covered f)))
+    (omega (
+      arith,
+      length-append (covered f) (header_check (covered f)),
+      length-covered f,
+      length-header_check (covered f),
+    ))
 
 id-at : (r : Bool) (f : Fields) → take 11 (drop 5 (header r f)) ≡ bits_of 11 f.id
 id-at r f = ap (λ (t : List Bool). take 11 (drop 5 t)) (header-is r f) ∙ take_at (bits_of 11 f.id) (tail_of f) 11
@@ -112,18 +125,18 @@ spelled_is_granted f channel bytes s =
     let bits : bits_of_bytes (take 5 bytes) ≡ header s.reserved f = bits-is f channel bytes s in
     let words : number_at 16 7 bytes ≡ length f.payload / 2 =
     ap (λ (t : List Bool). number_of (take 7 (drop 16 t))) bits ∙ ap number_of (words-at s.reserved f)
-        ∙ number_of-bits_of 7 (length f.payload / 2)
+    ∙ number_of-bits_of 7 (length f.payload / 2)
     ∙ mod-eq_of_lt (omega (arith, s.payload_fits.short)) in
     let covered_bits : bits_at 3 20 bytes ≡ covered f = ap (λ (t : List Bool). take 20 (drop 3 t)) bits ∙ covered-at
-        s.reserved f in
+    s.reserved f in
     let stored : number_at 23 11 bytes ≡ number_of (header_check (covered f)) =
-        ap (λ (t : List Bool). number_of (take 11 (drop 23 t))) bits ∙ ap number_of (check-at s.reserved f) in
+    ap (λ (t : List Bool). number_of (take 11 (drop 23 t))) bits ∙ ap number_of (check-at s.reserved f) in
     let front : take (length bytes - 3) bytes ≡ s.first ++ f.payload =
     ap (take (length bytes - 3)) s.parts ∙ take_at (s.first ++ f.payload) s.last (length bytes - 3)
-        (omega (arith, len, length-append s.first f.payload, s.first_len)) in
+    (omega (arith, len, length-append s.first f.payload, s.first_len)) in
     let back : drop (length bytes - 3) bytes ≡ s.last =
     ap (drop (length bytes - 3)) s.parts ∙ drop_at (s.first ++ f.payload) s.last (length bytes - 3)
-        (omega (arith, len, length-append s.first f.payload, s.first_len)) in
+    (omega (arith, len, length-append s.first f.payload, s.first_len)) in
     not_refused channel bytes (le-ltb _ _ (omega arith))
     (eq-eqb _ _ (omega (arith, len, words, s.payload_fits.even)))
     (eq-eqb _ _ (stored ∙ ap (λ (t : List Bool). number_of (header_check t)) (sym covered_bits)))
@@ -136,16 +149,16 @@ pub spelled_once : (f g : Fields) (channel : Channel) (bytes : List ℕ) → Spe
 spelled_once f g channel bytes s t =
     let e : header s.reserved f ≡ header t.reserved g = sym (bits-is f channel bytes s) ∙ bits-is g channel bytes t in
     let flags : s.reserved ∷ f.preamble ∷ f.has_data ∷ f.sync ∷ f.startup ∷ (bits_of 11 f.id ++ tail_of f)
-        ≡ t.reserved ∷ g.preamble ∷ g.has_data ∷ g.sync ∷ g.startup ∷ (bits_of 11 g.id ++ tail_of g) =
+    ≡ t.reserved ∷ g.preamble ∷ g.has_data ∷ g.sync ∷ g.startup ∷ (bits_of 11 g.id ++ tail_of g) =
     sym (header-is s.reserved f) ∙ e ∙ header-is t.reserved g in
     let preamble_same : f.preamble ≡ g.preamble = cc in
     let has_data_same : f.has_data ≡ g.has_data = cc in
     let sync_same : f.sync ≡ g.sync = cc in
     let startup_same : f.startup ≡ g.startup = cc in
     let id_same : f.id ≡ g.id = same_number 11 f.id g.id s.id_fits t.id_fits
-        (sym (id-at s.reserved f) ∙ ap (λ (h : List Bool). take 11 (drop 5 h)) e ∙ id-at t.reserved g) in
+    (sym (id-at s.reserved f) ∙ ap (λ (h : List Bool). take 11 (drop 5 h)) e ∙ id-at t.reserved g) in
     let cycle_same : f.cycle ≡ g.cycle = same_number 6 f.cycle g.cycle s.cycle_fits t.cycle_fits
-        (sym (cycle-at s.reserved f) ∙ ap (drop 34) e ∙ cycle-at t.reserved g) in
+    (sym (cycle-at s.reserved f) ∙ ap (drop 34) e ∙ cycle-at t.reserved g) in
     let payload_same : f.payload ≡ g.payload = sym (payload-is f channel bytes s) ∙ payload-is g channel bytes t in
     λ i. record {
       preamble = preamble_same i;

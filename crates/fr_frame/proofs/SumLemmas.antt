@@ -97,8 +97,10 @@ unfolding xor_front
 xor_front-sum_both [] xs ys same = refl
 xor_front-sum_both (m ∷ mask) [] ys same = refl
 xor_front-sum_both (m ∷ mask) (x ∷ xs) [] same = absurd (omega arith)
-xor_front-sum_both (m ∷ mask) (x ∷ xs) (y ∷ ys) same = rw (differ-twice m x y,
-    xor_front-sum_both mask xs ys (omega arith)) refl
+xor_front-sum_both (m ∷ mask) (x ∷ xs) (y ∷ ys) same = rw (
+  differ-twice m x y,
+  xor_front-sum_both mask xs ys (omega arith),
+) refl
 
 pub length-xor_front : (mask xs : List Bool) → length (xor_front mask xs) ≡ length xs
 unfolding xor_front
@@ -155,7 +157,7 @@ divide-sum d zero xs ys same = refl
 divide-sum d (suc n) xs ys same =
     ap (divide d n) (divide_once-sum d xs ys same)
     ∙ divide-sum d n (divide_once d xs) (divide_once d ys) (length-divide_once d xs ∙ ap (λ (k : ℕ). k - 1) same ∙ sym
-        (length-divide_once d ys))
+    (length-divide_once d ys))
 
 -- zeros before a message are divided away
 divide-zeros : (divisor : List Bool) (n : ℕ) (rest : List Bool) → divide divisor n (replicate n false ++ rest) ≡ rest
@@ -176,17 +178,17 @@ divide-more d (suc m) n bits =
 -- a message of two parts, each with zeros in the other's place
 message-parts : (front back after : List Bool) → front ++ (back ++ after)
     ≡ xor_bits (front ++ (replicate (length back) false ++ replicate (length after) false))
-        (replicate (length front) false ++ (back ++ after))
+    (replicate (length front) false ++ (back ++ after))
 message-parts front back after =
     let zeros = replicate (length back) false ++ replicate (length after) false in
     let high : xor_bits front (replicate (length front) false) ≡ front = xor_bits-zeros_r front (length front) refl in
     let both : length back + length after ≡ length (back ++ after) = sym (length-append back after) in
     let low : xor_bits zeros (back ++ after) ≡ back ++ after =
     ap (λ (t : List Bool). xor_bits t (back ++ after)) (sym (zeros-append (length back) (length after)) ∙ ap
-        (λ (n : ℕ). replicate n false) both)
+    (λ (n : ℕ). replicate n false) both)
     ∙ xor_bits-zeros_l (back ++ after) (length (back ++ after)) refl in
     sym (xor_bits-append front zeros (replicate (length front) false) (back ++ after)
-        (sym (length-replicate (length front) false))
+    (sym (length-replicate (length front) false))
     ∙ ap (λ (t : List Bool). t ++ xor_bits zeros (back ++ after)) high ∙ ap (λ (t : List Bool). front ++ t) low)
 
 parts_lengths : (front back after : List Bool) → length (front ++
@@ -207,25 +209,25 @@ parts_lengths front back after =
 -- what follows the front is divided after it
 divide-parts : (divisor front back after : List Bool) → divide divisor (length front) (front ++ (back ++ after))
     ≡ xor_bits (divide divisor (length front) (front ++
-        (replicate (length back) false ++ replicate (length after) false))) (back ++ after)
+    (replicate (length back) false ++ replicate (length after) false))) (back ++ after)
 divide-parts d front back after =
     let zeros = replicate (length back) false ++ replicate (length after) false in
     ap (divide d (length front)) (message-parts front back after)
     ∙ divide-sum d (length front) (front ++ zeros) (replicate (length front) false ++ (back ++ after))
-        (parts_lengths front back after)
+    (parts_lengths front back after)
     ∙ ap (xor_bits (divide d (length front) (front ++ zeros))) (divide-zeros d (length front) (back ++ after))
 
 pub left_by-append : (divisor : List Bool) (w : ℕ) (front back : List Bool)
     → left_by divisor w (front ++ back) ≡ xor_bits (left_by divisor w (front ++ replicate (length back) false))
-        (left_by divisor w back)
+    (left_by divisor w back)
 left_by-append d w front back =
     let after = replicate w false in
     let zeros = replicate (length back) false in
     let wide : replicate (length after) false ≡ after = ap (λ (n : ℕ). replicate n false) (length-replicate w false) in
     let sum : front ++ (back ++ after) ≡ xor_bits (front ++ (zeros ++ after))
-        (replicate (length front) false ++ (back ++ after)) =
+    (replicate (length front) false ++ (back ++ after)) =
     message-parts front back after ∙ ap (λ (t : List Bool). xor_bits (front ++ (zeros ++ t))
-        (replicate (length front) false ++ (back ++ after))) wide in
+    (replicate (length front) false ++ (back ++ after))) wide in
     let same : length (front ++ (zeros ++ after)) ≡ length (replicate (length front) false ++ (back ++ after)) =
     ap (λ (t : List Bool). length (front ++ (zeros ++ t))) (sym wide) ∙ parts_lengths front back after in
     let long : length (front ++ back) ≡ length front + length back = length-append front back in
@@ -234,16 +236,16 @@ left_by-append d w front back =
     ∙ divide-more d (length front) (length back) (replicate (length front) false ++ (back ++ after))
     ∙ ap (divide d (length back)) (divide-zeros d (length front) (back ++ after)) in
     let steps : length (front ++ back) ≡ length (front ++ zeros) =
-        long ∙ ap (λ (n : ℕ). length front + n) (sym (length-replicate (length back) false)) ∙ sym
-        (length-append front zeros) in
+    long ∙ ap (λ (n : ℕ). length front + n) (sym (length-replicate (length back) false)) ∙ sym
+    (length-append front zeros) in
     let high : divide d (length (front ++ back)) (front ++ (zeros ++ after)) ≡ left_by d w (front ++ zeros) =
     ap (λ (n : ℕ). divide d n (front ++ (zeros ++ after))) steps ∙ ap (divide d (length (front ++ zeros)))
-        (sym (append_assoc front zeros after)) in
+    (sym (append_assoc front zeros after)) in
     ap (divide d (length (front ++ back))) (append_assoc front back after ∙ sum)
     ∙ divide-sum d (length (front ++ back)) (front ++ (zeros ++ after))
-        (replicate (length front) false ++ (back ++ after)) same
+    (replicate (length front) false ++ (back ++ after)) same
     ∙ ap (λ (t : List Bool). xor_bits t (divide d (length (front ++ back))
-        (replicate (length front) false ++ (back ++ after)))) high
+    (replicate (length front) false ++ (back ++ after)))) high
     ∙ ap (xor_bits (left_by d w (front ++ zeros))) low
 
 -- zeros before a message change nothing
@@ -253,7 +255,7 @@ left_by-zeros d w n message =
     let after = replicate w false in
     let zeros = replicate n false in
     let long : length (zeros ++ message) ≡ n + length message =
-        length-append zeros message ∙ ap (λ (k : ℕ). k + length message) (length-replicate n false) in
+    length-append zeros message ∙ ap (λ (k : ℕ). k + length message) (length-replicate n false) in
     ap (divide d (length (zeros ++ message))) (append_assoc zeros message after)
     ∙ ap (λ (k : ℕ). divide d k (zeros ++ (message ++ after))) long
     ∙ divide-more d n (length message) (zeros ++ (message ++ after))
@@ -265,7 +267,7 @@ stepped_all-divided : (p register bits : List Bool) → length p ≡ length regi
     → stepped_all p register bits ≡ divided (true ∷ p) register bits
 stepped_all-divided p register bits same some =
     sym (ap (divided (true ∷ p) register) (sym (append-nil bits)) ∙ divided-bits p register bits [] same some
-        ∙ divided-none (true ∷ p) (stepped_all p register bits))
+    ∙ divided-none (true ∷ p) (stepped_all p register bits))
 
 -- it is xored onto the front of a message that is as long at the least
 pub stepped_all-long : (p register bits : List Bool) → length p ≡ length register → 0 < length register
@@ -304,7 +306,7 @@ length-xor_bits (x ∷ a) (y ∷ b) same = omega (arith, length-xor_bits a b (om
 pub stepped_all-short : (p high low bits : List Bool) → length p ≡ length (high ++ low) → 0 < length (high ++ low)
     → length high ≡ length bits
     → stepped_all p (high ++ low) bits ≡ xor_bits (left_by (true ∷ p) (length (high ++ low)) (xor_bits high bits))
-        (low ++ replicate (length bits) false)
+    (low ++ replicate (length bits) false)
 stepped_all-short p high low bits same some fits =
     let d = true ∷ p in
     let after = replicate (length bits) false in
@@ -312,14 +314,14 @@ stepped_all-short p high low bits same some fits =
     let size : length met ≡ length bits = length-xor_bits high bits fits in
     let wide : length (high ++ low) ≡ length low + length bits = length-append high low ∙ omega (arith, fits) in
     let zeros : replicate (length (high ++ low)) false ≡ replicate (length low) false ++ after =
-        ap (λ (n : ℕ). replicate n false) wide ∙ zeros-append (length low) (length bits) in
+    ap (λ (n : ℕ). replicate n false) wide ∙ zeros-append (length low) (length bits) in
     let same_after : replicate (length after) false ≡ after =
-        ap (λ (n : ℕ). replicate n false) (length-replicate (length bits) false) in
+    ap (λ (n : ℕ). replicate n false) (length-replicate (length bits) false) in
     stepped_all-divided p (high ++ low) bits same some
     ∙ ap (λ (t : List Bool). divide d (length bits) (xor_front (high ++ low) (bits ++ t))) zeros
     ∙ ap (divide d (length bits)) (xor_front-parts high low bits after fits)
     ∙ ap (λ (n : ℕ). divide d n (met ++ (low ++ after))) (sym size)
     ∙ divide-parts d met low after
     ∙ ap (λ (t : List Bool). xor_bits (divide d (length met) (met ++ (replicate (length low) false ++ t)))
-        (low ++ after)) same_after
+    (low ++ after)) same_after
     ∙ ap (λ (t : List Bool). xor_bits (divide d (length met) (met ++ t)) (low ++ after)) (sym zeros)

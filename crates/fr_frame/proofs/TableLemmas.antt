@@ -42,7 +42,7 @@ tables_at : (test : ℕ → ℕ → ℕ → Bool) (place : ℕ) (rows : List (Li
 tables_at test place [] i j d e pass row_lt lt = absurd (omega arith)
 tables_at test place (row ∷ rows) zero j d e pass row_lt lt =
     let parts = and_parts (eqb (length row) 256 && row_passes (test place) 0 row)
-        (rows_pass test (suc place) rows) pass in
+    (rows_pass test (suc place) rows) pass in
     let here = and_parts (eqb (length row) 256) (row_passes (test place) 0 row) parts.0 in
     let long : length row ≡ 256 = eqb-true (length row) 256 here.0 in
     let same : place + 0 ≡ place = omega arith in
@@ -51,10 +51,10 @@ tables_at test place (row ∷ rows) zero j d e pass row_lt lt =
     ∙ row_at (test place) 0 row j e here.1 (omega (arith, long))
 tables_at test place (row ∷ rows) (suc i) j d e pass row_lt lt =
     let parts = and_parts (eqb (length row) 256 && row_passes (test place) 0 row)
-        (rows_pass test (suc place) rows) pass in
+    (rows_pass test (suc place) rows) pass in
     let next : place + suc i ≡ suc place + i = omega arith in
     ap (λ (k : ℕ). test k j (get_or (get_or rows i d) j e)) next ∙ tables_at test (suc place) rows i j d e parts.1
-        (omega arith) lt
+    (omega arith) lt
 
 pub entry_passes : (test : ℕ → ℕ → ℕ → Bool) (rows : List (List ℕ)) (i j : ℕ) (d : List ℕ) (e : ℕ)
     → are_all test rows ≡ true
@@ -79,13 +79,13 @@ are_same-true (false ∷ xs) (false ∷ ys) h = ap (λ (t : List Bool). false �
 next_entry : (divisor : List Bool) (w a : ℕ) (bytes : List ℕ) (zeros k : ℕ) → k ≡ zeros + length bytes
     → left_by divisor w (bits_of_bytes (a ∷ bytes) ++ replicate (8 * zeros) false)
     ≡ xor_bits (left_by divisor w (bits_of 8 a ++ replicate (8 * k) false))
-        (left_by divisor w (bits_of_bytes bytes ++ replicate (8 * zeros) false))
+    (left_by divisor w (bits_of_bytes bytes ++ replicate (8 * zeros) false))
 next_entry d w a bytes zeros k is =
     let rest = bits_of_bytes bytes ++ replicate (8 * zeros) false in
     let long : length rest ≡ 8 * k = length-append (bits_of_bytes bytes) (replicate (8 * zeros) false) ∙ omega
-        (arith, length-bits_of_bytes bytes, length-replicate (8 * zeros) false, is) in
+    (arith, length-bits_of_bytes bytes, length-replicate (8 * zeros) false, is) in
     ap (left_by d w) (ap (λ (t : List Bool). t ++ replicate (8 * zeros) false) (flat_map-cons (bits_of 8) a bytes)
-        ∙ append_assoc (bits_of 8 a) (bits_of_bytes bytes) (replicate (8 * zeros) false))
+    ∙ append_assoc (bits_of 8 a) (bits_of_bytes bytes) (replicate (8 * zeros) false))
     ∙ left_by-append d w (bits_of 8 a) rest
     ∙ ap (λ (n : ℕ). xor_bits (left_by d w (bits_of 8 a ++ replicate n false)) (left_by d w rest)) long
 
@@ -103,7 +103,7 @@ bits_of-sum w m n a b m_is n_is = bits_of-xor w m n ∙ ap (λ (t : List Bool). 
 pub three_entries : (divisor : List Bool) (w a b c x y z : ℕ)
     → bits_of w x ≡ left_by divisor w (bits_of 8 a ++ replicate 16 false)
     → bits_of w y ≡ left_by divisor w (bits_of 8 b ++ replicate 8 false)
-        → bits_of w z ≡ left_by divisor w (bits_of 8 c ++ replicate 0 false)
+    → bits_of w z ≡ left_by divisor w (bits_of 8 c ++ replicate 0 false)
     → bits_of w (bit_xor (bit_xor x y) z) ≡ left_by divisor w (bits_of_bytes (a ∷ b ∷ c ∷ []))
 three_entries d w a b c x y z x_is y_is z_is =
     let xs = left_by d w (bits_of 8 a ++ replicate 16 false) in
@@ -120,24 +120,24 @@ three_entries d w a b c x y z x_is y_is z_is =
 pub four_entries : (divisor : List Bool) (w zeros a b c e u x y z : ℕ)
     → bits_of w u ≡ left_by divisor w (bits_of 8 a ++ replicate (8 * (zeros + 3)) false)
     → bits_of w x ≡ left_by divisor w (bits_of 8 b ++ replicate (8 * (zeros + 2)) false)
-        → bits_of w y ≡ left_by divisor w (bits_of 8 c ++ replicate (8 * (zeros + 1)) false)
+    → bits_of w y ≡ left_by divisor w (bits_of 8 c ++ replicate (8 * (zeros + 1)) false)
     → bits_of w z ≡ left_by divisor w (bits_of 8 e ++ replicate (8 * zeros) false)
     → bits_of w (bit_xor (bit_xor (bit_xor u x) y) z) ≡ left_by divisor w
-        (bits_of_bytes (a ∷ b ∷ c ∷ e ∷ []) ++ replicate (8 * zeros) false)
+    (bits_of_bytes (a ∷ b ∷ c ∷ e ∷ []) ++ replicate (8 * zeros) false)
 four_entries d w zeros a b c e u x y z u_is x_is y_is z_is =
     let us = left_by d w (bits_of 8 a ++ replicate (8 * (zeros + 3)) false) in
     let xs = left_by d w (bits_of 8 b ++ replicate (8 * (zeros + 2)) false) in
     let ys = left_by d w (bits_of 8 c ++ replicate (8 * (zeros + 1)) false) in
     let zs = left_by d w (bits_of 8 e ++ replicate (8 * zeros) false) in
     let sum = bits_of-sum w (bit_xor (bit_xor u x) y) z (xor_bits (xor_bits us xs) ys) zs
-        (bits_of-sum w (bit_xor u x) y (xor_bits us xs) ys (bits_of-sum w u x us xs u_is x_is) y_is) z_is in
+    (bits_of-sum w (bit_xor u x) y (xor_bits us xs) ys (bits_of-sum w u x us xs u_is x_is) y_is) z_is in
     sum
     ∙ xor_bits_assoc (xor_bits us xs) ys zs ∙ xor_bits_assoc us xs (xor_bits ys zs)
     ∙ sym (
     next_entry d w a (b ∷ c ∷ e ∷ []) zeros (zeros + 3) (omega arith)
     ∙ ap (xor_bits us) (next_entry d w b (c ∷ e ∷ []) zeros (zeros + 2) (omega arith)
     ∙ ap (xor_bits xs) (next_entry d w c (e ∷ []) zeros (zeros + 1) (omega arith) ∙ ap (xor_bits ys)
-        (last_entry d w e zeros)))
+    (last_entry d w e zeros)))
     )
 
 -- ---- the header CRC
@@ -163,19 +163,19 @@ header_met n fits =
     let long : length message ≡ 20 = length-bits_of 20 n in
     let low : bits_of 20 met ≡ xor_front initial message =
     ap (bits_of 20) (xor_comm n 13312) ∙ bits_of-xor 20 13312 n ∙ ap
-        (λ (t : List Bool). xor_bits t message) header_initial_bits
+    (λ (t : List Bool). xor_bits t message) header_initial_bits
     ∙ xor_bits-padded initial message 9 (omega (arith, wide, long)) in
     let bits : bits_of 24 met ≡ replicate 4 false ++ xor_front initial message =
     bits_of-split 4 20 met ∙ ap (λ (x : ℕ). bits_of 4 x ++ bits_of 20 met) none ∙ ap
-        (λ (t : List Bool). t ++ bits_of 20 met) no_bits_above
+    (λ (t : List Bool). t ++ bits_of 20 met) no_bits_above
     ∙ ap (λ (t : List Bool). replicate 4 false ++ t) low in
     ap (left_by header_divisor 11) (bits_of_bytes-high_first 3 met ∙ bits)
     ∙ left_by-zeros header_divisor 11 4 (xor_front initial message)
     ∙ ap (λ (k : ℕ). divide header_divisor k (xor_front initial message ++ after)) (length-xor_front initial message)
     ∙ ap (divide header_divisor (length message)) (sym
-        (xor_front-append initial message after (omega (arith, wide, long))))
+    (xor_front-append initial message after (omega (arith, wide, long))))
     ∙ ap (λ (k : ℕ). divide header_divisor (length message) (xor_front initial (message ++ replicate k false)))
-        (sym wide)
+    (sym wide)
 
 -- ---- the frame CRC's register
 
@@ -196,11 +196,11 @@ met_is r n word fits n_is four =
     let whole : r * 256 % 2 ^ 32 ≡ r * 256 + 0 = shl_whole r 24 8 32 fits (lit≤ tt) ∙ omega arith in
     let moved : bits_of 32 (r * 256 % 2 ^ 32) ≡ bits_of 24 r ++ replicate 8 false =
     ap (bits_of 32) whole ∙ bits_of-byte 24 r 0 (lit< tt) ∙ ap
-        (λ (t : List Bool). bits_of 24 r ++ t) one_byte_of_zeros in
+    (λ (t : List Bool). bits_of 24 r ++ t) one_byte_of_zeros in
     bits_of_bytes-high_first 4 (bit_xor (r * 256 % 2 ^ 32) n)
     ∙ bits_of-sum 32 (r * 256 % 2 ^ 32) n (bits_of 24 r ++ replicate 8 false) (bits_of_bytes word) moved n_is
     ∙ xor_bits-padded (bits_of 24 r) (bits_of_bytes word) 8 (omega
-        (arith, length-bits_of 24 r, length-bits_of_bytes word, four))
+    (arith, length-bits_of 24 r, length-bits_of_bytes word, four))
 
 pub word_bits : (n : ℕ) (word : List ℕ) → length word ≡ 4 → ((i : ℕ) → get_or word i 0 < 256)
     → n ≡ from_be_bytes w32 word → bits_of 32 n ≡ bits_of_bytes word
@@ -215,10 +215,10 @@ stretches_add d w zeros x y front back x_is y_is =
     let zero_bits = replicate (8 * zeros) false in
     let rest = bits_of_bytes back ++ zero_bits in
     let long : length rest ≡ 8 * (zeros + length back) = length-append (bits_of_bytes back) zero_bits ∙ omega
-        (arith, length-bits_of_bytes back, length-replicate (8 * zeros) false) in
+    (arith, length-bits_of_bytes back, length-replicate (8 * zeros) false) in
     let both : bits_of_bytes (front ++ back) ++ zero_bits ≡ bits_of_bytes front ++ rest =
     ap (λ (t : List Bool). t ++ zero_bits) (flat_map-append (bits_of 8) front back) ∙ append_assoc (bits_of_bytes front)
-        (bits_of_bytes back) zero_bits in
+    (bits_of_bytes back) zero_bits in
     bits_of-sum w x y (left_by d w (bits_of_bytes front ++ replicate (length rest) false)) (left_by d w rest)
     (x_is ∙ ap (λ (k : ℕ). left_by d w (bits_of_bytes front ++ replicate k false)) (sym long)) y_is
     ∙ sym (left_by-append d w (bits_of_bytes front) rest)
@@ -238,7 +238,7 @@ register_met p r n front back fits n_is four =
     let wide : length register ≡ 24 = length-bits_of 24 r in
     let both : bits_of_bytes (front ++ back) ≡ bits_of_bytes front ++ last = flat_map-append (bits_of 8) front back in
     ap (left_by d 24) (flat_map-append (bits_of 8) met back ∙ ap (λ (t : List Bool). t ++ last)
-        (met_is r n front fits n_is four)
+    (met_is r n front fits n_is four)
     ∙ sym (xor_front-append register (bits_of_bytes front) last (omega (arith, wide, first))))
     ∙ ap (λ (k : ℕ). left_by d k (xor_front register (bits_of_bytes front ++ last))) (sym wide)
     ∙ sym (stepped_all-long (bits_of 24 p) register (bits_of_bytes front ++ last) (length-polynomial p r) (some_bits r)
@@ -249,11 +249,11 @@ register_met p r n front back fits n_is four =
 pub block_steps : (p r n x : ℕ) (front back : List ℕ) → r < 2 ^ 24 → bits_of 32 n ≡ bits_of_bytes front
     → length front ≡ 4
     → bits_of 24 x ≡ left_by (true ∷ bits_of 24 p) 24 (bits_of_bytes
-        (to_be_bytes w32 (bit_xor (r * 256 % 2 ^ 32) n) ++ back) ++ replicate 0 false)
+    (to_be_bytes w32 (bit_xor (r * 256 % 2 ^ 32) n) ++ back) ++ replicate 0 false)
     → bits_of 24 x ≡ stepped_all (bits_of 24 p) (bits_of 24 r) (bits_of_bytes (front ++ back))
 block_steps p r n x front back fits n_is four x_is =
     x_is ∙ ap (left_by (true ∷ bits_of 24 p) 24) (append-nil
-        (bits_of_bytes (to_be_bytes w32 (bit_xor (r * 256 % 2 ^ 32) n) ++ back)))
+    (bits_of_bytes (to_be_bytes w32 (bit_xor (r * 256 % 2 ^ 32) n) ++ back)))
     ∙ register_met p r n front back fits n_is four
 
 -- the low sixteen bits, moved up by a byte
@@ -269,7 +269,7 @@ moved_fits r = omega (arith, moved_is r, mod_below r (2 ^ 16) (pow_pos 16))
 pub byte_steps : (p r byte x : ℕ) → r < 2 ^ 24 → bits_of 24 x ≡ left_by (true ∷ bits_of 24 p) 24
     (bits_of 8 (bit_xor (r / 2 ^ 16) byte) ++ replicate 0 false)
     → bits_of 24 (bit_xor x (bit_and r 65535 * 256 % 2 ^ 32)) ≡ stepped_all (bits_of 24 p) (bits_of 24 r)
-        (bits_of 8 byte)
+    (bits_of 8 byte)
 byte_steps p r byte x fits x_is =
     let d = true ∷ bits_of 24 p in
     let high = bits_of 8 (r / 2 ^ 16) in
@@ -287,9 +287,9 @@ byte_steps p r byte x fits x_is =
     ∙ ap (λ (t : List Bool). t ++ bits_of 8 0) (bits_of-mod 16 r) ∙ ap (λ (t : List Bool). low ++ t) one_byte_of_zeros
     ∙ ap (λ (k : ℕ). low ++ replicate k false) (sym eight) in
     bits_of-sum 24 x (bit_and r 65535 * 256 % 2 ^ 32) (left_by d (length (high ++ low)) (xor_bits high bits))
-        (low ++ replicate (length bits) false) entry rest
+    (low ++ replicate (length bits) false) entry rest
     ∙ sym (stepped_all-short (bits_of 24 p) high low bits (length-bits_of 24 p ∙ sym wide) (rw wide (lit< tt))
-        (length-bits_of 8 (r / 2 ^ 16) ∙ sym eight))
+    (length-bits_of 8 (r / 2 ^ 16) ∙ sym eight))
     ∙ ap (λ (t : List Bool). stepped_all (bits_of 24 p) t bits) (sym split)
 
 -- ---- blocks of a message
@@ -309,18 +309,18 @@ pub divided-next_block : (size : ℕ) (p register next : List Bool) (bytes : Lis
     → length p ≡ length register → 0 < length register
     → next ≡ stepped_all p register (bits_of_bytes (take size (drop (i * size) bytes)))
     → divided (true ∷ p) register (bits_of_bytes (drop (i * size) bytes)) ≡ total
-        → divided (true ∷ p) next (bits_of_bytes (drop ((i + 1) * size) bytes)) ≡ total
+    → divided (true ∷ p) next (bits_of_bytes (drop ((i + 1) * size) bytes)) ≡ total
 divided-next_block size p register next bytes i total same some e so_far =
     let left = drop (i * size) bytes in
     let more : i * size + size ≡ (i + 1) * size = omega arith in
     let rest : drop size left ≡ drop ((i + 1) * size) bytes =
-        drop-drop size (i * size) bytes ∙ ap (λ (n : ℕ). drop n bytes) more in
+    drop-drop size (i * size) bytes ∙ ap (λ (n : ℕ). drop n bytes) more in
     let cut : bits_of_bytes left ≡ bits_of_bytes (take size left) ++ bits_of_bytes (drop ((i + 1) * size) bytes) =
     ap bits_of_bytes (sym (take-append-drop size left)) ∙ flat_map-append (bits_of 8) (take size left) (drop size left)
     ∙ ap (λ (t : List ℕ). bits_of_bytes (take size left) ++ bits_of_bytes t) rest in
     ap (λ (r : List Bool). divided (true ∷ p) r (bits_of_bytes (drop ((i + 1) * size) bytes))) e
     ∙ sym (divided-bits p register (bits_of_bytes (take size left))
-        (bits_of_bytes (drop ((i + 1) * size) bytes)) same some)
+    (bits_of_bytes (drop ((i + 1) * size) bytes)) same some)
     ∙ ap (divided (true ∷ p) register) (sym cut)
     ∙ so_far
 
@@ -336,7 +336,7 @@ four_of (a ∷ b ∷ c ∷ d ∷ e ∷ xs) same = absurd (omega arith)
 
 pub eight_of : (xs : List ℕ) → length xs ≡ 8
     → xs ≡ (get_or xs 0 0 ∷ get_or xs 1 0 ∷ get_or xs 2 0 ∷ get_or xs 3 0 ∷ []) ++
-        (get_or xs 4 0 ∷ get_or xs 5 0 ∷ get_or xs 6 0 ∷ get_or xs 7 0 ∷ [])
+    (get_or xs 4 0 ∷ get_or xs 5 0 ∷ get_or xs 6 0 ∷ get_or xs 7 0 ∷ [])
 eight_of (a ∷ b ∷ c ∷ d ∷ xs) same =
     ap (λ (t : List ℕ). a ∷ b ∷ c ∷ d ∷ t) (four_of xs (omega arith))
 eight_of [] same = absurd (omega arith)
@@ -346,9 +346,9 @@ eight_of (a ∷ b ∷ c ∷ []) same = absurd (omega arith)
 
 pub sixteen_of : (xs : List ℕ) → length xs ≡ 16
     → xs ≡ (get_or xs 0 0 ∷ get_or xs 1 0 ∷ get_or xs 2 0 ∷ get_or xs 3 0 ∷ []) ++
-        ((get_or xs 4 0 ∷ get_or xs 5 0 ∷ get_or xs 6 0 ∷ get_or xs 7 0 ∷ [])
+    ((get_or xs 4 0 ∷ get_or xs 5 0 ∷ get_or xs 6 0 ∷ get_or xs 7 0 ∷ [])
     ++ ((get_or xs 8 0 ∷ get_or xs 9 0 ∷ get_or xs 10 0 ∷ get_or xs 11 0 ∷ []) ++
-        (get_or xs 12 0 ∷ get_or xs 13 0 ∷ get_or xs 14 0 ∷ get_or xs 15 0 ∷ [])))
+    (get_or xs 12 0 ∷ get_or xs 13 0 ∷ get_or xs 14 0 ∷ get_or xs 15 0 ∷ [])))
 sixteen_of (a ∷ b ∷ c ∷ d ∷ e ∷ f ∷ g ∷ h ∷ xs) same =
     ap (λ (t : List ℕ). a ∷ b ∷ c ∷ d ∷ e ∷ f ∷ g ∷ h ∷ t) (eight_of xs (omega arith))
 sixteen_of [] same = absurd (omega arith)

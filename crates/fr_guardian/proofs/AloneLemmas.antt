@@ -49,9 +49,15 @@ passing d w channel None opened static guarded h = absurd (cc)
 passing d w channel (Some plan) None static guarded h = absurd (cc)
 passing d w channel (Some plan) (Some slot) static guarded h =
     let watched : (is_static w && is_guarded d.guard channel) ≡ true =
-        ap (λ (b : Bool). b && is_guarded d.guard channel) static ∙ guarded in
-    record { plan = plan; slot = slot; found_is = refl; slot_is = refl; owned =
-        sym (ap (λ (b : Bool). not b || is_owned plan.owned slot channel w.cycle) watched) ∙ h }
+    ap (λ (b : Bool). b && is_guarded d.guard channel) static ∙ guarded in
+    record {
+      plan = plan;
+      slot = slot;
+      found_is = refl;
+      slot_is = refl;
+      owned =
+          sym (ap (λ (b : Bool). not b || is_owned plan.owned slot channel w.cycle) watched) ∙ h;
+    }
 
 -- an owner of a slot in a cycle is its sender then
 sender_if_owner : (d : Description) → IsCluster d → (cycle node : ℕ) (channel : Channel) (plan : Plan) (slot : ℕ)
@@ -60,8 +66,12 @@ sender_if_owner : (d : Description) → IsCluster d → (cycle node : ℕ) (chan
 sender_if_owner d lawful cycle node channel plan slot is owned =
     let of_node = each_at (IsNode d.params) d.plans node plan lawful.nodes_are is in
     let static = static_if_owned d.params plan slot channel cycle (faultless d.params plan of_node.1) owned in
-    record { plan = plan; at = is; sends = ap (λ (b : Bool). cond b (is_owned plan.owned slot channel cycle)
-        (list_any (sends_at slot channel cycle) plan.buffers)) static ∙ owned }
+    record {
+      plan = plan;
+      at = is;
+      sends = ap (λ (b : Bool). cond b (is_owned plan.owned slot channel cycle)
+          (list_any (sends_at slot channel cycle) plan.buffers)) static ∙ owned;
+    }
 
 -- an owner in a cycle of any number owns the slot in the cycle below 64 that has the same lines
 owned_below : (d : Description) → IsCluster d → (node : ℕ) (plan : Plan) (slot : ℕ) (channel : Channel) (cycle : ℕ)
@@ -81,9 +91,9 @@ passes_alone d lawful node w channel h static guarded other k =
     lawful.one_sender cycle here.slot channel other node (mod_below w.cycle 64 (omega arith))
     (subst (λ (slot : ℕ). IsSender d cycle slot channel other) same
     (sender_if_owner d lawful cycle other channel there.plan there.slot there.found_is
-        (owned_below d lawful other there.plan there.slot channel w.cycle there.found_is there.owned)))
+    (owned_below d lawful other there.plan there.slot channel w.cycle there.found_is there.owned)))
     (sender_if_owner d lawful cycle node channel here.plan here.slot here.found_is
-        (owned_below d lawful node here.plan here.slot channel w.cycle here.found_is here.owned))
+    (owned_below d lawful node here.plan here.slot channel w.cycle here.found_is here.owned))
 
 -- a node whose transmission passes in a guarded static slot is the slot's sender in the window's cycle
 pub passing_sends : (d : Description) → IsCluster d → (node slot : ℕ) (w : Opportunity) (channel : Channel)
@@ -93,7 +103,7 @@ passing_sends d lawful node slot w channel static guarded opened h =
     let here = passing d w channel (slice_get d.plans node) (slot_of w channel) static guarded h in
     let same : here.slot ≡ slot = (let a = here.slot_is in cc) in
     subst (λ (n : ℕ). IsSender d w.cycle n channel node) same
-        (sender_if_owner d lawful w.cycle node channel here.plan here.slot here.found_is here.owned)
+    (sender_if_owner d lawful w.cycle node channel here.plan here.slot here.found_is here.owned)
 
 or_true : (b : Bool) → (b || true) ≡ true
 or_true true = refl

@@ -121,7 +121,7 @@ behind_place p m from =
 
 never_open : (guarded : Bool) (owned : List Own) (cycle : ℕ) (channel : Channel) (place other : Place) → place ≡ other
     → is_open guarded owned cycle channel (part_of other) ≡ false
-        → is_open guarded owned cycle channel (part_of place) ≡ true → ⊥
+    → is_open guarded owned cycle channel (part_of place) ≡ true → ⊥
 never_open guarded owned cycle channel place other same closed opens =
     let there = subst (λ (x : Place). is_open guarded owned cycle channel (part_of x) ≡ true) same opens in
     cc
@@ -151,13 +151,17 @@ next_slot earlier size = omega arith
 module _ (p : Parameters) (lawful : IsParameters p) (guarded : Bool) (owned : List Own) (cycle : ℕ)
     (channel : Channel) where
   pub found_none : IsFound p guarded owned cycle channel 0 (0 * p.static_mt) []
-  found_none = record { below = none_below (IsOpenTo p guarded owned cycle channel); ordered = omega arith; inside =
-      λ m from before. absurd (omega arith) }
+  found_none = record {
+    below = none_below (IsOpenTo p guarded owned cycle channel);
+    ordered = omega arith;
+    inside =
+        λ m from before. absurd (omega arith);
+  }
 
   pub found_open : (earlier since : ℕ) (xs : List Span) → earlier < p.static_slots
       → IsFound p guarded owned cycle channel since (earlier * p.static_mt) xs
       → is_open guarded owned cycle channel (static_slot (earlier + 1)) ≡ true
-          → IsFound p guarded owned cycle channel since ((earlier + 1) * p.static_mt) xs
+      → IsFound p guarded owned cycle channel since ((earlier + 1) * p.static_mt) xs
   found_open earlier since xs below h opens =
       record {
         below = h.below;
@@ -174,7 +178,7 @@ module _ (p : Parameters) (lawful : IsParameters p) (guarded : Bool) (owned : Li
       → IsFound p guarded owned cycle channel since (earlier * p.static_mt) xs
       → is_open guarded owned cycle channel (static_slot (earlier + 1)) ≡ false
       → IsFound p guarded owned cycle channel (earlier * p.static_mt + p.static_mt) ((earlier + 1) * p.static_mt)
-          (xs ++ run since (earlier * p.static_mt))
+      (xs ++ run since (earlier * p.static_mt))
   found_closed earlier since xs below h closed =
       record {
         below = closed_below (IsOpenTo p guarded owned cycle channel) xs since (earlier * p.static_mt)
@@ -188,7 +192,7 @@ module _ (p : Parameters) (lawful : IsParameters p) (guarded : Bool) (owned : Li
   pub found_all : (since : ℕ) (xs : List Span) → IsFound p guarded owned cycle channel since
       (p.static_slots * p.static_mt) xs
       → AreMaximalIntervals (IsOpenTo p guarded owned cycle channel)
-          (xs ++ run since (p.static_slots * p.static_mt + p.minislots * p.minislot_mt))
+      (xs ++ run since (p.static_slots * p.static_mt + p.minislots * p.minislot_mt))
   found_all since xs h =
       closed_last (IsOpenTo p guarded owned cycle channel) xs since (symbol_start p) h.below (omega (arith, h.ordered))
       (λ m from before.
@@ -202,22 +206,22 @@ module _ (p : Parameters) (lawful : IsParameters p) (guarded : Bool) (owned : Li
   pub step_open : (size earlier since : ℕ) (xs : List Span) → size ≡ p.static_mt → earlier < p.static_slots
       → IsFound p guarded owned cycle channel since (earlier * size) xs
       → is_open guarded owned cycle channel (static_slot (earlier + 1)) ≡ true
-          → IsFound p guarded owned cycle channel since ((earlier + 1) * size) xs
+      → IsFound p guarded owned cycle channel since ((earlier + 1) * size) xs
   step_open size earlier since xs is below h opens =
       subst (λ n. IsFound p guarded owned cycle channel since ((earlier + 1) * n) xs) (sym is)
       (found_open earlier since xs below (subst (λ n. IsFound p guarded owned cycle channel since (earlier * n) xs) is
-          h) opens)
+      h) opens)
 
   pub step_closed : (size earlier since : ℕ) (xs : List Span) → size ≡ p.static_mt → earlier < p.static_slots
       → IsFound p guarded owned cycle channel since (earlier * size) xs
       → is_open guarded owned cycle channel (static_slot (earlier + 1)) ≡ false
       → IsFound p guarded owned cycle channel (earlier * size + size) ((earlier + 1) * size)
-          (xs ++ run since (earlier * size))
+      (xs ++ run since (earlier * size))
   step_closed size earlier since xs is below h closed =
       subst (λ n. IsFound p guarded owned cycle channel (earlier * n + n) ((earlier + 1) * n)
-          (xs ++ run since (earlier * n))) (sym is)
+      (xs ++ run since (earlier * n))) (sym is)
       (found_closed earlier since xs below (subst (λ n. IsFound p guarded owned cycle channel since (earlier * n) xs) is
-          h) closed)
+      h) closed)
 
   pub step_last : (size slots since end : ℕ) (xs : List Span) → size ≡ p.static_mt → slots ≡ p.static_slots
       → end ≡ symbol_start p → IsFound p guarded owned cycle channel since (slots * size) xs
@@ -232,7 +236,7 @@ pub same_found : (p : Parameters) (guarded : Bool) (owned : List Own) (cycle : �
     → IsFound p guarded owned cycle channel other upto ys → IsFound p guarded owned cycle channel since upto xs
 same_found p guarded owned cycle channel since other upto xs ys a b h =
     subst (λ n. IsFound p guarded owned cycle channel n upto xs) (sym a)
-        (subst (λ (zs : List Span). IsFound p guarded owned cycle channel other upto zs) (sym b) h)
+    (subst (λ (zs : List Span). IsFound p guarded owned cycle channel other upto zs) (sym b) h)
 
 -- ---- the slots that a node owns
 
@@ -248,7 +252,7 @@ owned_none owned cycle channel slots none is = record {
 
 any_more : (owned : List Own) (own : Own) (slot : ℕ) (channel : Channel) (cycle : ℕ)
     → is_owned (owned ++ own ∷ []) slot channel cycle ≡ (is_owned owned slot channel cycle
-        || claims slot channel cycle own)
+    || claims slot channel cycle own)
 any_more [] own slot channel cycle = or_none (claims slot channel cycle own)
   where
     or_none : (b : Bool) → (b || false) ≡ b
@@ -276,7 +280,7 @@ other_slot : (own : Own) (slot : ℕ) (channel : Channel) (cycle : ℕ) → (slo
 other_slot own slot channel cycle other =
     false_from_ne_true (claims slot channel cycle own) (λ pass.
     let (front, in_cycle) = and_parts (own.slot == slot && includes own.channels channel)
-        (cycle_admitted own.cycles cycle) pass in
+    (cycle_admitted own.cycles cycle) pass in
     let (same, includes_it) = and_parts (own.slot == slot) (includes own.channels channel) front in
     other (sym (eqb-true own.slot slot same)))
 
@@ -289,7 +293,7 @@ owned_apart owned own cycle channel slots h apart = record {
   each = λ slot below.
       h.each slot below
       ∙ sym (any_more owned own slot channel cycle ∙ or_nothing (is_owned owned slot channel cycle)
-          (claims slot channel cycle own) (unclaimed slot));
+      (claims slot channel cycle own) (unclaimed slot));
 }
   where
     unclaimed : (slot : ℕ) → claims slot channel cycle own ≡ false
@@ -302,7 +306,7 @@ owned_apart owned own cycle channel slots h apart = record {
 pub owned_more : (owned : List Own) (own : Own) (cycle : ℕ) (channel : Channel) (slots : List Bool)
     → AreOwnedSlots owned cycle channel slots
     → claims own.slot channel cycle own ≡ true → own.slot < 2048
-        → AreOwnedSlots (owned ++ own ∷ []) cycle channel (set slots own.slot true)
+    → AreOwnedSlots (owned ++ own ∷ []) cycle channel (set slots own.slot true)
 owned_more owned own cycle channel slots h claimed within = record {
   size = length-set slots own.slot true ∙ h.size;
   each = λ slot below.
@@ -312,13 +316,13 @@ owned_more owned own cycle channel slots h claimed within = record {
             ∙ get_or-set_same slots own.slot true false (omega (arith, h.size, within))
             ∙ sym (any_more owned own slot channel cycle
             ∙ or_one (is_owned owned slot channel cycle) (claims slot channel cycle own)
-                (ap (λ k. claims k channel cycle own) same ∙ claimed))
+            (ap (λ k. claims k channel cycle own) same ∙ claimed))
         | inr other ↦
             get_or-set_other slots own.slot slot true false other
             ∙ h.each slot below
             ∙ sym (any_more owned own slot channel cycle
             ∙ or_nothing (is_owned owned slot channel cycle) (claims slot channel cycle own)
-                (other_slot own slot channel cycle other))
+            (other_slot own slot channel cycle other))
       ];
 }
 
@@ -326,6 +330,6 @@ owned_more owned own cycle channel slots h claimed within = record {
 pub open_by_slots : (owned : List Own) (cycle : ℕ) (channel : Channel) (slots : List Bool) (guarded : Bool) (number : ℕ)
     → AreOwnedSlots owned cycle channel slots
     → number < 2048 → (not guarded || get_or slots number false) ≡ is_open guarded owned cycle channel
-        (static_slot number)
+    (static_slot number)
 open_by_slots owned cycle channel slots guarded number h below =
     ap (λ (b : Bool). not guarded || b) (h.each number below)

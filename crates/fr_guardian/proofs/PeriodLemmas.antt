@@ -49,26 +49,28 @@ AreWithin most owned = Each (λ own. own.cycles.repetition ≤ most) owned
 
 claims_again : (most : ℕ) → is_repetition most ≡ true → (own : Own) → IsOwn own → own.cycles.repetition ≤ most
     → (slot : ℕ) (channel : Channel) (cycle : ℕ) → claims slot channel (cycle % most) own ≡ claims slot channel cycle
-        own
+    own
 claims_again most is own lawful within slot channel cycle =
     ap (λ rest. own.slot == slot && includes own.channels channel && (rest == own.cycles.base))
     (mod-mod_of_dvd own.cycles.repetition cycle
     (dvd_of_mod-eq-zero own.cycles.repetition (no_rest most own.cycles.repetition is lawful.cycles_are.repetition_is
-        within)))
+    within)))
 
 pub owned_again : (most : ℕ) → is_repetition most ≡ true → (owned : List Own) → Each IsOwn owned → AreWithin most owned
     → (slot : ℕ) (channel : Channel) (cycle : ℕ) → is_owned owned slot channel (cycle % most) ≡ is_owned owned slot
-        channel cycle
+    channel cycle
 owned_again most is [] lawful within slot channel cycle = refl
 owned_again most is (own ∷ owned) lawful within slot channel cycle =
     ap (λ b. b || is_owned owned slot channel (cycle % most))
-        (claims_again most is own lawful.0 within.0 slot channel cycle)
+    (claims_again most is own lawful.0 within.0 slot channel cycle)
     ∙ ap (λ b. claims slot channel cycle own || b) (owned_again most is owned lawful.1 within.1 slot channel cycle)
 
 pub within_64 : (owned : List Own) → Each IsOwn owned → AreWithin 64 owned
 within_64 [] lawful = tt
-within_64 (own ∷ owned) lawful = (at_most_64 own.cycles.repetition lawful.0.cycles_are.repetition_is,
-    within_64 owned lawful.1)
+within_64 (own ∷ owned) lawful = (
+  at_most_64 own.cycles.repetition lawful.0.cycles_are.repetition_is,
+  within_64 owned lawful.1,
+)
 
 -- ---- the period
 

@@ -36,7 +36,7 @@ use Rattle.fr_timing.specs.Layout.{Part, static_slot, minislot, symbol_window, i
 same_open : (most : ℕ) → is_repetition most ≡ true → (guarded : Bool) (owned : List Own) → Each IsOwn owned
     → AreWithin most owned
     → (cycle : ℕ) (channel : Channel) (part : Part) → is_open guarded owned (cycle % most) channel part ≡ is_open
-        guarded owned cycle channel part
+    guarded owned cycle channel part
 same_open most is guarded owned lawful within cycle channel (static_slot slot) =
     ap (λ (b : Bool). not guarded || b) (owned_again most is owned lawful within slot channel cycle)
 same_open most is guarded owned lawful within cycle channel (minislot number) = refl
@@ -52,17 +52,21 @@ lines_are d lawful node plan is = (each_at (IsNode d.params) d.plans node plan l
 pub node_windows : (d : Description) → IsCluster d → (node cycle : ℕ) (channel : Channel) (plan : Plan)
     (spans : List Span) → slice_get d.plans node ≡ Some plan
     → AreMaximalIntervals (IsOpenTo d.params (is_guarded d.guard channel) plan.owned
-        (cycle % period plan.owned) channel) spans
+    (cycle % period plan.owned) channel) spans
     → AreMaximalIntervals (IsOpenMacrotick d node cycle channel) spans
 node_windows d lawful node cycle channel plan spans is h =
     same_set (IsOpenTo d.params (is_guarded d.guard channel) plan.owned (cycle % period plan.owned) channel)
-        (IsOpenMacrotick d node cycle channel) spans
-    (λ n opens. record { plan = plan; of_node = is; open_to =
-        record { place = opens.place; at = opens.at; opens = there (part_of opens.place) opens.opens } })
+    (IsOpenMacrotick d node cycle channel) spans
+    (λ n opens. record {
+      plan = plan;
+      of_node = is;
+      open_to =
+          record { place = opens.place; at = opens.at; opens = there (part_of opens.place) opens.opens };
+    })
     (λ n opens.
     let same_plan : opens.plan ≡ plan = (let a = opens.of_node in cc) in
     let opened = subst (λ (x : Plan). IsOpenTo d.params (is_guarded d.guard channel) x.owned cycle channel n) same_plan
-        opens.open_to in
+    opens.open_to in
     record { place = opened.place; at = opened.at; opens = back (part_of opened.place) opened.opens })
     h
   where
@@ -121,24 +125,24 @@ some_rows d posts node post channel h is =
 pub windows_at : (d : Description) → IsCluster d → (posts : List Post) (node cycle : ℕ) (post : Post)
     (channel : Channel) (spans : List Span) → ArePosts d posts
     → slice_get posts node ≡ Some post → IsRowAt (rows_on post channel) cycle spans
-        → AreMaximalIntervals (IsOpenMacrotick d node cycle channel) spans
+    → AreMaximalIntervals (IsOpenMacrotick d node cycle channel) spans
 windows_at d lawful posts node cycle post channel spans h is row =
     let w = at_node d posts node post h is in
     let rows = rows_are d post channel w.post_is in
     let guarded = is_guarded d.guard channel in
     let here = subst (λ n. AreMaximalIntervals (IsOpenTo d.params guarded post.plan.owned (cycle % n) channel)
-        row.row.items) rows.size
+    row.row.items) rows.size
     (rows.each (cycle % length (rows_on post channel)) row.row row.at) in
     node_windows d lawful node cycle channel post.plan spans w.plan_is
     (subst (λ (xs : List Span). AreMaximalIntervals (IsOpenTo d.params guarded post.plan.owned
-        (cycle % period post.plan.owned) channel) xs) row.spans_are here)
+    (cycle % period post.plan.owned) channel) xs) row.spans_are here)
 
 pub windows_none : (d : Description) (posts : List Post) (node cycle : ℕ) (channel : Channel) → ArePosts d posts
     → slice_get posts node ≡ None
     → AreMaximalIntervals (IsOpenMacrotick d node cycle channel) []
 windows_none d posts node cycle channel h is =
     no_windows d node cycle channel (ap (λ (xs : List Plan). slice_get xs node) (sym h.plans_are) ∙ slice_get-map
-        (λ (x : Post). x.plan) posts node ∙ ap (option_map (λ (x : Post). x.plan)) is)
+    (λ (x : Post). x.plan) posts node ∙ ap (option_map (λ (x : Post). x.plan)) is)
 
 -- ---- rows, one cycle after another
 
@@ -156,7 +160,7 @@ rows_none p guarded owned channel = record { size = refl; each = λ cycle row at
 pub rows_more : (p : Parameters) (guarded : Bool) (owned : List Own) (channel : Channel) (count : ℕ) (rows : List Row)
     (row : Row)
     → AreFirstRows p guarded owned channel count rows → AreMaximalIntervals (IsOpenTo p guarded owned count channel)
-        row.items
+    row.items
     → AreFirstRows p guarded owned channel (count + 1) (rows ++ row ∷ [])
 rows_more p guarded owned channel count rows row h this = record {
   size = length_push rows row ∙ ap (λ n. n + 1) h.size;
@@ -188,7 +192,7 @@ plan_of post = post.plan
 -- the greatest repetition of so many posts
 pub cycles_more : (posts : List Post) (post : Post)
     → period (all_owned (map plan_of (posts ++ post ∷ []))) ≡ max (period post.plan.owned)
-        (period (all_owned (map plan_of posts)))
+    (period (all_owned (map plan_of posts)))
 cycles_more posts post =
     ap (λ (plans : List Plan). period (all_owned plans)) (map-append plan_of posts (post ∷ []))
     ∙ ap period (flat_map-append (λ (plan : Plan). plan.owned) (map plan_of posts) (post.plan ∷ []))
@@ -204,11 +208,11 @@ within_all (first ∷ plans) zero plan is =
     subst (λ (x : Plan). AreWithin (period (first.owned ++ all_owned plans)) x.owned) (same_Some first plan is)
     (subst (λ n. AreWithin n first.owned) (sym (period-append first.owned (all_owned plans)))
     (within_more (period first.owned) _ (le-max_left (period first.owned) (period (all_owned plans))) first.owned
-        (within_period first.owned)))
+    (within_period first.owned)))
 within_all (first ∷ plans) (suc node) plan is =
     subst (λ n. AreWithin n plan.owned) (sym (period-append first.owned (all_owned plans)))
     (within_more (period (all_owned plans)) _ (le-max_right (period first.owned) (period (all_owned plans))) plan.owned
-        (within_all plans node plan is))
+    (within_all plans node plan is))
 
 Each-append : {X : Type 0} (P : X → Type 0) (xs ys : List X) → Each P xs → Each P ys → Each P (xs ++ ys)
 Each-append P [] ys px py = py
@@ -245,10 +249,10 @@ opens_again d lawful most is node cycle macrotick channel = (
   where
     same : (plan : Plan) → slice_get d.plans node ≡ Some plan → (part : Part)
         → is_open (is_guarded d.guard channel) plan.owned (cycle % most) channel part ≡ is_open
-            (is_guarded d.guard channel) plan.owned cycle channel part
+        (is_guarded d.guard channel) plan.owned cycle channel part
     same plan at =
         same_open most (subst (λ n. is_repetition n ≡ true) (sym is)
-            (period_is (all_owned d.plans) (all_lines d.params d.plans lawful.nodes_are)))
+        (period_is (all_owned d.plans) (all_lines d.params d.plans lawful.nodes_are)))
         (is_guarded d.guard channel) plan.owned (lines_are d lawful node plan at)
         (subst (λ n. AreWithin n plan.owned) (sym is) (within_all d.plans node plan at)) cycle channel
 
@@ -299,5 +303,8 @@ pub made_lawful : (g : Inside) (d : Description) → IsCluster d → g.params �
     → ArePosts d g.posts.items → IsLawful g
 made_lawful g d cluster params guard posts =
     let same : d ≡ description_in g = made_same g d params guard posts.plans_are in
-    record { cluster = subst IsCluster same cluster; each = subst (λ (x : Description). All (IsPost x) g.posts.items)
-        same posts.each }
+    record {
+      cluster = subst IsCluster same cluster;
+      each = subst (λ (x : Description). All (IsPost x) g.posts.items)
+          same posts.each;
+    }

@@ -51,13 +51,22 @@ module _ (In : ℕ → Type 0) (x : Span) (xs : List Span) (h : AreMaximalInterv
         covers = λ n in_set.
             elim (placed x xs n (h.covers n in_set.0)) [
               | in_first from before ↦ absurd (omega (arith, in_set.1))
-              | in_later span of_list from before ↦ record { span = span; of_list = of_list; from_start = from;
-                  before_end = before }
+              | in_later span of_list from before ↦ record {
+                span = span;
+                of_list = of_list;
+                from_start = from;
+                before_end = before;
+              }
             ];
         covers_only = λ n covered. (
-          h.covers_only n (record { span = covered.span; of_list =
-              (suc covered.of_list.0, omega (arith, covered.of_list.1), covered.of_list.2); from_start =
-              covered.from_start; before_end = covered.before_end }),
+          h.covers_only n (record {
+            span = covered.span;
+            of_list =
+                (suc covered.of_list.0, omega (arith, covered.of_list.1), covered.of_list.2);
+            from_start =
+                covered.from_start;
+            before_end = covered.before_end;
+          }),
           omega (arith, later covered.span covered.of_list, covered.from_start),
         );
       }

@@ -56,9 +56,9 @@ module _ (xs : List Span) (not_empty : All (λ (x : Span). x.0 < x.1) xs)
     is_last h =
         let (i, below, is) = h.of_list in
         let from : (get_or xs i (0, 0)).0 ≤ n = subst (λ (x : Span). x.0 ≤ n)
-            (sym is ∙ get_or_default xs i _ (0, 0) below) h.from_start in
+        (sym is ∙ get_or_default xs i _ (0, 0) below) h.from_start in
         let before : n < (get_or xs i (0, 0)).1 = subst (λ (x : Span). n < x.1)
-            (sym is ∙ get_or_default xs i _ (0, 0) below) h.before_end in
+        (sym is ∙ get_or_default xs i _ (0, 0) below) h.before_end in
         let within : i < k =
         elim (cases_lt i k) [
           | inl less ↦ less
@@ -76,8 +76,10 @@ module _ (xs : List Span) (not_empty : All (λ (x : Span). x.0 < x.1) xs)
     found_some some = (λ yes. covered_last some (ltb-true n _ yes), λ covered. lt-ltb n _ (is_last covered).before)
 
     pub found_none : k ≤ 0 → IsTrue (nat_lt 0 k) ↔ IsCovered xs n
-    found_none none = (λ yes. absurd (let some = ltb-true 0 k yes in omega (arith, some, none)),
-        λ covered. lt-ltb 0 k (is_last covered).some)
+    found_none none = (
+      λ yes. absurd (let some = ltb-true 0 k yes in omega (arith, some, none)),
+      λ covered. lt-ltb 0 k (is_last covered).some,
+    )
 
 -- ---- a slot that is open from its first macrotick on
 
@@ -88,14 +90,14 @@ or_owned false = refl
 pub within_if_owned : (p : Parameters) → IsParameters p → (owned : List Own) (cycle : ℕ) (channel : Channel) (slot : ℕ)
     (spans : List Span) (answer : Bool)
     → (is_owned owned slot channel cycle ≡ true → is_static_slot p slot ≡ true)
-        → AreMaximalIntervals (IsOpenTo p true owned cycle channel) spans
+    → AreMaximalIntervals (IsOpenTo p true owned cycle channel) spans
     → IsSlotWithin p spans slot answer → answer ≡ is_owned owned slot channel cycle
 within_if_owned p lawful owned cycle channel slot spans answer only_static maximal h =
     elim (cases_Bool (is_owned owned slot channel cycle)) [
       | inl owns ↦
           (let static = only_static owns in
           let here = slot_open p lawful true owned cycle channel (slot - 1) (below static)
-              (ap (λ (s : ℕ). not true || is_owned owned s channel cycle) slot_is ∙ or_owned _ ∙ owns)
+          (ap (λ (s : ℕ). not true || is_owned owned s channel cycle) slot_is ∙ or_owned _ ∙ owns)
           ((slot - 1) * p.static_mt) (omega arith) (omega (arith, lawful.static_mt_fit.from_least)) in
           h.tells.1 (static, maximal.covers ((slot - 1) * p.static_mt) here) ∙ sym owns)
       | inr not_owned ↦
@@ -104,7 +106,7 @@ within_if_owned p lawful owned cycle channel slot spans answer only_static maxim
           let (static, covered) = h.tells.0 yes in
           let opens = maximal.covers_only ((slot - 1) * p.static_mt) covered in
           slot_closed p true owned cycle channel (slot - 1) (below static)
-              (ap (λ (s : ℕ). not true || is_owned owned s channel cycle) slot_is ∙ or_owned _ ∙ not_owned)
+          (ap (λ (s : ℕ). not true || is_owned owned s channel cycle) slot_is ∙ or_owned _ ∙ not_owned)
           ((slot - 1) * p.static_mt) (omega arith) (omega (arith, lawful.static_mt_fit.from_least)) opens)
           ∙ sym not_owned
     ]
@@ -119,15 +121,15 @@ within_if_owned p lawful owned cycle channel slot spans answer only_static maxim
 pub passes_found : (d : Description) → IsCluster d → (node : ℕ) (w : Opportunity) (channel : Channel) (plan : Plan)
     (slot : ℕ) (spans : List Span) (answer : Bool)
     → slice_get d.plans node ≡ Some plan → slot_of w channel ≡ Some slot
-        → (is_static w && is_guarded d.guard channel) ≡ true
+    → (is_static w && is_guarded d.guard channel) ≡ true
     → AreMaximalIntervals (IsOpenMacrotick d node w.cycle channel) spans → IsSlotWithin d.params spans slot answer
-        → answer ≡ passes d node w channel
+    → answer ≡ passes d node w channel
 passes_found d lawful node w channel plan slot spans answer at opened watched maximal h =
     within_if_owned d.params lawful.params_are plan.owned w.cycle channel slot spans answer
     (λ owns. static_if_owned d.params plan slot channel w.cycle
-        (faultless d.params plan (each_at (IsNode d.params) d.plans node plan lawful.nodes_are at).1) owns)
+    (faultless d.params plan (each_at (IsNode d.params) d.plans node plan lawful.nodes_are at).1) owns)
     (same_set (IsOpenMacrotick d node w.cycle channel) (IsOpenTo d.params true plan.owned w.cycle channel) spans there
-        back maximal)
+    back maximal)
     h
     ∙ sym (ap (λ (o : Option Plan). passes_in d w channel o (slot_of w channel)) at
     ∙ ap (passes_in d w channel (Some plan)) opened
@@ -141,8 +143,12 @@ passes_found d lawful node w channel plan slot spans answer at opened watched ma
         let same : opens.plan ≡ plan = (let a = opens.of_node in cc) in
         subst (λ (b : Bool). IsOpenTo d.params b plan.owned w.cycle channel n) guarded
         (subst (λ (x : Plan). IsOpenTo d.params (is_guarded d.guard channel) x.owned w.cycle channel n) same
-            opens.open_to)
+        opens.open_to)
 
     back : (n : ℕ) → IsOpenTo d.params true plan.owned w.cycle channel n → IsOpenMacrotick d node w.cycle channel n
-    back n opens = record { plan = plan; of_node = at; open_to =
-        subst (λ (b : Bool). IsOpenTo d.params b plan.owned w.cycle channel n) (sym guarded) opens }
+    back n opens = record {
+      plan = plan;
+      of_node = at;
+      open_to =
+          subst (λ (b : Bool). IsOpenTo d.params b plan.owned w.cycle channel n) (sym guarded) opens;
+    }

@@ -22,12 +22,22 @@ abbrev pub NoneIn : (ℕ → Type 0) → ℕ → ℕ → Type 0
 NoneIn In start end = (n : ℕ) → start ≤ n → n < end → In n → ⊥
 
 covered_left : (xs ys : List Span) (n : ℕ) → IsCovered xs n → IsCovered (xs ++ ys) n
-covered_left xs ys n h = record { span = h.span; of_list = Contains-append_left xs ys h.span h.of_list; from_start =
-    h.from_start; before_end = h.before_end }
+covered_left xs ys n h = record {
+  span = h.span;
+  of_list = Contains-append_left xs ys h.span h.of_list;
+  from_start =
+      h.from_start;
+  before_end = h.before_end;
+}
 
 covered_last : (xs : List Span) (x : Span) (n : ℕ) → x.0 ≤ n → n < x.1 → IsCovered (xs ++ x ∷ []) n
-covered_last xs x n from before = record { span = x; of_list = Contains-push xs x; from_start = from; before_end =
-    before }
+covered_last xs x n from before = record {
+  span = x;
+  of_list = Contains-push xs x;
+  from_start = from;
+  before_end =
+      before;
+}
 
 record IsWithin (x : Span) (n : ℕ) : Type 0 where
   from_start : x.0 ≤ n
@@ -36,11 +46,19 @@ record IsWithin (x : Span) (n : ℕ) : Type 0 where
 covered_cases : (xs : List Span) (x : Span) (n : ℕ) → IsCovered (xs ++ x ∷ []) n → IsCovered xs n ⊎ IsWithin x n
 covered_cases xs x n h =
     elim (Contains-push_cases xs x h.span h.of_list) [
-      | inl before ↦ inl (record { span = h.span; of_list = before; from_start = h.from_start; before_end =
-          h.before_end })
+      | inl before ↦ inl (record {
+        span = h.span;
+        of_list = before;
+        from_start = h.from_start;
+        before_end =
+            h.before_end;
+      })
       | inr here ↦
-          inr (record { from_start = subst (λ (y : Span). y.0 ≤ n) (sym here) h.from_start; before_end =
-              subst (λ (y : Span). n < y.1) (sym here) h.before_end })
+          inr (record {
+            from_start = subst (λ (y : Span). y.0 ≤ n) (sym here) h.from_start;
+            before_end =
+                subst (λ (y : Span). n < y.1) (sym here) h.before_end;
+          })
     ]
 
 -- one more interval, behind all others
@@ -88,9 +106,9 @@ closed_at In xs since end h ordered inside =
           (sym (run-some since end some)) (pushed In xs since end h some inside)
       | inr none ↦
           subst (λ (ys : List Span). AreMaximalIntervals (λ n. In n × (n < end)) (xs ++ ys))
-              (sym (run-none since end none))
+          (sym (run-none since end none))
           (subst (λ (ys : List Span). AreMaximalIntervals (λ n. In n × (n < end)) ys) (sym (append-nil xs))
-              (kept In xs since end h ordered none))
+          (kept In xs since end h ordered none))
     ]
 
 ended_at : (xs : List Span) (since end : ℕ) → All (λ (x : Span). x.1 < since) xs → since ≤ end
@@ -169,8 +187,13 @@ closed_last In xs since end h ordered inside none =
 pub same_set : (In Out : ℕ → Type 0) (xs : List Span) → ((n : ℕ) → In n → Out n) → ((n : ℕ) → Out n → In n)
     → AreMaximalIntervals In xs → AreMaximalIntervals Out xs
 same_set In Out xs there back h =
-    record { not_empty = h.not_empty; apart = h.apart; covers = λ n in_set. h.covers n (back n in_set); covers_only =
-        λ n covered. there n (h.covers_only n covered) }
+    record {
+      not_empty = h.not_empty;
+      apart = h.apart;
+      covers = λ n in_set. h.covers n (back n in_set);
+      covers_only =
+          λ n covered. there n (h.covers_only n covered);
+    }
 
 pub none_of : (In : ℕ → Type 0) → ((n : ℕ) → In n → ⊥) → AreMaximalIntervals In []
 none_of In none =

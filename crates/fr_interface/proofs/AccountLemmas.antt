@@ -34,9 +34,13 @@ unfolding fates_from
 fates-many buffer n [] = refl
 fates-many buffer n (x ∷ xs) =
     let here : List Fate = cond (is_commit_on buffer x) (fate_of buffer n xs ∷ []) [] in
-    omega (arith, length-append here (fates_from buffer (n + 1) xs),
-        one_here (is_commit_on buffer x) (fate_of buffer n xs), fates-many buffer (n + 1) xs,
-        sum_by-cons (λ e. cond (is_commit_on buffer e) 1 0) x xs)
+    omega (
+      arith,
+      length-append here (fates_from buffer (n + 1) xs),
+      one_here (is_commit_on buffer x) (fate_of buffer n xs),
+      fates-many buffer (n + 1) xs,
+      sum_by-cons (λ e. cond (is_commit_on buffer e) 1 0) x xs,
+    )
 
 pub met_is : (s : State) (buffer : ℕ) → met_on s buffer ≡ count_by (is_commit_on buffer) s.entries
 met_is s buffer = fates_fill (fates buffer s.entries) ∙ fates-many buffer 0 s.entries
@@ -49,8 +53,14 @@ sum_by-same f g same (n ∷ ns) = omega (arith, sum_by-cons f n ns, sum_by-cons 
 
 sum_by-both : (f g h : ℕ → ℕ) → ((k : ℕ) → h k ≡ f k + g k) → (ns : List ℕ) → sum_by h ns ≡ sum_by f ns + sum_by g ns
 sum_by-both f g h both [] = refl
-sum_by-both f g h both (n ∷ ns) = omega (arith, sum_by-cons f n ns, sum_by-cons g n ns, sum_by-cons h n ns, both n,
-    sum_by-both f g h both ns)
+sum_by-both f g h both (n ∷ ns) = omega (
+  arith,
+  sum_by-cons f n ns,
+  sum_by-cons g n ns,
+  sum_by-cons h n ns,
+  both n,
+  sum_by-both f g h both ns,
+)
 
 sum_by-none : (f : ℕ → ℕ) → ((k : ℕ) → f k ≡ 0) → (ns : List ℕ) → sum_by f ns ≡ 0
 sum_by-none f none [] = refl
@@ -60,16 +70,28 @@ sum_by-none f none (n ∷ ns) = omega (arith, sum_by-cons f n ns, none n, sum_by
 one_past : (k a n : ℕ) → k < a → sum_by (λ m. digit (eqb k m)) (range_with_len a n) ≡ 0
 one_past k a zero past = refl
 one_past k a (suc n) past =
-    omega (arith, sum_by-cons (λ m. digit (eqb k m)) a (range_with_len (a + 1) n),
-        one_past k (a + 1) n (omega (arith, past)), ap digit (ne_eqb k a (λ same. absurd (omega (arith, past, same)))))
+    omega (
+      arith,
+      sum_by-cons (λ m. digit (eqb k m)) a (range_with_len (a + 1) n),
+      one_past k (a + 1) n (omega (arith, past)),
+      ap digit (ne_eqb k a (λ same. absurd (omega (arith, past, same)))),
+    )
 
 one_in : (k a n : ℕ) → a ≤ k → k < a + n → sum_by (λ m. digit (eqb k m)) (range_with_len a n) ≡ 1
 one_in k a zero from to = absurd (omega (arith, from, to))
 one_in k a (suc n) from to = elim (eqb_tells k a) [
-  | inl same ↦ omega (arith, sum_by-cons (λ m. digit (eqb k m)) a (range_with_len (a + 1) n),
-      one_past k (a + 1) n (omega (arith, same.1)), ap digit same.0)
-  | inr other ↦ omega (arith, sum_by-cons (λ m. digit (eqb k m)) a (range_with_len (a + 1) n),
-      one_in k (a + 1) n (above k a from other.1) (omega (arith, to)), ap digit other.0)
+  | inl same ↦ omega (
+    arith,
+    sum_by-cons (λ m. digit (eqb k m)) a (range_with_len (a + 1) n),
+    one_past k (a + 1) n (omega (arith, same.1)),
+    ap digit same.0,
+  )
+  | inr other ↦ omega (
+    arith,
+    sum_by-cons (λ m. digit (eqb k m)) a (range_with_len (a + 1) n),
+    one_in k (a + 1) n (above k a from other.1) (omega (arith, to)),
+    ap digit other.0,
+  )
 ]
   where
     above : (k a : ℕ) → a ≤ k → k ≢ a → a + 1 ≤ k
@@ -130,15 +152,17 @@ all_below : (params : Parameters) (plan : Plan) (before xs : List Entry) → All
     → Each (IsBelow (length plan.buffers)) xs
 unfolding AllAfter
 all_below params plan before [] legal = tt
-all_below params plan before (x ∷ xs) legal = (legal_below params plan before x legal.0,
-    all_below params plan (before ++ x ∷ []) xs legal.1)
+all_below params plan before (x ∷ xs) legal = (
+  legal_below params plan before x legal.0,
+  all_below params plan (before ++ x ∷ []) xs legal.1,
+)
 
 -- ---- interfaces
 
 pub accounted : (s : State) → IsLegalInterface s → AreAccounted s
 accounted s legal =
     sym (sum_by-same (met_on s) (λ b. count_by (is_commit_on b) s.entries) (met_is s)
-        (range_with_len 0 (length s.plan.buffers))
+    (range_with_len 0 (length s.plan.buffers))
     ∙ commits_on_buffers (length s.plan.buffers) s.entries (all_below s.params s.plan [] s.entries legal.legal))
 
 pub all_accounted : (xs : List State) → All IsLegalInterface xs → All AreAccounted xs

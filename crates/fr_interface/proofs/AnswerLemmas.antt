@@ -47,14 +47,14 @@ module _ (s : State) (number : ℕ) where
     pub observed-place : (receive : List (Option Arrival)) → receive ≡ map (held_in s.params s.entries) s.plan.buffers
         → is_receive line.mode ≡ true
         → option_map (λ (a : Arrival). source.Observed (origin_of a))
-            (option_and_then (λ (h : Option Arrival). h) (slice_get receive number)) ≡ source_of s number
+        (option_and_then (λ (h : Option Arrival). h) (slice_get receive number)) ≡ source_of s number
     observed-place receive is receives =
         ap (option_map (λ (a : Arrival). source.Observed (origin_of a)))
-            (received-place receive is ∙ ap (option_and_then (received_in s)) there ∙ ap
-            (λ (t : Bool). cond t (held s.params line.filter s.entries) None) receives)
+        (received-place receive is ∙ ap (option_and_then (received_in s)) there ∙ ap
+        (λ (t : Bool). cond t (held s.params line.filter s.entries) None) receives)
         ∙ sym (ap (option_and_then (source_by s number)) there
         ∙ ap (λ (t : Bool). cond t (option_map (λ (a : Arrival). source.Observed (origin_of a))
-            (held s.params line.filter s.entries)) (option_map source.Commit (held_commit number s.entries))) receives)
+        (held s.params line.filter s.entries)) (option_map source.Commit (held_commit number s.entries))) receives)
 
     -- ---- transmit buffers
 
@@ -62,18 +62,18 @@ module _ (s : State) (number : ℕ) where
         → slice_get transmit number ≡ Some (transmitter_of s.entries number line.mode)
     transmitter_there transmit is =
         ap (λ (l : List Transmitter). slice_get l number) is ∙ get_each (transmitter_of s.entries) number s.plan.buffers
-            ∙ ap (option_map (λ (b : Buffer). transmitter_of s.entries number b.mode)) there
+        ∙ ap (option_map (λ (b : Buffer). transmitter_of s.entries number b.mode)) there
 
     pub commit-place : (transmit : List Transmitter) → transmit ≡ transmitters s.plan s.entries
         → is_receive line.mode ≡ false
         → option_map source.Commit (option_and_then entry_of (slice_get transmit number)) ≡ source_of s number
     commit-place transmit is transmits =
         ap (λ (o : Option Transmitter). option_map source.Commit (option_and_then entry_of o))
-            (transmitter_there transmit is)
+        (transmitter_there transmit is)
         ∙ ap (option_map source.Commit) (entry_of-commit s.entries (held_commit number s.entries))
         ∙ sym (ap (option_and_then (source_by s number)) there
         ∙ ap (λ (t : Bool). cond t (option_map (λ (a : Arrival). source.Observed (origin_of a))
-            (held s.params line.filter s.entries)) (option_map source.Commit (held_commit number s.entries))) transmits)
+        (held s.params line.filter s.entries)) (option_map source.Commit (held_commit number s.entries))) transmits)
 
     pub pending-place : (transmit : List Transmitter) → transmit ≡ transmitters s.plan s.entries
         → pending_at transmit number ≡ pending_commit number s.entries
@@ -86,7 +86,7 @@ module _ (s : State) (number : ℕ) where
     tally-place transmit is transmits =
         ap (option_map (λ (b : Transmitter). b.tally)) (transmitter_there transmit is)
         ∙ sym (ap (option_and_then (tally_in s number)) there ∙ ap
-            (λ (t : Bool). cond t None (Some (tally_of number s.entries))) transmits)
+        (λ (t : Bool). cond t None (Some (tally_of number s.entries))) transmits)
 
 -- ---- the queue
 
@@ -109,7 +109,7 @@ module _ (s : State) (queue : Option Waiting) (is : queue ≡ option_map
       by_queue None none = tt
       by_queue (Some q) some =
           let whole : Some w ≡ Some (waiting_of s.params s.plan s.entries q) =
-              sym there ∙ is ∙ ap (option_map (waiting_of s.params s.plan s.entries)) some in
+          sym there ∙ is ∙ ap (option_map (waiting_of s.params s.plan s.entries)) some in
           let same : w ≡ waiting_of s.params s.plan s.entries q = cc in
           queue_balance s.params s.plan q some s.entries legal ∙ ap
-              (λ (v : Waiting). popped_of s + queued_of s q + v.lost) (sym same)
+          (λ (v : Waiting). popped_of s + queued_of s q + v.lost) (sym same)

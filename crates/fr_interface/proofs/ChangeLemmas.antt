@@ -47,8 +47,8 @@ each-same f g number (b ∷ buffers) same = λ i. same number b.mode i ∷ each-
 -- the same, where only the buffers that are there count
 pub each-same_there : (f g : ℕ → Mode → Transmitter) (number : ℕ) (buffers : List Buffer)
     → ((place : ℕ) (b : Buffer) → slice_get buffers place ≡ Some b
-        → f (number + place) b.mode ≡ g (number + place) b.mode)
-        → each_buffer f number buffers ≡ each_buffer g number buffers
+    → f (number + place) b.mode ≡ g (number + place) b.mode)
+    → each_buffer f number buffers ≡ each_buffer g number buffers
 each-same_there f g number [] same = refl
 each-same_there f g number (b ∷ buffers) same =
     let first : number + 0 ≡ number = omega arith in
@@ -71,14 +71,14 @@ get_each_from f number zero (b ∷ buffers) = let here : number ≡ number + 0 =
 get_each_from f number (suc place) (b ∷ buffers) =
     let next : (number + 1) + place ≡ number + suc place = omega arith in
     get_each_from f (number + 1) place buffers ∙ ap (λ (n : ℕ). option_map (λ (c : Buffer). f n c.mode)
-        (slice_get buffers place)) next
+    (slice_get buffers place)) next
 
 pub get_each : (f : ℕ → Mode → Transmitter) (place : ℕ) (buffers : List Buffer)
     → slice_get (each_buffer f 0 buffers) place ≡ option_map (λ (b : Buffer). f place b.mode) (slice_get buffers place)
 get_each f place buffers =
     let here : 0 + place ≡ place = omega arith in
     get_each_from f 0 place buffers ∙ ap (λ (n : ℕ). option_map (λ (b : Buffer). f n b.mode) (slice_get buffers place))
-        here
+    here
 
 -- the element of one number changed
 abbrev pub changed : (Transmitter → Transmitter) → ℕ → (ℕ → Mode → Transmitter) → ℕ → Mode → Transmitter
@@ -95,7 +95,7 @@ each-after c f number wanted [] lt = refl
 each-after c f number wanted (b ∷ buffers) lt =
     let other : eqb number wanted ≡ false = above number wanted (eqb number wanted) refl lt in
     λ i. ap (λ (t : Bool). cond t (c (f number b.mode)) (f number b.mode)) (sym other) i ∷ each-after c f
-        (number + 1) wanted buffers (omega (arith, lt)) i
+    (number + 1) wanted buffers (omega (arith, lt)) i
   where
     above : (m n : ℕ) (t : Bool) → eqb m n ≡ t → n < m → eqb m n ≡ false
     above m n true test lt = absurd (omega (arith, lt, eqb-true m n test))
@@ -107,17 +107,17 @@ change_each_from : (c : Transmitter → Transmitter) (f : ℕ → Mode → Trans
 change_each_from c f number place [] = refl
 change_each_from c f number zero (b ∷ buffers) =
     let here : eqb number (number + 0) ≡ true = ap (eqb number) (let z : number + 0 ≡ number = omega arith in z) ∙
-        same_number number in
+    same_number number in
     λ i. ap (λ (t : Bool). cond t (c (f number b.mode)) (f number b.mode)) (sym here) i ∷ each-after c f (number + 1)
-        (number + 0) buffers (omega arith) i
+    (number + 0) buffers (omega arith) i
 change_each_from c f number (suc place) (b ∷ buffers) =
     let other : eqb number (number + suc place) ≡ false = below number (number + suc place)
-        (eqb number (number + suc place)) refl (omega arith) in
+    (eqb number (number + suc place)) refl (omega arith) in
     let next : (number + 1) + place ≡ number + suc place = omega arith in
     let rest : change_at c (each_buffer f (number + 1) buffers) place ≡ each_buffer (changed c (number + suc place) f)
-        (number + 1) buffers =
+    (number + 1) buffers =
     change_each_from c f (number + 1) place buffers ∙ ap (λ (n : ℕ). each_buffer (changed c n f) (number + 1) buffers)
-        next in
+    next in
     λ i. ap (λ (t : Bool). cond t (c (f number b.mode)) (f number b.mode)) (sym other) i ∷ rest i
   where
     below : (m n : ℕ) (t : Bool) → eqb m n ≡ t → m < n → eqb m n ≡ false

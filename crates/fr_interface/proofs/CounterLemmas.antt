@@ -46,7 +46,7 @@ pub counters-other : (params : Parameters) (xs : List Entry) (e : Entry)
     → counters_of params (xs ++ e ∷ []) ≡ counters_of params xs
 counters-other params xs e none =
     let same : (channel : Channel) (bit : SlotStatus → Bool)
-        → count_of bit params channel (xs ++ e ∷ []) ≡ count_of bit params channel xs =
+    → count_of bit params channel (xs ++ e ∷ []) ≡ count_of bit params channel xs =
     λ channel bit. unmoved params channel bit xs e (none bit channel) in
     λ i. record { a = five (λ bit. same A bit i); b = five (λ bit. same B bit i) }
 
@@ -59,7 +59,7 @@ bit_of bit (Some s) = bit s
 bit_of_slot : (bit : SlotStatus → Bool) (params : Parameters) (window : Opportunity) (channel : Channel) (seen : Seen)
     (slot : Option ℕ)
     → bit_at bit params window channel seen slot ≡ bit_of bit
-        (option_map (λ n. status_in params window.cycle n channel seen) slot)
+    (option_map (λ n. status_in params window.cycle n channel seen) slot)
 bit_of_slot bit params window channel seen None = refl
 bit_of_slot bit params window channel seen (Some slot) = refl
 
@@ -79,14 +79,14 @@ module _ (params : Parameters) (xs : List Entry) (n : ℕ) (a b : Seen) (window 
     (opened : open_window xs ≡ Some window) where
   more_on : (channel : Channel) (bit : SlotStatus → Bool)
       → count_of bit params channel (xs ++ Observe n a b ∷ []) ≡ count_of bit params channel xs + digit
-          (bit_of bit (status_seen params window channel (seen_on channel a b)))
+      (bit_of bit (status_seen params window channel (seen_on channel a b)))
   more_on channel bit =
       let here : has_bit bit params channel xs (Observe n a b) ≡ bit_of bit
-          (status_seen params window channel (seen_on channel a b)) =
+      (status_seen params window channel (seen_on channel a b)) =
       ap (bit_in bit params channel a b) opened ∙ bit_of_slot bit params window channel (seen_on channel a b)
-          (slot_of window channel) in
+      (slot_of window channel) in
       count_after-snoc (has_bit bit params channel) xs (Observe n a b) ∙ ap
-          (λ (t : Bool). count_of bit params channel xs + digit t) here
+      (λ (t : Bool). count_of bit params channel xs + digit t) here
 
   pub counters-observe : counters_of params (xs ++ Observe n a b ∷ []) ≡ with_seen
       (with_seen (counters_of params xs) A (status_seen params window A a)) B (status_seen params window B b)
@@ -114,8 +114,11 @@ digit_most false = omega arith
 count_most_from : (test : List Entry → Entry → Bool) (before xs : List Entry) → count_after test before xs ≤ length xs
 unfolding count_after
 count_most_from test before [] = omega arith
-count_most_from test before (x ∷ xs) = omega (arith, digit_most (test before x),
-    count_most_from test (before ++ x ∷ []) xs)
+count_most_from test before (x ∷ xs) = omega (
+  arith,
+  digit_most (test before x),
+  count_most_from test (before ++ x ∷ []) xs,
+)
 
 count_most : (bit : SlotStatus → Bool) (params : Parameters) (channel : Channel) (xs : List Entry)
     → count_of bit params channel xs ≤ length xs

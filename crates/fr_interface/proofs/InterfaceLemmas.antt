@@ -16,8 +16,12 @@ use Rattle.fr_slots.specs.Plans.{Plan, IsPlan}
 pub state-more : (i : Inside) (standing : Standing) (journal : Kept) (e : Entry)
     → journal ≡ record i.journal { entries = i.journal.entries ++ e ∷ [] } → KeepsTerms i.state standing
     → with_entry (state_in i) e ≡ record { params = standing.params; plan = standing.plan; entries = journal.entries }
-state-more i standing journal e is terms = λ j. record { params = sym terms.params j; plan = sym terms.plan j; entries =
-    (sym is j).entries }
+state-more i standing journal e is terms = λ j. record {
+  params = sym terms.params j;
+  plan = sym terms.plan j;
+  entries =
+      (sym is j).entries;
+}
 
 pub lawful-more : (i : Inside) (standing : Standing) (journal : Kept) (e : Entry) → IsLawful i
     → journal ≡ record i.journal { entries = i.journal.entries ++ e ∷ [] } → KeepsTerms i.state standing

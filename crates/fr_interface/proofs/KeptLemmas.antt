@@ -44,17 +44,20 @@ below_there (y ∷ xs) (suc n) x is = omega (arith, below_there xs n x is)
 
 module _ (plan : Plan) (xs : List Entry) (number : ℕ) (line : Buffer) (there : buffer_at plan number ≡ Some line) where
   pub number_there : number < length (transmitters plan xs)
-  number_there = omega (arith, length-each (transmitter_of xs) 0 plan.buffers,
-      below_there plan.buffers number line there)
+  number_there = omega (
+    arith,
+    length-each (transmitter_of xs) 0 plan.buffers,
+    below_there plan.buffers number line there,
+  )
 
   pub commits_fit : length xs + 2 ≤ 2 ^ 32 → IfSome (slice_get (transmitters plan xs) number)
       (λ b. b.tally.committed + 1 < 2 ^ 32)
   commits_fit few =
       let is : slice_get (transmitters plan xs) number ≡ Some (transmitter_of xs number line.mode) =
       get_each (transmitter_of xs) number plan.buffers ∙ ap (option_map
-          (λ (b : Buffer). transmitter_of xs number b.mode)) there in
+      (λ (b : Buffer). transmitter_of xs number b.mode)) there in
       subst (λ (o : Option Transmitter). IfSome o (λ b. b.tally.committed + 1 < 2 ^ 32)) (sym is)
-          (omega (arith, few, committed-most number xs))
+      (omega (arith, few, committed-most number xs))
 
 -- ---- a read
 
@@ -73,7 +76,7 @@ module _ (params : Parameters) (plan : Plan) (xs : List Entry) where
 
   pub queue-other : (e : Entry) → ((q : Queue) → moves_at params plan q xs e ≡ []) → is_answered_pop e ≡ false
       → (o : Option Queue) → option_map (waiting_of params plan xs) o ≡ option_map
-          (waiting_of params plan (xs ++ e ∷ [])) o
+      (waiting_of params plan (xs ++ e ∷ [])) o
   queue-other e still unpopped None = refl
   queue-other e still unpopped (Some q) = ap Some (sym (waiting-other params plan q xs e (still q) unpopped))
 
@@ -92,14 +95,14 @@ module _ (params : Parameters) (plan : Plan) (xs : List Entry) where
   pub queue-pop : (task : ℕ) (from : Option Origin) (o : Option Queue)
       → from ≡ option_map origin_of (option_and_then (λ (q : Queue). oldest q.capacity (moves params plan q xs)) o)
       → option_map without_oldest (option_map (waiting_of params plan xs) o) ≡ option_map
-          (waiting_of params plan (xs ++ Pop task from ∷ [])) o
+      (waiting_of params plan (xs ++ Pop task from ∷ [])) o
   queue-pop task from None is = refl
   queue-pop task from (Some q) is = ap Some (waiting-pop params plan q xs task from is)
 
   pub queue-observe : (n : ℕ) (a b : Seen) (window : Opportunity) → IsLegalJournal params plan xs
       → open_window xs ≡ Some window → (o : Option Queue) → plan.queue ≡ o
       → with_arrivals plan (length xs) window (data_frame_seen params window A a) (data_frame_seen params window B b) o
-          (option_map (waiting_of params plan xs) o)
+      (option_map (waiting_of params plan xs) o)
       ≡ option_map (waiting_of params plan (xs ++ Observe n a b ∷ [])) o
   queue-observe n a b window legal opened None there = refl
   queue-observe n a b window legal opened (Some q) there = ap Some
@@ -117,7 +120,7 @@ for_some P (Some y) h = λ x e. let same : y ≡ x = cc in subst P same h
 -- a pop that is answered by the queue that is there
 pub pop_queued : (params : Parameters) (plan : Plan) (xs : List Entry) (from : Option Origin) (o : Option Queue)
     → from ≡ option_map origin_of (option_and_then (λ (q : Queue). oldest q.capacity (moves params plan q xs)) o)
-        → is_some o ≡ true
+    → is_some o ≡ true
     → IsSomeAnd o (λ q. from ≡ option_map origin_of (oldest q.capacity (moves params plan q xs)))
 pop_queued params plan xs from None is some = absurd cc
 pop_queued params plan xs from (Some q) is some = is

@@ -17,30 +17,47 @@ opening-none = refl
 
 pub opening-commit : (xs : List Entry) (task buffer : ℕ) (payload : List ℕ)
     → opening_of (xs ++ Commit task buffer payload ∷ []) ≡ opening_of xs
-opening-commit xs task buffer payload = λ i. record { window = open_window-snoc xs (Commit task buffer payload) i;
-    last = last_number-snoc xs (Commit task buffer payload) i }
+opening-commit xs task buffer payload = λ i. record {
+  window = open_window-snoc xs (Commit task buffer payload) i;
+  last = last_number-snoc xs (Commit task buffer payload) i;
+}
 
 pub opening-withdraw : (xs : List Entry) (task buffer : ℕ) (of : Option ℕ)
     → opening_of (xs ++ Withdraw task buffer of ∷ []) ≡ opening_of xs
-opening-withdraw xs task buffer of = λ i. record { window = open_window-snoc xs (Withdraw task buffer of) i; last =
-    last_number-snoc xs (Withdraw task buffer of) i }
+opening-withdraw xs task buffer of = λ i. record {
+  window = open_window-snoc xs (Withdraw task buffer of) i;
+  last =
+      last_number-snoc xs (Withdraw task buffer of) i;
+}
 
 pub opening-read : (xs : List Entry) (task buffer : ℕ) (from : Option Origin)
     → opening_of (xs ++ Read task buffer from ∷ []) ≡ opening_of xs
-opening-read xs task buffer from = λ i. record { window = open_window-snoc xs (Read task buffer from) i; last =
-    last_number-snoc xs (Read task buffer from) i }
+opening-read xs task buffer from = λ i. record {
+  window = open_window-snoc xs (Read task buffer from) i;
+  last =
+      last_number-snoc xs (Read task buffer from) i;
+}
 
 pub opening-pop : (xs : List Entry) (task : ℕ) (from : Option Origin)
     → opening_of (xs ++ Pop task from ∷ []) ≡ opening_of xs
-opening-pop xs task from = λ i. record { window = open_window-snoc xs (Pop task from) i; last =
-    last_number-snoc xs (Pop task from) i }
+opening-pop xs task from = λ i. record {
+  window = open_window-snoc xs (Pop task from) i;
+  last =
+      last_number-snoc xs (Pop task from) i;
+}
 
 pub opening-fetch : (xs : List Entry) (window : Opportunity) (a b : Offered)
     → opening_of (xs ++ Fetch window a b ∷ []) ≡ record { window = Some window; last = Some window.number }
-opening-fetch xs window a b = λ i. record { window = open_window-snoc xs (Fetch window a b) i; last =
-    last_number-snoc xs (Fetch window a b) i }
+opening-fetch xs window a b = λ i. record {
+  window = open_window-snoc xs (Fetch window a b) i;
+  last =
+      last_number-snoc xs (Fetch window a b) i;
+}
 
 pub opening-observe : (xs : List Entry) (window : ℕ) (a b : Seen)
     → opening_of (xs ++ Observe window a b ∷ []) ≡ record { window = None; last = last_number xs }
-opening-observe xs window a b = λ i. record { window = open_window-snoc xs (Observe window a b) i; last =
-    last_number-snoc xs (Observe window a b) i }
+opening-observe xs window a b = λ i. record {
+  window = open_window-snoc xs (Observe window a b) i;
+  last =
+      last_number-snoc xs (Observe window a b) i;
+}

@@ -78,7 +78,7 @@ module _ {X : Type 0} (test : X → Bool) where
   from_shift (x ∷ xs) m n =
       let next : (m + n) + 1 ≡ m + (n + 1) = omega arith in
       step (test x) (position_from test ((m + n) + 1) xs) (position_from test (n + 1) xs)
-          (ap (λ (k : ℕ). position_from test k xs) next ∙ from_shift xs m (n + 1))
+      (ap (λ (k : ℕ). position_from test k xs) next ∙ from_shift xs m (n + 1))
     where
       step : (t : Bool) (a b : Option ℕ) → a ≡ option_map (λ p. m + p) b
           → cond t (Some (m + n)) a ≡ option_map (λ p. m + p) (cond t (Some n) b)
@@ -100,7 +100,7 @@ module _ {X : Type 0} (test : X → Bool) where
   from_cut [] (suc end) n h = refl
   from_cut (x ∷ xs) zero n h =
       from_cut xs zero (n + 1) (all_from x xs h) ∙ ap (λ (t : Bool). cond t (Some n) (position_from test (n + 1) xs))
-          (sym (h 0 x refl (omega arith)))
+      (sym (h 0 x refl (omega arith)))
   from_cut (x ∷ xs) (suc end) n h = ap (λ (o : Option ℕ). cond (test x) (Some n) o)
       (from_cut xs end (n + 1) (later_from x xs end h))
 
@@ -223,13 +223,13 @@ module _ (plan : Plan) (window : Opportunity) (channel : Channel) where
         (position (is_admitting window channel) (slice_range plan.buffers range.first range.end))
     transmitter-in = position-within (is_admitting window channel) range.first range.end plan.buffers
         (passes-of (λ (b : Buffer). b.filter.slot) (is_admitting window channel) slot range plan.buffers is
-            (admitting_slot slot there))
+        (admitting_slot slot there))
 
     pub taken-in : list_any (takes_window window channel) plan.buffers ≡ list_any (takes_window window channel)
         (slice_range plan.buffers range.first range.end)
     taken-in = any-within (takes_window window channel) range.first range.end plan.buffers
         (passes-of (λ (b : Buffer). b.filter.slot) (takes_window window channel) slot range plan.buffers is
-            (taking_slot slot there))
+        (taking_slot slot there))
 
 pub ownership-in : (owned : List Own) (slot : ℕ) (channel : Channel) (cycle : ℕ) (range : LineRange)
     → IsRangeOf slot (own_slots owned) range
@@ -237,7 +237,7 @@ pub ownership-in : (owned : List Own) (slot : ℕ) (channel : Channel) (cycle : 
 ownership-in owned slot channel cycle range is =
     found-within (claims slot channel cycle) range.first range.end owned
     (passes-of (λ (o : Own). o.slot) (claims slot channel cycle) slot range owned is
-        (λ o pass. eqb-true o.slot slot (and_parts _ _ (and_parts _ _ pass).0).0))
+    (λ o pass. eqb-true o.slot slot (and_parts _ _ (and_parts _ _ pass).0).0))
 
 -- ---- a further line
 
@@ -339,8 +339,12 @@ get_replicate (suc n) zero x y is = same_some x y is
 get_replicate (suc n) (suc place) x y is = get_replicate n place x y is
 
 empty-is : (slot : ℕ) → IsRangeOf slot [] (record { first = 0; end = 0 })
-empty-is slot = record { ordered = omega arith; ends = omega arith; covers =
-    λ place there. absurd (let none : ⊥ = cc in none) }
+empty-is slot = record {
+  ordered = omega arith;
+  ends = omega arith;
+  covers =
+      λ place there. absurd (let none : ⊥ = cc in none);
+}
 
 ranges_none : (ranges : List LineRange) (n : ℕ) → n ≡ slot_count → ranges ≡ replicate n (record { first = 0; end = 0 })
     → AreRanges [] ranges
@@ -457,7 +461,7 @@ module _ (window : Opportunity) (channel : Channel) where
     ends = omega (arith, is.ends, length_map (λ (b : Buffer). b.filter.slot) buffers);
     covers = λ number place b at some.
         is.covers place (map-get (λ (b : Buffer). b.filter.slot) buffers place b at ∙ ap (λ (n : ℕ). Some n)
-            (admits-slot b.filter window channel slot there (frame_admits number frame b some)));
+        (admits-slot b.filter window channel slot there (frame_admits number frame b some)));
   }
 
 module _ (number : ℕ) (window : Opportunity) (a b : Option Fields) where
@@ -485,7 +489,7 @@ module _ (number : ℕ) (window : Opportunity) (a b : Option Fields) where
   stored_skip (line ∷ lines) [] (suc first) h = refl
   stored_skip (line ∷ lines) (x ∷ held) (suc first) h =
       λ i. option_or (h 0 line refl (omega arith) i) x ∷ stored_skip lines held first
-          (λ place y is lt. h (suc place) y is (omega (arith, lt))) i
+      (λ place y is lt. h (suc place) y is (omega (arith, lt))) i
 
   stored_cut : (lines : List Buffer) (held : List (Option Arrival)) (end : ℕ)
       → ((place : ℕ) (line : Buffer) → slice_get lines place ≡ Some line → end ≤ place → TakesNone line)
@@ -496,10 +500,10 @@ module _ (number : ℕ) (window : Opportunity) (a b : Option Fields) where
   stored_cut (line ∷ lines) [] (suc end) h = refl
   stored_cut (line ∷ lines) (x ∷ held) zero h =
       λ i. option_or (sym (h 0 line refl (omega arith)) i) x ∷ stored_cut lines held zero
-          (λ place y is le. h (suc place) y is (omega arith)) i
+      (λ place y is le. h (suc place) y is (omega arith)) i
   stored_cut (line ∷ lines) (x ∷ held) (suc end) h =
       ap (λ (rest : List (Option Arrival)). option_or (taken_by number window a b line) x ∷ rest)
-          (stored_cut lines held end (λ place y is le. h (suc place) y is (omega (arith, le))))
+      (stored_cut lines held end (λ place y is le. h (suc place) y is (omega (arith, le))))
 
   module _ (lines : List Buffer) (one other : LineRange) (of_a : IsTakingRange lines window A a one)
       (of_b : IsTakingRange lines window B b other) where

@@ -46,7 +46,7 @@ pub held-other : (params : Parameters) (xs : List Entry) (e : Entry) (lines : Li
 held-other params xs e [] none = refl
 held-other params xs e (b ∷ lines) none =
     λ i. cond (is_receive b.mode) (same_held params xs e b.filter (none b.filter) i) None ∷ held-other params xs e lines
-        none i
+    none i
 
 -- ---- an observed window
 
@@ -57,7 +57,7 @@ module _ (params : Parameters) (xs : List Entry) (n : ℕ) (a b : Seen) (window 
   held_after f =
       last_after-snoc (arrival_at params f) xs (Observe n a b)
       ∙ ap (λ (o : Option Opportunity). option_or (option_and_then (arrival_in params f (length xs) a b) o)
-          (held params f xs)) opened
+      (held params f xs)) opened
 
   stored : (t : Bool) (x y z : Option Arrival) → z ≡ option_or x y
       → option_or (cond t x None) (cond t y None) ≡ cond t z None
@@ -66,11 +66,11 @@ module _ (params : Parameters) (xs : List Entry) (n : ℕ) (a b : Seen) (window 
 
   pub held-observe : (lines : List Buffer)
       → stored_all (length xs) window (data_frame_seen params window A a) (data_frame_seen params window B b) lines
-          (map (held_in params xs) lines) ≡ map (held_in params (xs ++ Observe n a b ∷ [])) lines
+      (map (held_in params xs) lines) ≡ map (held_in params (xs ++ Observe n a b ∷ [])) lines
   held-observe [] = refl
   held-observe (line ∷ lines) = λ i.
       stored (is_receive line.mode) (arrival_in params line.filter (length xs) a b window) (held params line.filter xs)
-          (held params line.filter (xs ++ Observe n a b ∷ [])) (held_after line.filter) i
+      (held params line.filter (xs ++ Observe n a b ∷ [])) (held_after line.filter) i
       ∷ held-observe lines i
 
 -- ---- one buffer after another
@@ -80,11 +80,11 @@ module _ (number : ℕ) (window : Opportunity) (a b : Option Fields) where
       (h : Option Arrival) → i < length lines → length held ≡ length lines
       → line ≡ get_or lines i line → h ≡ get_or (stored_all number window a b (take i lines) held) i h
       → set (stored_all number window a b (take i lines) held) i (option_or (taken_by number window a b line) h)
-          ≡ stored_all number window a b (take (suc i) lines) held
+      ≡ stored_all number window a b (take (suc i) lines) held
   stored_all-more [] held i line h lt same is was = absurd (omega (arith, lt))
   stored_all-more (l ∷ ls) [] i line h lt same is was = absurd (omega (arith, same))
   stored_all-more (l ∷ ls) (x ∷ xs) zero line h lt same is was =
       λ i. option_or (taken_by number window a b (is i)) (was i) ∷ xs
   stored_all-more (l ∷ ls) (x ∷ xs) (suc n) line h lt same is was =
       ap (λ (rest : List (Option Arrival)). option_or (taken_by number window a b l) x ∷ rest)
-          (stored_all-more ls xs n line h (omega (arith, lt)) (omega (arith, same)) is was)
+      (stored_all-more ls xs n line h (omega (arith, lt)) (omega (arith, same)) is was)

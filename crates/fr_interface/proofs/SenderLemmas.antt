@@ -66,7 +66,7 @@ module _ (plan : Plan) (xs : List Entry) where
   ready_each : (number : ℕ) → ready_at (transmitters plan xs) number ≡ ready_in plan xs number
   ready_each number =
       ap (option_and_then offer_of) (get_each (transmitter_of xs) number plan.buffers) ∙ by_line
-          (slice_get plan.buffers number)
+      (slice_get plan.buffers number)
     where
       by_line : (o : Option Buffer) → option_and_then offer_of
           (option_map (λ (b : Buffer). transmitter_of xs number b.mode) o) ≡ option_and_then
@@ -137,8 +137,8 @@ module _ (plan : Plan) (xs : List Entry) where
   sender_payload s is =
       let last : held_commit s.buffer xs ≡ Some s.commit = ready_held is.line.mode s.buffer xs s.commit is.offers in
       ap (λ (o : Option Transmitter). unwrap_or (option_map held_payload o) [])
-          (get_each (transmitter_of xs) s.buffer plan.buffers ∙ ap
-          (option_map (λ (b : Buffer). transmitter_of xs s.buffer b.mode)) is.there)
+      (get_each (transmitter_of xs) s.buffer plan.buffers ∙ ap
+      (option_map (λ (b : Buffer). transmitter_of xs s.buffer b.mode)) is.there)
       ∙ ap (λ (o : Option ℕ). unwrap_or (option_map (λ c. c.payload) (option_map (commit_of xs) o)) []) last
 
   module _ (params : Parameters) (window : Opportunity) (channel : Channel) where
@@ -160,11 +160,11 @@ module _ (plan : Plan) (xs : List Entry) where
     frame_where : (slot : Option ℕ) → option_and_then (λ n. frame_at params plan (transmitters plan xs) window channel n
         (option_and_then own slot) (sender_in plan (transmitters plan xs) window channel slot)) slot
         ≡ option_and_then (λ n. frame_of_offer params plan xs window channel n (offered_at plan xs window channel slot))
-            slot
+        slot
     frame_where None = refl
     frame_where (Some slot) =
         frame_from slot (sender_in plan (transmitters plan xs) window channel (Some slot))
-            (of_slot window channel (Some slot))
+        (of_slot window channel (Some slot))
         ∙ ap (frame_of_offer params plan xs window channel slot) (offered_where window channel (Some slot))
 
     -- the frame that goes out is the one that the journal gives
@@ -236,7 +236,7 @@ module _ (xs : List Entry) where
   selected_by number k s from last false true p q =
       let equal : s.commit ≡ k = eqb-true s.commit k q in
       let same : number ≡ s.buffer = one_buffer xs number s.buffer k last
-          (from ∙ ap (λ (n : ℕ). let o : Option ℕ = Some n in o) equal) in
+      (from ∙ ap (λ (n : ℕ). let o : Option ℕ = Some n in o) equal) in
       let yes : eqb number s.buffer ≡ true = ap (λ (n : ℕ). eqb number n) (sym same) ∙ same_number number in
       absurd cc
 
@@ -275,8 +275,11 @@ module _ (plan : Plan) (xs : List Entry) (window : Opportunity) (a b : Offered) 
     last_of : (k : ℕ) (o : Option Sender) → IfSome o (IsSender plan xs) → sends_by k o ≡ true
         → (s : Sender) × (last_commit s.buffer xs ≡ Some k)
     last_of k None is sends = absurd cc
-    last_of k (Some s) is sends = (s, ready_last is.line.mode s.buffer xs s.commit is.offers ∙ ap
-        (λ (n : ℕ). let o : Option ℕ = Some n in o) (eqb-true s.commit k sends))
+    last_of k (Some s) is sends = (
+      s,
+      ready_last is.line.mode s.buffer xs s.commit is.offers ∙ ap
+          (λ (n : ℕ). let o : Option ℕ = Some n in o) (eqb-true s.commit k sends),
+    )
 
     either : (k : ℕ) (t u : Bool) → sends_by k from_a ≡ t → sends_by k from_b ≡ u → (t || u) ≡ true
         → (s : Sender) × (last_commit s.buffer xs ≡ Some k)
@@ -289,20 +292,22 @@ module _ (plan : Plan) (xs : List Entry) (window : Opportunity) (a b : Offered) 
     only number before x rest is on sends =
         let k : ℕ = length before in
         let from : (s : Sender) × (last_commit s.buffer xs ≡ Some k) =
-            either k (sends_by k from_a) (sends_by k from_b) refl refl (sym (sent k) ∙ sends) in
+        either k (sends_by k from_a) (sends_by k from_b) refl refl (sym (sent k) ∙ sends) in
         let here : slice_get xs k ≡ Some x = ap (λ (l : List Entry). slice_get l k) is ∙ slice_get-next before x rest in
         let on_it : IsCommitAt number xs k = subst (λ (o : Option Entry). IsSomeAnd o
-            (λ e. is_commit_on number e ≡ true)) (sym here) on in
+        (λ e. is_commit_on number e ≡ true)) (sym here) on in
         let one : number ≡ from.0.buffer = same_entry number from.0.buffer (slice_get xs k) on_it
-            (last_there xs from.0.buffer k from.1) in
+        (last_there xs from.0.buffer k from.1) in
         ap (λ (n : ℕ). last_commit n xs) one ∙ from.1
 
     all_only : (number : ℕ) (before rest : List Entry) → xs ≡ before ++ rest
         → AllAfter (OnlyLast number (λ k. sends k entry) (last_commit number xs)) before rest
     unfolding AllAfter
     all_only number before [] is = tt
-    all_only number before (x ∷ rest) is = (only number before x rest is,
-        all_only number (before ++ x ∷ []) rest (is ∙ sym (append_assoc before (x ∷ []) rest)))
+    all_only number before (x ∷ rest) is = (
+      only number before x rest is,
+      all_only number (before ++ x ∷ []) rest (is ∙ sym (append_assoc before (x ∷ []) rest)),
+    )
 
     or_none : (o : Option ℕ) → option_or o None ≡ o
     or_none None = refl
@@ -311,7 +316,7 @@ module _ (plan : Plan) (xs : List Entry) (window : Opportunity) (a b : Offered) 
     sends_last : (number : ℕ) → MarksLast number 0 (sends_from number) (λ k. sends k entry) xs
     sends_last number =
         marks_last_from number (sends_from number) (λ k. sends k entry) (last_commit number xs) None [] xs
-            (sym (or_none (last_commit number xs))) (all_only number [] xs refl) (same number)
+        (sym (or_none (last_commit number xs))) (all_only number [] xs refl) (same number)
 
     -- what goes out isn't withdrawn
     stands_by : (number k : ℕ) → last_commit number xs ≡ Some k → (o : Option Sender) → IfSome o (IsSender plan xs)
@@ -320,7 +325,7 @@ module _ (plan : Plan) (xs : List Entry) (window : Opportunity) (a b : Offered) 
     stands_by number k last (Some s) is selected =
         let place : number ≡ s.buffer = eqb-true number s.buffer selected in
         let there : Some s.commit ≡ Some k = sym (ready_last is.line.mode s.buffer xs s.commit is.offers) ∙ ap
-            (λ (n : ℕ). last_commit n xs) (sym place) ∙ last in
+        (λ (n : ℕ). last_commit n xs) (sym place) ∙ last in
         let equal : s.commit ≡ k = cc in
         (λ i. withdrawn_at (place i) xs (sym equal i)) ∙ ready_stands is.line.mode s.buffer xs s.commit is.offers
 
@@ -358,9 +363,18 @@ module _ (plan : Plan) (xs : List Entry) (window : Opportunity) (a b : Offered) 
         by_offer : (t : Bool) → cond t (after_send (after_send b)) (after_send b) ≡ after_send b
         by_offer true =
             let none : b.tally.sent + b.tally.pending + 0 ≡ b.tally.sent + b.tally.pending = omega arith in
-            λ i. record { mode = b.mode; last = b.last; tally =
-                record { committed = b.tally.committed; sent = none i; overwritten = b.tally.overwritten; pending = 0;
-                withdrawn = b.tally.withdrawn } }
+            λ i. record {
+              mode = b.mode;
+              last = b.last;
+              tally =
+                  record {
+                    committed = b.tally.committed;
+                    sent = none i;
+                    overwritten = b.tally.overwritten;
+                    pending = 0;
+                    withdrawn = b.tally.withdrawn;
+                  };
+            }
         by_offer false = refl
 
     both : (b : Transmitter) (t u : Bool) → (t ≡ true → is_some (offer_of b) ≡ true)
@@ -385,10 +399,14 @@ module _ (plan : Plan) (xs : List Entry) (window : Opportunity) (a b : Offered) 
     one_buffer_after number m =
         let b : Transmitter = transmitter_of xs number m in
         let tally : tally_after (sends_from number) (tally_of number xs) ≡ tally_of number (xs ++ entry ∷ []) =
-            tally-other number xs entry (sends_from number) (is_other number) in
+        tally-other number xs entry (sends_from number) (is_other number) in
         rest_cond (sends_from number) b (tally_of number (xs ++ entry ∷ [])) (sym tally)
-        ∙ (λ i. record { mode = m; last = same_commit number xs entry (same_held number) i; tally =
-            tally_of number (xs ++ entry ∷ []) })
+        ∙ (λ i. record {
+          mode = m;
+          last = same_commit number xs entry (same_held number) i;
+          tally =
+              tally_of number (xs ++ entry ∷ []);
+        })
 
     offers_there : (number : ℕ) (b : Buffer) → slice_get plan.buffers number ≡ Some b → (o : Option Sender)
         → IfSome o (IsSender plan xs) → selects number o ≡ true
@@ -413,20 +431,20 @@ module _ (plan : Plan) (xs : List Entry) (window : Opportunity) (a b : Offered) 
         ap (λ (l : List Transmitter). after_sender l from_b) (one_sender (transmitter_of xs) from_a)
         ∙ one_sender (λ n m. after_one (selects n from_a) (transmitter_of xs n m)) from_b
         ∙ each-same_there (λ n m. after_one (selects n from_b) (after_one (selects n from_a) (transmitter_of xs n m)))
-            (transmitter_of (xs ++ entry ∷ [])) 0 plan.buffers by_place
+        (transmitter_of (xs ++ entry ∷ [])) 0 plan.buffers by_place
       where
         at_place : (n : ℕ) (b : Buffer) → slice_get plan.buffers n ≡ Some b
             → after_one (selects n from_b) (after_one (selects n from_a) (transmitter_of xs n b.mode)) ≡ transmitter_of
             (xs ++ entry ∷ []) n b.mode
         at_place n b there =
             both (transmitter_of xs n b.mode) (selects n from_a) (selects n from_b)
-                (offers_there n b there from_a h.sender_a) (offers_there n b there from_b h.sender_b)
-                ∙ one_buffer_after n b.mode
+            (offers_there n b there from_a h.sender_a) (offers_there n b there from_b h.sender_b)
+            ∙ one_buffer_after n b.mode
 
         by_place : (place : ℕ) (b : Buffer) → slice_get plan.buffers place ≡ Some b
             → after_one (selects (0 + place) from_b) (after_one (selects (0 + place) from_a)
-                (transmitter_of xs (0 + place) b.mode)) ≡ transmitter_of (xs ++ entry ∷ []) (0 + place) b.mode
+            (transmitter_of xs (0 + place) b.mode)) ≡ transmitter_of (xs ++ entry ∷ []) (0 + place) b.mode
         by_place place b there =
             let here : place ≡ 0 + place = omega arith in
             subst (λ (n : ℕ). after_one (selects n from_b) (after_one (selects n from_a) (transmitter_of xs n b.mode))
-                ≡ transmitter_of (xs ++ entry ∷ []) n b.mode) here (at_place place b there)
+            ≡ transmitter_of (xs ++ entry ∷ []) n b.mode) here (at_place place b there)

@@ -86,18 +86,20 @@ pub host_more : (xs : List Entry) (e : Entry) → is_host e ≡ true
     (count_by is_slot (xs ++ e ∷ []) ≡ count_by is_slot xs)
 host_more xs e host =
     let one : cond {A = ℕ} (is_host e) 1 0 ≡ 1 = ap (λ (b : Bool). cond {A = ℕ} b 1 0) host in
-    let none : cond {A = ℕ} (is_slot e) 1 0 ≡ 0 = ap (λ (b : Bool). cond {A = ℕ} (not b) 1 0) host in
-    (omega (arith, sum_by-append (λ x. cond (is_host x) 1 0) xs (e ∷ []), one),
-        omega (arith, sum_by-append (λ x. cond (is_slot x) 1 0) xs (e ∷ []), none))
+    let none : cond {A = ℕ} (is_slot e) 1 0 ≡ 0 = ap (λ (b : Bool). cond {A = ℕ} (not b) 1 0) host in (
+      omega (arith, sum_by-append (λ x. cond (is_host x) 1 0) xs (e ∷ []), one),
+      omega (arith, sum_by-append (λ x. cond (is_slot x) 1 0) xs (e ∷ []), none),
+    )
 
 pub slot_more : (xs : List Entry) (e : Entry) → is_host e ≡ false
     → (count_by is_host (xs ++ e ∷ []) ≡ count_by is_host xs) ×
     (count_by is_slot (xs ++ e ∷ []) ≡ count_by is_slot xs + 1)
 slot_more xs e slot =
     let none : cond {A = ℕ} (is_host e) 1 0 ≡ 0 = ap (λ (b : Bool). cond {A = ℕ} b 1 0) slot in
-    let one : cond {A = ℕ} (is_slot e) 1 0 ≡ 1 = ap (λ (b : Bool). cond {A = ℕ} (not b) 1 0) slot in
-    (omega (arith, sum_by-append (λ x. cond (is_host x) 1 0) xs (e ∷ []), none),
-        omega (arith, sum_by-append (λ x. cond (is_slot x) 1 0) xs (e ∷ []), one))
+    let one : cond {A = ℕ} (is_slot e) 1 0 ≡ 1 = ap (λ (b : Bool). cond {A = ℕ} (not b) 1 0) slot in (
+      omega (arith, sum_by-append (λ x. cond (is_host x) 1 0) xs (e ∷ []), none),
+      omega (arith, sum_by-append (λ x. cond (is_slot x) 1 0) xs (e ∷ []), one),
+    )
 
 pub entries-length : (s : State) → entries_before (standing_of s) ≡ length s.entries
 entries-length s = kinds_fill s.entries
@@ -120,11 +122,11 @@ standing-commit s task buffer payload =
     let e = Commit task buffer payload in
     let counts = host_more s.entries e refl in
     let transmit : transmitters s.plan (s.entries ++ e ∷ []) ≡ change_at
-        (λ b. with_commit b (record { entry = entries_before (standing_of s); payload = payload }))
-        (transmitters s.plan s.entries) buffer =
+    (λ b. with_commit b (record { entry = entries_before (standing_of s); payload = payload }))
+    (transmitters s.plan s.entries) buffer =
     sym (transmitters-commit s.entries task buffer payload s.plan)
     ∙ ap (λ (n : ℕ). change_at (λ b. with_commit b (record { entry = n; payload = payload }))
-        (transmitters s.plan s.entries) buffer) (sym (entries-length s)) in
+    (transmitters s.plan s.entries) buffer) (sym (entries-length s)) in
     λ i. record {
       params = s.params;
       plan = s.plan;
@@ -143,7 +145,7 @@ abbrev CommitGoesOn : State → ℕ → ℕ → List ℕ → Buffer → Standing
 CommitGoesOn s task buffer payload line h = task < h.plan.tasks → buffer_at h.plan buffer ≡ Some line
     → is_receive line.mode ≡ false
     → length payload ≡ 2 * words_of h.params line → h.hosts < h.host_limit
-        → Leaves (after_commit h buffer payload) (with_entry s (Commit task buffer payload))
+    → Leaves (after_commit h buffer payload) (with_entry s (Commit task buffer payload))
 
 pub history-commit : (h : Standing) (s : State) (task buffer : ℕ) (payload : List ℕ) (line : Buffer) → IsHistory h s
     → IsEntry (Commit task buffer payload) → CommitGoesOn s task buffer payload line (limited h)
@@ -193,7 +195,7 @@ pub pending-there : (h : Standing) (s : State) (buffer : ℕ) (line : Buffer) �
     → buffer_at h.plan buffer ≡ Some line → pending_at h.transmit buffer ≡ pending_commit buffer s.entries
 pending-there h s buffer line is there =
     pending-place s buffer line (ap (λ (x : Standing). buffer_at x.plan buffer) is.leaves ∙ there) h.transmit
-        (sym (ap (λ (x : Standing). x.transmit) is.leaves))
+    (sym (ap (λ (x : Standing). x.transmit) is.leaves))
 
 pub history-withdraw : (h : Standing) (s : State) (task buffer : ℕ) (line : Buffer) → IsHistory h s
     → IsEntry (withdraw_entry s task buffer) → WithdrawGoesOn s task buffer line (limited h)
@@ -334,7 +336,7 @@ abbrev FetchGoesOn : State → Opportunity → Standing → Type 0
 FetchGoesOn s window h = fetch_refused h window ≡ None → IsOffered (outgoing_on h.plan h.transmit window A).offered
     → IsOffered (outgoing_on h.plan h.transmit window B).offered
     → Leaves (after_fetch h window (outgoing_on h.plan h.transmit window A).sender
-        (outgoing_on h.plan h.transmit window B).sender) (with_entry s (fetch_entry s window))
+    (outgoing_on h.plan h.transmit window B).sender) (with_entry s (fetch_entry s window))
 
 pub history-fetch : (h : Standing) (s : State) (window : Opportunity) → IsHistory h s → IsInRange window
     → FetchGoesOn s window (limited h)
@@ -358,13 +360,13 @@ history-fetch h s window is ranged = subst (FetchGoesOn s window) is.leaves (λ 
       legal = legal-more s (Fetch window a b) is.legal
           (record { window_is = ranged; a_fits = subst IsOffered is_a fits_a; b_fits = subst IsOffered is_b fits_b })
           (record {
-        closed = accepted.closed;
-        fits = accepted.fits;
-        later = accepted.later;
-        room = accepted.room;
-        offer_a = refl;
-        offer_b = refl;
-      });
+            closed = accepted.closed;
+            fits = accepted.fits;
+            later = accepted.later;
+            room = accepted.room;
+            offer_a = refl;
+            offer_b = refl;
+          });
       host_room = omega (arith, counts.0, is.host_room);
       slot_room = omega (arith, counts.1, accepted.room);
       leaves = standing-fetch s window a b from_a from_b sent;
@@ -376,7 +378,7 @@ pub standing-observe : (s : State) (n : ℕ) (a b : Seen) (window : Opportunity)
     → IsLegalJournal s.params s.plan s.entries → open_window s.entries ≡ Some window
     → standing_of (with_entry s (Observe n a b))
     ≡ after_observe (standing_of s) window (status_seen s.params window A a) (status_seen s.params window B b)
-        (data_frame_seen s.params window A a) (data_frame_seen s.params window B b)
+    (data_frame_seen s.params window A a) (data_frame_seen s.params window B b)
 standing-observe s n a b window legal opened =
     let e = Observe n a b in
     let counts = slot_more s.entries e refl in
@@ -384,17 +386,17 @@ standing-observe s n a b window legal opened =
     let frame_b = data_frame_seen s.params window B b in
     let number : length s.entries ≡ entries_before (standing_of s) = sym (entries-length s) in
     let receive : map (held_in s.params (s.entries ++ e ∷ [])) s.plan.buffers ≡ stored_all
-        (entries_before (standing_of s)) window frame_a frame_b s.plan.buffers
-        (map (held_in s.params s.entries) s.plan.buffers) =
+    (entries_before (standing_of s)) window frame_a frame_b s.plan.buffers
+    (map (held_in s.params s.entries) s.plan.buffers) =
     sym (held-observe s.params s.entries n a b window opened s.plan.buffers)
     ∙ ap (λ (k : ℕ). stored_all k window frame_a frame_b s.plan.buffers
-        (map (held_in s.params s.entries) s.plan.buffers)) number in
+    (map (held_in s.params s.entries) s.plan.buffers)) number in
     let queue : option_map (waiting_of s.params s.plan (s.entries ++ e ∷ [])) s.plan.queue ≡ with_arrivals s.plan
-        (entries_before (standing_of s)) window frame_a frame_b s.plan.queue
-        (option_map (waiting_of s.params s.plan s.entries) s.plan.queue) =
+    (entries_before (standing_of s)) window frame_a frame_b s.plan.queue
+    (option_map (waiting_of s.params s.plan s.entries) s.plan.queue) =
     sym (queue-observe s.params s.plan s.entries n a b window legal opened s.plan.queue refl)
     ∙ ap (λ (k : ℕ). with_arrivals s.plan k window frame_a frame_b s.plan.queue
-        (option_map (waiting_of s.params s.plan s.entries) s.plan.queue)) number in
+    (option_map (waiting_of s.params s.plan s.entries) s.plan.queue)) number in
     λ i. record {
       params = s.params;
       plan = s.plan;
@@ -412,7 +414,7 @@ standing-observe s n a b window legal opened =
 abbrev ObserveGoesOn : State → ℕ → Seen → Seen → Opportunity → Standing → Type 0
 ObserveGoesOn s n a b window h = h.opening.window ≡ Some window → window.number ≡ n
     → Leaves (after_observe h window (status_seen h.params window A a) (status_seen h.params window B b)
-        (data_frame_seen h.params window A a) (data_frame_seen h.params window B b)) (with_entry s (Observe n a b))
+    (data_frame_seen h.params window A a) (data_frame_seen h.params window B b)) (with_entry s (Observe n a b))
 
 pub history-observe : (h : Standing) (s : State) (n : ℕ) (a b : Seen) (window : Opportunity) → IsHistory h s
     → IsEntry (Observe n a b) → ObserveGoesOn s n a b window (limited h)
@@ -442,8 +444,10 @@ CommitFits buffer line h = buffer_at h.plan buffer ≡ Some line
 pub commit-fits : (h : Standing) (s : State) (buffer : ℕ) (line : Buffer) → IsHistory h s
     → CommitFits buffer line (limited h)
 commit-fits h s buffer line is = subst (CommitFits buffer line) is.leaves
-    (λ there. (number_there s.plan s.entries buffer line there,
-        commits_fit s.plan s.entries buffer line there (few_calls h s is)))
+    (λ there. (
+      number_there s.plan s.entries buffer line there,
+      commits_fit s.plan s.entries buffer line there (few_calls h s is),
+    ))
 
 pub count-fits_a : (h : Standing) (s : State) → IsHistory h s → (t : SlotStatus) → HasRoom h.counters A t
 count-fits_a h s is t = subst (λ (x : Standing). HasRoom x.counters A t) is.leaves
@@ -461,7 +465,7 @@ pub arrivals-fit : (h : Standing) (s : State) (w : Opportunity) → IsHistory h 
     → ForSome h.queue (λ w. w.lost + 2 < 2 ^ 32)
 arrivals-fit h s w is opened = for_some (λ (w : Waiting). w.lost + 2 < 2 ^ 32) h.queue
     (subst (ArrivalsFit w) is.leaves (λ is_open. losses_fit s.params s.plan s.entries
-        (omega (arith, is.slot_room, is.legal.few)) w is_open s.plan.queue) opened)
+    (omega (arith, is.slot_room, is.legal.few)) w is_open s.plan.queue) opened)
 
 pub one-held-each : (h : Standing) (s : State) → IsHistory h s → length h.receive ≡ length h.plan.buffers
 one-held-each h s is = subst (λ (x : Standing). length x.receive ≡ length x.plan.buffers) is.leaves
@@ -643,14 +647,14 @@ answer-offered h s window channel is = ap (λ (o : Outgoing). o.offered) (answer
 
 pub answer-frame : (h : Standing) (s : State) (window : Opportunity) (channel : Channel) → IsHistory h s
     → frame_by h.params h.plan h.transmit window channel (outgoing_on h.plan h.transmit window channel)
-        ≡ frame_offered s.params s.plan s.entries window channel
+    ≡ frame_offered s.params s.plan s.entries window channel
 answer-frame h s window channel is =
     sym (frame-limits h.plan h.host_limit h.slot_limit h.params h.transmit window channel
-        (outgoing_on h.plan h.transmit window channel))
+    (outgoing_on h.plan h.transmit window channel))
     ∙ ap (frame_by h.params (limited h).plan h.transmit window channel)
-        (sym (outgoing-limits h.plan h.host_limit h.slot_limit h.transmit window channel))
+    (sym (outgoing-limits h.plan h.host_limit h.slot_limit h.transmit window channel))
     ∙ sym (ap (λ (x : Standing). frame_by x.params x.plan x.transmit window channel
-        (outgoing_on x.plan x.transmit window channel)) is.leaves)
+    (outgoing_on x.plan x.transmit window channel)) is.leaves)
     ∙ frame-place s.plan s.entries s.params window channel
 
 pub nothing-out : (h : Standing) (s : State) (window : Opportunity) (channel : Channel) → IsHistory h s
@@ -659,8 +663,8 @@ pub nothing-out : (h : Standing) (s : State) (window : Opportunity) (channel : C
 nothing-out h s window channel is nothing =
     answer-frame h s window channel is
     ∙ frame-nothing s.plan s.entries s.params window channel
-        (sym (offered-place s.plan s.entries window channel) ∙ ap (λ (o : Outgoing). o.offered)
-        (sym (answer-outgoing h s window channel is)) ∙ nothing)
+    (sym (offered-place s.plan s.entries window channel) ∙ ap (λ (o : Outgoing). o.offered)
+    (sym (answer-outgoing h s window channel is)) ∙ nothing)
 
 pub received_receivable : (s : State) (number : ℕ) → AreEntries s.entries
     → IfSome (option_map frame_of (received_by s number)) IsReceivable
@@ -670,6 +674,7 @@ received_receivable s number are = by_line (buffer_at s.plan number)
         IsReceivable
     by_test true f = held_is_receivable s.params f s.entries are
     by_test false f = tt
+
     by_line : (o : Option Buffer) → IfSome (option_map frame_of (option_and_then (received_in s) o)) IsReceivable
     by_line None = tt
     by_line (Some b) = by_test (is_receive b.mode) b.filter
@@ -682,6 +687,7 @@ answer-pending h s task buffer of is none answer = answer ∙ by_line (buffer_at
     refused : (t : Bool) → None ≡ cond t (Some UnknownTask) (Some UnknownBuffer) → ⊥
     refused true e = cc
     refused false e = cc
+
     by_line : (o : Option Buffer) → buffer_at h.plan buffer ≡ o
         → pending_at h.transmit buffer ≡ pending_commit buffer s.entries
     by_line None there = absurd (refused (nat_le h.plan.tasks task)
@@ -695,6 +701,7 @@ observe-room h s n is none = by_window (open_window s.entries) refl
   where
     refused : unless_open n None ≡ None → ⊥
     refused e = cc
+
     by_window : (o : Option Opportunity) → open_window s.entries ≡ o
         → count_by is_slot s.entries + 1 ≤ s.plan.slot_entries
     by_window None closed = absurd (refused (ap (unless_open n) (sym closed) ∙ ap

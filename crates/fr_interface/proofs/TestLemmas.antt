@@ -41,8 +41,8 @@ passed false true false false is = (refl, refl, refl, refl)
 pub fetchable : (s : State) (window : Opportunity) → fetch_refusal s window ≡ None → IsFetchable s window
 fetchable s window none =
     let tests = passed (is_some (open_window s.entries)) (window_fits s.params window)
-        (is_not_above window.number (last_number s.entries))
-        (ltb s.plan.slot_entries (count_by is_slot s.entries + 2)) none in
+    (is_not_above window.number (last_number s.entries))
+    (ltb s.plan.slot_entries (count_by is_slot s.entries + 2)) none in
     record {
       closed = none_from_test (is_some (open_window s.entries)) (open_window s.entries) refl tests.0;
       fits = tests.1;

@@ -48,8 +48,14 @@ transmitters-none plan = each-mapped new_transmitter (transmitter_of []) 0 plan.
 -- ---- a commit on the buffer
 
 abbrev tally_with : Tally → Tally
-tally_with t = record { committed = t.committed + 1; sent = t.sent; overwritten = t.overwritten + t.pending; pending =
-    1; withdrawn = t.withdrawn }
+tally_with t = record {
+  committed = t.committed + 1;
+  sent = t.sent;
+  overwritten = t.overwritten + t.pending;
+  pending =
+      1;
+  withdrawn = t.withdrawn;
+}
 
 -- the counts of fates with one more
 abbrev one_added : (Fate → Bool) → List Fate → ℕ → Type 0
@@ -68,28 +74,56 @@ tally-commit number xs e on unsent untaken =
     let all : gs ≡ hs ++ Pending ∷ [] = fates_from-commit number 0 xs e on unsent untaken in
     let counts = after_commit-counts fs in
     let sent : count_by is_sent fs ≡ count_by is_sent gs = omega
-        (arith, counts.sent_is, ap (count_by is_sent) all, added is_sent hs) in
+    (arith, counts.sent_is, ap (count_by is_sent) all, added is_sent hs) in
     let withdrawn : count_by is_withdrawn fs ≡ count_by is_withdrawn gs =
-        omega (arith, counts.withdrawn_is, ap (count_by is_withdrawn) all, added is_withdrawn hs) in
+    omega (arith, counts.withdrawn_is, ap (count_by is_withdrawn) all, added is_withdrawn hs) in
     let overwritten : count_by is_overwritten fs + count_by is_pending fs ≡ count_by is_overwritten gs =
-        omega (arith, counts.overwritten_is, ap (count_by is_overwritten) all, added is_overwritten hs) in
-    let pending : 1 ≡ count_by is_pending gs = omega (arith, counts.pending_is, ap (count_by is_pending) all,
-        added is_pending hs) in
-    let committed : length fs + 1 ≡ length gs = omega (arith, fates_fill fs, fates_fill gs, sent, overwritten, pending,
-        withdrawn) in
-    λ i. record { committed = committed i; sent = sent i; overwritten = overwritten i; pending = pending i; withdrawn =
-        withdrawn i }
+    omega (arith, counts.overwritten_is, ap (count_by is_overwritten) all, added is_overwritten hs) in
+    let pending : 1 ≡ count_by is_pending gs = omega (
+      arith,
+      counts.pending_is,
+      ap (count_by is_pending) all,
+      added is_pending hs,
+    ) in
+    let committed : length fs + 1 ≡ length gs = omega (
+      arith,
+      fates_fill fs,
+      fates_fill gs,
+      sent,
+      overwritten,
+      pending,
+      withdrawn,
+    ) in
+    λ i. record {
+      committed = committed i;
+      sent = sent i;
+      overwritten = overwritten i;
+      pending = pending i;
+      withdrawn =
+          withdrawn i;
+    }
 
 -- ---- any other entry
 
 -- what becomes of a tally where the pending commit is sent, and where it is taken back
 abbrev pub tally_sent : Tally → Tally
-tally_sent x = record { committed = x.committed; sent = x.sent + x.pending; overwritten = x.overwritten; pending = 0;
-    withdrawn = x.withdrawn }
+tally_sent x = record {
+  committed = x.committed;
+  sent = x.sent + x.pending;
+  overwritten = x.overwritten;
+  pending = 0;
+  withdrawn = x.withdrawn;
+}
 
 abbrev pub tally_taken : Tally → Tally
-tally_taken x = record { committed = x.committed; sent = x.sent; overwritten = x.overwritten; pending = 0; withdrawn =
-    x.withdrawn + x.pending }
+tally_taken x = record {
+  committed = x.committed;
+  sent = x.sent;
+  overwritten = x.overwritten;
+  pending = 0;
+  withdrawn =
+      x.withdrawn + x.pending;
+}
 
 abbrev pub tally_after : Bool → Tally → Tally
 tally_after t x = cond t (tally_sent x) x
@@ -114,16 +148,28 @@ module _ (number : ℕ) (xs : List Entry) (e : Entry) where
       let all : gs ≡ map (after_other true u) fs = fates_other true u h in
       let counts = sending-counts u fs in
       let sent : count_by is_sent fs + count_by is_pending fs ≡ count_by is_sent gs =
-          omega (arith, counts.sent_is, ap (count_by is_sent) all) in
+      omega (arith, counts.sent_is, ap (count_by is_sent) all) in
       let withdrawn : count_by is_withdrawn fs ≡ count_by is_withdrawn gs =
-          omega (arith, counts.withdrawn_is, ap (count_by is_withdrawn) all) in
+      omega (arith, counts.withdrawn_is, ap (count_by is_withdrawn) all) in
       let overwritten : count_by is_overwritten fs ≡ count_by is_overwritten gs =
-          omega (arith, counts.overwritten_is, ap (count_by is_overwritten) all) in
+      omega (arith, counts.overwritten_is, ap (count_by is_overwritten) all) in
       let pending : 0 ≡ count_by is_pending gs = omega (arith, counts.pending_is, ap (count_by is_pending) all) in
-      let committed : length fs ≡ length gs = omega (arith, fates_fill fs, fates_fill gs, sent, overwritten, pending,
-          withdrawn) in
-      λ i. record { committed = committed i; sent = sent i; overwritten = overwritten i; pending = pending i;
-          withdrawn = withdrawn i }
+      let committed : length fs ≡ length gs = omega (
+        arith,
+        fates_fill fs,
+        fates_fill gs,
+        sent,
+        overwritten,
+        pending,
+        withdrawn,
+      ) in
+      λ i. record {
+        committed = committed i;
+        sent = sent i;
+        overwritten = overwritten i;
+        pending = pending i;
+        withdrawn = withdrawn i;
+      }
 
   pub tally-taken : IsOther number false true xs e → tally_taken (tally_of number xs) ≡ tally_of number (xs ++ e ∷ [])
   tally-taken h =
@@ -133,19 +179,31 @@ module _ (number : ℕ) (xs : List Entry) (e : Entry) where
       let counts = withdrawing-counts fs in
       let sent : count_by is_sent fs ≡ count_by is_sent gs = omega (arith, counts.sent_is, ap (count_by is_sent) all) in
       let withdrawn : count_by is_withdrawn fs + count_by is_pending fs ≡ count_by is_withdrawn gs =
-          omega (arith, counts.withdrawn_is, ap (count_by is_withdrawn) all) in
+      omega (arith, counts.withdrawn_is, ap (count_by is_withdrawn) all) in
       let overwritten : count_by is_overwritten fs ≡ count_by is_overwritten gs =
-          omega (arith, counts.overwritten_is, ap (count_by is_overwritten) all) in
+      omega (arith, counts.overwritten_is, ap (count_by is_overwritten) all) in
       let pending : 0 ≡ count_by is_pending gs = omega (arith, counts.pending_is, ap (count_by is_pending) all) in
-      let committed : length fs ≡ length gs = omega (arith, fates_fill fs, fates_fill gs, sent, overwritten, pending,
-          withdrawn) in
-      λ i. record { committed = committed i; sent = sent i; overwritten = overwritten i; pending = pending i;
-          withdrawn = withdrawn i }
+      let committed : length fs ≡ length gs = omega (
+        arith,
+        fates_fill fs,
+        fates_fill gs,
+        sent,
+        overwritten,
+        pending,
+        withdrawn,
+      ) in
+      λ i. record {
+        committed = committed i;
+        sent = sent i;
+        overwritten = overwritten i;
+        pending = pending i;
+        withdrawn = withdrawn i;
+      }
 
   tally-still : IsOther number false false xs e → tally_of number xs ≡ tally_of number (xs ++ e ∷ [])
   tally-still h =
       let all : fates number xs ≡ fates number (xs ++ e ∷ []) =
-          sym (fates_other false false h ∙ same_fates (fates number xs)) in
+      sym (fates_other false false h ∙ same_fates (fates number xs)) in
       λ i. record {
         committed = length (all i);
         sent = count_by is_sent (all i);
@@ -162,7 +220,7 @@ module _ (number : ℕ) (xs : List Entry) (e : Entry) where
   -- the commit that is held is the same one, with the same payload
   pub same_commit : held_commit number (xs ++ e ∷ []) ≡ held_commit number xs
       → option_map (commit_of xs) (held_commit number xs) ≡ option_map (commit_of (xs ++ e ∷ []))
-          (held_commit number (xs ++ e ∷ []))
+      (held_commit number (xs ++ e ∷ []))
   same_commit same = kept (held_commit number xs) (held-below number xs) ∙ ap (option_map (commit_of (xs ++ e ∷ [])))
       (sym same)
     where
@@ -175,13 +233,18 @@ module _ (number : ℕ) (xs : List Entry) (e : Entry) where
 pub transmitter-other : (number : ℕ) (m : Mode) (xs : List Entry) (e : Entry) → is_commit_on number e ≡ false
     → ((k : ℕ) → sends k e ≡ false)
     → MarksLast number 0 false (λ k. takes_back k e) xs → ((k : ℕ) → last_commit number xs ≡ Some k
-        → takes_back k e ≡ false)
+    → takes_back k e ≡ false)
     → transmitter_of xs number m ≡ transmitter_of (xs ++ e ∷ []) number m
 transmitter-other number m xs e off unsent untaken last =
-    let h : IsOther number false false xs e = record { off = off; sending =
-        marks_none number 0 (λ k. sends k e) xs unsent; taking = untaken; stands = stands_unsent number 0 xs } in
+    let h : IsOther number false false xs e = record {
+      off = off;
+      sending =
+          marks_none number 0 (λ k. sends k e) xs unsent;
+      taking = untaken;
+      stands = stands_unsent number 0 xs;
+    } in
     let held : held_commit number (xs ++ e ∷ []) ≡ held_commit number xs =
-        held-other number xs e off last (λ k _ sent. let never : false ≡ true = sym (unsent k) ∙ sent in absurd cc) in
+    held-other number xs e off last (λ k _ sent. let never : false ≡ true = sym (unsent k) ∙ sent in absurd cc) in
     let tally : tally_of number xs ≡ tally_of number (xs ++ e ∷ []) = tally-other number xs e false h in
     λ i. record { mode = m; last = same_commit number xs e held i; tally = tally i }
 
@@ -198,7 +261,7 @@ pub transmitters-other : (plan : Plan) (xs : List Entry) (e : Entry) → ((numbe
     → transmitters plan (xs ++ e ∷ []) ≡ transmitters plan xs
 transmitters-other plan xs e off unsent untaken =
     each-same (transmitter_of (xs ++ e ∷ [])) (transmitter_of xs) 0 plan.buffers
-        (λ number m. sym (transmitter-still number m xs e (off number) unsent untaken))
+    (λ number m. sym (transmitter-still number m xs e (off number) unsent untaken))
 
 abbrev committed_now : ℕ → List ℕ → HeldCommit
 committed_now entry payload = record { entry = entry; payload = payload }
@@ -222,11 +285,11 @@ module _ (xs : List Entry) (task buffer : ℕ) (payload : List ℕ) where
       let e : Entry = Commit task buffer payload in
       let on : is_commit_on number e ≡ true = ap (λ (n : ℕ). eqb buffer n) is ∙ same_number buffer in
       let tally : tally_with (tally_of number xs) ≡ tally_of number (xs ++ e ∷ []) =
-          tally-commit number xs e on (λ k. refl) (λ k. refl) in
+      tally-commit number xs e on (λ k. refl) (λ k. refl) in
       let last : Some (committed_now (length xs) payload) ≡ option_map (commit_of (xs ++ e ∷ []))
-          (held_commit number (xs ++ e ∷ [])) =
+      (held_commit number (xs ++ e ∷ [])) =
       (λ i. Some (committed_now (length xs) (sym (payload_of-next xs task buffer payload) i))) ∙ ap
-          (option_map (commit_of (xs ++ e ∷ []))) (sym (held-commit number xs e on)) in
+      (option_map (commit_of (xs ++ e ∷ []))) (sym (held-commit number xs e on)) in
       λ i. record { mode = m; last = last i; tally = tally i }
 
   off_buffer : (number : ℕ) (m : Mode) → eqb number buffer ≡ false
@@ -236,7 +299,7 @@ module _ (xs : List Entry) (task buffer : ℕ) (payload : List ℕ) where
 
   by_number : (number : ℕ) (m : Mode) (t : Bool) → eqb number buffer ≡ t
       → cond t (with_commit (transmitter_of xs number m) (committed_now (length xs) payload))
-          (transmitter_of xs number m) ≡ transmitter_of (xs ++ Commit task buffer payload ∷ []) number m
+      (transmitter_of xs number m) ≡ transmitter_of (xs ++ Commit task buffer payload ∷ []) number m
   by_number number m true e = on_buffer number m (eqb-true number buffer e)
   by_number number m false e = off_buffer number m e
 
@@ -245,7 +308,7 @@ module _ (xs : List Entry) (task buffer : ℕ) (payload : List ℕ) where
   transmitters-commit plan =
       change_each (λ b. with_commit b (committed_now (length xs) payload)) (transmitter_of xs) buffer plan.buffers
       ∙ each-same (changed (λ b. with_commit b (committed_now (length xs) payload)) buffer (transmitter_of xs))
-          (transmitter_of (xs ++ Commit task buffer payload ∷ [])) 0 plan.buffers
+      (transmitter_of (xs ++ Commit task buffer payload ∷ [])) 0 plan.buffers
       (λ number m. by_number number m (eqb number buffer) refl)
 
 -- ---- a withdraw
@@ -271,7 +334,7 @@ module _ (xs : List Entry) (task buffer : ℕ) (of : Option ℕ) (is : of ≡ pe
       let from : last_commit buffer xs ≡ Some k = taken_last k taken in
       let here : slice_get xs k ≡ Some x = ap (λ (l : List Entry). slice_get l k) cut ∙ slice_get-next before x rest in
       let on_it : IsCommitAt number xs k = subst (λ (o : Option Entry). IsSomeAnd o (λ e. is_commit_on number e ≡ true))
-          (sym here) on in
+      (sym here) on in
       let one : number ≡ buffer = same_entry number buffer (slice_get xs k) on_it (last_there xs buffer k from) in
       ap (λ (n : ℕ). last_commit n xs) one ∙ from
 
@@ -279,8 +342,10 @@ module _ (xs : List Entry) (task buffer : ℕ) (of : Option ℕ) (is : of ≡ pe
       → AllAfter (OnlyLast number (λ k. takes_back k withdrawal) (last_commit number xs)) before rest
   unfolding AllAfter
   all_only number before [] cut = tt
-  all_only number before (x ∷ rest) cut = (taken_only number before x rest cut,
-      all_only number (before ++ x ∷ []) rest (cut ∙ sym (append_assoc before (x ∷ []) rest)))
+  all_only number before (x ∷ rest) cut = (
+    taken_only number before x rest cut,
+    all_only number (before ++ x ∷ []) rest (cut ∙ sym (append_assoc before (x ∷ []) rest)),
+  )
 
   taking : (number : ℕ) (u : Bool) → ((k : ℕ) → last_commit number xs ≡ Some k → u ≡ takes_back k withdrawal)
       → MarksLast number 0 u (λ k. takes_back k withdrawal) xs
@@ -313,10 +378,10 @@ on_none : (xs : List Entry) (task buffer : ℕ) (m : Mode) → pending_commit bu
     → after_withdraw (transmitter_of xs buffer m) ≡ transmitter_of (xs ++ Withdraw task buffer None ∷ []) buffer m
 on_none xs task buffer m none =
     let count : count_by is_pending (fates buffer xs) ≡ 0 = pending-one buffer xs ∙ ap
-        (λ (o : Option ℕ). cond {A = ℕ} (is_some o) 1 0) none in
+    (λ (o : Option ℕ). cond {A = ℕ} (is_some o) 1 0) none in
     let b : Transmitter = transmitter_of xs buffer m in
     ap (λ (n : ℕ). cond (eqb n 1) (emptied b) b) count ∙ transmitter-still buffer m xs (Withdraw task buffer None) refl
-        (λ k. refl) (λ k. refl)
+    (λ k. refl) (λ k. refl)
 
 on_some : (xs : List Entry) (task buffer k : ℕ) (m : Mode) → pending_commit buffer xs ≡ Some k
     → after_withdraw (transmitter_of xs buffer m) ≡ transmitter_of (xs ++ Withdraw task buffer (Some k) ∷ []) buffer m
@@ -324,7 +389,7 @@ on_some xs task buffer k m some =
     let e : Entry = Withdraw task buffer (Some k) in
     let b : Transmitter = transmitter_of xs buffer m in
     let count : count_by is_pending (fates buffer xs) ≡ 1 = pending-one buffer xs ∙ ap
-        (λ (o : Option ℕ). cond {A = ℕ} (is_some o) 1 0) some in
+    (λ (o : Option ℕ). cond {A = ℕ} (is_some o) 1 0) some in
     let last = pending_is buffer xs k some in
     let marked : (j : ℕ) → last_commit buffer xs ≡ Some j → true ≡ takes_back j e =
     λ j there.
@@ -338,11 +403,11 @@ on_some xs task buffer k m some =
       stands = stands_unsent buffer 0 xs;
     } in
     let held : held_commit buffer (xs ++ e ∷ []) ≡ None = held-taken buffer xs e refl (λ j. refl) k some (same_number k)
-        in
+    in
     let tally : tally_taken (tally_of buffer xs) ≡ tally_of buffer (xs ++ e ∷ []) = tally-taken buffer xs e h in
     let test : eqb (count_by is_pending (fates buffer xs)) 1 ≡ true = ap (λ (n : ℕ). eqb n 1) count in
     let one : count_by is_withdrawn (fates buffer xs) + 1 ≡ (tally_of buffer (xs ++ e ∷ [])).withdrawn =
-        omega (arith, count, ap (λ (t : Tally). t.withdrawn) tally) in
+    omega (arith, count, ap (λ (t : Tally). t.withdrawn) tally) in
     ap (λ (t : Bool). cond t (emptied b) b) test
     ∙ (λ i. record {
       mode = m;
@@ -370,7 +435,7 @@ module _ (xs : List Entry) (task buffer : ℕ) where
       ≡ transmitter_of with_withdraw number m
   by_buffer number m true e =
       subst (λ (n : ℕ). after_withdraw (transmitter_of xs n m) ≡ transmitter_of with_withdraw n m)
-          (sym (eqb-true number buffer e)) (on_it m (pending_commit buffer xs) refl)
+      (sym (eqb-true number buffer e)) (on_it m (pending_commit buffer xs) refl)
   by_buffer number m false e = else_where xs task buffer (pending_commit buffer xs) refl number m e
 
   pub transmitters-withdraw : (plan : Plan) → change_at after_withdraw (transmitters plan xs) buffer ≡ transmitters plan
@@ -378,7 +443,7 @@ module _ (xs : List Entry) (task buffer : ℕ) where
   transmitters-withdraw plan =
       change_each after_withdraw (transmitter_of xs) buffer plan.buffers
       ∙ each-same (changed after_withdraw buffer (transmitter_of xs)) (transmitter_of with_withdraw) 0 plan.buffers
-          (λ number m. by_buffer number m (eqb number buffer) refl)
+      (λ number m. by_buffer number m (eqb number buffer) refl)
 
 -- ---- offers
 
@@ -391,7 +456,7 @@ entry_of-commit xs (Some k) = refl
 pub offer-ready : (xs : List Entry) (number : ℕ) (m : Mode) → offer_of (transmitter_of xs number m) ≡ ready m number xs
 offer-ready xs number mode.Event =
     ap (λ (o : Option ℕ). cond (eqb (count_by is_pending (fates number xs)) 1) o None)
-        (entry_of-commit xs (held_commit number xs)) ∙ held_pending-counts number xs
+    (entry_of-commit xs (held_commit number xs)) ∙ held_pending-counts number xs
 offer-ready xs number mode.State = entry_of-commit xs (held_commit number xs)
 offer-ready xs number mode.Receive = refl
 
@@ -400,7 +465,7 @@ pub pending-ready : (xs : List Entry) (number : ℕ) (m : Mode)
     → pending_of (transmitter_of xs number m) ≡ pending_commit number xs
 pending-ready xs number m =
     ap (λ (o : Option ℕ). cond (eqb (count_by is_pending (fates number xs)) 1) o None)
-        (entry_of-commit xs (held_commit number xs)) ∙ held_pending-counts number xs
+    (entry_of-commit xs (held_commit number xs)) ∙ held_pending-counts number xs
 
 -- how many commits a buffer took
 few_fates : (number n : ℕ) (xs : List Entry) → length (fates_from number n xs) ≤ length xs
@@ -408,8 +473,12 @@ unfolding fates_from
 few_fates number n [] = omega arith
 few_fates number n (x ∷ xs) =
     let here : List Fate = cond (is_commit_on number x) (fate_of number n xs ∷ []) [] in
-    omega (arith, length-append here (fates_from number (n + 1) xs),
-        one_at_most (is_commit_on number x) (fate_of number n xs), few_fates number (n + 1) xs)
+    omega (
+      arith,
+      length-append here (fates_from number (n + 1) xs),
+      one_at_most (is_commit_on number x) (fate_of number n xs),
+      few_fates number (n + 1) xs,
+    )
   where
     one_at_most : (t : Bool) (f : Fate) → length (cond t (f ∷ []) []) ≤ 1
     one_at_most true f = omega arith

@@ -35,8 +35,12 @@ use Rattle.fr_status.specs.declared.seen.Seen.{Seen}
 -- ---- after some moves and answered pops
 
 abbrev waiting_by : ℕ → ℕ → List Move → Waiting
-waiting_by capacity popped ms = record { capacity = capacity; frames = queue_content capacity ms; lost =
-    length (arrived ms) - popped - queue_length capacity ms }
+waiting_by capacity popped ms = record {
+  capacity = capacity;
+  frames = queue_content capacity ms;
+  lost =
+      length (arrived ms) - popped - queue_length capacity ms;
+}
 
 -- what was popped and what is there had arrived
 abbrev IsBalanced : ℕ → ℕ → List Move → Type 0
@@ -56,32 +60,49 @@ module _ (capacity popped : ℕ) (ms : List Move) where
   lost_by : (a : Arrival) (t : Bool) → ltb (length (queue_content capacity ms)) capacity ≡ t
       → IsBalanced capacity popped ms
       → cond t (length (arrived ms) - popped - queue_length capacity ms)
-          (length (arrived ms) - popped - queue_length capacity ms + 1)
+      (length (arrived ms) - popped - queue_length capacity ms + 1)
       ≡ length (arrived (ms ++ arrives a ∷ [])) - popped - queue_length capacity (ms ++ arrives a ∷ [])
   lost_by a true test h =
-      omega (arith, h, length-arrives a, arrived-arrives a, length-content capacity ms,
-          ltb-true (length (queue_content capacity ms)) capacity test)
+      omega (
+        arith,
+        h,
+        length-arrives a,
+        arrived-arrives a,
+        length-content capacity ms,
+        ltb-true (length (queue_content capacity ms)) capacity test,
+      )
   lost_by a false test h =
-      omega (arith, h, length-arrives a, arrived-arrives a, length-content capacity ms,
-          queue_length-capacity capacity ms, ltb-false (length (queue_content capacity ms)) capacity test)
+      omega (
+        arith,
+        h,
+        length-arrives a,
+        arrived-arrives a,
+        length-content capacity ms,
+        queue_length-capacity capacity ms,
+        ltb-false (length (queue_content capacity ms)) capacity test,
+      )
 
   frame-arrives : (a : Arrival) → IsBalanced capacity popped ms
       → with_frame (waiting_by capacity popped ms) a ≡ waiting_by capacity popped (ms ++ arrives a ∷ [])
   frame-arrives a h =
       let lost : cond (ltb (length (queue_content capacity ms)) capacity)
-          (length (arrived ms) - popped - queue_length capacity ms)
-          (length (arrived ms) - popped - queue_length capacity ms + 1)
+      (length (arrived ms) - popped - queue_length capacity ms)
+      (length (arrived ms) - popped - queue_length capacity ms + 1)
       ≡ length (arrived (ms ++ arrives a ∷ [])) - popped - queue_length capacity (ms ++ arrives a ∷ []) =
       lost_by a (ltb (length (queue_content capacity ms)) capacity) refl h in
       λ i. record { capacity = capacity; frames = sym (content-arrives capacity ms a) i; lost = lost i }
 
 arrival-by : (capacity popped : ℕ) (ms : List Move) (o : Option Arrival) → IsBalanced capacity popped ms
     → (with_arrival (waiting_by capacity popped ms) o ≡ waiting_by capacity popped
-        (ms ++ arrive_all (option_to_list o))) × IsBalanced capacity popped (ms ++ arrive_all (option_to_list o))
-arrival-by capacity popped ms None h = (ap (waiting_by capacity popped) (sym (append-nil ms)),
-    subst (IsBalanced capacity popped) (sym (append-nil ms)) h)
-arrival-by capacity popped ms (Some a) h = (frame-arrives capacity popped ms a h,
-    IsBalanced-arrives capacity popped ms a h)
+    (ms ++ arrive_all (option_to_list o))) × IsBalanced capacity popped (ms ++ arrive_all (option_to_list o))
+arrival-by capacity popped ms None h = (
+  ap (waiting_by capacity popped) (sym (append-nil ms)),
+  subst (IsBalanced capacity popped) (sym (append-nil ms)) h,
+)
+arrival-by capacity popped ms (Some a) h = (
+  frame-arrives capacity popped ms a h,
+  IsBalanced-arrives capacity popped ms a h,
+)
 
 -- ---- after some entries
 
@@ -102,20 +123,20 @@ module _ (params : Parameters) (plan : Plan) (q : Queue) where
   same_popped : (xs : List Entry) (e : Entry) (ms : List Move) → moves_at params plan q xs e ≡ ms
       → is_answered_pop e ≡ false
       → waiting_of params plan (xs ++ e ∷ []) q ≡ waiting_by q.capacity (count_by is_answered_pop xs)
-          (moves params plan q xs ++ ms)
+      (moves params plan q xs ++ ms)
   same_popped xs e ms is unpopped =
       let all : moves params plan q (xs ++ e ∷ []) ≡ moves params plan q xs ++ ms =
-          moves-snoc params plan q xs e ∙ ap (λ (l : List Move). moves params plan q xs ++ l) is in
+      moves-snoc params plan q xs e ∙ ap (λ (l : List Move). moves params plan q xs ++ l) is in
       let none : cond {A = ℕ} (is_answered_pop e) 1 0 ≡ 0 = ap (λ (b : Bool). cond {A = ℕ} b 1 0) unpopped in
       let popped : count_by is_answered_pop (xs ++ e ∷ []) ≡ count_by is_answered_pop xs =
-          omega (arith, popped_more xs e, none) in
+      omega (arith, popped_more xs e, none) in
       λ i. waiting_by q.capacity (popped i) (all i)
 
   pub waiting-other : (xs : List Entry) (e : Entry) → moves_at params plan q xs e ≡ [] → is_answered_pop e ≡ false
       → waiting_of params plan (xs ++ e ∷ []) q ≡ waiting_of params plan xs q
   waiting-other xs e still unpopped =
       same_popped xs e [] still unpopped ∙ ap (waiting_by q.capacity (count_by is_answered_pop xs))
-          (append-nil (moves params plan q xs))
+      (append-nil (moves params plan q xs))
 
   -- ---- a pop
 
@@ -130,16 +151,16 @@ module _ (params : Parameters) (plan : Plan) (q : Queue) where
   waiting-pop xs task from is =
       let ms : List Move = moves params plan q xs in
       let all : moves params plan q (xs ++ Pop task from ∷ []) ≡ ms ++ pops ∷ [] =
-          moves-snoc params plan q xs (Pop task from) in
+      moves-snoc params plan q xs (Pop task from) in
       let one : cond {A = ℕ} (is_answered_pop (Pop task from)) 1 0 ≡ min 1 (length (queue_content q.capacity ms)) =
       ap (λ (o : Option Origin). cond {A = ℕ} (is_some o) 1 0) is ∙ answered (queue_content q.capacity ms) in
       let shorter : queue_length q.capacity (ms ++ pops ∷ []) ≡ queue_length q.capacity ms - 1 =
-          fold-append (length_after q.capacity) 0 ms (pops ∷ []) in
+      fold-append (length_after q.capacity) 0 ms (pops ∷ []) in
       let many : length (arrived (ms ++ pops ∷ [])) ≡ length (arrived ms) =
-          ap length (arrived-append ms (pops ∷ []) ∙ append-nil (arrived ms)) in
+      ap length (arrived-append ms (pops ∷ []) ∙ append-nil (arrived ms)) in
       let lost : length (arrived ms) - count_by is_answered_pop xs - queue_length q.capacity ms
       ≡ length (arrived (ms ++ pops ∷ [])) - count_by is_answered_pop
-          (xs ++ Pop task from ∷ []) - queue_length q.capacity (ms ++ pops ∷ []) =
+      (xs ++ Pop task from ∷ []) - queue_length q.capacity (ms ++ pops ∷ []) =
       omega (arith, popped_more xs (Pop task from), one, shorter, many, length-content q.capacity ms) in
       (λ i. record { capacity = q.capacity; frames = sym (content-pops q.capacity ms) i; lost = lost i })
       ∙ (λ i. waiting_by q.capacity (count_by is_answered_pop (xs ++ Pop task from ∷ [])) (sym all i))
@@ -148,7 +169,7 @@ module _ (params : Parameters) (plan : Plan) (q : Queue) where
 
   one_arrival : (number : ℕ) (window : Opportunity) (channel : Channel) (seen : Seen)
       → option_to_list (queued_on plan q number window channel (data_frame_seen params window channel seen))
-          ≡ queue_arrival_on params plan q number window channel seen
+      ≡ queue_arrival_on params plan q number window channel seen
   one_arrival number window channel seen = by_test (is_for_queue plan q window channel)
       (option_map (arrival_of number channel) (data_frame_seen params window channel seen))
     where
@@ -159,8 +180,8 @@ module _ (params : Parameters) (plan : Plan) (q : Queue) where
   pub waiting-observe : plan.queue ≡ Some q → (xs : List Entry) (n : ℕ) (a b : Seen) (window : Opportunity)
       → IsLegalJournal params plan xs → open_window xs ≡ Some window
       → with_arrival (with_arrival (waiting_of params plan xs q)
-          (queued_on plan q (length xs) window A (data_frame_seen params window A a)))
-          (queued_on plan q (length xs) window B (data_frame_seen params window B b))
+      (queued_on plan q (length xs) window A (data_frame_seen params window A a)))
+      (queued_on plan q (length xs) window B (data_frame_seen params window B b))
       ≡ waiting_of params plan (xs ++ Observe n a b ∷ []) q
   waiting-observe there xs n a b window legal opened =
       let ms : List Move = moves params plan q xs in
@@ -170,11 +191,11 @@ module _ (params : Parameters) (plan : Plan) (q : Queue) where
       let first = arrival-by q.capacity popped ms from_a (balanced params plan q there xs legal) in
       let second = arrival-by q.capacity popped (ms ++ arrive_all (option_to_list from_a)) from_b first.1 in
       let lists : option_to_list from_a ++ option_to_list from_b ≡ queue_arrivals_in params plan q (length xs) a b
-          (open_window xs) =
+      (open_window xs) =
       (λ i. one_arrival (length xs) window A a i ++ one_arrival (length xs) window B b i)
       ∙ ap (queue_arrivals_in params plan q (length xs) a b) (sym opened) in
       let joined : (ms ++ arrive_all (option_to_list from_a)) ++ arrive_all (option_to_list from_b) ≡ ms ++ arrive_all
-          (queue_arrivals_in params plan q (length xs) a b (open_window xs)) =
+      (queue_arrivals_in params plan q (length xs) a b (open_window xs)) =
       append_assoc ms (arrive_all (option_to_list from_a)) (arrive_all (option_to_list from_b))
       ∙ ap (λ (l : List Move). ms ++ l) (sym (arrive_all-append (option_to_list from_a) (option_to_list from_b)))
       ∙ ap (λ (l : List Arrival). ms ++ arrive_all l) lists in
@@ -182,7 +203,7 @@ module _ (params : Parameters) (plan : Plan) (q : Queue) where
       ∙ second.0
       ∙ ap (waiting_by q.capacity popped) joined
       ∙ sym (same_popped xs (Observe n a b) (arrive_all
-          (queue_arrivals_in params plan q (length xs) a b (open_window xs))) refl refl)
+      (queue_arrivals_in params plan q (length xs) a b (open_window xs))) refl refl)
 
   -- ---- how many arrive
 
@@ -226,24 +247,39 @@ module _ (params : Parameters) (plan : Plan) (q : Queue) where
   step : (before : List Entry) (e : Entry) → length (arrived (moves_at params plan q before e)) + open_one
       (before ++ e ∷ []) ≤ cond {A = ℕ} (is_slot e) 1 0 + open_one before
   unfolding open_one
-  step before (Commit task buffer payload) = omega (arith, marked before (Commit task buffer payload)
-      (open_window before) (open_window-snoc before (Commit task buffer payload)))
-  step before (Withdraw task buffer of) = omega (arith, marked before (Withdraw task buffer of) (open_window before)
-      (open_window-snoc before (Withdraw task buffer of)))
-  step before (Read task buffer from) = omega (arith, marked before (Read task buffer from) (open_window before)
-      (open_window-snoc before (Read task buffer from)))
-  step before (Pop task from) = omega (arith, marked before (Pop task from) (open_window before)
-      (open_window-snoc before (Pop task from)))
-  step before (Fetch window a b) = omega (arith, marked before (Fetch window a b) (Some window)
-      (open_window-snoc before (Fetch window a b)))
+  step before (Commit task buffer payload) = omega (
+    arith,
+    marked before (Commit task buffer payload)
+        (open_window before) (open_window-snoc before (Commit task buffer payload)),
+  )
+  step before (Withdraw task buffer of) = omega (
+    arith,
+    marked before (Withdraw task buffer of) (open_window before)
+        (open_window-snoc before (Withdraw task buffer of)),
+  )
+  step before (Read task buffer from) = omega (
+    arith,
+    marked before (Read task buffer from) (open_window before)
+        (open_window-snoc before (Read task buffer from)),
+  )
+  step before (Pop task from) = omega (
+    arith,
+    marked before (Pop task from) (open_window before)
+        (open_window-snoc before (Pop task from)),
+  )
+  step before (Fetch window a b) = omega (
+    arith,
+    marked before (Fetch window a b) (Some window)
+        (open_window-snoc before (Fetch window a b)),
+  )
   step before (Observe window a b) =
       let arrivals : length (arrived (moves_at params plan q before (Observe window a b))) ≡ length
-          (queue_arrivals_in params plan q (length before) a b (open_window before)) =
+      (queue_arrivals_in params plan q (length before) a b (open_window before)) =
       ap length (arrived-all (queue_arrivals_in params plan q (length before) a b (open_window before))) in
       let most : length (queue_arrivals_in params plan q (length before) a b (open_window before)) ≤ 2 * cond {A = ℕ}
-          (is_some (open_window before)) 1 0 = at_open (length before) a b (open_window before) in
+      (is_some (open_window before)) 1 0 = at_open (length before) a b (open_window before) in
       let closed : open_one (before ++ Observe window a b ∷ []) ≡ 0 =
-          marked before (Observe window a b) None (open_window-snoc before (Observe window a b)) in
+      marked before (Observe window a b) None (open_window-snoc before (Observe window a b)) in
       let one : cond {A = ℕ} (is_some (open_window before)) 1 0 ≤ 1 = digit_one (is_some (open_window before)) in
       omega (arith, closed, arrivals, most, one)
 

@@ -9,10 +9,10 @@ ghost use Rattle.fr_slots.specs.Windows.{IsInRange, IsSlotOrNone};
 
 use crate::errors::{HostError, InterfaceError, SlotError};
 use crate::handing::bytes_in_entry;
-use crate::state::InterfaceState;
 use crate::naming::frame_named;
 use crate::offers::Outgoing;
 use crate::source::Source;
+use crate::state::InterfaceState;
 use fr_frame::frame::{Bytes, Frame};
 use fr_frame::payload::Payload;
 use fr_journal::entry::{Arrival, Entry, Offered, Origin};

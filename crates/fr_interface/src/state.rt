@@ -4,7 +4,9 @@ ghost use Rattle.fr_interface.specs.Standing.{IsHistory, ForEachHistory};
 
 use crate::errors::{HostError, InterfaceError, SlotError};
 use crate::index::IndexedPlan;
-use crate::interface::{has_words, is_not_above, kept_payload, kept_window, origin_in, seen_within};
+use crate::interface::{
+    has_words, is_not_above, kept_payload, kept_window, origin_in, seen_within,
+};
 use crate::observed::{Told, arrive_all, count_seen, store_all};
 use crate::offers::{Outgoing, outgoing_on, spelled_by};
 use crate::opening::Opening;
@@ -57,15 +59,19 @@ impl Model for InterfaceState {
 }
 
 impl InterfaceState {
-    ghost use Rattle.std.specs.Prelude.{◌≡◌, ◌+◌, ◌^◌, ◌≤◌, ◌<◌, [], None, length, count_by, IfOk, IfSome, OnOk, OnErr, option_map, slice_get};
+    ghost use Rattle.std.specs.Prelude.{◌≡◌, ◌+◌, ◌^◌, ◌≤◌, ◌<◌, [], None, length, count_by, IfOk, IfSome, OnOk};
+    ghost use Rattle.std.specs.Prelude.{OnErr, option_map, slice_get};
     ghost use Rattle.std.specs.Result.{result_err};
     ghost use Rattle.fr_journal.specs.declared.entry.Entry.TheVariants as entries;
     ghost use Rattle.fr_journal.specs.Entries.{is_host, is_slot, IsOffered};
-    ghost use Rattle.fr_interface.specs.State.{with_entry, withdraw_entry, read_entry, pop_entry, fetch_entry, received_by};
+    ghost use Rattle.fr_interface.specs.State.{with_entry, withdraw_entry, read_entry, pop_entry, fetch_entry};
+    ghost use Rattle.fr_interface.specs.State.{received_by};
     ghost use Rattle.fr_interface.specs.Standing.{after_commit, after_read, after_fetch, after_observe};
-    ghost use Rattle.fr_interface.specs.Standing.{commit_refused, read_refused, fetch_refused, observe_refused, entries_before};
+    ghost use Rattle.fr_interface.specs.Standing.{commit_refused, read_refused, fetch_refused, observe_refused};
+    ghost use Rattle.fr_interface.specs.Standing.{entries_before};
     ghost use Rattle.fr_interface.specs.Sending.{outgoing_on, pending_at, frame_by};
-    ghost use Rattle.fr_interface.specs.Standing.{withdraw_refused, pop_refused, oldest_at, source_at, tally_at, received_at};
+    ghost use Rattle.fr_interface.specs.Standing.{withdraw_refused, pop_refused, oldest_at, source_at, tally_at};
+    ghost use Rattle.fr_interface.specs.Standing.{received_at};
     ghost use Rattle.fr_journal.specs.Offers.{IsHandedOut, bytes_of};
     ghost use Rattle.fr_interface.specs.Standing.{with_limits, KeepsTerms};
 

@@ -26,8 +26,11 @@ use Rattle.fr_slots.proofs.HistoryLemmas.{AllAfter-induction}
 module _ (capacity : ℕ) where
   -- arrivals lengthen the queue by at most as many as they are
   grown : (ms more : List Move) → queue_length capacity (ms ++ more) ≤ queue_length capacity ms + length (arrived more)
-  grown ms more = omega (arith, fold-append (length_after capacity) 0 ms more,
-      length_from capacity (queue_length capacity ms) (queue_length capacity ms) more (omega arith))
+  grown ms more = omega (
+    arith,
+    fold-append (length_after capacity) 0 ms more,
+    length_from capacity (queue_length capacity ms) (queue_length capacity ms) more (omega arith),
+  )
 
   longer : (ms more : List Move) → length (arrived (ms ++ more)) ≡ length (arrived ms) + length (arrived more)
   longer ms more = ap length (arrived-append ms more) ∙ length-append (arrived ms) (arrived more)
@@ -44,7 +47,7 @@ module _ (capacity : ℕ) where
       → cond (is_some from) 1 0 ≤ queue_length capacity ms
   answered_by ms from is =
       let same : cond {A = ℕ} (is_some from) 1 0 ≡ cond (is_some (option_map origin_of (oldest capacity ms))) 1 0 =
-          ap (λ (o : Option Origin). cond {A = ℕ} (is_some o) 1 0) is in
+      ap (λ (o : Option Origin). cond {A = ℕ} (is_some o) 1 0) is in
       omega (arith, same, answered (queue_content capacity ms), length-content capacity ms)
 
 one_at_most : (b : Bool) → cond b 1 0 ≤ 1
@@ -68,10 +71,18 @@ module _ (params : Parameters) (plan : Plan) (q : Queue) where
   by_arrivals xs e more is unpopped h =
       let ms : List Move = moves params plan q xs in
       let all : moves params plan q (xs ++ e ∷ []) ≡ ms ++ more =
-          moves-snoc params plan q xs e ∙ ap (λ (l : List Move). ms ++ l) is in
+      moves-snoc params plan q xs e ∙ ap (λ (l : List Move). ms ++ l) is in
       let none : cond {A = ℕ} (is_answered_pop e) 1 0 ≡ 0 = ap (λ (b : Bool). cond {A = ℕ} b 1 0) unpopped in
-      omega (arith, h, popped_more xs e, none, ap (queue_length q.capacity) all,
-          ap (λ (l : List Move). length (arrived l)) all, grown q.capacity ms more, longer q.capacity ms more)
+      omega (
+        arith,
+        h,
+        popped_more xs e,
+        none,
+        ap (queue_length q.capacity) all,
+        ap (λ (l : List Move). length (arrived l)) all,
+        grown q.capacity ms more,
+        longer q.capacity ms more,
+      )
 
   by_pop : (xs : List Entry) (task : ℕ) (from : Option Origin)
       → from ≡ option_map origin_of (oldest q.capacity (moves params plan q xs)) → IsBalanced xs
@@ -79,12 +90,20 @@ module _ (params : Parameters) (plan : Plan) (q : Queue) where
   by_pop xs task from is h =
       let ms : List Move = moves params plan q xs in
       let all : moves params plan q (xs ++ Pop task from ∷ []) ≡ ms ++ pops ∷ [] =
-          moves-snoc params plan q xs (Pop task from) in
+      moves-snoc params plan q xs (Pop task from) in
       let most : cond {A = ℕ} (is_answered_pop (Pop task from)) 1 0 ≤ queue_length q.capacity ms =
-          answered_by q.capacity ms from is in
-      omega (arith, h, most, one_at_most (is_answered_pop (Pop task from)), popped_more xs (Pop task from),
-          ap (queue_length q.capacity) all, ap (λ (l : List Move). length (arrived l)) all, shorter q.capacity ms,
-          longer q.capacity ms (pops ∷ []))
+      answered_by q.capacity ms from is in
+      omega (
+        arith,
+        h,
+        most,
+        one_at_most (is_answered_pop (Pop task from)),
+        popped_more xs (Pop task from),
+        ap (queue_length q.capacity) all,
+        ap (λ (l : List Move). length (arrived l)) all,
+        shorter q.capacity ms,
+        longer q.capacity ms (pops ∷ []),
+      )
 
   IsBalanced-snoc : plan.queue ≡ Some q → (xs : List Entry) (e : Entry) → IsBalanced xs → IsLegal params plan xs e
       → IsBalanced (xs ++ e ∷ [])
@@ -97,7 +116,7 @@ module _ (params : Parameters) (plan : Plan) (q : Queue) where
       (arrive_all (queue_arrivals_in params plan q (length xs) a b (open_window xs))) refl refl h
   IsBalanced-snoc there xs (Pop task from) h legal =
       by_pop xs task from (subst (λ (o : Option Queue). IsSomeAnd o
-          (λ r. from ≡ option_map origin_of (oldest r.capacity (moves params plan r xs)))) there legal.queued) h
+      (λ r. from ≡ option_map origin_of (oldest r.capacity (moves params plan r xs)))) there legal.queued) h
 
   start : IsBalanced []
   unfolding each_after
@@ -105,12 +124,12 @@ module _ (params : Parameters) (plan : Plan) (q : Queue) where
 
   pub balanced : plan.queue ≡ Some q → (xs : List Entry) → IsLegalJournal params plan xs
       → count_by is_answered_pop xs + queue_length q.capacity (moves params plan q xs) ≤ length
-          (arrived (moves params plan q xs))
+      (arrived (moves params plan q xs))
   balanced there xs legal = AllAfter-induction (IsLegal params plan) IsBalanced [] xs start
       (IsBalanced-snoc there) legal
 
   -- what arrived was popped, is there, or was lost
   pub queue_balance : plan.queue ≡ Some q → (xs : List Entry) → IsLegalJournal params plan xs
       → length (arrived (moves params plan q xs)) ≡ count_by is_answered_pop xs + queue_length q.capacity
-          (moves params plan q xs) + queue_lost params plan q xs
+      (moves params plan q xs) + queue_lost params plan q xs
   queue_balance there xs legal = omega (arith, balanced there xs legal)

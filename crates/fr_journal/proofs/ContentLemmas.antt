@@ -18,8 +18,11 @@ module _ (capacity : ℕ) where
   pub length_from : (n bound : ℕ) (ms : List Move) → n ≤ bound
       → fold (length_after capacity) n ms ≤ bound + length (arrived ms)
   length_from n bound [] le = omega (arith, le)
-  length_from n bound (arrives a ∷ ms) le = omega (arith, length_from (min (n + 1) capacity) (bound + 1) ms
-      (omega (arith, le)))
+  length_from n bound (arrives a ∷ ms) le = omega (
+    arith,
+    length_from (min (n + 1) capacity) (bound + 1) ms
+        (omega (arith, le)),
+  )
   length_from n bound (pops ∷ ms) le = length_from (n - 1) bound ms (omega (arith, le))
 
   within : (n : ℕ) (ms : List Move) → n ≤ capacity → fold (length_after capacity) n ms ≤ capacity
@@ -42,16 +45,16 @@ module _ (capacity : ℕ) where
       let within : long ≤ length all = queue_length-arrived ms in
       let joined : arrived (ms ++ arrives a ∷ []) ≡ all ++ a ∷ [] = arrived-append ms (arrives a ∷ []) in
       let longer : queue_length capacity (ms ++ arrives a ∷ []) ≡ min (long + 1) capacity =
-          fold-append (length_after capacity) 0 ms (arrives a ∷ []) in
+      fold-append (length_after capacity) 0 ms (arrives a ∷ []) in
       let kept : queue_content capacity ms ++ a ∷ [] ≡ drop (length all - long) (all ++ a ∷ []) =
-          sym (drop-append-le (length all - long) all (a ∷ []) (omega arith)) in
+      sym (drop-append-le (length all - long) all (a ∷ []) (omega arith)) in
       let many : length (all ++ a ∷ []) ≡ length all + 1 = length-append all (a ∷ []) in
       let left : length (drop (length all - long) (all ++ a ∷ [])) ≡ long + 1 =
-          omega (arith, length-drop (length all - long) (all ++ a ∷ []), many, within) in
+      omega (arith, length-drop (length all - long) (all ++ a ∷ []), many, within) in
       ap (λ (l : List Arrival). drop (length l - queue_length capacity (ms ++ arrives a ∷ [])) l) joined
       ∙ ap (λ (n : ℕ). drop n (all ++ a ∷ [])) (omega (arith, longer, many, within, left))
       ∙ sym (drop-drop (length (drop (length all - long) (all ++ a ∷ [])) - capacity) (length all - long)
-          (all ++ a ∷ []))
+      (all ++ a ∷ []))
       ∙ ap (last_of capacity) (sym kept)
 
   none_left : (long : ℕ) (all : List Arrival) → long ≤ length all
@@ -66,12 +69,15 @@ module _ (capacity : ℕ) where
   content-pops ms =
       let joined : arrived (ms ++ pops ∷ []) ≡ arrived ms = arrived-append ms (pops ∷ []) ∙ append-nil (arrived ms) in
       let shorter : queue_length capacity (ms ++ pops ∷ []) ≡ queue_length capacity ms - 1 =
-          fold-append (length_after capacity) 0 ms (pops ∷ []) in
+      fold-append (length_after capacity) 0 ms (pops ∷ []) in
       ap (λ (l : List Arrival). drop (length l - queue_length capacity (ms ++ pops ∷ [])) l) joined
       ∙ ap (λ (n : ℕ). drop (length (arrived ms) - n) (arrived ms)) shorter
       ∙ none_left (queue_length capacity ms) (arrived ms) (queue_length-arrived ms)
 
   -- as many frames as the queue is long
   pub length-content : (ms : List Move) → length (queue_content capacity ms) ≡ queue_length capacity ms
-  length-content ms = omega (arith, length-drop (length (arrived ms) - queue_length capacity ms) (arrived ms),
-      queue_length-arrived ms)
+  length-content ms = omega (
+    arith,
+    length-drop (length (arrived ms) - queue_length capacity ms) (arrived ms),
+    queue_length-arrived ms,
+  )

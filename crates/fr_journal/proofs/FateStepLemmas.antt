@@ -39,7 +39,7 @@ fate_by-commit false false false = refl
 
 fate_by-other : (t u s w c : Bool) → ((t && not c) ≡ true → is_withdrawn (fate_by s w c) ≡ false)
     → fate_by (s || ((t && not c) || false)) (w || ((u && not c) || false)) (c || (false || false)) ≡ after_other t u
-        (fate_by s w c)
+    (fate_by s w c)
 fate_by-other t u true w c h = refl
 fate_by-other true u false true true h = refl
 fate_by-other true u false true false h = let here : true ≡ false = h refl in absurd cc
@@ -75,10 +75,10 @@ fates_from-commit buffer n (x ∷ xs) e on unsent untaken =
     let replaced = any_with (is_commit_on buffer) xs e true on in
     let head : fate_of buffer n (xs ++ e ∷ []) ≡ after_commit (fate_of buffer n xs) =
     (λ i. fate_by (sent i) (taken i) (replaced i)) ∙ fate_by-commit (list_any (sends n) xs) (list_any (takes_back n) xs)
-        (list_any (is_commit_on buffer) xs) in
+    (list_any (is_commit_on buffer) xs) in
     commit_step (is_commit_on buffer x) (fate_of buffer n xs) (fate_of buffer n (xs ++ e ∷ []))
-        (fates_from buffer (n + 1) xs) (fates_from buffer (n + 1) (xs ++ e ∷ [])) head
-        (fates_from-commit buffer (n + 1) xs e on unsent untaken)
+    (fates_from buffer (n + 1) xs) (fates_from buffer (n + 1) (xs ++ e ∷ [])) head
+    (fates_from-commit buffer (n + 1) xs e on unsent untaken)
 
 -- ---- any other entry
 
@@ -113,7 +113,7 @@ other_step t u false f g fs gs head rest = rest
 
 pub fates_from-other : (buffer n : ℕ) (t u : Bool) (xs : List Entry) (e : Entry) → is_commit_on buffer e ≡ false
     → MarksLast buffer n t (λ m. sends m e) xs → MarksLast buffer n u (λ m. takes_back m e) xs
-        → LastStands buffer n t xs
+    → LastStands buffer n t xs
     → fates_from buffer n (xs ++ e ∷ []) ≡ map (after_other t u) (fates_from buffer n xs)
 unfolding fates_from
 fates_from-other buffer n t u [] e off sending taking stands =
@@ -126,9 +126,9 @@ fates_from-other buffer n t u (x ∷ xs) e off sending taking stands =
     let sent = any_with (sends n) xs e (t && not more) (sending.0 on) in
     let taken = any_with (takes_back n) xs e (u && not more) (taking.0 on) in
     (λ i. fate_by (sent i) (taken i) (replaced i)) ∙ fate_by-other t u (list_any (sends n) xs)
-        (list_any (takes_back n) xs) more (stands.0 on) in
+    (list_any (takes_back n) xs) more (stands.0 on) in
     other_step t u (is_commit_on buffer x) (fate_of buffer n xs) (fate_of buffer n (xs ++ e ∷ []))
-        (fates_from buffer (n + 1) xs) (fates_from buffer (n + 1) (xs ++ e ∷ [])) head
+    (fates_from buffer (n + 1) xs) (fates_from buffer (n + 1) (xs ++ e ∷ [])) head
     (fates_from-other buffer (n + 1) t u xs e off sending.1 taking.1 stands.1)
 
 -- ---- of the commits on a buffer a legal entry sends or takes back the last one, if any
@@ -178,7 +178,7 @@ module _ (buffer : ℕ) where
         let long : length (before ++ x ∷ []) ≡ length before + 1 = length-append before (x ∷ []) in
         not_itself (option_or later (option_or (commit_on buffer before x) o)) (length before)
         (behind later (option_or (commit_on buffer before x) o) (length (before ++ x ∷ [])) (length before + 1)
-            (omega (arith, long)) (last-some buffer (before ++ x ∷ []) xs more)) (sym next_from ∙ eq)
+        (omega (arith, long)) (last-some buffer (before ++ x ∷ []) xs more)) (sym next_from ∙ eq)
 
     is_last : list_any (is_commit_on buffer) xs ≡ false → is_commit_on buffer x ≡ true → last ≡ Some (length before)
     is_last none on = is ∙ ap (λ (p : Option ℕ). option_or p o) (last-here buffer before x xs none on)
@@ -186,17 +186,19 @@ module _ (buffer : ℕ) where
   pub marks_last_from : (t : Bool) (p : ℕ → Bool) (last o : Option ℕ) (before xs : List Entry)
       → last ≡ option_or (last_after (commit_on buffer) before xs) o
       → AllAfter (OnlyLast p last) before xs → ((k : ℕ) → last ≡ Some k → t ≡ p k)
-          → MarksLast buffer (length before) t p xs
+      → MarksLast buffer (length before) t p xs
   unfolding AllAfter last_after
   marks_last_from t p last o before [] is all same = tt
   marks_last_from t p last o before (x ∷ xs) is all same =
       let long : length (before ++ x ∷ []) ≡ length before + 1 = length-append before (x ∷ []) in
       let head : is_commit_on buffer x ≡ true → p (length before) ≡ (t && not (list_any (is_commit_on buffer) xs)) =
       λ on. head_of t (list_any (is_commit_on buffer) xs) (p (length before)) (length before) last (all.0 on)
-      (not_last last o before x xs is) (λ none. is_last last o before x xs is none on) (same (length before)) in
-      (head, subst (λ (n : ℕ). MarksLast buffer n t p xs) long
-          (marks_last_from t p last (option_or (commit_on buffer before x) o) (before ++ x ∷ []) xs
-          (next_from last o before x xs is) all.1 same))
+      (not_last last o before x xs is) (λ none. is_last last o before x xs is none on) (same (length before)) in (
+        head,
+        subst (λ (n : ℕ). MarksLast buffer n t p xs) long
+            (marks_last_from t p last (option_or (commit_on buffer before x) o) (before ++ x ∷ []) xs
+            (next_from last o before x xs is) all.1 same),
+      )
 
   both_true : (t c : Bool) → (t && not c) ≡ true → (t ≡ true) × (c ≡ false)
   both_true true false e = (refl, refl)
@@ -206,19 +208,19 @@ module _ (buffer : ℕ) where
   pub stands_from : (t : Bool) (whole : List Entry) (last o : Option ℕ) (before xs : List Entry) → whole ≡ before ++ xs
       → last ≡ option_or (last_after (commit_on buffer) before xs) o
       → ((k : ℕ) → last ≡ Some k → t ≡ true → is_withdrawn (fate_of buffer k (drop (k + 1) whole)) ≡ false)
-          → LastStands buffer (length before) t xs
+      → LastStands buffer (length before) t xs
   stands_from t whole last o before [] cut is stands = tt
   stands_from t whole last o before (x ∷ xs) cut is stands =
       let long : length (before ++ x ∷ []) ≡ length before + 1 = length-append before (x ∷ []) in
       let head : is_commit_on buffer x ≡ true → (t && not (list_any (is_commit_on buffer) xs)) ≡ true
-          → is_withdrawn (fate_of buffer (length before) xs) ≡ false =
+      → is_withdrawn (fate_of buffer (length before) xs) ≡ false =
       λ on marked.
       let parts = both_true t (list_any (is_commit_on buffer) xs) marked in
       let rest : drop (length before + 1) whole ≡ xs = ap (drop (length before + 1)) cut ∙ drop-next before x xs in
       ap (λ (l : List Entry). is_withdrawn (fate_of buffer (length before) l)) (sym rest) ∙ stands (length before)
-          (is_last last o before x xs is parts.1 on) parts.0 in (
+      (is_last last o before x xs is parts.1 on) parts.0 in (
         head,
         subst (λ (n : ℕ). LastStands buffer n t xs) long
             (stands_from t whole last (option_or (commit_on buffer before x) o) (before ++ x ∷ []) xs
-                (cut ∙ sym (append_assoc before (x ∷ []) xs)) (next_from last o before x xs is) stands),
+            (cut ∙ sym (append_assoc before (x ∷ []) xs)) (next_from last o before x xs is) stands),
       )

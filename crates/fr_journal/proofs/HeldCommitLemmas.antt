@@ -131,16 +131,16 @@ module _ (number : ℕ) (xs : List Entry) (e : Entry) where
       (list_any p (drop (k + 1) xs) || p e)
   later k lt p =
       ap (list_any p) (drop-front xs (e ∷ []) (k + 1) (omega (arith, lt))) ∙ list_any-append p (drop (k + 1) xs)
-          (e ∷ [])
+      (e ∷ [])
       ∙ ap (λ (b : Bool). list_any p (drop (k + 1) xs) || b) (or_none (p e))
 
   withdrawn_then : (k : ℕ) → k < length xs → withdrawn_at number (xs ++ e ∷ []) k
       ≡ (not (list_any (sends k) (drop (k + 1) xs) || sends k e) &&
-          (list_any (takes_back k) (drop (k + 1) xs) || takes_back k e))
+      (list_any (takes_back k) (drop (k + 1) xs) || takes_back k e))
   withdrawn_then k lt =
       withdrawn_by (list_any (sends k) (drop (k + 1) (xs ++ e ∷ [])))
-          (list_any (takes_back k) (drop (k + 1) (xs ++ e ∷ [])))
-          (list_any (is_commit_on number) (drop (k + 1) (xs ++ e ∷ [])))
+      (list_any (takes_back k) (drop (k + 1) (xs ++ e ∷ [])))
+      (list_any (is_commit_on number) (drop (k + 1) (xs ++ e ∷ [])))
       ∙ (λ i. not (later k lt (sends k) i) && later k lt (takes_back k) i)
 
   withdrawn_now : (k : ℕ) → withdrawn_at number xs k ≡ (not (list_any (sends k) (drop (k + 1) xs)) && list_any
@@ -169,7 +169,7 @@ module _ (number : ℕ) (xs : List Entry) (e : Entry) where
       → held_commit number (xs ++ e ∷ []) ≡ held_commit number xs
   held-other off untaken unsent =
       ap (option_and_then (unless_withdrawn number (xs ++ e ∷ []))) (last_commit-other number xs e off) ∙ by_last
-          (last_commit number xs) (last_commit-below number xs) untaken unsent
+      (last_commit number xs) (last_commit-below number xs) untaken unsent
     where
       by_last : (o : Option ℕ) → IfSome o (λ k. k < length xs) → ((k : ℕ) → o ≡ Some k → takes_back k e ≡ false)
           → ((k : ℕ) → o ≡ Some k → sends k e ≡ true → withdrawn_at number xs k ≡ false)
@@ -189,7 +189,7 @@ module _ (number : ℕ) (xs : List Entry) (e : Entry) where
   held-commit on =
       let none : drop (length xs + 1) (xs ++ e ∷ []) ≡ [] = drop-next xs e [] in
       held-some number (xs ++ e ∷ []) (length xs) (last_commit-commit number xs e on)
-          (ap (λ (l : List Entry). is_withdrawn (fate_of number (length xs) l)) none)
+      (ap (λ (l : List Entry). is_withdrawn (fate_of number (length xs) l)) none)
 
   -- a pending commit that is taken back leaves the buffer empty
   pub held-taken : is_commit_on number e ≡ false → ((k : ℕ) → sends k e ≡ false) → (k : ℕ)
@@ -197,7 +197,7 @@ module _ (number : ℕ) (xs : List Entry) (e : Entry) where
   held-taken off unsent k pending taken =
       let parts = pending_is number xs k pending in
       let lt : k < length xs = subst (λ (o : Option ℕ). IfSome o (λ j. j < length xs)) parts.0
-          (last_commit-below number xs) in
+      (last_commit-below number xs) in
       let s : Bool = list_any (sends k) (drop (k + 1) xs) in
       let w : Bool = list_any (takes_back k) (drop (k + 1) xs) in
       let c : Bool = list_any (is_commit_on number) (drop (k + 1) xs) in

@@ -38,8 +38,8 @@ from_channel : (params : Parameters) (filter : Filter) (number : ℕ) (window : 
     (seen : Seen) → IfSome (arrival_on params filter number window channel seen) (IsFrom number)
 from_channel params filter number window channel seen =
     from_cond (admits_window filter window channel) (option_map (arrival_of number channel)
-        (data_frame_seen params window channel seen)) number
-        (from_number number channel (data_frame_seen params window channel seen))
+    (data_frame_seen params window channel seen)) number
+    (from_number number channel (data_frame_seen params window channel seen))
 
 from_window : (params : Parameters) (filter : Filter) (number : ℕ) (a b : Seen) (window : Option Opportunity)
     → IfSome (option_and_then (arrival_in params filter number a b) window) (IsFrom number)
@@ -74,11 +74,11 @@ unfolding last_after
 held-below_from params filter before [] = tt
 held-below_from params filter before (e ∷ xs) =
     IfSome-or (IsBelow (length before + length (e ∷ xs))) (last_after (arrival_at params filter) (before ++ e ∷ []) xs)
-        (arrival_at params filter before e)
+    (arrival_at params filter before e)
     (weaker _ (length (before ++ e ∷ []) + length xs) (length before + length (e ∷ xs))
-        (omega (arith, length-append before (e ∷ []))) (held-below_from params filter (before ++ e ∷ []) xs))
+    (omega (arith, length-append before (e ∷ []))) (held-below_from params filter (before ++ e ∷ []) xs))
     (weaker _ (length before + 1) (length before + length (e ∷ xs)) (omega arith)
-        (below_next _ (length before) (from_entry params filter (length before) (open_window before) e)))
+    (below_next _ (length before) (from_entry params filter (length before) (open_window before) e)))
 
 -- the entry that what is held comes from is one of these
 pub held-below : (params : Parameters) (filter : Filter) (entries : List Entry)

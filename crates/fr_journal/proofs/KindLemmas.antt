@@ -11,5 +11,10 @@ kind_digit false = refl
 
 pub kinds_fill : (entries : List Entry) → count_by is_host entries + count_by is_slot entries ≡ length entries
 kinds_fill [] = refl
-kinds_fill (e ∷ entries) = omega (arith, kinds_fill entries, kind_digit (is_host e),
-    sum_by-cons (λ x. cond (is_host x) 1 0) e entries, sum_by-cons (λ x. cond (is_slot x) 1 0) e entries)
+kinds_fill (e ∷ entries) = omega (
+  arith,
+  kinds_fill entries,
+  kind_digit (is_host e),
+  sum_by-cons (λ x. cond (is_host x) 1 0) e entries,
+  sum_by-cons (λ x. cond (is_slot x) 1 0) e entries,
+)

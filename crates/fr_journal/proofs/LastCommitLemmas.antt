@@ -68,7 +68,7 @@ module _ (buffer : ℕ) where
   last-none before [] h = refl
   last-none before (x ∷ xs) h =
       let parts : (is_commit_on buffer x ≡ false) × (list_any (is_commit_on buffer) xs ≡ false) =
-          or-false (is_commit_on buffer x) (list_any (is_commit_on buffer) xs) h in
+      or-false (is_commit_on buffer x) (list_any (is_commit_on buffer) xs) h in
       ap (λ (o : Option ℕ). option_or o (commit_on buffer before x)) (last-none (before ++ x ∷ []) xs parts.1)
       ∙ ap (λ (b : Bool). cond b (Some (length before)) None) parts.0
 
@@ -89,15 +89,15 @@ module _ (buffer : ℕ) where
       by_rest : (t : Bool) → (list_any (is_commit_on buffer) xs ≡ true
           → IsSomeAnd (last_after (commit_on buffer) (before ++ x ∷ []) xs) (λ k. length (before ++ x ∷ []) ≤ k))
           → list_any (is_commit_on buffer) xs ≡ t → IsSomeAnd (last_after (commit_on buffer) before (x ∷ xs))
-              (λ k. length before ≤ k)
+          (λ k. length before ≤ k)
       by_rest true deeper more =
           further (last_after (commit_on buffer) (before ++ x ∷ []) xs) (commit_on buffer before x)
-              (length (before ++ x ∷ [])) (length before) (omega (arith, length-append before (x ∷ []))) (deeper more)
+          (length (before ++ x ∷ [])) (length before) (omega (arith, length-append before (x ∷ []))) (deeper more)
       by_rest false deeper none =
           let here : is_commit_on buffer x ≡ true = sym (or_none (is_commit_on buffer x)) ∙ ap
-              (λ (b : Bool). is_commit_on buffer x || b) (sym none) ∙ h in
+          (λ (b : Bool). is_commit_on buffer x || b) (sym none) ∙ h in
           subst (λ (o : Option ℕ). IsSomeAnd o (λ k. length before ≤ k)) (sym (last-here before x xs none here))
-              (omega arith)
+          (omega arith)
 
   -- ---- where it stands
 
@@ -117,9 +117,9 @@ module _ (buffer : ℕ) where
   there_from before [] = tt
   there_from before (x ∷ xs) =
       IfSome-or (λ k. IsCommitAt (before ++ x ∷ xs) k) (last_after (commit_on buffer) (before ++ x ∷ []) xs)
-          (commit_on buffer before x)
+      (commit_on buffer before x)
       (subst (λ (l : List Entry). IfSome (last_after (commit_on buffer) (before ++ x ∷ []) xs) (λ k. IsCommitAt l k))
-          (append_assoc before (x ∷ []) xs) (there_from (before ++ x ∷ []) xs))
+      (append_assoc before (x ∷ []) xs) (there_from (before ++ x ∷ []) xs))
       (commit_here before x xs (is_commit_on buffer x) refl)
 
   pub last_commit-there : (xs : List Entry) → IfSome (last_commit buffer xs) (λ k. IsCommitAt xs k)

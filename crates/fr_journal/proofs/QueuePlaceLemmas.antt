@@ -48,7 +48,7 @@ module _ (params : Parameters) (plan : Plan) (q : Queue) where
       → AreBelow (number + 1) (queue_arrival_on params plan q number window channel seen)
   from_channel number window channel seen =
       from_cond (is_for_queue plan q window channel) (option_to_list
-          (option_map (arrival_of number channel) (data_frame_seen params window channel seen))) (number + 1)
+      (option_map (arrival_of number channel) (data_frame_seen params window channel seen))) (number + 1)
       (from_number number channel (data_frame_seen params window channel seen))
 
   from_window : (number : ℕ) (a b : Seen) (window : Option Opportunity)
@@ -56,8 +56,8 @@ module _ (params : Parameters) (plan : Plan) (q : Queue) where
   from_window number a b None = tt
   from_window number a b (Some window) =
       joined (number + 1) (queue_arrival_on params plan q number window A a)
-          (queue_arrival_on params plan q number window B b) (from_channel number window A a)
-          (from_channel number window B b)
+      (queue_arrival_on params plan q number window B b) (from_channel number window A a)
+      (from_channel number window B b)
 
   from_entry : (before : List Entry) (e : Entry) → AreBelow (length before + 1)
       (arrived (moves_at params plan q before e))
@@ -68,8 +68,8 @@ module _ (params : Parameters) (plan : Plan) (q : Queue) where
   from_entry before (Fetch w a b) = tt
   from_entry before (Observe w a b) =
       subst (AreBelow (length before + 1)) (sym
-          (arrived-all (queue_arrivals_in params plan q (length before) a b (open_window before))))
-          (from_window (length before) a b (open_window before))
+      (arrived-all (queue_arrivals_in params plan q (length before) a b (open_window before))))
+      (from_window (length before) a b (open_window before))
 
   below_from : (before xs : List Entry) → AreBelow (length before + length xs)
       (arrived (each_after (moves_at params plan q) before xs))
@@ -82,7 +82,7 @@ module _ (params : Parameters) (plan : Plan) (q : Queue) where
       (joined (length before + length (e ∷ xs)) (arrived here) (arrived rest)
       (weaker (arrived here) (length before + 1) (length before + length (e ∷ xs)) (omega arith) (from_entry before e))
       (weaker (arrived rest) (length (before ++ e ∷ []) + length xs) (length before + length (e ∷ xs))
-          (omega (arith, length-append before (e ∷ []))) (below_from (before ++ e ∷ []) xs)))
+      (omega (arith, length-append before (e ∷ []))) (below_from (before ++ e ∷ []) xs)))
 
   picks : (xs : List Arrival) (n bound : ℕ) → AreBelow bound xs
       → IfSome (slice_get (drop n xs) 0) (λ a. a.origin.entry < bound)
@@ -96,9 +96,9 @@ module _ (params : Parameters) (plan : Plan) (q : Queue) where
       (λ a. a.origin.entry < length entries)
   oldest-below capacity entries =
       picks (arrived (moves params plan q entries)) (length (arrived (moves params plan q entries)) - queue_length
-          capacity (moves params plan q entries)) (length entries)
+      capacity (moves params plan q entries)) (length entries)
       (weaker (arrived (moves params plan q entries)) (length {A = Entry} [] + length entries) (length entries)
-          (omega arith) (below_from [] entries))
+      (omega arith) (below_from [] entries))
 
   pub queue_origin_fits : (entries : List Entry) → length entries ≤ 2 ^ 32
       → IsOrigin (option_map origin_of (oldest q.capacity (moves params plan q entries)))

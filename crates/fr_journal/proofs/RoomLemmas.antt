@@ -24,13 +24,13 @@ still_room : (plan : Plan) (xs : List Entry) (e : Entry) → is_slot e ≡ false
     → HasRoom plan (xs ++ e ∷ [])
 still_room plan xs e host unmarked h =
     let same : open_window (xs ++ e ∷ []) ≡ open_window xs =
-        open_window-snoc xs e ∙ ap (λ (m : Option (Option Opportunity)). option_and_then (λ w. w)
-        (option_or m (last_after window_mark [] xs))) unmarked in
+    open_window-snoc xs e ∙ ap (λ (m : Option (Option Opportunity)). option_and_then (λ w. w)
+    (option_or m (last_after window_mark [] xs))) unmarked in
     let none : cond {A = ℕ} (is_slot e) 1 0 ≡ 0 = ap (λ (b : Bool). cond {A = ℕ} b 1 0) host in
     let count : count_by is_slot (xs ++ e ∷ []) ≡ count_by is_slot xs =
-        omega (arith, sum_by-append (λ x. cond (is_slot x) 1 0) xs (e ∷ []), none) in
+    omega (arith, sum_by-append (λ x. cond (is_slot x) 1 0) xs (e ∷ []), none) in
     subst (λ (o : Option Opportunity). IfSome o (λ _. count_by is_slot (xs ++ e ∷ []) + 1 ≤ plan.slot_entries))
-        (sym same)
+    (sym same)
     (subst (λ (n : ℕ). IfSome (open_window xs) (λ _. n + 1 ≤ plan.slot_entries)) (sym count) h)
 
 HasRoom-snoc : (params : Parameters) (plan : Plan) (xs : List Entry) (e : Entry) → HasRoom plan xs
@@ -42,16 +42,16 @@ HasRoom-snoc params plan xs (Read task buffer from) h legal = still_room plan xs
 HasRoom-snoc params plan xs (Pop task from) h legal = still_room plan xs (Pop task from) refl refl h
 HasRoom-snoc params plan xs (Fetch window a b) h legal =
     subst (λ (o : Option Opportunity). IfSome o (λ _. count_by is_slot (xs ++ Fetch window a b ∷ [])
-        + 1 ≤ plan.slot_entries)) (sym (open_window-snoc xs (Fetch window a b)))
+    + 1 ≤ plan.slot_entries)) (sym (open_window-snoc xs (Fetch window a b)))
     (omega (arith, sum_by-append (λ x. cond (is_slot x) 1 0) xs (Fetch window a b ∷ []), legal.room))
 HasRoom-snoc params plan xs (Observe window a b) h legal =
     subst (λ (o : Option Opportunity). IfSome o (λ _. count_by is_slot (xs ++ Observe window a b ∷ [])
-        + 1 ≤ plan.slot_entries)) (sym (open_window-snoc xs (Observe window a b))) tt
+    + 1 ≤ plan.slot_entries)) (sym (open_window-snoc xs (Observe window a b))) tt
 
 pub room_for_observe : (params : Parameters) (plan : Plan) (xs : List Entry) (w : Opportunity)
     → IsLegalJournal params plan xs → open_window xs ≡ Some w → count_by is_slot xs + 1 ≤ plan.slot_entries
 unfolding last_after
 room_for_observe params plan xs w legal e =
     let h : HasRoom plan xs = AllAfter-induction (IsLegal params plan) (HasRoom plan) [] xs tt
-        (HasRoom-snoc params plan) legal in
+    (HasRoom-snoc params plan) legal in
     subst (λ (o : Option Opportunity). IfSome o (λ _. count_by is_slot xs + 1 ≤ plan.slot_entries)) e h

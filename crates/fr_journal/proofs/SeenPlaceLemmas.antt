@@ -63,11 +63,11 @@ kept false o y e = absurd (let none : ⊥ = cc in none)
 on_channel : (params : Parameters) (number : ℕ) (window : Opportunity) (channel : Channel) (x y : Seen)
     (f : Option Fields) (a : Arrival)
     → data_frame_seen params window channel (seen_on channel x y) ≡ f
-        → option_map (arrival_of number channel) f ≡ Some a → IsBrought params number window x y a
+    → option_map (arrival_of number channel) f ≡ Some a → IsBrought params number window x y a
 on_channel params number window channel x y None a is e = absurd (let none : ⊥ = cc in none)
 on_channel params number window channel x y (Some f) a is e =
     subst (IsBrought params number window x y) (same_some (arrival_of number channel f) a e)
-        (record { entry_is = refl; frame_is = is })
+    (record { entry_is = refl; frame_is = is })
 
 -- ---- receive buffers
 
@@ -78,22 +78,22 @@ either_some (Some x) p a e = inl e
 module _ (params : Parameters) (filter : Filter) where
   from_channel : (number : ℕ) (window : Opportunity) (channel : Channel) (x y : Seen) (a : Arrival)
       → arrival_on params filter number window channel (seen_on channel x y) ≡ Some a
-          → IsBrought params number window x y a
+      → IsBrought params number window x y a
   from_channel number window channel x y a e =
       on_channel params number window channel x y (data_frame_seen params window channel (seen_on channel x y)) a refl
       (kept (admits_window filter window channel) (option_map (arrival_of number channel)
-          (data_frame_seen params window channel (seen_on channel x y))) a e)
+      (data_frame_seen params window channel (seen_on channel x y))) a e)
 
   from_either : (number : ℕ) (window : Opportunity) (x y : Seen) (a : Arrival)
       → ((arrival_on params filter number window A x ≡ Some a) ⊎ (arrival_on params filter number window B y ≡ Some a))
-          → IsBrought params number window x y a
+      → IsBrought params number window x y a
   from_either number window x y a (inl e) = from_channel number window A x y a e
   from_either number window x y a (inr e) = from_channel number window B x y a e
 
   from_window : (before : List Entry) (number : ℕ) (x y : Seen) (a : Arrival) (w : Option Opportunity)
       → open_window before ≡ w
       → option_and_then (arrival_in params filter (length before) x y) w ≡ Some a
-          → IsSeenBy params before (Observe number x y) a
+      → IsSeenBy params before (Observe number x y) a
   from_window before number x y a None is e = absurd (let none : ⊥ = cc in none)
   from_window before number x y a (Some w) is e = record {
     number = number;
@@ -119,8 +119,14 @@ module _ (params : Parameters) (filter : Filter) where
       → IsSeenIn params entries a
   held_is_seen entries a e =
       let c = last_after-at (arrival_at params filter) [] entries a e in
-      record { inner = c.inner; here = c.here; after = c.after; cut = c.cut; holds =
-          from_entry c.inner c.here a c.holds }
+      record {
+        inner = c.inner;
+        here = c.here;
+        after = c.after;
+        cut = c.cut;
+        holds =
+            from_entry c.inner c.here a c.holds;
+      }
 
 -- ---- the queue
 
@@ -134,22 +140,22 @@ among_cond true (Some x) (suc k) a e = absurd (let none : ⊥ = cc in none)
 module _ (params : Parameters) (plan : Plan) (q : Queue) where
   queued_on : (number : ℕ) (window : Opportunity) (channel : Channel) (x y : Seen) (a : Arrival)
       → IsAmong (queue_arrival_on params plan q number window channel (seen_on channel x y)) a
-          → IsBrought params number window x y a
+      → IsBrought params number window x y a
   queued_on number window channel x y a h =
       on_channel params number window channel x y (data_frame_seen params window channel (seen_on channel x y)) a refl
       (among_cond (is_for_queue plan q window channel) (option_map (arrival_of number channel)
-          (data_frame_seen params window channel (seen_on channel x y))) h.place a h.at)
+      (data_frame_seen params window channel (seen_on channel x y))) h.place a h.at)
 
   queued_either : (number : ℕ) (window : Opportunity) (x y : Seen) (a : Arrival)
       → (IsAmong (queue_arrival_on params plan q number window A x) a ⊎ IsAmong
-          (queue_arrival_on params plan q number window B y) a) → IsBrought params number window x y a
+      (queue_arrival_on params plan q number window B y) a) → IsBrought params number window x y a
   queued_either number window x y a (inl h) = queued_on number window A x y a h
   queued_either number window x y a (inr h) = queued_on number window B x y a h
 
   queued_window : (before : List Entry) (number : ℕ) (x y : Seen) (k : ℕ) (a : Arrival) (w : Option Opportunity)
       → open_window before ≡ w
       → slice_get (queue_arrivals_in params plan q (length before) x y w) k ≡ Some a
-          → IsSeenBy params before (Observe number x y) a
+      → IsSeenBy params before (Observe number x y) a
   queued_window before number x y k a None is e = absurd (let none : ⊥ = cc in none)
   queued_window before number x y k a (Some w) is e = record {
     number = number;
@@ -172,7 +178,7 @@ module _ (params : Parameters) (plan : Plan) (q : Queue) where
   queued_entry before (Observe number x y) k a e =
       queued_window before number x y k a (open_window before) refl
       (sym (ap (λ (l : List Arrival). slice_get l k) (arrived-all
-          (queue_arrivals_in params plan q (length before) x y (open_window before)))) ∙ e)
+      (queue_arrivals_in params plan q (length before) x y (open_window before)))) ∙ e)
 
   -- what arrived is what each entry brings
   arrived-each : (before entries : List Entry) → arrived (each_after (moves_at params plan q) before entries) ≡
@@ -191,8 +197,14 @@ module _ (params : Parameters) (plan : Plan) (q : Queue) where
       let at : slice_get (each_after (λ b x. arrived (moves_at params plan q b x)) [] entries) h.place ≡ Some a =
       sym (ap (λ (l : List Arrival). slice_get l h.place) (arrived-each [] entries)) ∙ h.at in
       let c = each_after-at (λ b x. arrived (moves_at params plan q b x)) [] entries h.place a at in
-      record { inner = c.inner; here = c.here; after = c.after; cut = c.cut; holds =
-          queued_entry c.inner c.here c.holds.place a c.holds.at }
+      record {
+        inner = c.inner;
+        here = c.here;
+        after = c.after;
+        cut = c.cut;
+        holds =
+            queued_entry c.inner c.here c.holds.place a c.holds.at;
+      }
 
 -- ---- data frames of slots
 
@@ -218,13 +230,13 @@ open_in_range entries w are e =
     let c = last_after-at window_mark [] entries (Some w) (mark_of (last_after window_mark [] entries) w e) in
     fetched_fits c.inner c.here w c.holds
     (AllAfter-cut (λ (before : List Entry) (e : Entry). IsEntry e) [] c.inner c.here c.after
-        (subst AreEntries c.cut are))
+    (subst AreEntries c.cut are))
 
 passes_id : (static : Bool) (p : Parameters) (cycle slot : ℕ) (f : Fields)
     → cond static (fits_static_slot p cycle slot f) (fits_dynamic_slot cycle slot f) ≡ true → f.id ≡ slot
 passes_id true p cycle slot f h =
     let (front, indicators) = and_parts (length f.payload == 2 * p.static_words && f.id == slot && f.cycle == cycle)
-        (f.sync || not f.startup) h in
+    (f.sync || not f.startup) h in
     let (id, in_cycle) = and_parts (length f.payload == 2 * p.static_words && f.id == slot) (f.cycle == cycle) front in
     let (words, same) = and_parts (length f.payload == 2 * p.static_words) (f.id == slot) id in
     eqb-true f.id slot same
@@ -288,9 +300,9 @@ arrival_is_receivable : (params : Parameters) (entries : List Entry) (a : Arriva
 arrival_is_receivable params entries a are c =
     let s = c.holds in
     let front : AreEntries c.inner = AllAfter-front (λ (before : List Entry) (e : Entry). IsEntry e) [] c.inner
-        (c.here ∷ c.after) (subst AreEntries c.cut are) in
+    (c.here ∷ c.after) (subst AreEntries c.cut are) in
     seen_is_receivable params s.window a.origin.channel (seen_on a.origin.channel s.x s.y) a.frame
-        (open_in_range c.inner s.window front s.opened) s.brought.frame_is
+    (open_in_range c.inner s.window front s.opened) s.brought.frame_is
 
 frames_of : (o : Option Arrival) → ((a : Arrival) → o ≡ Some a → IsReceivable a.frame)
     → IfSome (option_map frame_of o) IsReceivable
@@ -302,7 +314,7 @@ pub held_is_receivable : (params : Parameters) (filter : Filter) (entries : List
     → IfSome (option_map frame_of (held params filter entries)) IsReceivable
 held_is_receivable params filter entries are =
     frames_of (held params filter entries) (λ a e. arrival_is_receivable params entries a are
-        (held_is_seen params filter entries a e))
+    (held_is_seen params filter entries a e))
 
 -- and so is the oldest frame of the queue
 pub oldest_is_receivable : (params : Parameters) (plan : Plan) (q : Queue) (capacity : ℕ) (entries : List Entry)

@@ -42,8 +42,11 @@ slice_range-append xs ys from to order within =
 
 stretch-more : (pool more : List ℕ) (most : ℕ) (s : Stretch) → IsStretch (length pool) most s
     → IsStretch (length (pool ++ more)) most s
-stretch-more pool more most s h = record { order = h.order; within = omega (arith, h.within, length-append pool more);
-    few = h.few }
+stretch-more pool more most s h = record {
+  order = h.order;
+  within = omega (arith, h.within, length-append pool more);
+  few = h.few;
+}
 
 seen-more : (pool more : List ℕ) (s : ShortSeen) → IsShortSeen (length pool) s → IsShortSeen (length (pool ++ more)) s
 seen-more pool more short_seen.Silence h = tt
@@ -70,13 +73,13 @@ restored_seen-append pool more short_seen.Noise h = refl
 restored_seen-append pool more short_seen.Overrun h = refl
 restored_seen-append pool more (short_seen.Bytes s) h =
     ap (λ (bytes : List ℕ). seen.Bytes (record { items = bytes }))
-        (slice_range-append pool more s.start s.end h.order h.within)
+    (slice_range-append pool more s.start s.end h.order h.within)
 
 pub restored-append : (pool more : List ℕ) (s : ShortEntry) → IsShort (length pool) s
     → restored (pool ++ more) s ≡ restored pool s
 restored-append pool more (short.Commit task buffer payload) h =
     ap (λ (bytes : List ℕ). entries.Commit task buffer bytes)
-        (slice_range-append pool more payload.start payload.end h.0.order h.0.within)
+    (slice_range-append pool more payload.start payload.end h.0.order h.0.within)
 restored-append pool more (short.Withdraw task buffer of) h = refl
 restored-append pool more (short.Read task buffer from) h = refl
 restored-append pool more (short.Pop task from) h = refl
@@ -108,8 +111,13 @@ pub record IsPushed (j n : Inside) (most : ℕ) (s : ShortEntry) (e : Entry) : T
   pub pool_room : vec_capacity j.pool ≤ vec_capacity n.pool
 
 pub counts-fill : (j : Inside) → IsCounted j → j.host_count + j.slot_count ≡ length j.shorts.items
-counts-fill j h = omega (arith, h.host_is, h.slot_is, kinds_fill (map (restored j.pool.items) j.shorts.items),
-    length-map j.shorts.items (restored j.pool.items))
+counts-fill j h = omega (
+  arith,
+  h.host_is,
+  h.slot_is,
+  kinds_fill (map (restored j.pool.items) j.shorts.items),
+  length-map j.shorts.items (restored j.pool.items),
+)
 
 pub entries-pushed : (j n : Inside) (most : ℕ) (s : ShortEntry) (e : Entry) → IsCounted j → IsPushed j n most s e
     → map (restored n.pool.items) n.shorts.items ≡ map (restored j.pool.items) j.shorts.items ++ e ∷ []
@@ -117,9 +125,9 @@ entries-pushed j n most s e h p =
     let f = restored n.pool.items in
     let same : map f j.shorts.items ≡ map (restored j.pool.items) j.shorts.items =
     ap (λ (pool : List ℕ). map (restored pool) j.shorts.items) p.shortened.pool_is ∙ all-restored j.pool.items
-        (bytes_in e) j.shorts.items h.are_short in
+    (bytes_in e) j.shorts.items h.are_short in
     ap (map f) p.shorts_are ∙ map-append f j.shorts.items (s ∷ []) ∙ ap
-        (λ (x : Entry). map f j.shorts.items ++ x ∷ []) p.shortened.entry_is
+    (λ (x : Entry). map f j.shorts.items ++ x ∷ []) p.shortened.entry_is
     ∙ ap (λ (l : List Entry). l ++ e ∷ []) same
 
 are_short-pushed : (j n : Inside) (most : ℕ) (s : ShortEntry) (e : Entry) → IsCounted j → IsPushed j n most s e
@@ -127,11 +135,11 @@ are_short-pushed : (j n : Inside) (most : ℕ) (s : ShortEntry) (e : Entry) → 
 are_short-pushed j n most s e h p =
     let more : All (IsShort (length (j.pool.items ++ bytes_in e))) j.shorts.items =
     All-weaker (IsShort (length j.pool.items)) (IsShort (length (j.pool.items ++ bytes_in e)))
-        (short-more j.pool.items (bytes_in e)) j.shorts.items h.are_short in
+    (short-more j.pool.items (bytes_in e)) j.shorts.items h.are_short in
     let old : All (IsShort (length n.pool.items)) j.shorts.items =
-        subst (λ (pool : List ℕ). All (IsShort (length pool)) j.shorts.items) (sym p.shortened.pool_is) more in
+    subst (λ (pool : List ℕ). All (IsShort (length pool)) j.shorts.items) (sym p.shortened.pool_is) more in
     subst (λ (l : List ShortEntry). All (IsShort (length n.pool.items)) l) (sym p.shorts_are)
-        (All-push (IsShort (length n.pool.items)) j.shorts.items s old p.shortened.within)
+    (All-push (IsShort (length n.pool.items)) j.shorts.items s old p.shortened.within)
 
 pub kept-pushed : (j n : Inside) (k : Kept) (most : ℕ) (s : ShortEntry) (e : Entry) → IsCounted j
     → IsPushed j n most s e → kept_in j ≡ k
@@ -140,8 +148,12 @@ kept-pushed j n k most s e h p view =
     let entries = entries-pushed j n most s e h p in
     let host = p.host_limit_is in
     let slot = p.slot_limit_is in
-    subst (λ (k : Kept). kept_in n ≡ record { host_limit = k.host_limit; slot_limit = k.slot_limit; entries =
-        k.entries ++ e ∷ [] }) view cc
+    subst (λ (k : Kept). kept_in n ≡ record {
+      host_limit = k.host_limit;
+      slot_limit = k.slot_limit;
+      entries =
+          k.entries ++ e ∷ [];
+    }) view cc
 
 pub host-room : (j : Inside) (k : Kept) → IsCounted j → kept_in j ≡ k → 0 < host_room k → j.host_count < j.host_limit
 host-room j k h view room =
@@ -272,7 +284,7 @@ host-pushed j n s e h p kind host slot mark room =
     let one : cond {A = ℕ} (is_host e) 1 0 ≡ 1 = ap (λ (b : Bool). cond {A = ℕ} b 1 0) kind in
     let none : cond {A = ℕ} (is_slot e) 1 0 ≡ 0 = ap (λ (b : Bool). cond {A = ℕ} (not b) 1 0) kind in
     let grown : length n.pool.items ≡ length j.pool.items + length (bytes_in e) =
-        ap length p.shortened.pool_is ∙ length-append j.pool.items (bytes_in e) in
+    ap length p.shortened.pool_is ∙ length-append j.pool.items (bytes_in e) in
     record {
       host_is = omega (arith, host, h.host_is, more, one);
       slot_is = omega (arith, slot, h.slot_is, same, none);
@@ -298,7 +310,7 @@ slot-pushed j n s e h p kind host slot mark room =
     let none : cond {A = ℕ} (is_host e) 1 0 ≡ 0 = ap (λ (b : Bool). cond {A = ℕ} b 1 0) kind in
     let one : cond {A = ℕ} (is_slot e) 1 0 ≡ 1 = ap (λ (b : Bool). cond {A = ℕ} (not b) 1 0) kind in
     let grown : length n.pool.items ≡ length j.pool.items + length (bytes_in e) =
-        ap length p.shortened.pool_is ∙ length-append j.pool.items (bytes_in e) in
+    ap length p.shortened.pool_is ∙ length-append j.pool.items (bytes_in e) in
     record {
       host_is = omega (arith, host, h.host_is, same, none);
       slot_is = omega (arith, slot, h.slot_is, more, one);

@@ -28,9 +28,15 @@ pub fates_fill : (fs : List Fate) → count_by is_sent fs + count_by is_overwrit
     + count_by is_withdrawn fs ≡ length fs
 fates_fill [] = refl
 fates_fill (f ∷ fs) =
-    omega (arith, fates_fill fs, one_fate f, sum_by-cons (λ x. cond (is_sent x) 1 0) f fs,
-        sum_by-cons (λ x. cond (is_overwritten x) 1 0) f fs, sum_by-cons (λ x. cond (is_pending x) 1 0) f fs,
-        sum_by-cons (λ x. cond (is_withdrawn x) 1 0) f fs)
+    omega (
+      arith,
+      fates_fill fs,
+      one_fate f,
+      sum_by-cons (λ x. cond (is_sent x) 1 0) f fs,
+      sum_by-cons (λ x. cond (is_overwritten x) 1 0) f fs,
+      sum_by-cons (λ x. cond (is_pending x) 1 0) f fs,
+      sum_by-cons (λ x. cond (is_withdrawn x) 1 0) f fs,
+    )
 
 -- one more of them, under a change of all
 counted : (p : Fate → Bool) (g : Fate → Fate) (f : Fate) (fs : List Fate)
@@ -50,11 +56,11 @@ pub record Moved (fs gs : List Fate) (sent withdrawn overwritten left : ℕ) : T
 one_moved : {sent withdrawn overwritten left sent_now withdrawn_now overwritten_now left_now : ℕ} (g : Fate → Fate)
     (f : Fate) (fs : List Fate)
     → digit (is_sent (g f)) + sent ≡ digit (is_sent f) + sent_now
-        → digit (is_withdrawn (g f)) + withdrawn ≡ digit (is_withdrawn f) + withdrawn_now
+    → digit (is_withdrawn (g f)) + withdrawn ≡ digit (is_withdrawn f) + withdrawn_now
     → digit (is_overwritten (g f)) + overwritten ≡ digit (is_overwritten f) + overwritten_now
-        → digit (is_pending (g f)) + left ≡ left_now
+    → digit (is_pending (g f)) + left ≡ left_now
     → Moved fs (map g fs) sent withdrawn overwritten left → Moved (f ∷ fs) (map g (f ∷ fs)) sent_now withdrawn_now
-        overwritten_now left_now
+    overwritten_now left_now
 one_moved g f fs s w o p more = record {
   sent_is = omega (arith, more.sent_is, s, counted is_sent g f fs, one_more is_sent f fs);
   withdrawn_is = omega (arith, more.withdrawn_is, w, counted is_withdrawn g f fs, one_more is_withdrawn f fs);
@@ -120,9 +126,9 @@ unfolding fates_from
 fates_from-none buffer n [] h = refl
 fates_from-none buffer n (x ∷ xs) h =
     let parts : (is_commit_on buffer x ≡ false) × (list_any (is_commit_on buffer) xs ≡ false) =
-        or-false (is_commit_on buffer x) (list_any (is_commit_on buffer) xs) h in
+    or-false (is_commit_on buffer x) (list_any (is_commit_on buffer) xs) h in
     ap (λ (b : Bool). cond b (fate_of buffer n xs ∷ []) [] ++ fates_from buffer (n + 1) xs) parts.0
-        ∙ fates_from-none buffer (n + 1) xs parts.1
+    ∙ fates_from-none buffer (n + 1) xs parts.1
 
 -- a commit that another one follows
 followed : (sent withdrawn : Bool) → is_pending (fate_by sent withdrawn true) ≡ false
@@ -136,12 +142,15 @@ counted_here false f = refl
 
 pending_next : (buffer n : ℕ) (x : Entry) (xs : List Entry)
     → count_by is_pending (fates_from buffer n (x ∷ xs)) ≡ digit
-        (is_commit_on buffer x && is_pending (fate_of buffer n xs)) + count_by is_pending (fates_from buffer (n + 1) xs)
+    (is_commit_on buffer x && is_pending (fate_of buffer n xs)) + count_by is_pending (fates_from buffer (n + 1) xs)
 unfolding fates_from
 pending_next buffer n x xs =
     let here : List Fate = cond (is_commit_on buffer x) (fate_of buffer n xs ∷ []) [] in
-    omega (arith, counted_here (is_commit_on buffer x) (fate_of buffer n xs),
-        sum_by-append (λ f. cond (is_pending f) 1 0) here (fates_from buffer (n + 1) xs))
+    omega (
+      arith,
+      counted_here (is_commit_on buffer x) (fate_of buffer n xs),
+      sum_by-append (λ f. cond (is_pending f) 1 0) here (fates_from buffer (n + 1) xs),
+    )
 
 -- whether the commit of this number is pending; the first entry has the number n
 pending_at : ℕ → ℕ → List Entry → Option ℕ → Bool
@@ -169,7 +178,7 @@ module _ (buffer : ℕ) (before : List Entry) (x : Entry) (xs : List Entry) wher
   at_later None p h = absurd h
   at_later (Some k) p h =
       let next : k + 1 - length before ≡ suc (k + 1 - length (before ++ x ∷ [])) =
-          omega (arith, h, length-append before (x ∷ [])) in
+      omega (arith, h, length-append before (x ∷ [])) in
       ap (λ (n : ℕ). is_pending (fate_of buffer k (drop n (x ∷ xs)))) next
 
 kept : (b : Bool) (k : ℕ) → cond (eqb (digit b) 1) (Some k) None ≡ cond b (Some k) None
@@ -183,49 +192,49 @@ chosen buffer xs None = refl
 chosen buffer xs (Some k) =
     let place : k + 1 - 0 ≡ k + 1 = omega arith in
     ap (λ (n : ℕ). cond (eqb (digit (is_pending (fate_of buffer k (drop n xs)))) 1) (Some k) None) place ∙ kept
-        (is_pending (fate_of buffer k (drop (k + 1) xs))) k
+    (is_pending (fate_of buffer k (drop (k + 1) xs))) k
 
 -- none comes later
 pending_here : (buffer : ℕ) (before : List Entry) (x : Entry) (xs : List Entry)
     → list_any (is_commit_on buffer) xs ≡ false
     → count_by is_pending (fates_from buffer (length before) (x ∷ xs)) ≡ digit
-        (pending_at buffer (length before) (x ∷ xs) (option_or (last_after (commit_on buffer) (before ++ x ∷ []) xs)
-        (commit_on buffer before x)))
+    (pending_at buffer (length before) (x ∷ xs) (option_or (last_after (commit_on buffer) (before ++ x ∷ []) xs)
+    (commit_on buffer before x)))
 pending_here buffer before x xs none =
     let last : option_or (last_after (commit_on buffer) (before ++ x ∷ []) xs) (commit_on buffer before x) ≡ cond
-        (is_commit_on buffer x) (Some (length before)) None =
+    (is_commit_on buffer x) (Some (length before)) None =
     ap (λ (o : Option ℕ). option_or o (commit_on buffer before x)) (last-none buffer (before ++ x ∷ []) xs none) in
     let right : digit (pending_at buffer (length before) (x ∷ xs)
-        (option_or (last_after (commit_on buffer) (before ++ x ∷ []) xs) (commit_on buffer before x))) ≡ digit
-        (is_commit_on buffer x && is_pending (fate_of buffer (length before) xs)) =
+    (option_or (last_after (commit_on buffer) (before ++ x ∷ []) xs) (commit_on buffer before x))) ≡ digit
+    (is_commit_on buffer x && is_pending (fate_of buffer (length before) xs)) =
     ap (λ (o : Option ℕ). digit (pending_at buffer (length before) (x ∷ xs) o)) last ∙ ap digit
-        (at_entry buffer before x xs (is_commit_on buffer x)) in
+    (at_entry buffer before x xs (is_commit_on buffer x)) in
     let rest : count_by is_pending (fates_from buffer (length before + 1) xs) ≡ 0 =
-        ap (count_by is_pending) (fates_from-none buffer (length before + 1) xs none) in
+    ap (count_by is_pending) (fates_from-none buffer (length before + 1) xs none) in
     omega (arith, pending_next buffer (length before) x xs, right, rest)
 
 -- one comes later
 pending_later : (buffer : ℕ) (before : List Entry) (x : Entry) (xs : List Entry)
     → list_any (is_commit_on buffer) xs ≡ true
     → count_by is_pending (fates_from buffer (length (before ++ x ∷ [])) xs) ≡ digit
-        (pending_at buffer (length (before ++ x ∷ [])) xs (last_after (commit_on buffer) (before ++ x ∷ []) xs))
+    (pending_at buffer (length (before ++ x ∷ [])) xs (last_after (commit_on buffer) (before ++ x ∷ []) xs))
     → count_by is_pending (fates_from buffer (length before) (x ∷ xs)) ≡ digit
-        (pending_at buffer (length before) (x ∷ xs) (option_or (last_after (commit_on buffer) (before ++ x ∷ []) xs)
-        (commit_on buffer before x)))
+    (pending_at buffer (length before) (x ∷ xs) (option_or (last_after (commit_on buffer) (before ++ x ∷ []) xs)
+    (commit_on buffer before x)))
 pending_later buffer before x xs more rest =
     let sent : Bool = list_any (sends (length before)) xs in
     let taken : Bool = list_any (takes_back (length before)) xs in
     let over : is_pending (fate_of buffer (length before) xs) ≡ false =
-        ap (λ (b : Bool). is_pending (fate_by sent taken b)) more ∙ followed sent taken in
+    ap (λ (b : Bool). is_pending (fate_by sent taken b)) more ∙ followed sent taken in
     let here : digit (is_commit_on buffer x && is_pending (fate_of buffer (length before) xs)) ≡ 0 =
-        ap (λ (b : Bool). digit (is_commit_on buffer x && b)) over ∙ ap digit (and-false (is_commit_on buffer x)) in
+    ap (λ (b : Bool). digit (is_commit_on buffer x && b)) over ∙ ap digit (and-false (is_commit_on buffer x)) in
     let right : digit (pending_at buffer (length before) (x ∷ xs)
-        (option_or (last_after (commit_on buffer) (before ++ x ∷ []) xs) (commit_on buffer before x))) ≡ digit
-        (pending_at buffer (length (before ++ x ∷ [])) xs (last_after (commit_on buffer) (before ++ x ∷ []) xs)) =
+    (option_or (last_after (commit_on buffer) (before ++ x ∷ []) xs) (commit_on buffer before x))) ≡ digit
+    (pending_at buffer (length (before ++ x ∷ [])) xs (last_after (commit_on buffer) (before ++ x ∷ []) xs)) =
     ap digit (at_later buffer before x xs (last_after (commit_on buffer) (before ++ x ∷ []) xs)
-        (commit_on buffer before x) (last-some buffer (before ++ x ∷ []) xs more)) in
+    (commit_on buffer before x) (last-some buffer (before ++ x ∷ []) xs more)) in
     let place : count_by is_pending (fates_from buffer (length (before ++ x ∷ [])) xs) ≡ count_by is_pending
-        (fates_from buffer (length before + 1) xs) =
+    (fates_from buffer (length before + 1) xs) =
     ap (λ (n : ℕ). count_by is_pending (fates_from buffer n xs)) (length-append before (x ∷ [])) in
     omega (arith, pending_next buffer (length before) x xs, here, right, place, rest)
 
@@ -235,9 +244,9 @@ unfolding fates_from last_after pending_at
 pending-from buffer before [] = refl
 pending-from buffer before (x ∷ xs) =
     elim (list_any (is_commit_on buffer) xs) as (λ t. list_any (is_commit_on buffer) xs ≡ t
-        → count_by is_pending (fates_from buffer (length before) (x ∷ xs)) ≡ digit
-        (pending_at buffer (length before) (x ∷ xs) (option_or (last_after (commit_on buffer) (before ++ x ∷ []) xs)
-        (commit_on buffer before x)))) [
+    → count_by is_pending (fates_from buffer (length before) (x ∷ xs)) ≡ digit
+    (pending_at buffer (length before) (x ∷ xs) (option_or (last_after (commit_on buffer) (before ++ x ∷ []) xs)
+    (commit_on buffer before x)))) [
       | true ↦ λ more. pending_later buffer before x xs more (pending-from buffer (before ++ x ∷ []) xs)
       | false ↦ λ none. pending_here buffer before x xs none
     ] refl
@@ -248,8 +257,11 @@ digit_most false = omega arith
 
 -- at most one commit is pending
 pub pending_most : (buffer : ℕ) (xs : List Entry) → count_by is_pending (fates buffer xs) ≤ 1
-pending_most buffer xs = omega (arith, pending-from buffer [] xs,
-    digit_most (pending_at buffer 0 xs (last_commit buffer xs)))
+pending_most buffer xs = omega (
+  arith,
+  pending-from buffer [] xs,
+  digit_most (pending_at buffer 0 xs (last_commit buffer xs)),
+)
 
 -- the last commit is pending exactly if the tally has a pending one
 pub pending_commit-counts : (buffer : ℕ) (xs : List Entry) → cond (eqb (count_by is_pending (fates buffer xs)) 1)
@@ -276,4 +288,4 @@ pending-one buffer xs = found (last_commit buffer xs) (pending-from buffer [] xs
     found (Some k) is =
         let place : k + 1 - 0 ≡ k + 1 = omega arith in
         is ∙ ap (λ (n : ℕ). digit (is_pending (fate_of buffer k (drop n xs)))) place ∙ by_test
-            (is_pending (fate_of buffer k (drop (k + 1) xs))) k
+        (is_pending (fate_of buffer k (drop (k + 1) xs))) k

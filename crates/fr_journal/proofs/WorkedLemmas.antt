@@ -45,8 +45,16 @@ slot_on slot among = record { slot = slot; channels = among; cycles = every_cycl
 
 abbrev plan_for : ℕ → ℕ → List Own → List Buffer → Option Queue → Plan
 plan_for latest_a latest_b owned buffers queue =
-    record { tasks = 1; latest_a = latest_a; latest_b = latest_b; host_entries = 8; slot_entries = 8; owned = owned;
-        buffers = buffers; queue = queue }
+    record {
+      tasks = 1;
+      latest_a = latest_a;
+      latest_b = latest_b;
+      host_entries = 8;
+      slot_entries = 8;
+      owned = owned;
+      buffers = buffers;
+      queue = queue;
+    }
 
 abbrev plan_with : ℕ → List Own → List Buffer → Option Queue → Plan
 plan_with latest owned buffers queue = plan_for latest 0 owned buffers queue
@@ -55,14 +63,15 @@ plan_with latest owned buffers queue = plan_for latest 0 owned buffers queue
 abbrev sender : Mode → Plan
 sender mode =
     plan_with 0 (record { slot = 1; channels = channels.Both; cycles = every_cycle; sync = false; startup = false } ∷
-        [])
+    [])
     (record { mode = mode; filter = slot_on 1 channels.Both; words = None; preamble = false } ∷ []) None
 
 -- what is offered in slot 1 of a cycle, on both channels
 abbrev offers_in : Mode → List Entry → ℕ → Offered × Offered
-offers_in mode entries cycle =
-    (offered (sender mode) entries (static_window cycle cycle 1) channel.A,
-        offered (sender mode) entries (static_window cycle cycle 1) channel.B)
+offers_in mode entries cycle = (
+  offered (sender mode) entries (static_window cycle cycle 1) channel.A,
+  offered (sender mode) entries (static_window cycle cycle 1) channel.B,
+)
 
 -- ---- commits
 
@@ -79,8 +88,13 @@ all_fetched = three_commits ++ Observe 0 Silence Silence ∷ Fetch (static_windo
     (Data 3) ∷ Observe 1 Silence Silence ∷ []
 
 abbrev tally : ℕ → ℕ → ℕ → ℕ → Tally
-tally committed sent overwritten pending = record { committed = committed; sent = sent; overwritten = overwritten;
-    pending = pending; withdrawn = 0 }
+tally committed sent overwritten pending = record {
+  committed = committed;
+  sent = sent;
+  overwritten = overwritten;
+  pending = pending;
+  withdrawn = 0;
+}
 
 -- one commit, fetched at once
 abbrev one_fetched : List Entry
@@ -139,7 +153,7 @@ emptied = sent_once ++ Commit 0 0 (0 ∷ 2 ∷ []) ∷ Withdraw 0 0 (Some 4) ∷
 pub a_state_buffer_is_empty_after_a_withdraw : (offers_in State sent_once 1 ≡ (Data 0, Data 0)) ×
     (offers_in State emptied 1 ≡ (Null, Null)) × (held_commit 0 sent_once ≡ Some 0) × (held_commit 0 emptied ≡ None)
     × (tally_of 0 (emptied ++ Fetch (static_window 1 1 1) Null Null ∷ [])
-        ≡ record { committed = 2; sent = 1; overwritten = 0; pending = 0; withdrawn = 1 })
+    ≡ record { committed = 2; sent = 1; overwritten = 0; pending = 0; withdrawn = 1 })
 unfolding last_after fates_from
 a_state_buffer_is_empty_after_a_withdraw = (refl, refl, refl, refl, refl)
 
@@ -169,8 +183,13 @@ a_transmission_begins_at_the_latest_minislot = (refl, refl, refl, refl)
 -- the same buffer on channel B, and minislot 5, at which B opens slot 8
 abbrev sender_on_b : ℕ → ℕ → Plan
 sender_on_b latest_a latest_b =
-    plan_for latest_a latest_b [] (record { mode = Event; filter = slot_on 8 channels.B; words = Some 4; preamble =
-        false } ∷ []) None
+    plan_for latest_a latest_b [] (record {
+      mode = Event;
+      filter = slot_on 8 channels.B;
+      words = Some 4;
+      preamble =
+          false;
+    } ∷ []) None
 
 abbrev b_at_five : Opportunity
 b_at_five = record { number = 0; cycle = 0; minislot = 5; a = Some 9; b = Some 8 }
@@ -185,8 +204,18 @@ each_channel_has_its_latest_minislot = (refl, refl, refl)
 -- ---- frames received in static slot 2, which has one word
 
 abbrev one_word : Parameters
-one_word = record { static_slots = 3; minislots = 4; static_words = 1; static_mt = 20; minislot_mt = 5; symbol_mt = 0;
-    nit_mt = 10; cycle_mt = 90; idle = 0; words_per_minislot = 5 }
+one_word = record {
+  static_slots = 3;
+  minislots = 4;
+  static_words = 1;
+  static_mt = 20;
+  minislot_mt = 5;
+  symbol_mt = 0;
+  nit_mt = 10;
+  cycle_mt = 90;
+  idle = 0;
+  words_per_minislot = 5;
+}
 
 abbrev seen_bytes : List ℕ → Seen
 seen_bytes bytes = Bytes (record { items = bytes })
@@ -243,7 +272,7 @@ sent_in entries window channel = option_map (λ frame. encoded frame channel)
 pub a_static_frame_is_sent : (sent_in two_buffers (static_window 0 9 3) channel.A ≡ Some
     (0x78 ∷ 0x03 ∷ 0x02 ∷ 0x74 ∷ 0xc9 ∷ 0x0a ∷ 0x0b ∷ 0xb2 ∷ 0x00 ∷ 0x89 ∷ []))
     × (sent_in two_buffers (static_window 0 9 3) channel.B ≡ Some
-        (0x78 ∷ 0x03 ∷ 0x02 ∷ 0x74 ∷ 0xc9 ∷ 0x0a ∷ 0x0b ∷ 0x94 ∷ 0x80 ∷ 0x58 ∷ []))
+    (0x78 ∷ 0x03 ∷ 0x02 ∷ 0x74 ∷ 0xc9 ∷ 0x0a ∷ 0x0b ∷ 0x94 ∷ 0x80 ∷ 0x58 ∷ []))
 unfolding last_after encoded header covered bits_of number_of xor_front divide_once divide
 a_static_frame_is_sent = (refl, refl)
 

@@ -22,7 +22,7 @@ fewer rs zero = omega arith
 fewer [] (suc n) = omega arith
 fewer (r ∷ rs) (suc n) =
     let step : cycles_begun (r ∷ take n rs) ≤ cycles_begun (r ∷ rs) =
-        omega (arith, fewer rs n, begun_first r (take n rs), begun_first r rs) in
+    omega (arith, fewer rs n, begun_first r (take n rs), begun_first r rs) in
     step
 
 -- since there is room for one more, it is counted
@@ -40,8 +40,11 @@ module _ (rs : List Recorded) (n : ℕ) (r : Recorded) (lt : n < length rs) (is 
   passed = take_more rs n r lt ∙ ap (λ (x : Recorded). take n rs ++ x ∷ []) (sym is)
 
   begun_more : cycles_begun (take (n + 1) rs) ≡ cycles_begun (take n rs) + cond (begins_cycle r) 1 0
-  begun_more = ap cycles_begun passed ∙ omega (arith, sum_by-append (λ (x : Recorded). cond (begins_cycle x) 1 0)
-      (take n rs) (r ∷ []))
+  begun_more = ap cycles_begun passed ∙ omega (
+    arith,
+    sum_by-append (λ (x : Recorded). cond (begins_cycle x) 1 0)
+        (take n rs) (r ∷ []),
+  )
 
   pub counted_more : (begun all : ℕ) → begun ≡ cycles_begun (take n rs) → all ≡ cycles_begun rs
       → cond (begins_cycle r && nat_lt begun all) (begun + 1) begun ≡ cycles_begun (take (n + 1) rs)
@@ -52,13 +55,13 @@ module _ (rs : List Recorded) (n : ℕ) (r : Recorded) (lt : n < length rs) (is 
   pub window_more : (p : Parameters) (begun : ℕ) (old mid new : Option (List ℕ))
       → begun ≡ cycles_begun (take (n + 1) rs)
       → Appends old mid (all_records p (take n rs)) → Appends mid new (window_records p (begun - 1) r)
-          → Appends old new (all_records p (take (n + 1) rs))
+      → Appends old new (all_records p (take (n + 1) rs))
   window_more p begun old mid new begun_is before more =
       let cycle : begun ≡ cycles_begun (take n rs ++ r ∷ []) = begun_is ∙ ap cycles_begun passed in
       let text : window_records p (begun - 1) r ≡ records_after p (take n rs) r =
-          ap (λ (b : ℕ). window_records p (b - 1) r) cycle in
+      ap (λ (b : ℕ). window_records p (b - 1) r) cycle in
       let all : all_records p (take (n + 1) rs) ≡ all_records p (take n rs) ++ records_after p (take n rs) r =
       ap (all_records p) passed ∙ each_after-snoc (records_after p) (take n rs) r in
       subst (λ (t : List ℕ). Appends old new t) (sym all)
       (Appends-trans old mid new (all_records p (take n rs)) (records_after p (take n rs) r) before
-          (subst (λ (t : List ℕ). Appends mid new t) text more))
+      (subst (λ (t : List ℕ). Appends mid new t) text more))

@@ -38,7 +38,7 @@ begun_more rs r b e =
 pub first_counted : (rs : List Recorded) (r : Recorded) (cycles windows place more_cycles no_windows : ℕ)
     → begins_cycle r ≡ true
     → more_cycles ≡ cycles + 1 → no_windows ≡ 0 → Counted rs cycles windows place
-        → Counted (rs ++ r ∷ []) more_cycles (no_windows + 1) (place + 1)
+    → Counted (rs ++ r ∷ []) more_cycles (no_windows + 1) (place + 1)
 first_counted rs r cycles windows place more_cycles no_windows e more none h =
     let one : length (this_cycle (rs ++ r ∷ [])) ≡ 1 =
     ap length (fold_more with_window [] rs r ∙ ap (λ (c : Bool). cond c (r ∷ []) (this_cycle rs ++ r ∷ [])) e) in
@@ -57,7 +57,7 @@ pub later_counted : (rs : List Recorded) (r : Recorded) (cycles windows place sa
 later_counted rs r cycles windows place same_cycles same_windows e cycles_same windows_same h =
     let one_more : length (this_cycle (rs ++ r ∷ [])) ≡ length (this_cycle rs) + 1 =
     ap length (fold_more with_window [] rs r ∙ ap (λ (c : Bool). cond c (r ∷ []) (this_cycle rs ++ r ∷ [])) e)
-        ∙ length-append (this_cycle rs) (r ∷ []) in
+    ∙ length-append (this_cycle rs) (r ∷ []) in
     record {
       cycles_are = omega (arith, cycles_same, h.cycles_are, begun_more rs r false e);
       windows_are = omega (arith, windows_same, h.windows_are, one_more);
@@ -70,28 +70,28 @@ module _ (p : Parameters) (v : View) (recorded : List Recorded) where
   pub cell_more : (place : ℕ) (r : Recorded) (cycles windows : ℕ) (old mid new : Option (List ℕ))
       → place < length recorded → r ≡ get_or recorded place r
       → Counted (take place recorded ++ r ∷ []) cycles windows (place + 1)
-          → Appends old mid (cells_text p v (take place recorded))
+      → Appends old mid (cells_text p v (take place recorded))
       → Appends mid new (cell_at p v (cycles - 1) (windows - 1) r)
-          → Appends old new (cells_text p v (take (place + 1) recorded))
+      → Appends old new (cells_text p v (take (place + 1) recorded))
   cell_more place r cycles windows old mid new lt at h before one =
       let rs = take place recorded in
       let longer : take (place + 1) recorded ≡ rs ++ r ∷ [] =
-          take_more recorded place r lt ∙ ap (λ (x : Recorded). rs ++ x ∷ []) (sym at) in
+      take_more recorded place r lt ∙ ap (λ (x : Recorded). rs ++ x ∷ []) (sym at) in
       let cell : cell_at p v (cycles - 1) (windows - 1) r ≡ cell_after p v rs r =
       ap₂ (λ (c w : ℕ). cell_at p v (c - 1) (w - 1) r) h.cycles_are h.windows_are in
       let more : cells_text p v (take (place + 1) recorded) ≡ cells_text p v rs ++ cell_at p v (cycles - 1)
-          (windows - 1) r =
+      (windows - 1) r =
       ap (cells_text p v) longer ∙ each_after-snoc (cell_after p v) rs r ∙ ap (λ (t : List ℕ). cells_text p v rs ++ t)
-          (sym cell) in
+      (sym cell) in
       subst (λ (t : List ℕ). Appends old new t) (sym more) (Appends-trans old mid new (cells_text p v rs)
-          (cell_at p v (cycles - 1) (windows - 1) r) before one)
+      (cell_at p v (cycles - 1) (windows - 1) r) before one)
 
   pub counted_longer : (place : ℕ) (r : Recorded) (cycles windows : ℕ) → place < length recorded
       → r ≡ get_or recorded place r
       → Counted (take place recorded ++ r ∷ []) cycles windows (place + 1)
-          → Counted (take (place + 1) recorded) cycles windows (place + 1)
+      → Counted (take (place + 1) recorded) cycles windows (place + 1)
   counted_longer place r cycles windows lt at h =
       let rs = take place recorded in
       let longer : take (place + 1) recorded ≡ rs ++ r ∷ [] =
-          take_more recorded place r lt ∙ ap (λ (x : Recorded). rs ++ x ∷ []) (sym at) in
+      take_more recorded place r lt ∙ ap (λ (x : Recorded). rs ++ x ∷ []) (sym at) in
       subst (λ (xs : List Recorded). Counted xs cycles windows (place + 1)) (sym longer) h

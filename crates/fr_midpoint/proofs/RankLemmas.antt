@@ -30,12 +30,20 @@ count_by-front : {X : Type 0} (p : X → Bool) (xs : List X) (d : X) (k : ℕ)
 count_by-front p [] d k none = omega arith
 count_by-front p (x ∷ xs) d zero none =
     let here : one_if (p x) ≡ 0 = ap one_if (none 0 (omega arith) (omega arith)) in
-    omega (arith, here, sum_by-cons (λ y. cond (p y) 1 0) x xs,
-        count_by-front p xs d 0 (λ i from in'. none (suc i) (omega arith) (omega arith)))
+    omega (
+      arith,
+      here,
+      sum_by-cons (λ y. cond (p y) 1 0) x xs,
+      count_by-front p xs d 0 (λ i from in'. none (suc i) (omega arith) (omega arith)),
+    )
 count_by-front p (x ∷ xs) d (suc k) none =
     let here : one_if (p x) ≤ 1 = elim (p x) as (λ b. one_if b ≤ 1) [ true ↦ omega arith | false ↦ omega arith ] in
-    omega (arith, here, sum_by-cons (λ y. cond (p y) 1 0) x xs,
-        count_by-front p xs d k (λ i from in'. none (suc i) (omega arith) (omega arith)))
+    omega (
+      arith,
+      here,
+      sum_by-cons (λ y. cond (p y) 1 0) x xs,
+      count_by-front p xs d k (λ i from in'. none (suc i) (omega arith) (omega arith)),
+    )
 
 -- all pass up to a place
 count_by-upto : {X : Type 0} (p : X → Bool) (xs : List X) (d : X) (k : ℕ) → k < length xs
@@ -46,8 +54,12 @@ count_by-upto p (x ∷ xs) d zero in' all =
     omega (arith, here, sum_by-cons (λ y. cond (p y) 1 0) x xs)
 count_by-upto p (x ∷ xs) d (suc k) in' all =
     let here : one_if (p x) ≡ 1 = ap one_if (all 0 (omega arith)) in
-    omega (arith, here, sum_by-cons (λ y. cond (p y) 1 0) x xs,
-        count_by-upto p xs d k (omega arith) (λ i upto. all (suc i) (omega arith)))
+    omega (
+      arith,
+      here,
+      sum_by-cons (λ y. cond (p y) 1 0) x xs,
+      count_by-upto p xs d k (omega arith) (λ i upto. all (suc i) (omega arith)),
+    )
 
 -- ---- ranks of ascending values
 
@@ -66,14 +78,17 @@ ascends : (ys : List ℤ) → IsSorted int_cmp ys → (i j : ℕ) (d : ℤ) → 
     → int_lt (get_or ys j d) (get_or ys i d) ≡ false
 ascends ys sorted i j d le in' =
     sym (is_lt-int_cmp (get_or ys j d) (get_or ys i d)) ∙ sorted_far (λ x y. is_lt (int_cmp x y))
-        (ranks_by int_cmp_total (λ x. x)) ys sorted i j d le in'
+    (ranks_by int_cmp_total (λ x. x)) ys sorted i j d le in'
 
 rank_at : (ys : List ℤ) → IsSorted int_cmp ys → (k : ℕ) (d : ℤ) → k < length ys → HasRank ys (k + 1) (get_or ys k d)
 rank_at ys sorted k d in' =
     record {
       among = Contains-get_or ys k d in';
-      few_below = omega (arith, count_by-front (λ y. int_lt y (get_or ys k d)) ys d k
-          (λ i from inside. ascends ys sorted k i d from inside));
+      few_below = omega (
+        arith,
+        count_by-front (λ y. int_lt y (get_or ys k d)) ys d k
+            (λ i from inside. ascends ys sorted k i d from inside),
+      );
       enough = count_by-upto (λ y. int_le y (get_or ys k d)) ys d k in'
           (λ i upto. not_below (get_or ys i d) (get_or ys k d) (ascends ys sorted i k d upto in'));
     }
@@ -101,13 +116,18 @@ counted_before x y z less = one_if-le (int_le z x) (int_lt z y) (before_both x y
 
 rank_less : (xs : List ℤ) (rank : ℕ) (x y : ℤ) → HasRank xs rank x → HasRank xs rank y → x <ℤ y → ⊥
 rank_less xs rank x y h k less =
-    omega (arith, h.enough, k.few_below, sum_by-le-sum_by (λ z. cond (int_le z x) 1 0) (λ z. cond (int_lt z y) 1 0) xs
-        (λ z. counted_before x y z less))
+    omega (
+      arith,
+      h.enough,
+      k.few_below,
+      sum_by-le-sum_by (λ z. cond (int_le z x) 1 0) (λ z. cond (int_lt z y) 1 0) xs
+          (λ z. counted_before x y z less),
+    )
 
 rank-same : (xs : List ℤ) (rank : ℕ) (x y : ℤ) → HasRank xs rank x → HasRank xs rank y → x ≡ y
 rank-same xs rank x y h k =
     by_lt_z x y (λ less. absurd (rank_less xs rank x y h k less))
-        (λ y_first. by_lt_z y x (λ less. absurd (rank_less xs rank y x k h less)) (λ x_first. omega (arith, ints)))
+    (λ y_first. by_lt_z y x (λ less. absurd (rank_less xs rank y x k h less)) (λ x_first. omega (arith, ints)))
 
 -- ---- halves
 
@@ -169,11 +189,11 @@ midpoint-same xs m n h k =
     let low_rank : m.low_rank ≡ n.low_rank = h.low_rank_is ∙ sym k.low_rank_is in
     let high_rank : m.high_rank ≡ n.high_rank = h.high_rank_is ∙ sym k.high_rank_is in
     let low : h.low ≡ k.low = rank-same xs m.low_rank h.low k.low h.low_has
-        (subst (λ j. HasRank xs j k.low) (sym low_rank) k.low_has) in
+    (subst (λ j. HasRank xs j k.low) (sym low_rank) k.low_has) in
     let high : h.high ≡ k.high = rank-same xs m.high_rank h.high k.high h.high_has
-        (subst (λ j. HasRank xs j k.high) (sym high_rank) k.high_has) in
+    (subst (λ j. HasRank xs j k.high) (sym high_rank) k.high_has) in
     let value : m.value ≡ n.value = half-same (h.low +ℤ h.high) m.value n.value h.value_is
-        (subst (λ s. IsHalf s n.value) (sym (ap (λ x. x +ℤ h.high) low ∙ ap (λ y. k.low +ℤ y) high)) k.value_is) in
+    (subst (λ s. IsHalf s n.value) (sym (ap (λ x. x +ℤ h.high) low ∙ ap (λ y. k.low +ℤ y) high)) k.value_is) in
     midpoint_with-same m.value n.value m.low_rank n.low_rank m.high_rank n.high_rank value low_rank high_rank
 
 -- a value has a rank only where there are values
@@ -197,7 +217,7 @@ pub middle_only : (xs ys : List ℤ) → IsPermutation xs ys → IsSorted int_cm
 middle_only xs ys moved sorted answer is m h =
     let some : 0 < length ys = omega (arith, midpoint_some xs m h, ap (λ n. n) (length_permutation xs ys moved)) in
     is ∙ middle_some ys some ∙ ap (λ n. Some n) (midpoint-same xs (middle_record ys) m
-        (middle_is xs ys moved sorted some) h)
+    (middle_is xs ys moved sorted some) h)
 
 pub middle_none_of : (xs ys : List ℤ) → IsPermutation xs ys → (answer : Option Midpoint) → answer ≡ middle_of ys
     → IsNone answer ↔ (length xs ≡ 0)

@@ -22,8 +22,12 @@ minislot_more p counts bytes = omega (arith, sum_by-append (row_length p) counts
 -- a lane that closes a row stands after that row too
 pub closed_more : (p : Parameters) (counts : List ℕ) (bytes : ℕ)
     → closed (standing_after p counts) bytes ≡ standing_after p (counts ++ bytes ∷ [])
-closed_more p counts bytes = λ i. record { params = p; slot = sym (slot_more p counts bytes) i; begins =
-    sym (minislot_more p counts bytes) i }
+closed_more p counts bytes = λ i. record {
+  params = p;
+  slot = sym (slot_more p counts bytes) i;
+  begins =
+      sym (minislot_more p counts bytes) i;
+}
 
 pub closed_rows : (s : Standing) (bytes : ℕ) (counts : List ℕ) → s ≡ standing_after s.params counts
     → closed s bytes ≡ standing_after s.params (counts ++ bytes ∷ [])
@@ -34,7 +38,7 @@ pub closed_stands : (s : Standing) (bytes : ℕ) → is_row s.params s.slot s.be
     → IsStanding (closed s bytes)
 closed_stands s bytes opened is =
     let there : has_row_after s.params is.counts ≡ true = ap (λ (t : Standing). is_row s.params t.slot t.begins)
-        (sym is.stands) ∙ opened in
+    (sym is.stands) ∙ opened in
     record {
       counts = is.counts ++ bytes ∷ [];
       are_rows = AllAfter-snoc (λ before count. has_row_after s.params before ≡ true) is.counts bytes is.are_rows there;
@@ -54,7 +58,10 @@ some_times (suc q) n a few some = omega arith
 pub row_has_one : (p : Parameters) (bytes : ℕ) → 1 ≤ p.words_per_minislot → 1 ≤ row_length p bytes
 row_has_one p bytes some = elim (eqb_tells bytes 0) [
   | inl none ↦ rw none.0 (omega arith)
-  | inr other ↦ rw other.0 (omega (arith, some_times (div_ceil bytes (2 * p.words_per_minislot))
-      (2 * p.words_per_minislot) bytes (div_ceil_times bytes (2 * p.words_per_minislot) (omega (arith, some))).0
-      (omega (arith, other.1))))
+  | inr other ↦ rw other.0 (omega (
+    arith,
+    some_times (div_ceil bytes (2 * p.words_per_minislot))
+        (2 * p.words_per_minislot) bytes (div_ceil_times bytes (2 * p.words_per_minislot) (omega (arith, some))).0
+        (omega (arith, other.1)),
+  ))
 ]

@@ -125,7 +125,7 @@ refused_for words e (inr among) = by (order_error_of (kind_of e)) (fault_of the_
 -- without a fault the order that was found is the answer
 pub taken_for : (words : List Text) (found : Option Order) → fault_of the_commands words ≡ []
     → IfSome found (IsOrder (subcommand_of the_commands words))
-        → (IsWhole (subcommand_of the_commands words) → IsSome found)
+    → (IsWhole (subcommand_of the_commands words) → IsSome found)
     → IsAnswer words (ok_or found refusal.Usage)
 taken_for words (Some order) none told has = (none, told)
 taken_for words None none told has =

@@ -45,7 +45,7 @@ with_values_valued : (a : Rule) (source : ValueSource) (v : Text) (vs : List Tex
 with_values_valued a source v vs [] h = (omega arith, tt)
 with_values_valued a source v vs (r ∷ rs) h =
     elim (bytes_eq r.id a.id) as (λ b. AreValued (cond b (more_values source (v ∷ vs) r ++ rs)
-        (r ∷ with_values a.id (reading_by a) source (v ∷ vs) rs))) [
+    (r ∷ with_values a.id (reading_by a) source (v ∷ vs) rs))) [
       | true ↦ (let e = length-append r.values (v ∷ vs) in omega (arith, e), h.1)
       | false ↦ (h.0, with_values_valued a source v vs rs h.1)
     ]
@@ -80,8 +80,11 @@ settled_held : (h : Held) → IsHeld h → IsHeld (settled rules h)
 settled_held h is = record { rows = settled_valued h.pending h.rows is.rows is.pending; pending = tt }
 
 pushed_held : (id word : Text) (h : Held) → IsHeld h → IsHeld (pushed id word h)
-pushed_held id word h is = record { rows = is.rows; pending = let e =
-    length-append (started id h.pending).1 (word ∷ []) in omega (arith, e) }
+pushed_held id word h is = record {
+  rows = is.rows;
+  pending = let e =
+      length-append (started id h.pending).1 (word ∷ []) in omega (arith, e);
+}
 
 -- ---- a word
 
@@ -120,7 +123,7 @@ short_held : (o : Option Text) (waiting : Waiting) (word : Text) (h : Held) → 
 short_held None waiting word h is = plain_word_held waiting word h is
 short_held (Some flags) waiting word h is =
     after_flag_held _ waiting word _ (bundle_held (length flags) flags h.skip plain (record h { skip = 0 })
-        (record { rows = is.rows; pending = is.pending }))
+    (record { rows = is.rows; pending = is.pending }))
 
 long_held : (o : Option (Text × Option Text)) (waiting : Waiting) (word : Text) (h : Held) → IsHeld h
     → IsHeld (long_or_other rules waiting word o h).0
@@ -132,7 +135,7 @@ other_held : (o : Option Text) (waiting : Waiting) (position : ℕ) (word : Text
 other_held (Some name) waiting position word h is = is
 other_held None waiting position word h is =
     elim (bytes_eq word (45 ∷ 45 ∷ [])) as (λ b. IsHeld
-        (cond b (h, trailing position) (long_or_other rules waiting word (long_of word) h)).0) [
+    (cond b (h, trailing position) (long_or_other rules waiting word (long_of word) h)).0) [
       | true ↦ is
       | false ↦ long_held _ waiting word h is
     ]
@@ -193,9 +196,9 @@ given_valued (r ∷ rs) h given = here (given_valued rs h.1) (bytes_eq r.id (cod
   where
     here : (is_given (codes "FILE") rs ≡ true → is_some (first_of (codes "FILE") rs) ≡ true) → (b : Bool)
         → option_map_or (λ r. explicit_source r.source) (cond b (Some r) (find (λ r. bytes_eq r.id (codes "FILE")) rs))
-            false ≡ true
+        false ≡ true
         → is_some (option_and_then (λ r. slice_get r.values 0)
-            (cond b (Some r) (find (λ r. bytes_eq r.id (codes "FILE")) rs))) ≡ true
+        (cond b (Some r) (find (λ r. bytes_eq r.id (codes "FILE")) rs))) ≡ true
     here later true given = first_valued r.values h.0
     here later false given = later given
 
@@ -207,7 +210,7 @@ no_kinds (k ∷ ks) b e = cc
 
 no_level_fault : (s : Shape) (names : Names) (h : Held) (words : List Text) (has : Bool) (below : Kinds)
     → level_fault s names h words has below ≡ [] → (below ≡ []) ×
-        (check_fault s (finished s.rules (walk s.rules names h words).held) has ≡ [])
+    (check_fault s (finished s.rules (walk s.rules names h words).held) has ≡ [])
 no_level_fault s names h words has below e =
     let walked = no_kinds _ _ e in
     let entered = no_kinds _ _ walked.1 in
@@ -234,7 +237,7 @@ has_file s words is e =
     let valued = finished_valued _ (walk_held [] words (walk_from nothing_held) (record { rows = tt; pending = tt })) in
     let given = given_file _ (sym (is.checks (finished s.rules (walk s.rules [] nothing_held words).held)) ∙ e) in
     given_valued _ (subst (λ c. AreValued (finished c (walk c [] nothing_held words).held)) (sym is.rules_are) valued)
-        given
+    given
 
 check_takes : TakesFile (sub 1)
 check_takes = record { rules_are = refl; checks = λ rows. refl }
@@ -258,7 +261,7 @@ met : (p : Text × List Text) (a c q m r : Bool)
     → is_some (option_map (λ s. rows_at s p.1) (met_at p a c q m r)) ≡ true
     → option_map_or (λ s. level_fault s [] nothing_held p.1 false []) (met_at p a c q m r) [] ≡ []
     → IsWhole (option_map (λ s. rows_at s p.1) (met_at p a c q m r)) ⊎ LacksRun
-        (option_map (λ s. rows_at s p.1) (met_at p a c q m r))
+    (option_map (λ s. rows_at s p.1) (met_at p a c q m r))
 met p true c q m r has below = inl (inl (inl refl))
 met p false true q m r has below = inl (inr (inl
     (inl refl, has_file (sub 1) p.1 check_takes (no_level_fault (sub 1) [] nothing_held p.1 false [] below).1)))
@@ -283,4 +286,4 @@ pub whole : (words : List Text) → fault_of the_commands words ≡ []
 whole words e =
     let parts = no_level_fault (built the_commands).top (names_of (built the_commands)) nothing_held words _ _ e in
     whole_at (walk (built the_commands).top.rules (names_of (built the_commands)) nothing_held words).stopped
-        (requires_one _ parts.1) parts.0
+    (requires_one _ parts.1) parts.0

@@ -13,16 +13,22 @@ no_owners d cycle old = ([], refl, Appends-nil old)
 pub one_slot : (d : Description) (cycle slot number : ℕ) (old mid first new : Option (List ℕ)) → number ≡ slot + 1
     → Adds (AreOwnerTexts d cycle slot) old mid
     → Adds (IsOwnerText d cycle number A) mid first → Adds (IsOwnerText d cycle number B) first new
-        → Adds (AreOwnerTexts d cycle (slot + 1)) old new
+    → Adds (AreOwnerTexts d cycle (slot + 1)) old new
 one_slot d cycle slot number old mid first new is before on_a on_b =
     let (texts, texts_are, added) = before in
     let (a, a_is, added_a) = on_a in
     let (b, b_is, added_b) = on_b in
     let next : number ≡ suc slot = is ∙ add-one slot in (
       texts ++ a ++ b,
-      subst (λ (n : ℕ). AreOwnerTexts d cycle n (texts ++ a ++ b)) (sym (add-one slot))
-          (texts, a, b, texts_are, subst (λ (n : ℕ). IsOwnerText d cycle n A a) next a_is,
-              subst (λ (n : ℕ). IsOwnerText d cycle n B b) next b_is, refl),
+      subst (λ (n : ℕ). AreOwnerTexts d cycle n (texts ++ a ++ b)) (sym (add-one slot)) (
+        texts,
+        a,
+        b,
+        texts_are,
+        subst (λ (n : ℕ). IsOwnerText d cycle n A a) next a_is,
+        subst (λ (n : ℕ). IsOwnerText d cycle n B b) next b_is,
+        refl,
+      ),
       Appends-trans old first new (texts ++ a) b (Appends-trans old mid first texts a added added_a) added_b,
     )
 

@@ -56,7 +56,7 @@ refused_by d cycles text (refusal.Text (bench.Midpoint e)) is told = absurd is
 pub unplayed : (d : Description) (cycles : ℕ) (text : Option (List ℕ)) (contents : Contents) (scripts : List Scripted)
     (faults : List FaultLine) (e : PlayError)
     → scripts ≡ contents.scripts → faults ≡ contents.faults → IfSome text (λ t. IsScenarioOf t (Ok contents))
-        → IsOfRun e
+    → IsOfRun e
     → Refuses d scripts faults cycles (refusal_of e) → IfSome text (λ t. IsPlayOf d cycles t (Err e))
 unplayed d cycles None contents scripts faults e same_scripts same_faults read kind refuses = tt
 unplayed d cycles (Some t) contents scripts faults e same_scripts same_faults read kind refuses =
@@ -74,9 +74,9 @@ unplayed d cycles (Some t) contents scripts faults e same_scripts same_faults re
 pub played_of : (d : Description) (cycles : ℕ) (text : Option (List ℕ)) (contents : Contents) (scripts : List Scripted)
     (faults : List FaultLine) (played : Played)
     → scripts ≡ contents.scripts → faults ≡ contents.faults → IfSome text (λ t. IsScenarioOf t (Ok contents))
-        → Refuses d scripts faults cycles None
+    → Refuses d scripts faults cycles None
     → IsPlayed d scripts faults cycles played → IfSome text (λ t. IsPlayOf d cycles t
-        (Ok (record { scenario = contents; played = played })))
+    (Ok (record { scenario = contents; played = played })))
 played_of d cycles None contents scripts faults played same_scripts same_faults read refuses is = tt
 played_of d cycles (Some t) contents scripts faults played same_scripts same_faults read refuses is =
     let refused : Refuses d contents.scripts contents.faults cycles None =

@@ -48,7 +48,7 @@ led_windows : (cycle : ℕ) (faults : List FaultLine) (due : List Event) (old ne
 led_windows cycle faults due old new plays =
     let (count, before, within, window, at_cycle) = plays in
     led_on old before new (led_within cycle faults due count old before within)
-        (led_window cycle faults due before new window)
+    (led_window cycle faults due before new window)
 
 led_cycles : (scripts : List Scripted) (faults : List FaultLine) (due : List Event) (count : ℕ) (old : WorldState)
     (calls : List Call) (new : WorldState)
@@ -66,4 +66,4 @@ pub led_by : (d : Description) (scripts : List Scripted) (faults : List FaultLin
     → IsLed (opening_world d cycles) played.world
 led_by d scripts faults cycles played is =
     led_cycles scripts faults (whole_window (length d.plans)) cycles
-        (opening_world d cycles) played.calls.items played.world is.cycles_are
+    (opening_world d cycles) played.calls.items played.world is.cycles_are

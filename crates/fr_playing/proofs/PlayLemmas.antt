@@ -39,7 +39,7 @@ map_append f (x ∷ xs) ys = ap (λ l. f x ∷ l) (map_append f xs ys)
 pub passes_window : (cycle : ℕ) (faults : List FaultLine) (due : List Event) (window : Opportunity)
     (old struck done new : WorldState) → old.bus.opened ≡ Some window
     → Passes old (flat_map (strike_events cycle window) faults) struck → Passes struck due done
-        → Passes done (Advance ∷ []) new
+    → Passes done (Advance ∷ []) new
     → PlaysWindow cycle faults due old new
 passes_window cycle faults due window old struck done new opened first second last = (
   window,
@@ -52,7 +52,7 @@ passes_window cycle faults due window old struck done new opened first second la
 pub ends_window : {A E : Type 0} (r : Result A E) (cycle : ℕ) (faults : List FaultLine) (due : List Event)
     (window : Opportunity) (old struck done new : WorldState)
     → old.bus.opened ≡ Some window → Passes old (flat_map (strike_events cycle window) faults) struck
-        → Passes struck due done
+    → Passes struck due done
     → OnOk r (Passes done (Advance ∷ []) new) → OnOk r (PlaysWindow cycle faults due old new)
 ends_window (Ok x) cycle faults due window old struck done new opened first second last =
     passes_window cycle faults due window old struck done new opened first second last
@@ -68,17 +68,17 @@ within_none cycle faults due w = refl
 within_next : (cycle : ℕ) (faults : List FaultLine) (due : List Event) (count : ℕ) (old mid new : WorldState)
     → PlaysWithin cycle faults due count old mid
     → PlaysWindow cycle faults due mid new → is_at_cycle new.bus.opened ≡ false
-        → PlaysWithin cycle faults due (suc count) old new
+    → PlaysWithin cycle faults due (suc count) old new
 unfolding PlaysWithin
 within_next cycle faults due count old mid new so_far plays within = (mid, so_far, plays, within)
 
 pub within_more : (cycle : ℕ) (faults : List FaultLine) (due : List Event) (count : ℕ) (old mid new : WorldState)
     → PlaysWithin cycle faults due count old mid
     → PlaysWindow cycle faults due mid new → is_at_cycle new.bus.opened ≡ false
-        → PlaysWithin cycle faults due (count + 1) old new
+    → PlaysWithin cycle faults due (count + 1) old new
 within_more cycle faults due count old mid new so_far plays within =
     subst (λ k. PlaysWithin cycle faults due k old new) (omega arith)
-        (within_next cycle faults due count old mid new so_far plays within)
+    (within_next cycle faults due count old mid new so_far plays within)
 
 -- ---- calls
 
@@ -116,11 +116,11 @@ other_line cycle node task line calls w other = by (line.cycle == cycle) refl
 pub one_line : (cycle node task : ℕ) (line : Line) (before after : List Call) (call : Call) (old new : WorldState)
     → line.cycle ≡ cycle → after ≡ before ++ call ∷ []
     → DoesCall old call new → (call.node ≡ node) × (call.task ≡ task) × (call.cycle ≡ cycle) ×
-        (call.action ≡ line.action)
+    (call.action ≡ line.action)
     → AddsCalls before after old (asked_in_line cycle node task line) new
 one_line cycle node task line before after call old new same after_is does is =
     subst (λ (l : List Call). AddsCalls before l old (asked_in_line cycle node task line) new) (sym after_is)
-        (by (line.cycle == cycle) refl)
+    (by (line.cycle == cycle) refl)
   where
     asked_is : asked_of call ≡ asked node task cycle line.action
     asked_is =
@@ -146,7 +146,7 @@ adds_append before between after xs ys old mid new first second =
 pub adds_more : {X : Type 0} (f : X → List Asked) (xs : List X) (i : ℕ) (x : X) (before between after : List Call)
     (old mid new : WorldState) → i < length xs
     → x ≡ get_or xs i x → AddsCalls before between old (flat_map f (take i xs)) mid
-        → AddsCalls between after mid (f x) new
+    → AddsCalls between after mid (f x) new
     → AddsCalls before after old (flat_map f (take (i + 1) xs)) new
 adds_more f xs i x before between after old mid new lt is first second =
     subst (λ (l : List Asked). AddsCalls before after old l new) (sym (flat-more f xs i x lt is))
@@ -174,7 +174,7 @@ pub cycles_more : (scripts : List Scripted) (faults : List FaultLine) (due : Lis
     → PlaysCycles scripts faults due (count + 1) old after new
 cycles_more scripts faults due count before after old mid new so_far adds =
     subst (λ k. PlaysCycles scripts faults due k old after new) (omega arith)
-        (cycles_next scripts faults due count before after old mid new so_far adds)
+    (cycles_next scripts faults due count before after old mid new so_far adds)
 
 asked_more : (count : ℕ) (scripts : List Scripted) → asked_by (suc count) scripts ≡ asked_by count scripts ++ asked_in
     count scripts
@@ -197,14 +197,14 @@ all_asked scripts faults due (suc count) calls old new plays =
     let (mid, before, later, so_far, cycle, are) = plays in
     ap (map asked_of) are ∙ map_append asked_of before later
     ∙ ap₂ (λ (a : List Asked) (b : List Asked). a ++ b) (all_asked scripts faults due count before old mid so_far)
-        cycle.1
+    cycle.1
     ∙ sym (asked_more count scripts)
 
 -- a cycle whose windows are done last
 pub ends_cycle : {A E : Type 0} (r : Result A E) (cycle : ℕ) (scripts : List Scripted) (faults : List FaultLine)
     (due : List Event) (before after : List Call)
     (old called new : WorldState) → AddsCalls before after old (asked_in cycle scripts) called
-        → OnOk r (PlaysWindows cycle faults due called new)
+    → OnOk r (PlaysWindows cycle faults due called new)
     → OnOk r (AddsCycle cycle scripts faults due before after old new)
 ends_cycle (Ok x) cycle scripts faults due before after old called new adds windows =
     let (calls, are, all, does) = adds in (calls, are, (called, all, does, windows))
@@ -214,7 +214,7 @@ ends_cycle (Err e) cycle scripts faults due before after old called new adds win
 pub is_played : (d : Description) (scripts : List Scripted) (faults : List FaultLine) (cycles : ℕ) (due : List Event)
     (opening : WorldState) (played : Played)
     → due ≡ whole_window (length d.plans) → opening ≡ opening_world d cycles
-        → PlaysCycles scripts faults due cycles opening played.calls.items played.world
+    → PlaysCycles scripts faults due cycles opening played.calls.items played.world
     → played.world.bus.opened ≡ None → IsPlayed d scripts faults cycles played
 is_played d scripts faults cycles due opening played due_is opening_is plays over =
     let calls = played.calls.items in

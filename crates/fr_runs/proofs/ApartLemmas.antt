@@ -54,7 +54,7 @@ places_both (Minislot a) (Slot b) w e f =
     clash (is_static w) (both_first (is_static w) (opens b w.a) f) (both_first (not (is_static w)) (w.minislot == a) e)
 places_both (Minislot a) (Minislot b) w e f =
     both_are a b w.minislot (both_rest (not (is_static w)) (w.minislot == a) e)
-        (both_rest (not (is_static w)) (w.minislot == b) f)
+    (both_rest (not (is_static w)) (w.minislot == b) f)
 
 meet_there : (one later : FaultLine) (cycle : ℕ) (w : Opportunity) → are_alike later.fault one.fault ≡ true
     → strikes one cycle w ≡ true → strikes later cycle w ≡ true → lines_meet later one ≡ true

@@ -41,18 +41,18 @@ module _ (lines : List FaultLine) (cycle : ℕ) (w : Opportunity) (channel : Cha
   own_due t own due =
       let first = both_first (t.node == node && is_channel t.channel channel) t.babble own in
       let of : t.node ≡ node = eqb-true t.node node (both_first (t.node == node) (is_channel t.channel channel) first)
-          in
+      in
       let on : t.channel ≡ channel = same_channel t.channel channel
-          (both_rest (t.node == node) (is_channel t.channel channel) first) in
+      (both_rest (t.node == node) (is_channel t.channel channel) first) in
       let babble : t.babble ≡ true = both_rest (t.node == node && is_channel t.channel channel) t.babble own in
       subst (λ c. recordable (slot_of w c) (babble_due lines cycle w node c) ≡ Some t.bytes) on
       (subst (λ n. recordable (slot_of w t.channel) (babble_due lines cycle w n t.channel) ≡ Some t.bytes) of
-          (due.babble babble))
+      (due.babble babble))
 
   sent_next : (t : Sent) (ts : List Sent) (bytes : ArrayVec ℕ) (b : Bool) → is_babble_of channel node t ≡ b
       → IsDue lines cycle w t
       → (babble_in channel node ts ≡ Some bytes → Due bytes)
-          → cond b (Some t.bytes) (babble_in channel node ts) ≡ Some bytes → Due bytes
+      → cond b (Some t.bytes) (babble_in channel node ts) ≡ Some bytes → Due bytes
   sent_next t ts bytes true own due rest is = subst (λ o. recordable (slot_of w channel)
       (babble_due lines cycle w node channel) ≡ o) is (own_due t own due)
   sent_next t ts bytes false other due rest is = rest is
@@ -75,13 +75,13 @@ module _ (cycle : ℕ) (r : Recorded) (channel : Channel) (node : ℕ) where
           → babble_in channel node r.sent ≡ recordable (slot_of r.window channel) (Some bytes)
       by_test false other = absurd (
           let none : cond false (Some own) None ≡ Some bytes =
-              subst (λ b. cond b (Some own) None ≡ Some bytes) other is in
+          subst (λ b. cond b (Some own) None ≡ Some bytes) other is in
           let no : ⊥ = cc in no)
       by_test true both =
           let same : Some own ≡ Some bytes = subst (λ b. cond b (Some own) None ≡ Some bytes) both is in
           let of_node : of ≡ node = eqb-true of node (both_first (of == node) (is_channel on channel) both) in
           let on_channel : on ≡ channel = same_channel on channel (both_rest (of == node) (is_channel on channel) both)
-              in
+          in
           subst (λ o. babble_in channel node r.sent ≡ recordable (slot_of r.window channel) o) same
           (subst (λ c. babble_in c node r.sent ≡ recordable (slot_of r.window c) (Some own)) on_channel
           (subst (λ n. babble_in on n r.sent ≡ recordable (slot_of r.window on) (Some own)) of_node babbled))
@@ -112,14 +112,18 @@ module _ (cycle : ℕ) (r : Recorded) (channel : Channel) (node : ℕ) where
   none_due [] babbled none = no_bytes (slot_of r.window channel)
   none_due (line ∷ lines) babbled none =
       none_next line (babble_by line cycle r.window node channel) (babble_due lines cycle r.window node channel)
-          (babbled zero) none refl
+      (babbled zero) none refl
       (none_due lines (λ k. babbled (suc k)) none)
 
 pub has_faults : (lines : List FaultLine) (cycle : ℕ) (r : Recorded)
     → corrupt_on r A ≡ bit_due lines cycle r.window A → corrupt_on r B ≡ bit_due lines cycle r.window B
     → ((k : ℕ) → IsDueAt lines cycle r k) → ((k : ℕ) → IsBabbledAt lines cycle r k) → HasFaults lines cycle r
-has_faults lines cycle r on_a on_b due babbled = record { bits = bits; babbles =
-    λ node channel. by_sent node channel (babble_in channel node r.sent) refl; losses = losses }
+has_faults lines cycle r on_a on_b due babbled = record {
+  bits = bits;
+  babbles =
+      λ node channel. by_sent node channel (babble_in channel node r.sent) refl;
+  losses = losses;
+}
   where
     bits : (channel : Channel) → corrupt_on r channel ≡ bit_due lines cycle r.window channel
     bits A = on_a
@@ -127,7 +131,7 @@ has_faults lines cycle r on_a on_b due babbled = record { bits = bits; babbles =
 
     by_sent : (node : ℕ) (channel : Channel) (o : Option (ArrayVec ℕ)) → babble_in channel node r.sent ≡ o
         → babble_in channel node r.sent ≡ recordable (slot_of r.window channel)
-            (babble_due lines cycle r.window node channel)
+        (babble_due lines cycle r.window node channel)
     by_sent node channel (Some bytes) is = is ∙ sym (sent_due lines cycle r.window channel node r.sent bytes due is)
     by_sent node channel None is = is ∙ sym (none_due cycle r channel node lines babbled is)
 
@@ -145,7 +149,7 @@ module _ (cycle : ℕ) (w : Opportunity) where
       → names_cycle line.cycles cycle ≡ b
       → bit_due (lines_of_cycle cycle lines) cycle w channel ≡ bit_due lines cycle w channel
       → bit_due (cond b (line ∷ lines_of_cycle cycle lines) (lines_of_cycle cycle lines)) cycle w channel ≡ bit_due
-          (line ∷ lines) cycle w channel
+      (line ∷ lines) cycle w channel
   bit_of_cycle_next channel line lines true named rest = ap (option_or (bit_by line cycle w channel)) rest
   bit_of_cycle_next channel line lines false other rest = rest ∙ sym
       (ap (λ b. option_or (cond b (bit_turned channel line.fault) None) (bit_due lines cycle w channel))
@@ -161,7 +165,7 @@ module _ (cycle : ℕ) (w : Opportunity) where
       → names_cycle line.cycles cycle ≡ b
       → babble_due (lines_of_cycle cycle lines) cycle w node channel ≡ babble_due lines cycle w node channel
       → babble_due (cond b (line ∷ lines_of_cycle cycle lines) (lines_of_cycle cycle lines)) cycle w node channel
-          ≡ babble_due (line ∷ lines) cycle w node channel
+      ≡ babble_due (line ∷ lines) cycle w node channel
   babble_of_cycle_next node channel line lines true named rest =
       ap (option_or (babble_by line cycle w node channel)) rest
   babble_of_cycle_next node channel line lines false other rest =
@@ -178,7 +182,7 @@ module _ (cycle : ℕ) (w : Opportunity) where
       → names_cycle line.cycles cycle ≡ b
       → is_loss_due (lines_of_cycle cycle lines) cycle w node channel ≡ is_loss_due lines cycle w node channel
       → is_loss_due (cond b (line ∷ lines_of_cycle cycle lines) (lines_of_cycle cycle lines)) cycle w node channel
-          ≡ is_loss_due (line ∷ lines) cycle w node channel
+      ≡ is_loss_due (line ∷ lines) cycle w node channel
   loss_of_cycle_next node channel line lines true named rest = ap (λ b. is_lost_by cycle w node channel line || b) rest
   loss_of_cycle_next node channel line lines false other rest =
       rest ∙ sym (ap (λ b. (b && loses node channel line.fault) || is_loss_due lines cycle w node channel)
@@ -208,7 +212,7 @@ pub faults_at : (lines kept : List FaultLine) (rs : List Recorded) (k cycle : �
 faults_at lines kept rs k cycle r at counted are has =
     subst (λ o. IfSome o (HasFaults lines (cycle_at rs k))) (sym at)
     (subst (λ n. HasFaults lines n r) counted (faults_of_cycle lines cycle r
-        (subst (λ ls. HasFaults ls cycle r) are has)))
+    (subst (λ ls. HasFaults ls cycle r) are has)))
 
 by_place : (lines : List FaultLine) (rs : List Recorded) (j : ℕ) (o : Option Recorded) → slice_get rs j ≡ o
     → (j < length rs → HasFaultsAt lines rs j) → IfSome o (HasFaults lines (cycle_at rs j))

@@ -17,8 +17,10 @@ pub in_order_told : (lines : List Line) (r : Bool)
     → IsAllAdjacentAnswer (λ (x : Line) (y : Line) b. b ≡ is_some_and is_le (Some (nat_cmp x.cycle y.cycle))) lines r
     → IsTrue r ↔ AreInOrder lines
 in_order_told lines true told = (λ e k d below. tests_le _ _ (sym (told k d below)), λ in_order. refl)
-in_order_told [] false told = (λ e. absurd (true≢false (sym e)),
-    λ in_order. absurd (let below = told.1 in omega (arith, below)))
+in_order_told [] false told = (
+  λ e. absurd (true≢false (sym e)),
+  λ in_order. absurd (let below = told.1 in omega (arith, below)),
+)
 in_order_told (line ∷ lines) false told = (
   λ e. absurd (true≢false (sym e)),
   λ in_order. absurd (true≢false (sym (le_tests _ _ (in_order told.0 line told.1)) ∙ sym (told.2 line))),

@@ -146,13 +146,13 @@ module _ (rs : List Recorded) (es : List Entry) (k : ℕ) (x : Progress) (far : 
       calls of count there = elim (eqb_tells task of) [
         | inl same ↦
             let counted : get_or x.calls task d ≡ count_by (is_by task) (take k es) =
-                far.calls task _ (slice_get-get_or x.calls task d below) in
+            far.calls task _ (slice_get-get_or x.calls task d below) in
             let alike : get_or x.calls task d + 1 ≡ count =
             some_alike _ count (sym (get_set_here x.calls task _ below) ∙ ap
-                (slice_get (set x.calls task (get_or x.calls task d + 1))) same.1 ∙ there) in
+            (slice_get (set x.calls task (get_or x.calls task d + 1))) same.1 ∙ there) in
             subst (λ n. IsCountOf (take (k + 1) es) n count) same.1
             (sym alike ∙ ap (λ n. n + 1) counted ∙ sym (count_yes (is_by task) es k e at
-                (ap (is_task task) is ∙ eq-eqb task task refl)))
+            (ap (is_task task) is ∙ eq-eqb task task refl)))
         | inr other ↦
             far.calls of count (sym (get_set_other x.calls task of _ (λ same. other.1 (sym same))) ∙ there)
             ∙ sym (count_no (is_by of) es k e at (ap (is_task of) is ∙ other.0))
@@ -254,10 +254,10 @@ module _ (rs : List Recorded) (before : List Entry) (x : Progress) (far : IsProg
 
   turn_of : (lines : List Line) (task place : ℕ) → place ≡ count_by (is_by task) before
       → StandsFor rs lines place x ↔ IfSome (slice_get lines (count_by (is_by task) before))
-          (λ line. IsInStep rs line.cycle before)
+      (λ line. IsInStep rs line.cycle before)
   turn_of lines task place same =
       subst (λ n. StandsFor rs lines place x ↔ IfSome (slice_get lines n) (λ line. IsInStep rs line.cycle before)) same
-          (both_ways (slice_get lines place))
+      (both_ways (slice_get lines place))
     where
       both_ways : (o : Option Line) → IfSome o (λ line. Stands rs line.cycle x) ↔ IfSome o
           (λ line. IsInStep rs line.cycle before)
@@ -268,11 +268,11 @@ module _ (rs : List Recorded) (before : List Entry) (x : Progress) (far : IsProg
   pub in_turn : (scripts : List Scripted) (node : ℕ) (e : Entry) (task d : ℕ) (b : Bool) → task_of e ≡ Some task
       → task < most_tasks
       → (IsTrue b ↔ StandsFor rs (lines_given scripts node task) (get_or x.calls task d) x)
-          → IsTrue b ↔ IsInTurn rs scripts node before e
+      → IsTrue b ↔ IsInTurn rs scripts node before e
   in_turn scripts node e task d b is few tells =
       let below : task < length x.calls = subst (λ n. task < n) (sym far.as_many) few in
       let counted = far.calls task (get_or x.calls task d) (slice_get-get_or x.calls task d below) in
       let turn = turn_of (lines_given scripts node task) task (get_or x.calls task d) counted in
       subst (λ o. IsTrue b ↔ IfSome o (λ of. IfSome (slice_get (lines_given scripts node of)
-          (count_by (is_by of) before)) (λ line. IsInStep rs line.cycle before))) (sym is)
+      (count_by (is_by of) before)) (λ line. IsInStep rs line.cycle before))) (sym is)
       (λ yes. turn.0 (tells.0 yes), λ stands. tells.1 (turn.1 stands))

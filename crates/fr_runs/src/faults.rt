@@ -115,9 +115,9 @@ fn meets_any(line: &FaultLine, before: &[FaultLine]) -> bool
 }
 
 /// Whether a run of the cluster for so many cycles, which has the fault lines before it, can have this one too
-/// (project-defined): the cluster has the node of the fault, where it has one, the run has the cycle and each cycle the static
-/// slot or minislot, where the line names one, and no line before it names a window that it names for the same kind,
-/// node and channel, or for a corruption the same channel. It is what `check_run` asks of each fault line.
+/// (project-defined): the cluster has the node of the fault, where it has one, the run has the cycle and each cycle the
+/// static slot or minislot, where the line names one, and no line before it names a window that it names for the same
+/// kind, node and channel, or for a corruption the same channel. It is what `check_run` asks of each fault line.
 pub fn suits_after(cluster: &Cluster, cycles: u16, before: &[FaultLine], line: &FaultLine) -> bool
     ensures { IsTrue result ↔ IsFaultAfter cluster.now cycles before.now line.now }
 {

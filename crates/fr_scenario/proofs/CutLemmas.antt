@@ -56,7 +56,7 @@ first_at (b ∷ text) (suc k) lt here before =
       | inl pass ↦ absurd (before 0 (omega arith) pass)
       | inr fail ↦
           let rest : position_or_len is_feed text ≡ k = first_at text k (omega arith) here
-              (λ j less. before (suc j) (omega arith)) in
+          (λ j less. before (suc j) (omega arith)) in
           rw fail (omega arith)
     ]
 
@@ -68,7 +68,7 @@ first_none (b ∷ text) none =
       | inl pass ↦ absurd (none 0 (omega arith) pass)
       | inr fail ↦
           let rest : length text ≤ position_or_len is_feed text =
-              first_none text (λ j less. none (suc j) (omega arith)) in
+          first_none text (λ j less. none (suc j) (omega arith)) in
           rw fail (omega arith)
     ]
 
@@ -109,11 +109,11 @@ at_end (b ∷ text) =
     elim (cases_Bool (is_feed b)) [
       | inl pass ↦
           let cut : lines_in (b ∷ text) ≡ [] ∷ first ∷ more =
-              slice_split-cons_yes is_feed b text pass ∙ ap (λ lines. [] ∷ lines) is in
+          slice_split-cons_yes is_feed b text pass ∙ ap (λ lines. [] ∷ lines) is in
           some ∙ sym (ap is_at_end cut ∙ at_end_not first more)
       | inr fail ↦
           let cut : lines_in (b ∷ text) ≡ (b ∷ first) ∷ more =
-              slice_split-cons_no is_feed b text fail ∙ ap (onto_first b) is in
+          slice_split-cons_no is_feed b text fail ∙ ap (onto_first b) is in
           some ∙ sym (ap is_at_end cut)
     ]
 
@@ -137,7 +137,7 @@ module _ (version : Version) where
 
   line_whole : (n : ℕ) (line next : List ℕ) (more : List (List ℕ)) → n ≤ 4096 → length line ≤ 1200
       → read_from version n (line ∷ next ∷ more) ≡ whole_line version n line (next ∷ more)
-          (read_from version (n + 1) (next ∷ more))
+      (read_from version (n + 1) (next ∷ more))
   line_whole n line next more few short = rw (le-ltb 4096 n few, le-ltb 1200 (length line) short) refl
 
   pub read_long : (n : ℕ) (text : List ℕ) (at : ℕ) → n ≤ 4096 → position is_feed text ≡ Some at → 1200 < at
@@ -147,11 +147,11 @@ module _ (version : Version) where
       let within = at_within text at found in
       let len = length-take at text in
       ap (read_from version n) (cut_at text at found ∙ ap (λ lines. take at text ∷ lines) is) ∙ line_long n
-          (take at text) next more few (omega arith)
+      (take at text) next more few (omega arith)
 
   pub read_whole : (n : ℕ) (text : List ℕ) (at : ℕ) → n ≤ 4096 → position is_feed text ≡ Some at → at ≤ 1200
       → read_from version n (lines_in text) ≡ whole_line version n (take at text) (lines_in (drop (at + 1) text))
-          (read_from version (n + 1) (lines_in (drop (at + 1) text)))
+      (read_from version (n + 1) (lines_in (drop (at + 1) text)))
   read_whole n text at few found short =
       let (next, more, is) = some_line (drop (at + 1) text) in
       let len = length-take at text in

@@ -69,8 +69,14 @@ commit_takes version (a ∷ b ∷ c ∷ d ∷ e ∷ []) l h =
     rw (← is) (
       cons_same refl (cons_same (sym node.0) (cons_same (sym task.0)
           (cons_same cycle.0 (cons_same (sym buffer.0) (cons_same payload.0 refl))))),
-      record { node_fits = node.1; task_fits = task.1; cycle_fits = cycle.1; action_fits =
-          (buffer.1, payload.1, payload.2); unanswered = refl },
+      record {
+        node_fits = node.1;
+        task_fits = task.1;
+        cycle_fits = cycle.1;
+        action_fits =
+            (buffer.1, payload.1, payload.2);
+        unanswered = refl;
+      },
     )
 commit_takes version (a ∷ b ∷ c ∷ d ∷ e ∷ f ∷ words) l h = cc h
 
@@ -95,8 +101,14 @@ withdraw_takes Two (a ∷ b ∷ c ∷ d ∷ []) l h =
     rw (← is) (
       cons_same refl (cons_same (sym node.0) (cons_same (sym task.0)
           (cons_same cycle.0 (cons_same (sym buffer.0) refl)))),
-      record { node_fits = node.1; task_fits = task.1; cycle_fits = cycle.1; action_fits = buffer.1; unanswered =
-          refl },
+      record {
+        node_fits = node.1;
+        task_fits = task.1;
+        cycle_fits = cycle.1;
+        action_fits = buffer.1;
+        unanswered =
+            refl;
+      },
     )
 withdraw_takes Two (a ∷ b ∷ c ∷ d ∷ e ∷ words) l h = cc h
 
@@ -120,8 +132,14 @@ read_takes version (a ∷ b ∷ c ∷ d ∷ []) l h =
     rw (← is) (
       cons_same refl (cons_same (sym node.0) (cons_same (sym task.0)
           (cons_same cycle.0 (cons_same (sym buffer.0) refl)))),
-      record { node_fits = node.1; task_fits = task.1; cycle_fits = cycle.1; action_fits = buffer.1; unanswered =
-          refl },
+      record {
+        node_fits = node.1;
+        task_fits = task.1;
+        cycle_fits = cycle.1;
+        action_fits = buffer.1;
+        unanswered =
+            refl;
+      },
     )
 read_takes version (a ∷ b ∷ c ∷ d ∷ e ∷ words) l h = cc h
 
@@ -220,7 +238,7 @@ corrupt_takes version (a ∷ b ∷ c ∷ d ∷ e ∷ words) l h = cc h
 fault_taken : (version : Version) (kind : List ℕ) (words : List (List ℕ)) (l : SpelledLine)
     → (if bytes_eq kind (codes "babble") then babble_in words
     else if bytes_eq kind (codes "mute") then mute_in words else if bytes_eq kind (codes "corrupt") then
-        corrupt_in words else None) ≡ Some l
+    corrupt_in words else None) ≡ Some l
     → (kind ∷ words ≡ line_words l) × IsSpelledLine version l
 fault_taken version kind words l h =
     elim (word_or kind (codes "babble") (babble_in words) _ l h) [
@@ -271,18 +289,31 @@ line_takes version line l h =
 action_again : (version : Version) (node task cycle : ℕ) (action : Action) → node < 16 → task < 8 → IsRunCycle cycle
     → IsSpelledAction version action
     → line_in version (action_words (decimal node) (decimal task) (decimal cycle) action) ≡ Some
-        (host_line node task cycle action)
+    (host_line node task cycle action)
 unfolding line_in commit_in withdraw_in read_in pop_in
 action_again version node task cycle (Commit buffer payload) n t c bytes =
-    rw (number_again 16 node n (omega arith), number_again 8 task t (omega arith), run_cycle_again cycle c,
-        number_again 64 buffer bytes.0 (omega arith), payload_again payload bytes.1 bytes.2) refl
+    rw (
+      number_again 16 node n (omega arith),
+      number_again 8 task t (omega arith),
+      run_cycle_again cycle c,
+      number_again 64 buffer bytes.0 (omega arith),
+      payload_again payload bytes.1 bytes.2,
+    ) refl
 action_again One node task cycle (Withdraw buffer) n t c few = absurd few
 action_again Two node task cycle (Withdraw buffer) n t c few =
-    rw (number_again 16 node n (omega arith), number_again 8 task t (omega arith), run_cycle_again cycle c,
-        number_again 64 buffer few (omega arith)) refl
+    rw (
+      number_again 16 node n (omega arith),
+      number_again 8 task t (omega arith),
+      run_cycle_again cycle c,
+      number_again 64 buffer few (omega arith),
+    ) refl
 action_again version node task cycle (Read buffer) n t c few =
-    rw (number_again 16 node n (omega arith), number_again 8 task t (omega arith), run_cycle_again cycle c,
-        number_again 64 buffer few (omega arith)) refl
+    rw (
+      number_again 16 node n (omega arith),
+      number_again 8 task t (omega arith),
+      run_cycle_again cycle c,
+      number_again 64 buffer few (omega arith),
+    ) refl
 action_again version node task cycle Pop n t c fits =
     rw (number_again 16 node n (omega arith), number_again 8 task t (omega arith), run_cycle_again cycle c) refl
 
@@ -291,23 +322,28 @@ again_fault : (version : Version) (fault : Fault) (cycles : FaultCycles) (place 
     → line_in version (fault_words (cycles_word cycles) (place_word place) fault) ≡ Some (fault_line fault cycles place)
 unfolding line_in babble_in mute_in corrupt_in
 again_fault version (Babble node channel bytes) cycles place fault c p =
-    rw (number_again 16 node fault.0 (omega arith), channel_again channel, cycles_again cycles c, place_again place p,
-        bytes_again 262 bytes.items fault.2 fault.1) refl
+    rw (
+      number_again 16 node fault.0 (omega arith),
+      channel_again channel,
+      cycles_again cycles c,
+      place_again place p,
+      bytes_again 262 bytes.items fault.2 fault.1,
+    ) refl
 again_fault version (Mute node channel) cycles place fault c p =
     rw (number_again 16 node fault (omega arith), channel_again channel, cycles_again cycles c, place_again place p)
-        refl
+    refl
 again_fault version (Corrupt channel bit) cycles place fault c p =
     rw (channel_again channel, cycles_again cycles c, place_again place p, number_again 65536 bit fault (omega arith))
-        refl
+    refl
 
 host_again : (version : Version) (node task : ℕ) (line : Line) → IsSpelledHost version node task line
     → line_in version (line_words (Host node task line)) ≡ Some (Host node task line)
 host_again version node task line fits =
     let same : host_line node task line.cycle line.action ≡ Host node task line =
-        ap (λ a. Host node task (record { cycle = line.cycle; action = line.action; answer = a }))
-        (sym fits.unanswered) in
+    ap (λ a. Host node task (record { cycle = line.cycle; action = line.action; answer = a }))
+    (sym fits.unanswered) in
     action_again version node task line.cycle line.action fits.node_fits fits.task_fits fits.cycle_fits fits.action_fits
-        ∙ ap Some same
+    ∙ ap Some same
 
 again : (version : Version) (l : SpelledLine) → IsSpelledLine version l → line_in version (line_words l) ≡ Some l
 again version (Host node task line) fits = host_again version node task line fits
@@ -340,10 +376,10 @@ action_spelled version node task cycle (Commit buffer payload) node_fits task_fi
     let b = number_word 2 buffer (omega arith) (omega arith) (omega arith) in
     let p = payload_word payload bytes.1.short in
     let all = length-line_of-le (codes "commit" ∷ decimal node ∷ decimal task ∷ decimal cycle ∷ decimal buffer ∷
-        hex_text payload ∷ []) in
+    hex_text payload ∷ []) in
     spelled_so (codes "commit") (decimal node ∷ decimal task ∷ decimal cycle ∷ decimal buffer ∷ hex_text payload ∷ [])
     (refl, (n.plain, (t.plain, (y.plain, (b.plain, (p.plain, tt))))))
-        (omega (arith, n.short, t.short, y.short, b.short, p.short))
+    (omega (arith, n.short, t.short, y.short, b.short, p.short))
 action_spelled One node task cycle (Withdraw buffer) node_fits task_fits cycle_fits few = absurd few
 action_spelled Two node task cycle (Withdraw buffer) node_fits task_fits cycle_fits few =
     let n = number_word 2 node (omega arith) (omega arith) (omega arith) in
@@ -351,7 +387,7 @@ action_spelled Two node task cycle (Withdraw buffer) node_fits task_fits cycle_f
     let y = run_cycle_plain cycle cycle_fits in
     let b = number_word 2 buffer (omega arith) (omega arith) (omega arith) in
     let all = length-line_of-le (codes "withdraw" ∷ decimal node ∷ decimal task ∷ decimal cycle ∷ decimal buffer ∷ [])
-        in
+    in
     spelled_so (codes "withdraw") (decimal node ∷ decimal task ∷ decimal cycle ∷ decimal buffer ∷ [])
     (refl, (n.plain, (t.plain, (y.plain, (b.plain, tt))))) (omega (arith, n.short, t.short, y.short, b.short))
 action_spelled version node task cycle (Read buffer) node_fits task_fits cycle_fits few =
@@ -381,18 +417,18 @@ fault_spelled (Babble node channel bytes) cycles place fault cycles_fit place_fi
     let p = place_plain place place_fits in
     let b = bytes_word bytes.items fault.1 in
     let all = length-line_of-le (codes "babble" ∷ decimal node ∷ channel_word channel ∷ cycles_word cycles ∷ place_word
-        place ∷ hex_text bytes.items ∷ []) in
+    place ∷ hex_text bytes.items ∷ []) in
     spelled_so (codes "babble") (decimal node ∷ channel_word channel ∷ cycles_word cycles ∷ place_word place ∷ hex_text
-        bytes.items ∷ [])
+    bytes.items ∷ [])
     (refl, (n.plain, (c.plain, (y.plain, (p.plain, (b.plain, tt))))))
-        (omega (arith, n.short, c.short, y.short, p.short, b.short))
+    (omega (arith, n.short, c.short, y.short, p.short, b.short))
 fault_spelled (Mute node channel) cycles place small cycles_fit place_fits =
     let n = number_word 2 node (omega arith) (omega arith) (omega arith) in
     let c = channel_plain channel in
     let y = cycles_plain cycles cycles_fit in
     let p = place_plain place place_fits in
     let all = length-line_of-le (codes "mute" ∷ decimal node ∷ channel_word channel ∷ cycles_word cycles ∷ place_word
-        place ∷ []) in
+    place ∷ []) in
     spelled_so (codes "mute") (decimal node ∷ channel_word channel ∷ cycles_word cycles ∷ place_word place ∷ [])
     (refl, (n.plain, (c.plain, (y.plain, (p.plain, tt))))) (omega (arith, n.short, c.short, y.short, p.short))
 fault_spelled (Corrupt channel bit) cycles place small cycles_fit place_fits =
@@ -401,7 +437,7 @@ fault_spelled (Corrupt channel bit) cycles place small cycles_fit place_fits =
     let p = place_plain place place_fits in
     let b = number_word 5 bit (omega arith) (omega arith) (omega arith) in
     let all = length-line_of-le (codes "corrupt" ∷ channel_word channel ∷ cycles_word cycles ∷ place_word place ∷
-        decimal bit ∷ []) in
+    decimal bit ∷ []) in
     spelled_so (codes "corrupt") (channel_word channel ∷ cycles_word cycles ∷ place_word place ∷ decimal bit ∷ [])
     (refl, (c.plain, (y.plain, (p.plain, (b.plain, tt))))) (omega (arith, c.short, y.short, p.short, b.short))
 

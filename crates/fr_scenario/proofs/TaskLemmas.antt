@@ -28,7 +28,7 @@ script_none ss place (l ∷ ls) rest none = absurd (omega arith)
 
 pub script_some : (ss : List Scripted) (place : ℕ) (ls : List Line) (rest : List (List Line)) → 0 < length ls
     → (ss ++ record { node = node_at place; task = task_at place; lines = ls } ∷ []) ++ scripts_from (place + 1) rest
-        ≡ ss ++ scripts_from place (ls ∷ rest)
+    ≡ ss ++ scripts_from place (ls ∷ rest)
 script_some ss place [] rest some = absurd (omega arith)
 script_some ss place (l ∷ ls) rest some = append_assoc ss
     (record { node = node_at place; task = task_at place; lines = l ∷ ls } ∷ []) (scripts_from (place + 1) rest)
@@ -63,7 +63,7 @@ elsewhere node task k other =
 step : (version : Version) (n : ℕ) (g : Kept) (l : SpelledLine) (lines : List SpelledLine) (k : ℕ)
     → IsSpelledLine version l → length g.tasks ≡ 128 → k < 128
     → get_or (with_line n g l).tasks k [] ++ task_lines (node_at k) (task_at k) lines
-        ≡ get_or g.tasks k [] ++ task_lines (node_at k) (task_at k) (l ∷ lines)
+    ≡ get_or g.tasks k [] ++ task_lines (node_at k) (task_at k) (l ∷ lines)
 step version n g (Host node task line) lines k fits len within =
     let low = fits.task_fits in
     let high = fits.node_fits in
@@ -74,12 +74,12 @@ step version n g (Host node task line) lines k fits len within =
           let inside : place < length g.tasks = omega arith in
           let now : get_or (set g.tasks place (old ++ line ∷ [])) k [] ≡ get_or g.tasks k [] ++ line ∷ [] =
           ap (λ j. get_or (set g.tasks place (old ++ line ∷ [])) j []) (sym same) ∙ get_or-set_same g.tasks place
-              (old ++ line ∷ []) [] inside ∙ ap (λ j. get_or g.tasks j [] ++ line ∷ []) same in
+          (old ++ line ∷ []) [] inside ∙ ap (λ j. get_or g.tasks j [] ++ line ∷ []) same in
           rw (here node task k low same) (ap (λ xs. xs ++ task_lines (node_at k) (task_at k) lines) now ∙ append_assoc
-              (get_or g.tasks k []) (line ∷ []) (task_lines (node_at k) (task_at k) lines))
+          (get_or g.tasks k []) (line ∷ []) (task_lines (node_at k) (task_at k) lines))
       | inr other ↦
           rw (elsewhere node task k other) (ap (λ xs. xs ++ task_lines (node_at k) (task_at k) lines)
-              (get_or-set_other g.tasks place k (old ++ line ∷ []) [] (λ e. other (sym e))))
+          (get_or-set_other g.tasks place k (old ++ line ∷ []) [] (λ e. other (sym e))))
     ]
 step version n g (FaultOf f) lines k fits len within = refl
 
@@ -89,7 +89,7 @@ kept_lines : (version : Version) (n : ℕ) (lines : List SpelledLine) (g : Kept)
 kept_lines version n [] g k fit len within = sym (append-nil (get_or g.tasks k []))
 kept_lines version n (l ∷ lines) g k fit len within =
     kept_lines version (n + 1) lines (with_line n g l) k fit.1 (length-with_line n g l ∙ len) within
-        ∙ step version n g l lines k fit.0 len within
+    ∙ step version n g l lines k fit.0 len within
 
 nothing_yet : (n k : ℕ) → get_or (replicate {A = List Line} n []) k [] ≡ []
 nothing_yet zero k = refl
@@ -112,7 +112,7 @@ scripts_kept version lines fit =
     let len : length none_yet.tasks ≡ 128 = length-replicate {A = List Line} 128 [] in
     let all : length tasks ≡ 128 = length-kept 2 lines none_yet ∙ len in
     let each = λ (k : ℕ) (within : k < 128). kept_lines version 2 lines none_yet k fit len within ∙ ap (λ xs. xs ++ f k)
-        (nothing_yet 128 k) in
+    (nothing_yet 128 k) in
     ap (scripts_from 0) (fill_by_all f tasks 128 [] all each) ∙ scripts_by f 128 0
 
 faults_more : (n : ℕ) (lines : List SpelledLine) (g : Kept) → (with_lines n g lines).faults ≡ g.faults ++ fault_lines

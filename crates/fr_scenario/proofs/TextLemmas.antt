@@ -58,7 +58,7 @@ module _ (version : Version) where
         | inr early ↦
             let h1 = rw early at h in
             elim (cases_Bool (ltb 1200 (length (b ∷ line))))
-                [ inl long ↦ cc (rw long at h1) | inr short ↦ cc (rw short at h1) ]
+            [ inl long ↦ cc (rw long at h1) | inr short ↦ cc (rw short at h1) ]
       ]
 
   end_text : (line next : List ℕ) (more : List (List ℕ)) → line ≡ end_line → is_at_end (next ∷ more) ≡ true
@@ -76,7 +76,7 @@ module _ (version : Version) where
         | inl empty ↦
             let none : [] ≡ ls = cc (rw empty at h) in
             subst (AreLines n (line ∷ next ∷ more)) none
-                (record { spelled = end_text line next more is empty; fit = tt; few = omega arith })
+            (record { spelled = end_text line next more is empty; fit = tt; few = omega arith })
         | inr some ↦ cc (rw some at h)
       ]
 
@@ -109,7 +109,7 @@ module _ (version : Version) where
 
   whole : (n : ℕ) (line next : List ℕ) (more : List (List ℕ)) (r : Read) (ls : List SpelledLine) → n ≤ 4096
       → ((rest : List SpelledLine) → r ≡ Ok rest → AreLines (n + 1) (next ∷ more) rest)
-          → whole_line version n line (next ∷ more) r ≡ Ok ls → AreLines n (line ∷ next ∷ more) ls
+      → whole_line version n line (next ∷ more) r ≡ Ok ls → AreLines n (line ∷ next ∷ more) ls
   whole n line next more r ls few after h =
       elim (cases_Bool (bytes_eq line end_line)) [
         | inl pass ↦ ended n line next more ls few ((bytes_eq-Decides line end_line).0 pass) (rw pass at h)
@@ -164,12 +164,17 @@ module _ (version : Version) where
       let (next, more, is) = some_line (body_text ls) in
       let cut : lines_in (body_text (l ∷ ls)) ≡ line ∷ next ∷ more =
       ap lines_in (append_assoc (spelled_line l) (flat_map spelled_line ls) (end_line ++ line_feed)) ∙ cut_line line
-          (body_text ls) (line_no_feed version l fit.0) ∙ ap (λ lines. line ∷ lines) is in
+      (body_text ls) (line_no_feed version l fit.0) ∙ ap (λ lines. line ∷ lines) is in
       let after : read_from version (n + 1) (next ∷ more) ≡ Ok ls =
-          ap (read_from version (n + 1)) (sym is) ∙ lines_again ls (n + 1) fit.1 (omega arith) in
-      ap (read_from version n) cut ∙ rw (le-ltb 4096 n (omega arith),
-          le-ltb 1200 (length line) (line_short version l fit.0), line_not_end l, line_again version l fit.0, after)
-          refl
+      ap (read_from version (n + 1)) (sym is) ∙ lines_again ls (n + 1) fit.1 (omega arith) in
+      ap (read_from version n) cut ∙ rw (
+        le-ltb 4096 n (omega arith),
+        le-ltb 1200 (length line) (line_short version l fit.0),
+        line_not_end l,
+        line_again version l fit.0,
+        after,
+      )
+      refl
 
 -- ---- the whole text
 
@@ -187,15 +192,15 @@ pub read_scenario : (version : Version) (ls : List SpelledLine) → Each (IsSpel
 read_scenario version ls fit few =
     let (next, more, is) = some_line (body_text ls) in
     let cut : lines_in (scenario_text version ls) ≡ first_line version ∷ next ∷ more =
-        cut_line (first_line version) (body_text ls) (plain_first version) ∙ ap
-        (λ lines. first_line version ∷ lines) is in
+    cut_line (first_line version) (body_text ls) (plain_first version) ∙ ap
+    (λ lines. first_line version ∷ lines) is in
     ap read_lines cut ∙ ap (λ v. read_after v (next ∷ more)) (first_again version) ∙ ap (read_from version 2) (sym is)
-        ∙ lines_again version ls 2 fit (omega arith)
+    ∙ lines_again version ls 2 fit (omega arith)
 
 pub scenario_again : (text : List ℕ) (s : Contents) → IsScenarioText text s → scenario_in text ≡ Ok s
 scenario_again text s is =
     ap scenario_in is.spelled ∙ ap with_contents (read_scenario is.version is.lines is.fit is.few) ∙ ap Ok
-        (sym is.contents_are)
+    (sym is.contents_are)
 
 -- a text that begins with a first line says what stands after that
 pub after_first : (version : Version) (rest : List ℕ) → read_text ((first_line version ++ line_feed) ++ rest) ≡
@@ -203,7 +208,7 @@ pub after_first : (version : Version) (rest : List ℕ) → read_text ((first_li
 after_first version rest =
     let (next, more, is) = some_line rest in
     ap read_lines (cut_line (first_line version) rest (plain_first version) ∙ ap
-        (λ lines. first_line version ∷ lines) is)
+    (λ lines. first_line version ∷ lines) is)
     ∙ ap (λ v. read_after v (next ∷ more)) (first_again version) ∙ ap (read_from version 2) (sym is)
 
 -- a text that is read, as its version and its lines
@@ -283,11 +288,11 @@ begins : (version : Version) (text next : List ℕ) (rest : List (List ℕ))
     → bytes_eq (take 13 text) (first_line version ++ line_feed) ≡ true
 begins One text next rest is =
     let whole : text ≡ first_line One ++ 10 ∷ join_with_byte 10 (next ∷ rest) =
-        sym (join_with_byte-slice_split 10 text) ∙ ap (join_with_byte 10) is in
+    sym (join_with_byte-slice_split 10 text) ∙ ap (join_with_byte 10) is in
     ap (λ t. bytes_eq (take 13 t) (first_line One ++ line_feed)) whole
 begins Two text next rest is =
     let whole : text ≡ first_line Two ++ 10 ∷ join_with_byte 10 (next ∷ rest) =
-        sym (join_with_byte-slice_split 10 text) ∙ ap (join_with_byte 10) is in
+    sym (join_with_byte-slice_split 10 text) ∙ ap (join_with_byte 10) is in
     ap (λ t. bytes_eq (take 13 t) (first_line Two ++ line_feed)) whole
 
 pub not_first : (text : List ℕ) → bytes_eq (take 13 text) (first_line One ++ line_feed) ≡ false
@@ -329,18 +334,18 @@ kept_refused n g (Err f) e h = cc h
 pub made : (version : Version) (text rest : List ℕ) (k : Kept) (scripts : List Scripted) (faults : List FaultLine)
     (numbers : List ℕ)
     → text ≡ (first_line version ++ line_feed) ++ rest → kept_from 2 none_yet (read_from version 2 (lines_in rest)) ≡ Ok
-        k → scripts ≡ scripts_from 0 k.tasks
+    k → scripts ≡ scripts_from 0 k.tasks
     → faults ≡ k.faults → numbers ≡ k.numbers → Ok (record { scripts = scripts; faults = faults; numbers = numbers }) ≡
-        scenario_in text
+    scenario_in text
 made version text rest k scripts faults numbers is kept ss fs ns =
     let (ls, read, same) = kept_ok 2 none_yet k (read_from version 2 (lines_in rest)) kept in
     let are = lines_found version 2 (lines_in rest) ls read in
     let scripts_are : scripts ≡ scripts_of ls = ss ∙ ap (λ (g : Kept). scripts_from 0 g.tasks) (sym same) ∙ scripts_kept
-        version ls are.fit in
+    version ls are.fit in
     let faults_are : faults ≡ fault_lines ls = fs ∙ ap (λ (g : Kept). g.faults) (sym same) ∙ faults_kept ls in
     let numbers_are : numbers ≡ fault_numbers 2 ls = ns ∙ ap (λ (g : Kept). g.numbers) (sym same) ∙ numbers_kept ls in
     let value : contents_of ls ≡ record { scripts = scripts; faults = faults; numbers = numbers } =
-        rw (scripts_are, faults_are, numbers_are) refl in
+    rw (scripts_are, faults_are, numbers_are) refl in
     sym (ap scenario_in is ∙ ap with_contents (after_first version rest ∙ read) ∙ ap Ok value)
 
 pub refused : (version : Version) (text rest : List ℕ) (e : ScenarioError)
@@ -374,9 +379,9 @@ scripts_unanswered : (version : Version) (ls : List SpelledLine) (places : List 
 scripts_unanswered version ls [] fit = tt
 scripts_unanswered version ls (k ∷ places) fit =
     Each-append (λ script. Each IsUnanswered script.lines) (script_of (node_at k) (task_at k)
-        (task_lines (node_at k) (task_at k) ls)) _
+    (task_lines (node_at k) (task_at k) ls)) _
     (script_unanswered (node_at k) (task_at k) _ (lines_unanswered version (node_at k) (task_at k) ls fit))
-        (scripts_unanswered version ls places fit)
+    (scripts_unanswered version ls places fit)
 
 pub made_unanswered : (version : Version) (rest : List ℕ) (k : Kept) (scripts : List Scripted)
     → kept_from 2 none_yet (read_from version 2 (lines_in rest)) ≡ Ok k
@@ -385,7 +390,7 @@ made_unanswered version rest k scripts kept ss =
     let (ls, read, same) = kept_ok 2 none_yet k (read_from version 2 (lines_in rest)) kept in
     let are = lines_found version 2 (lines_in rest) ls read in
     let scripts_are : scripts ≡ scripts_of ls = ss ∙ ap (λ (g : Kept). scripts_from 0 g.tasks) (sym same) ∙ scripts_kept
-        version ls are.fit in
+    version ls are.fit in
     subst AreUnanswered (sym scripts_are) (scripts_unanswered version ls (range_with_len 0 128) are.fit)
 
 -- ---- what an answer tells

@@ -179,8 +179,8 @@ pub(crate) fn line_of(version: Version, line: &[u8]) -> Option<SpelledLine>
 }
 
 /// The fault line that the line of a scenario of the newest version spells, which is given without its line feed
-/// (project-defined). `None` where it spells none: where it is the line of a task, has no form of a line, or has a number out of
-/// its range. How long the line is doesn't matter.
+/// (project-defined). `None` where it spells none: where it is the line of a task, has no form of a line, or has a
+/// number out of its range. How long the line is doesn't matter.
 pub fn fault_line_of(line: &[u8]) -> Option<FaultLine>
     ensures { result ≡ fault_line_in (words_of line.now) }
 {

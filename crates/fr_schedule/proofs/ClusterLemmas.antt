@@ -77,7 +77,7 @@ either_so a b c d left right any =
 
 overlap_so : (xs ys : List Own) (bs cs : List Buffer) → ((t : Own → Bool) → two_pass t ys ≡ true → two_pass t xs ≡ true)
     → ((t : Buffer → Bool) → two_pass t cs ≡ true → two_pass t bs ≡ true) → plan.first_overlap xs bs ≡ None
-        → plan.first_overlap ys cs ≡ None
+    → plan.first_overlap ys cs ≡ None
 overlap_so xs ys bs cs owns sends =
     none_so (plan.overlap_in xs bs) (plan.overlap_in ys cs)
     (λ slot.
@@ -86,7 +86,7 @@ overlap_so xs ys bs cs owns sends =
     none_so (plan.overlap_at xs bs slot channel) (plan.overlap_at ys cs slot channel)
     (λ cycle.
     none_if (is_overlap xs bs slot channel cycle) (is_overlap ys cs slot channel cycle)
-        (fault.Overlap slot channel cycle)
+    (fault.Overlap slot channel cycle)
     (either_so (two_pass (claims slot channel cycle) xs) (two_pass (sends_at slot channel cycle) bs)
     (two_pass (claims slot channel cycle) ys) (two_pass (sends_at slot channel cycle) cs)
     (owns (claims slot channel cycle)) (sends (sends_at slot channel cycle))))
@@ -117,7 +117,7 @@ unfolding first_in_nodes
 none_in_nodes made test n [] none = tt
 none_in_nodes made test n (q ∷ plans) none =
     let (here, later) = or_none (buffer_fault made test n q)
-        (first_in_nodes (buffer_fault made test) (n + 1) plans) none in
+    (first_in_nodes (buffer_fault made test) (n + 1) plans) none in
     (map_none (made n) (position (test q) q.buffers) here, none_in_nodes made test (n + 1) plans later)
 
 -- ---- a node without fault
@@ -143,7 +143,7 @@ no_fault p q is_for free =
     (or_of_none (out_of_params p q) _ (cond-false (is_out_of_params p q) (Some fault.OutOfParams) None is_for)
     (ap (option_map fault.NotOwned) free.owned))
     (or_of_none (plan.first_buffer fault.DynamicBoth (dynamic_both p) q.buffers) _
-        (ap (option_map fault.DynamicBoth) free.one_channel)
+    (ap (option_map fault.DynamicBoth) free.one_channel)
     (or_of_none (plan.first_overlap q.owned q.buffers) _ free.apart (ap (option_map fault.TooLong) free.in_time)))
 
 -- the four parts of a file without fault
@@ -158,7 +158,7 @@ unfolding file_fault
 parts p plans none =
     let last = option_or (first_overlap plans) (first_by (too_long_in p) plans) in
     let (owned, after) = or_none (first_by (not_owned_in p) plans)
-        (option_or (first_by (dynamic_both_in p) plans) last) none in
+    (option_or (first_by (dynamic_both_in p) plans) last) none in
     let (one_channel, later) = or_none (first_by (dynamic_both_in p) plans) last after in
     let (apart, in_time) = or_none (first_overlap plans) (first_by (too_long_in p) plans) later in
     record { owned = owned; one_channel = one_channel; apart = apart; in_time = in_time }
@@ -186,7 +186,7 @@ claimed_slot (own ∷ owned) slot channel cycle each any =
     elim (or_cases (claims slot channel cycle own) (is_owned owned slot channel cycle) any) [
       | inl here ↦
           (let (front, in_cycle) = and_parts (own.slot == slot && includes own.channels channel)
-              (cycle_admitted own.cycles cycle) here in
+          (cycle_admitted own.cycles cycle) here in
           let (same, includes_it) = and_parts (own.slot == slot) (includes own.channels channel) front in
           subst IsSlot (eqb-true own.slot slot same) each.0.slot_is)
       | inr later ↦ claimed_slot owned slot channel cycle each.1 later
@@ -200,7 +200,7 @@ sent_slot (b ∷ buffers) slot channel cycle each any =
       | inl here ↦
           (let (sends, admits) = and_parts (transmits b) (filter_admits b.filter cycle slot channel) here in
           let (front, in_cycle) = and_parts (b.filter.slot == slot && includes b.filter.channels channel)
-              (cycle_admitted b.filter.cycles cycle) admits in
+          (cycle_admitted b.filter.cycles cycle) admits in
           let (same, includes_it) = and_parts (b.filter.slot == slot) (includes b.filter.channels channel) front in
           subst IsSlot (eqb-true b.filter.slot slot same) each.0.slot_is)
       | inr later ↦ sent_slot buffers slot channel cycle each.1 later
@@ -215,7 +215,7 @@ no_two plans slot channel cycle is few none =
     cond_none (is_overlap owned buffers slot channel cycle) (fault.Overlap slot channel cycle)
     (first-none (plan.overlap_at owned buffers slot channel) 0 64
     (on_channels (plan.overlap_on owned buffers slot) channel
-        (in_slots (plan.overlap_in owned buffers) slot is (no_overlap_plans plans none))) cycle
+    (in_slots (plan.overlap_in owned buffers) slot is (no_overlap_plans plans none))) cycle
     (omega arith) (omega (arith, few)))
 
 two_owners : (plans : List Plan) (slot : ℕ) (channel : Channel) (cycle : ℕ) → IsSlot slot → cycle < 64
@@ -223,7 +223,7 @@ two_owners : (plans : List Plan) (slot : ℕ) (channel : Channel) (cycle : ℕ) 
     → two_pass (claims slot channel cycle) (all_owned plans) ≡ false
 two_owners plans slot channel cycle is few none =
     (or_parts (two_pass (claims slot channel cycle) (all_owned plans))
-        (two_pass (sends_at slot channel cycle) (all_buffers plans))
+    (two_pass (sends_at slot channel cycle) (all_buffers plans))
     (no_two plans slot channel cycle is few none)).0
 
 two_senders : (plans : List Plan) (slot : ℕ) (channel : Channel) (cycle : ℕ) → IsSlot slot → cycle < 64
@@ -231,7 +231,7 @@ two_senders : (plans : List Plan) (slot : ℕ) (channel : Channel) (cycle : ℕ)
     → two_pass (sends_at slot channel cycle) (all_buffers plans) ≡ false
 two_senders plans slot channel cycle is few none =
     (or_parts (two_pass (claims slot channel cycle) (all_owned plans))
-        (two_pass (sends_at slot channel cycle) (all_buffers plans))
+    (two_pass (sends_at slot channel cycle) (all_buffers plans))
     (no_two plans slot channel cycle is few none)).1
 
 one_sender : (d : Description) → Each IsPlan d.plans → HasNoFault d.params d.plans → HasOneSender d
@@ -242,28 +242,28 @@ one_sender d lawful none cycle slot channel m n few at_m at_n =
           elim (cases_Bool (is_static_slot d.params slot)) [
             | inl static ↦
                 (let by_line : (q : Plan) → may_send d.params cycle slot channel q ≡ true
-                    → is_owned q.owned slot channel cycle ≡ true =
+                → is_owned q.owned slot channel cycle ≡ true =
                 λ q sends. sym (cond-true (is_static_slot d.params slot) (is_owned q.owned slot channel cycle)
-                    (list_any (sends_at slot channel cycle) q.buffers) static) ∙ sends in
+                (list_any (sends_at slot channel cycle) q.buffers) static) ∙ sends in
                 let owner = by_line at_m.plan at_m.sends in
                 let is = claimed_slot at_m.plan.owned slot channel cycle
-                    (each_at IsPlan d.plans m at_m.plan lawful at_m.at).owned_are owner in
+                (each_at IsPlan d.plans m at_m.plan lawful at_m.at).owned_are owner in
                 absurd (both_ways (two_pass (claims slot channel cycle) (all_owned d.plans))
-                    (two_owners d.plans slot channel cycle is few none.apart)
+                (two_owners d.plans slot channel cycle is few none.apart)
                 (two_at (claims slot channel cycle) (λ q. q.owned) d.plans m n at_m.plan at_n.plan differ at_m.at
-                    at_n.at owner (by_line at_n.plan at_n.sends))))
+                at_n.at owner (by_line at_n.plan at_n.sends))))
             | inr dynamic ↦
                 (let by_buffer : (q : Plan) → may_send d.params cycle slot channel q ≡ true
-                    → list_any (sends_at slot channel cycle) q.buffers ≡ true =
+                → list_any (sends_at slot channel cycle) q.buffers ≡ true =
                 λ q sends. sym (cond-false (is_static_slot d.params slot) (is_owned q.owned slot channel cycle)
-                    (list_any (sends_at slot channel cycle) q.buffers) dynamic) ∙ sends in
+                (list_any (sends_at slot channel cycle) q.buffers) dynamic) ∙ sends in
                 let sender = by_buffer at_m.plan at_m.sends in
                 let is = sent_slot at_m.plan.buffers slot channel cycle
-                    (each_at IsPlan d.plans m at_m.plan lawful at_m.at).buffers_are sender in
+                (each_at IsPlan d.plans m at_m.plan lawful at_m.at).buffers_are sender in
                 absurd (both_ways (two_pass (sends_at slot channel cycle) (all_buffers d.plans))
-                    (two_senders d.plans slot channel cycle is few none.apart)
+                (two_senders d.plans slot channel cycle is few none.apart)
                 (two_at (sends_at slot channel cycle) (λ q. q.buffers) d.plans m n at_m.plan at_n.plan differ at_m.at
-                    at_n.at sender (by_buffer at_n.plan at_n.sends))))
+                at_n.at sender (by_buffer at_n.plan at_n.sends))))
           ]
     ]
 

@@ -44,7 +44,7 @@ passed_at : (nodes : List ℕ) (start : ℕ) (c : CycleClass) (turn j : ℕ) →
 passed_at nodes start c turn j below other =
     let cycle = turn * c.repetition + j in
     ap (λ (b : Bool). let r : Option ℕ = cond (b && not (at_place nodes (start + cycle) == nobody)) (Some cycle) None
-        in r) (not_admitted c turn j below other)
+    in r) (not_admitted c turn j below other)
 
 admitted_at : (nodes : List ℕ) (start : ℕ) (c : CycleClass) (turn : ℕ) (taken : Bool) → c.base < c.repetition
     → not (at_place nodes (start + (turn * c.repetition + c.base)) == nobody) ≡ taken
@@ -52,7 +52,7 @@ admitted_at : (nodes : List ℕ) (start : ℕ) (c : CycleClass) (turn : ℕ) (ta
 admitted_at nodes start c turn taken below is =
     let cycle = turn * c.repetition + c.base in
     ap (λ (b : Bool). let r : Option ℕ = cond (b && not (at_place nodes (start + cycle) == nobody)) (Some cycle) None
-        in r)
+    in r)
     (eq-eqb (cycle % c.repetition) c.base (mod-mul-add turn c.repetition c.base below))
     ∙ ap (λ (b : Bool). let r : Option ℕ = cond b (Some cycle) None in r) is
 
@@ -61,7 +61,7 @@ up_to_base : (nodes : List ℕ) (start : ℕ) (c : CycleClass) (turn : ℕ) (o :
     → turn * c.repetition + c.repetition ≤ 64
     → first_of (taken_in nodes start c) (numbers_from (turn * c.repetition) (64 - turn * c.repetition)) ≡ o
     → first_of (taken_in nodes start c) (numbers_from (turn * c.repetition + c.base)
-        (64 - (turn * c.repetition + c.base))) ≡ o
+    (64 - (turn * c.repetition + c.base))) ≡ o
 up_to_base nodes start c turn o below within =
     first_passed (taken_in nodes start c) (turn * c.repetition) 64 c.base o (omega (arith, below, within))
     (λ j lt. passed_at nodes start c turn j (omega (arith, below, lt)) (λ same. omega (arith, lt, same)))
@@ -73,7 +73,7 @@ pub turn_finds : (nodes : List ℕ) (start : ℕ) (c : CycleClass) (turn : ℕ) 
     → Some (turn * c.repetition + c.base) ≡ o
 turn_finds nodes start c turn o below within taken first =
     first-found (taken_in nodes start c) (turn * c.repetition + c.base) 64 o (turn * c.repetition + c.base)
-        (omega (arith, below, within))
+    (omega (arith, below, within))
     (admitted_at nodes start c turn true below taken) (up_to_base nodes start c turn o below within first)
 
 pub turn_passes : (nodes : List ℕ) (start : ℕ) (c : CycleClass) (turn : ℕ) (o : Option ℕ) → c.base < c.repetition
@@ -96,7 +96,7 @@ turn_passes nodes start c turn o below within free first =
                 | inr least ↦
                     (let same : c.base ≡ j = omega (arith, more, least) in
                     subst (λ (k : ℕ). taken_in nodes start c (turn * c.repetition + k) ≡ None) same
-                        (admitted_at nodes start c turn false below free))
+                    (admitted_at nodes start c turn false below free))
               ])
         ]
 

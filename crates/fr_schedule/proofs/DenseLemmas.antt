@@ -55,18 +55,18 @@ record IsRetaken (nodes : List ℕ) (start : ℕ) (f : Filter) (on : Channel) (s
 
 retaken : (nodes : List ℕ) (start : ℕ) (f : Filter) (on : Channel) (slot : ℕ) (channel : Channel) (cycle : ℕ)
     → start + 128 ≡ place_of f.slot on 0 → is_retaken_on nodes f on slot channel cycle ≡ true
-        → IsRetaken nodes start f on slot channel cycle
+    → IsRetaken nodes start f on slot channel cycle
 retaken nodes start f on slot channel cycle at pass =
     let (on_channel, rest) = and_parts (is_channel on channel)
-        (is_taken nodes slot channel cycle && admits_at slot channel cycle f) pass in
+    (is_taken nodes slot channel cycle && admits_at slot channel cycle f) pass in
     let (taken, admits) = and_parts (is_taken nodes slot channel cycle) (admits_at slot channel cycle f) rest in
     let (front, in_cycle) = and_parts (f.slot == slot && includes f.channels channel)
-        (cycle_admitted f.cycles cycle) admits in
+    (cycle_admitted f.cycles cycle) admits in
     let (same, includes_it) = and_parts (f.slot == slot) (includes f.channels channel) front in
     let same_slot = eqb-true f.slot slot same in
     let same_on = same_channel on channel on_channel in
     let start_is : start + 128 ≡ place_of slot channel 0 = at ∙ ap (λ (s : ℕ). place_of s on 0) same_slot ∙ ap
-        (λ (c : Channel). place_of slot c 0) same_on in
+    (λ (c : Channel). place_of slot c 0) same_on in
     record {
       channel_is = same_on;
       slot_is = same_slot;
@@ -80,7 +80,7 @@ none_retaken nodes start f on at none slot channel cycle in_cycles =
     false_from_ne_true _ (λ pass.
     let r = retaken nodes start f on slot channel cycle at pass in
     cc (sym (cond-true _ (Some cycle) None r.taken) ∙ first-none (taken_in nodes start f.cycles) 0 64 none cycle
-        (omega arith) (omega arith)))
+    (omega arith) (omega arith)))
 
 pub first_retaken : (nodes : List ℕ) (start : ℕ) (f : Filter) (on : Channel) (cycle : ℕ)
     → start + 128 ≡ place_of f.slot on 0 → IsSlot f.slot
@@ -90,15 +90,15 @@ first_retaken nodes start f on cycle at is_slot includes_it found =
     let (n, number) = first-some (taken_in nodes start f.cycles) 0 64 cycle found in
     let (taken_n, n_is) = cond_some (is_taken_in nodes start f.cycles n) n cycle number.found in
     let taken : is_taken_in nodes start f.cycles cycle ≡ true =
-        subst (λ (k : ℕ). is_taken_in nodes start f.cycles k ≡ true) n_is taken_n in
+    subst (λ (k : ℕ). is_taken_in nodes start f.cycles k ≡ true) n_is taken_n in
     let (in_cycle, some) = and_parts (cycle_admitted f.cycles cycle)
-        (not (at_place nodes (start + cycle) == nobody)) taken in
+    (not (at_place nodes (start + cycle) == nobody)) taken in
     record {
       in_slots = is_slot;
       in_cycles = omega (arith, number.below, n_is);
       passes = and_from _ _ (channel_itself on)
           (and_from _ _ (ap (λ (p : ℕ). not (at_place nodes p == nobody)) (place_in_row f.slot on cycle start at)
-              ∙ some)
+          ∙ some)
           (and_from _ _ (and_from _ _ (eq-eqb f.slot f.slot refl) includes_it) in_cycle));
       first = λ slot channel k in_cycles pass.
           (let r = retaken nodes start f on slot channel k at pass in
@@ -109,7 +109,7 @@ first_retaken nodes start f on cycle at is_slot includes_it found =
           ] in
           subst (λ (s : ℕ). place_of f.slot on cycle ≤ place_of s channel k) r.slot_is
           (subst (λ (c : Channel). place_of f.slot on cycle ≤ place_of f.slot c k) r.channel_is
-              (ordered_in_row f.slot on cycle k above)));
+          (ordered_in_row f.slot on cycle k above)));
     }
 
 pub not_included : (nodes : List ℕ) (f : Filter) (on : Channel) → includes f.channels on ≡ false
@@ -117,10 +117,10 @@ pub not_included : (nodes : List ℕ) (f : Filter) (on : Channel) → includes f
 not_included nodes f on is slot channel cycle in_cycles =
     false_from_ne_true _ (λ pass.
     let (on_channel, rest) = and_parts (is_channel on channel)
-        (is_taken nodes slot channel cycle && admits_at slot channel cycle f) pass in
+    (is_taken nodes slot channel cycle && admits_at slot channel cycle f) pass in
     let (taken, admits) = and_parts (is_taken nodes slot channel cycle) (admits_at slot channel cycle f) rest in
     let (front, in_cycle) = and_parts (f.slot == slot && includes f.channels channel)
-        (cycle_admitted f.cycles cycle) admits in
+    (cycle_admitted f.cycles cycle) admits in
     let (same, includes_it) = and_parts (f.slot == slot) (includes f.channels channel) front in
     both_ways (includes f.channels on) is (ap (includes f.channels) (same_channel on channel on_channel) ∙ includes_it))
 
@@ -148,10 +148,10 @@ same_admitted f a b slot channel cycle is_slot same =
     elim (cases_Bool (admits_at slot channel cycle f)) [
       | inl admits ↦
           (let (front, in_cycle) = and_parts (f.slot == slot && includes f.channels channel)
-              (cycle_admitted f.cycles cycle) admits in
+          (cycle_admitted f.cycles cycle) admits in
           let (slot_is, includes_it) = and_parts (f.slot == slot) (includes f.channels channel) front in
           ap (λ (c : Bool). c && admits_at slot channel cycle f)
-              (same (subst IsSlot (eqb-true f.slot slot slot_is) is_slot)))
+          (same (subst IsSlot (eqb-true f.slot slot slot_is) is_slot)))
       | inr not_admitted ↦ ap (λ (c : Bool). a && c) not_admitted ∙ never a b ∙ sym
           (ap (λ (c : Bool). b && c) not_admitted)
     ]
@@ -177,7 +177,7 @@ narrowed false x y z same = refl
 -- what was entered on A doesn't change what is taken on B
 pub retaken_both : (old mid : List ℕ) (f : Filter) (node : ℕ) (on_a on_b : Option Occasion) → IsSlot f.slot
     → IsFirst (is_retaken_on old f A) on_a → IsEntered (is_admitted_on f A) node old mid
-        → IsFirst (is_retaken_on mid f B) on_b
+    → IsFirst (is_retaken_on mid f B) on_b
     → IsFirst (is_retaken old f) (earlier on_a on_b)
 retaken_both old mid f node on_a on_b is_slot first_a entered first_b =
     IsFirst-earlier (is_retaken_on old f A) (is_retaken_on old f B) (is_retaken old f) on_a on_b
@@ -195,9 +195,9 @@ retaken_both old mid f node on_a on_b is_slot first_a entered first_b =
         → is_retaken_on mid f B slot channel cycle ≡ is_retaken_on old f B slot channel cycle
     same slot channel cycle in_cycles =
         narrowed (is_channel B channel) (is_taken mid slot channel cycle) (is_taken old slot channel cycle)
-            (admits_at slot channel cycle f)
+        (admits_at slot channel cycle f)
         (λ on_b. same_admitted f (is_taken mid slot channel cycle)
-            (is_taken old slot channel cycle) slot channel cycle is_slot (untouched slot channel cycle in_cycles on_b))
+        (is_taken old slot channel cycle) slot channel cycle is_slot (untouched slot channel cycle in_cycles on_b))
 
 -- ---- claims, one after another
 
@@ -213,13 +213,13 @@ entered_none nodes = record { size = refl; each = λ slot channel cycle in_cycle
 
 pub entered_more : (claims : List Claim) (claim : Claim) (old mid new : List ℕ) → AreEntered claims old mid
     → IsEntered (λ slot channel cycle. admits_at slot channel cycle claim.filter) claim.node mid new
-        → AreEntered (claims ++ claim ∷ []) old new
+    → AreEntered (claims ++ claim ∷ []) old new
 entered_more claims claim old mid new before now = record {
   size = now.size ∙ before.size;
   each = λ slot channel cycle in_cycles lawful.
       now.each slot channel cycle in_cycles lawful
       ∙ ap (λ (n : ℕ). cond (admits_at slot channel cycle claim.filter) claim.node n)
-          (before.each slot channel cycle in_cycles lawful)
+      (before.each slot channel cycle in_cycles lawful)
       ∙ sym (after_more claims claim (node_at old slot channel cycle) slot channel cycle);
 }
 
@@ -244,13 +244,13 @@ after_taken (claim ∷ claims) before slot channel cycle each =
 
 shared_here : (fs : List Filter) (f : Filter) (nodes : List ℕ) → IsSlot f.slot
     → ((slot : ℕ) (channel : Channel) (cycle : ℕ) → cycle < 64 → IsSlot slot
-        → is_taken nodes slot channel cycle ≡ list_any (admits_at slot channel cycle) fs)
+    → is_taken nodes slot channel cycle ≡ list_any (admits_at slot channel cycle) fs)
     → (o : Option Occasion) → IsFirst (is_retaken nodes f) o → IsFirst (is_shared_with f fs) o
 shared_here fs f nodes is_slot taken =
     same_first (is_retaken nodes f) (is_shared_with f fs)
     (λ slot channel cycle in_cycles.
     same_admitted f (is_taken nodes slot channel cycle) (list_any (admits_at slot channel cycle) fs) slot channel cycle
-        is_slot (taken slot channel cycle in_cycles))
+    is_slot (taken slot channel cycle in_cycles))
 
 or_nothing : (a b : Bool) → b ≡ false → (a || b) ≡ a
 or_nothing true b is = refl
@@ -264,20 +264,20 @@ taken_after claims old mid lawful entered free slot channel cycle in_cycles is_s
     ap (λ (n : ℕ). not (n == nobody)) (entered.each slot channel cycle in_cycles is_slot)
     ∙ after_taken claims (node_at old slot channel cycle) slot channel cycle lawful
     ∙ or_nothing (list_any (admits_at slot channel cycle) (filters_of claims)) _
-        (free slot channel cycle in_cycles is_slot)
+    (free slot channel cycle in_cycles is_slot)
 
 pub shared_more : (claims : List Claim) (claim : Claim) (old mid : List ℕ) (first here : Option Occasion)
     → Each IsClaim claims → IsClaim claim
     → AreEntered claims old mid → IsFree old → IsFirst (is_shared (filters_of claims)) first
-        → IsFirst (is_retaken mid claim.filter) here
+    → IsFirst (is_retaken mid claim.filter) here
     → IsFirst (is_shared (filters_of (claims ++ claim ∷ []))) (earlier first here)
 shared_more claims claim old mid first here lawful this entered free is_first is_here =
     subst (λ (fs : List Filter). IsFirst (is_shared fs) (earlier first here))
-        (sym (map-append filter_of claims (claim ∷ [])))
+    (sym (map-append filter_of claims (claim ∷ [])))
     (IsFirst-earlier (is_shared (filters_of claims)) (is_shared_with claim.filter (filters_of claims)) _ first here
     (shared-more claim.filter (filters_of claims)) is_first
     (shared_here (filters_of claims) claim.filter mid this.slot_is
-        (taken_after claims old mid lawful entered free) here is_here))
+    (taken_after claims old mid lawful entered free) here is_here))
 
 -- what the loop over the claims keeps
 pub record IsSoFar (claims : List Claim) (old new : List ℕ) (first : Option Occasion) : Type 0 where

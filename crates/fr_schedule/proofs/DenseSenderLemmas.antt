@@ -87,9 +87,9 @@ first_overlapping plans p q is_p is_q =
     IsFirst-earlier (is_shared (own_filters (all_owned plans))) (is_shared (transmit_filters (all_buffers plans)))
     (is_overlap (all_owned plans) (all_buffers plans)) p q (overlap-shared (all_owned plans) (all_buffers plans))
     (subst (λ (fs : List Filter). IsFirst (is_shared fs) p) (filters_from (filters_by Owned) 0 plans
-        ∙ own_filters_all plans) is_p)
+    ∙ own_filters_all plans) is_p)
     (subst (λ (fs : List Filter). IsFirst (is_shared fs) q) (filters_from (filters_by Transmitting) 0 plans
-        ∙ transmit_filters_all plans) is_q)
+    ∙ transmit_filters_all plans) is_q)
 
 -- ---- the free table
 
@@ -125,15 +125,15 @@ any_owned (own ∷ owned) slot channel cycle =
 
 any_sent : (buffers : List Buffer) (slot : ℕ) (channel : Channel) (cycle : ℕ)
     → list_any (admits_at slot channel cycle) (transmit_filters buffers) ≡ list_any
-        (sends_at slot channel cycle) buffers
+    (sends_at slot channel cycle) buffers
 any_sent [] slot channel cycle = refl
 any_sent (b ∷ buffers) slot channel cycle =
     here (transmits b) (filter_admits b.filter cycle slot channel) refl ∙ ap
-        (λ (r : Bool). sends_at slot channel cycle b || r) (any_sent buffers slot channel cycle)
+    (λ (r : Bool). sends_at slot channel cycle b || r) (any_sent buffers slot channel cycle)
   where
     here : (t a : Bool) → filter_admits b.filter cycle slot channel ≡ a
         → list_any (admits_at slot channel cycle) (map buffer_filter
-            (cond t (b ∷ filter transmits buffers) (filter transmits buffers)))
+        (cond t (b ∷ filter transmits buffers) (filter transmits buffers)))
         ≡ (t && a || list_any (admits_at slot channel cycle) (transmit_filters buffers))
     here true a is = ap (λ (r : Bool). r || list_any (admits_at slot channel cycle) (transmit_filters buffers)) is
     here false a is = refl
@@ -150,7 +150,7 @@ data Stands (filters : Plan → List Filter) (n : ℕ) (plans : List Plan) (befo
 
 after-append : (xs ys : List Claim) (before slot : ℕ) (channel : Channel) (cycle : ℕ)
     → after_claims (xs ++ ys) before slot channel cycle ≡ after_claims ys
-        (after_claims xs before slot channel cycle) slot channel cycle
+    (after_claims xs before slot channel cycle) slot channel cycle
 after-append [] ys before slot channel cycle = refl
 after-append (x ∷ xs) ys before slot channel cycle = after-append xs ys
     (cond (admits_at slot channel cycle x.filter) x.node before) slot channel cycle
@@ -158,7 +158,7 @@ after-append (x ∷ xs) ys before slot channel cycle = after-append xs ys
 -- the claims of one node
 after_node : (node : ℕ) (fs : List Filter) (before slot : ℕ) (channel : Channel) (cycle : ℕ)
     → after_claims (map (claim_of node) fs) before slot channel cycle ≡ cond
-        (list_any (admits_at slot channel cycle) fs) node before
+    (list_any (admits_at slot channel cycle) fs) node before
 after_node node [] before slot channel cycle = refl
 after_node node (f ∷ fs) before slot channel cycle =
     after_node node fs (cond (admits_at slot channel cycle f) node before) slot channel cycle
@@ -172,7 +172,7 @@ after_node node (f ∷ fs) before slot channel cycle =
 stands_more : (filters : Plan → List Filter) (n : ℕ) (plan : Plan) (plans : List Plan) (before slot : ℕ)
     (channel : Channel) (cycle node : ℕ)
     → Stands filters (n + 1) plans (cond (list_any (admits_at slot channel cycle) (filters plan)) n before) slot channel
-        cycle node
+    cycle node
     → Stands filters n (plan ∷ plans) before slot channel cycle node
 stands_more filters n plan plans before slot channel cycle node (of_node m other at any is) =
     of_node (suc m) other at any (omega (arith, is))
@@ -185,16 +185,16 @@ stands_more filters n plan plans before slot channel cycle node (of_before is) =
 stands : (filters : Plan → List Filter) (n : ℕ) (plans : List Plan) (before slot : ℕ) (channel : Channel)
     (cycle node : ℕ)
     → node ≡ after_claims (claims_from filters n plans) before slot channel cycle
-        → Stands filters n plans before slot channel cycle node
+    → Stands filters n plans before slot channel cycle node
 stands filters n [] before slot channel cycle node is = of_before is
 stands filters n (plan ∷ plans) before slot channel cycle node is =
     stands_more filters n plan plans before slot channel cycle node
     (stands filters (n + 1) plans (cond (list_any (admits_at slot channel cycle) (filters plan)) n before) slot channel
-        cycle node
+    cycle node
     (is
     ∙ after-append (map (claim_of n) (filters plan)) (claims_from filters (n + 1) plans) before slot channel cycle
     ∙ ap (λ (b : ℕ). after_claims (claims_from filters (n + 1) plans) b slot channel cycle)
-        (after_node n (filters plan) before slot channel cycle)))
+    (after_node n (filters plan) before slot channel cycle)))
 
 -- ---- a node that stands there sends
 
@@ -210,10 +210,10 @@ static_if_owned p plan slot channel cycle h owned = of_lines plan.owned (λ k ow
         elim (or_cases (claims slot channel cycle own) (is_owned lines slot channel cycle) any) [
           | inl here ↦
               (let (front, in_cycle) = and_parts (own.slot == slot && includes own.channels channel)
-                  (cycle_admitted own.cycles cycle) here in
+              (cycle_admitted own.cycles cycle) here in
               let (same, includes_it) = and_parts (own.slot == slot) (includes own.channels channel) front in
               subst (λ (s : ℕ). is_static_slot p s ≡ true) (eqb-true own.slot slot same)
-                  (le-leb own.slot p.static_slots (static 0 own refl)))
+              (le-leb own.slot p.static_slots (static 0 own refl)))
           | inr later ↦ of_lines lines (λ k o at. static (suc k) o at) later
         ]
 
@@ -221,7 +221,7 @@ static_if_owned p plan slot channel cycle h owned = of_lines plan.owned (λ k ow
 owned_if_sent : (p : Parameters) (plan : Plan) (slot : ℕ) (channel : Channel) (cycle : ℕ) → cycle < 64
     → IsFaultless p plan
     → is_static_slot p slot ≡ true → list_any (sends_at slot channel cycle) plan.buffers ≡ true
-        → is_owned plan.owned slot channel cycle ≡ true
+    → is_owned plan.owned slot channel cycle ≡ true
 owned_if_sent p plan slot channel cycle few h static any = of_buffers plan.buffers (λ k b at is. h.static_fit k b at is)
     any
   where
@@ -234,7 +234,7 @@ owned_if_sent p plan slot channel cycle few h static any = of_buffers plan.buffe
           | inl here ↦
               (let (sends, admits) = and_parts (transmits b) (filter_admits b.filter cycle slot channel) here in
               let (front, in_cycle) = and_parts (b.filter.slot == slot && includes b.filter.channels channel)
-                  (cycle_admitted b.filter.cycles cycle) admits in
+              (cycle_admitted b.filter.cycles cycle) admits in
               let (same, includes_it) = and_parts (b.filter.slot == slot) (includes b.filter.channels channel) front in
               let slot_is = eqb-true b.filter.slot slot same in
               let is_static : transmits_static p b ≡ true =
@@ -250,21 +250,29 @@ owner_sends : (d : Description) → IsCluster d → (slot : ℕ) (channel : Chan
 owner_sends d lawful slot channel cycle m plan at owned =
     let of_node = each_at (IsNode d.params) d.plans m plan lawful.nodes_are at in
     let static = static_if_owned d.params plan slot channel cycle (faultless d.params plan of_node.1) owned in
-    record { plan = plan; at = at; sends = cond-true (is_static_slot d.params slot)
-        (is_owned plan.owned slot channel cycle) _ static ∙ owned }
+    record {
+      plan = plan;
+      at = at;
+      sends = cond-true (is_static_slot d.params slot)
+          (is_owned plan.owned slot channel cycle) _ static ∙ owned;
+    }
 
 buffer_sends : (d : Description) → IsCluster d → (slot : ℕ) (channel : Channel) (cycle m : ℕ) (plan : Plan) → cycle < 64
     → slice_get d.plans m ≡ Some plan → list_any (sends_at slot channel cycle) plan.buffers ≡ true
-        → IsSender d cycle slot channel m
+    → IsSender d cycle slot channel m
 buffer_sends d lawful slot channel cycle m plan few at any =
     elim (cases_Bool (is_static_slot d.params slot)) [
       | inl static ↦
           (let of_node = each_at (IsNode d.params) d.plans m plan lawful.nodes_are at in
           owner_sends d lawful slot channel cycle m plan at (owned_if_sent d.params plan slot channel cycle few
-              (faultless d.params plan of_node.1) static any))
+          (faultless d.params plan of_node.1) static any))
       | inr dynamic ↦
-          record { plan = plan; at = at; sends = cond-false (is_static_slot d.params slot) _
-              (list_any (sends_at slot channel cycle) plan.buffers) dynamic ∙ any }
+          record {
+            plan = plan;
+            at = at;
+            sends = cond-false (is_static_slot d.params slot) _
+                (list_any (sends_at slot channel cycle) plan.buffers) dynamic ∙ any;
+          }
     ]
 
 from_zero : (m : ℕ) → 0 + m ≡ m
@@ -273,10 +281,10 @@ from_zero m = omega arith
 sender_stands : (d : Description) → IsCluster d → (nodes : List ℕ) → HasClaims d.plans nodes
     → (slot : ℕ) (channel : Channel) (cycle : ℕ)
     → cycle < 64 → IsSlot slot → is_taken nodes slot channel cycle ≡ true
-        → IsSender d cycle slot channel (node_at nodes slot channel cycle)
+    → IsSender d cycle slot channel (node_at nodes slot channel cycle)
 sender_stands d lawful nodes h slot channel cycle in_cycles is taken =
     by_owner (stands (filters_by Owned) 0 d.plans (node_at h.sending slot channel cycle) slot channel cycle
-        (node_at nodes slot channel cycle)
+    (node_at nodes slot channel cycle)
     (h.owned_are.each slot channel cycle in_cycles is))
   where
     by_buffer : (node : ℕ) → not (node == nobody) ≡ true → Stands (filters_by Transmitting) 0 d.plans
@@ -285,10 +293,10 @@ sender_stands d lawful nodes h slot channel cycle in_cycles is taken =
     by_buffer node some (of_node m plan at any node_is) =
         subst (IsSender d cycle slot channel) (sym (node_is ∙ from_zero m))
         (buffer_sends d lawful slot channel cycle m plan in_cycles at
-            (sym (any_sent plan.buffers slot channel cycle) ∙ any))
+        (sym (any_sent plan.buffers slot channel cycle) ∙ any))
     by_buffer node some (of_before node_is) =
         absurd (both_ways (not (node == nobody)) (ap (λ (n : ℕ). not (n == nobody))
-            (node_is ∙ nobody_at slot channel cycle in_cycles is)) some)
+        (node_is ∙ nobody_at slot channel cycle in_cycles is)) some)
 
     by_owner : Stands (filters_by Owned) 0 d.plans (node_at h.sending slot channel cycle) slot channel cycle
         (node_at nodes slot channel cycle)
@@ -299,7 +307,7 @@ sender_stands d lawful nodes h slot channel cycle in_cycles is taken =
     by_owner (of_before node_is) =
         by_buffer (node_at nodes slot channel cycle) taken
         (stands (filters_by Transmitting) 0 d.plans (node_at free slot channel cycle) slot channel cycle
-            (node_at nodes slot channel cycle)
+        (node_at nodes slot channel cycle)
         (node_is ∙ h.buffers_are.each slot channel cycle in_cycles is))
 
 -- ---- a node that sends stands there
@@ -307,10 +315,10 @@ sender_stands d lawful nodes h slot channel cycle in_cycles is taken =
 some_claim : (filters : Plan → List Filter) (plans : List Plan) (m : ℕ) (plan : Plan) (slot : ℕ) (channel : Channel)
     (cycle : ℕ) → slice_get plans m ≡ Some plan
     → list_any (admits_at slot channel cycle) (filters plan) ≡ true
-        → list_any (admits_at slot channel cycle) (filters_of (claims_from filters 0 plans)) ≡ true
+    → list_any (admits_at slot channel cycle) (filters_of (claims_from filters 0 plans)) ≡ true
 some_claim filters plans m plan slot channel cycle at any =
     ap (list_any (admits_at slot channel cycle)) (filters_from filters 0 plans) ∙ any_at
-        (admits_at slot channel cycle) filters plans m plan at any
+    (admits_at slot channel cycle) filters plans m plan at any
 
 taken_if_sender : (d : Description) (nodes : List ℕ) → HasClaims d.plans nodes
     → (slot : ℕ) (channel : Channel) (cycle m : ℕ) → cycle < 64 → IsSlot slot
@@ -318,24 +326,24 @@ taken_if_sender : (d : Description) (nodes : List ℕ) → HasClaims d.plans nod
 taken_if_sender d nodes h slot channel cycle m in_cycles is sender =
     ap (λ (n : ℕ). not (n == nobody)) (h.owned_are.each slot channel cycle in_cycles is)
     ∙ after_taken (claims_from (filters_by Owned) 0 d.plans)
-        (node_at h.sending slot channel cycle) slot channel cycle h.owned_lawful
+    (node_at h.sending slot channel cycle) slot channel cycle h.owned_lawful
     ∙ elim (cases_Bool (is_static_slot d.params slot)) [
       | inl static ↦
           or_left _ _
           (some_claim (filters_by Owned) d.plans m sender.plan slot channel cycle sender.at
           (any_owned sender.plan.owned slot channel cycle
           ∙ sym (cond-true (is_static_slot d.params slot) (is_owned sender.plan.owned slot channel cycle)
-              (list_any (sends_at slot channel cycle) sender.plan.buffers) static) ∙ sender.sends))
+          (list_any (sends_at slot channel cycle) sender.plan.buffers) static) ∙ sender.sends))
       | inr dynamic ↦
           or_right _ _
           (ap (λ (n : ℕ). not (n == nobody)) (h.buffers_are.each slot channel cycle in_cycles is)
           ∙ after_taken (claims_from (filters_by Transmitting) 0 d.plans)
-              (node_at free slot channel cycle) slot channel cycle h.sending_lawful
+          (node_at free slot channel cycle) slot channel cycle h.sending_lawful
           ∙ or_left _ _
           (some_claim (filters_by Transmitting) d.plans m sender.plan slot channel cycle sender.at
           (any_sent sender.plan.buffers slot channel cycle
           ∙ sym (cond-false (is_static_slot d.params slot) (is_owned sender.plan.owned slot channel cycle)
-              (list_any (sends_at slot channel cycle) sender.plan.buffers) dynamic) ∙ sender.sends)))
+          (list_any (sends_at slot channel cycle) sender.plan.buffers) dynamic) ∙ sender.sends)))
     ]
 
 pub dense_table : (d : Description) (nodes : List ℕ) → IsCluster d → HasClaims d.plans nodes → IsDenseTable d nodes
@@ -357,7 +365,7 @@ within_plans (y ∷ xs) (suc n) x at = let less = within_plans xs n x at in omeg
 pub read_nobody : (d : Description) (nodes : List ℕ) → IsCluster d → IsDenseTable d nodes
     → (slot : ℕ) (channel : Channel) (cycle place : ℕ) → cycle < 64 → IsSlot slot
     → place + 128 ≡ place_of slot channel cycle → place < 262016 → (n : ℕ) → n ≡ get_or nodes place n → (o : Option ℕ)
-        → o ≡ number_within 0 15 n
+    → o ≡ number_within 0 15 n
     → IfNone o ((m : ℕ) → IsSender d cycle slot channel m → ⊥)
 read_nobody d nodes lawful h slot channel cycle place in_cycles is at within n read (Some m) told = tt
 read_nobody d nodes lawful h slot channel cycle place in_cycles is at within n read None told =
@@ -365,9 +373,9 @@ read_nobody d nodes lawful h slot channel cycle place in_cycles is at within n r
     (let here : place_of slot channel cycle - 128 ≡ place = omega (arith, at) in
     let node_is : node_at nodes slot channel cycle ≡ n =
     ap (at_place nodes) here ∙ get_or_default nodes place nobody n (subst (λ k. place < k) (sym h.size) within)
-        ∙ sym read in
+    ∙ sym read in
     let stands = h.senders slot channel cycle in_cycles is (h.all slot channel cycle m in_cycles is sender) in
     let below = within_plans d.plans (node_at nodes slot channel cycle) stands.plan stands.at in
     let few : n ≤ 15 = omega (arith, below, node_is, lawful.few_nodes) in
     cc (told ∙ cond-true (nat_le 0 n && nat_le n 15) (Some n) None
-        (and_from _ _ (le-leb 0 n (omega arith)) (le-leb n 15 few))))
+    (and_from _ _ (le-leb 0 n (omega arith)) (le-leb n 15 few))))

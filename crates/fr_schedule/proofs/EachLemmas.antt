@@ -16,11 +16,11 @@ module _ {X A B : Type 0} (read : ℕ → X → Result A ConfigError) (made : Li
 
   one_more : (so_far : List A) (one : A) (more : Result (List A) ConfigError)
       → ((more >>= (λ rest. Ok (one ∷ rest))) >>= (λ all. Ok (made (so_far ++ all)))) ≡
-          (more >>= (λ rest. Ok (made ((so_far ++ one ∷ []) ++ rest))))
+      (more >>= (λ rest. Ok (made ((so_far ++ one ∷ []) ++ rest))))
   one_more so_far one (Err e) = refl
   one_more so_far one (Ok rest) =
       ap (λ (all : List A). let r : Result B ConfigError = Ok (made all) in r)
-          (sym (append_assoc so_far (one ∷ []) rest))
+      (sym (append_assoc so_far (one ∷ []) rest))
 
   pub rest_taken : (n : ℕ) (so_far : List A) (x : X) (left : List X) (one : A) → read n x ≡ Ok one
       → with_rest n so_far (x ∷ left) ≡ with_rest (n + 1) (so_far ++ one ∷ []) left

@@ -36,7 +36,7 @@ module _ (root : Members) where
 
         pub plans_read : (plans : List Plan) → each_of (plan_of p) 0 values ≡ Ok plans
             → description_of root ≡ unless_fault (file_fault p plans)
-                (record { params = p; guard = guard; plans = plans })
+            (record { params = p; guard = guard; plans = plans })
         unfolding description_of
         plans_read plans is = rw (params_are, guard_is, values_are, is) refl
 
@@ -54,10 +54,10 @@ each_of-length read n (x ∷ xs) all is =
 pub read_cluster : (p kept : Parameters) (guard : Option Channels) (values : List Data) (plans : List Plan) → kept ≡ p
     → IsParameters p → 1 ≤ length values → length values ≤ 16
     → each_of (plan_of p) 0 values ≡ Ok plans → Each IsPlan plans → file_fault p plans ≡ None
-        → IsCluster (record { params = kept; guard = guard; plans = plans })
+    → IsCluster (record { params = kept; guard = guard; plans = plans })
 read_cluster p kept guard values plans same lawful some few read are free =
     let as_many = each_of-length (plan_of p) 0 values plans read in
     subst (λ (q : Parameters). IsCluster (record { params = q; guard = guard; plans = plans })) (sym same)
     (cluster_is (record { params = p; guard = guard; plans = plans }) lawful (subst (λ n. 1 ≤ n) (sym as_many) some)
-        (subst (λ n. n ≤ 16) (sym as_many) few) are
+    (subst (λ n. n ≤ 16) (sym as_many) few) are
     (plans-fit p values plans read) free)

@@ -57,7 +57,7 @@ first_of-map h f g same (x ∷ xs) =
 
 overlap_here : (b : Bool) (slot : ℕ) (channel : Channel) (cycle : ℕ)
     → (if b then Some (error.Overlap slot channel cycle) else None) ≡ option_map of_file
-        (if b then Some (fault.Overlap slot channel cycle) else None)
+    (if b then Some (fault.Overlap slot channel cycle) else None)
 overlap_here true slot channel cycle = refl
 overlap_here false slot channel cycle = refl
 

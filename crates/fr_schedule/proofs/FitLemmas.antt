@@ -47,7 +47,7 @@ number_at-fits : (key : List ℕ) (least greatest : ℕ) (table : Members) (n : 
 unfolding number_at
 number_at-fits key least greatest table n is =
     let (value, at, rest) = then_some (get_member key table)
-        (number_in least greatest) n is in number_in-fits least greatest value n rest
+    (number_in least greatest) n is in number_in-fits least greatest value n rest
 
 default-fits : (least greatest usual : ℕ) (o : Option Data) (n : ℕ) → usual ≤ greatest
     → or_default usual (number_in least greatest) o ≡ Some n → n ≤ greatest
@@ -73,7 +73,7 @@ module _ {X A : Type 0} (P : A → Type 0) where
   all_of-each read so [] all is = subst (Each P) (same_Some [] all is) tt
   all_of-each read so (x ∷ xs) all is =
       let (a, is_a, rest) = then_some (read x) (λ one. option_and_then (λ more. Some (one ∷ more)) (all_of read xs)) all
-          is in
+      is in
       let (more, is_more, made) = then_some (all_of read xs) (λ more. Some (a ∷ more)) all rest in
       subst (Each P) (same_Some (a ∷ more) all made) (so x a is_a, all_of-each read so xs more is_more)
 
@@ -100,9 +100,9 @@ own_in-static p table own is =
     let (sync, at_s, rest_s) = then_some (flag_at (codes "sync") table) _ own rest_y in
     let (startup, at_u, rest_u) = then_some (flag_at (codes "startup") table) _ own rest_s in
     let (fits, same) = cond_some (own_fits
-        (record { slot = slot; channels = channels; cycles = cycles; sync = sync; startup = startup })) _ own rest_u in
+    (record { slot = slot; channels = channels; cycles = cycles; sync = sync; startup = startup })) _ own rest_u in
     subst (λ (o : Own). is_owned_beyond p o ≡ false) same (ap not
-        (le-leb slot p.static_slots (number_at-fits (codes "slot") 1 p.static_slots table slot at)))
+    (le-leb slot p.static_slots (number_at-fits (codes "slot") 1 p.static_slots table slot at)))
 
 own_of-static : (p : Parameters) (value : Data) (own : Own) → own_of p value ≡ Some own → is_owned_beyond p own ≡ false
 unfolding own_of
@@ -144,10 +144,10 @@ transmit-right p mode f table b is =
     let (preamble, at, rest) = then_some (flag_at (codes "preamble") table) _ b is in
     let (words, at_w, rest_w) = then_some (words_in p f.slot table) _ b rest in
     let (fits, same) = cond_some (buffer_fits (record { mode = mode; filter = f; words = words; preamble = preamble }))
-        _ b rest_w in
+    _ b rest_w in
     let fit = words_in-fit p f.slot table words at_w in
     subst (λ (c : Buffer). has_wrong_words p c ≡ false) same
-        (right_words (not (is_receive mode)) (is_static_slot p f.slot) words fit.static fit.dynamic)
+    (right_words (not (is_receive mode)) (is_static_slot p f.slot) words fit.static fit.dynamic)
 
 buffer_by-right : (p : Parameters) (mode : Mode) (f : Filter) (table : Members) (b : Buffer)
     → buffer_by p mode f table ≡ Some b → has_wrong_words p b ≡ false
@@ -158,12 +158,12 @@ buffer_by-right p mode f table b is =
           subst (λ (c : Buffer). has_wrong_words p c ≡ false)
           (same_Some (record { mode = mode; filter = f; words = None; preamble = false }) b
           (sym (cond-true (is_receive mode) (Some (record { mode = mode; filter = f; words = None; preamble = false }))
-              (transmit_buffer_in p mode f table) receive) ∙ is))
+          (transmit_buffer_in p mode f table) receive) ∙ is))
           (rw receive refl)
       | inr transmits_it ↦
           transmit-right p mode f table b
           (sym (cond-false (is_receive mode) (Some (record { mode = mode; filter = f; words = None; preamble = false }))
-              (transmit_buffer_in p mode f table) transmits_it) ∙ is)
+          (transmit_buffer_in p mode f table) transmits_it) ∙ is)
     ]
 
 buffer_of-right : (p : Parameters) (value : Data) (b : Buffer) → buffer_of p value ≡ Some b
@@ -225,8 +225,11 @@ head-fits p table plan is =
           (own_of-static p) o.lines o.owned o.read);
       latest = record { a = limit.a; b = limit.b };
     }) in
-    subst (IsHead p) made (record { owned = of_owning.owned; latest =
-        record { a = of_owning.latest.a; b = of_owning.latest.b } })
+    subst (IsHead p) made (record {
+      owned = of_owning.owned;
+      latest =
+          record { a = of_owning.latest.a; b = of_owning.latest.b };
+    })
 
 not_late : (least n : ℕ) → n ≤ least → nat_lt least n ≡ false
 not_late least n le = grind (arith, le)
@@ -241,18 +244,18 @@ plan-fits p node value plan is =
     let (table, at, rest) = then_ok (ok_or (as_table value) (error.BadNode node)) _ plan is in
     let (bare, at_h, rest_h) = then_ok (ok_or (head_in p table) (error.BadNode node)) _ plan rest in
     let (values, at_v, rest_v) = then_ok (ok_or (tables_at (codes "buffer") table) (error.BadNode node)) _ plan rest_h
-        in
+    in
     let (buffers, at_b, made) = then_ok (each_of (buffer_read p node) 0 values) _ plan rest_v in
     let is_head = head-fits p table bare (or_ok (head_in p table) (error.BadNode node) bare at_h) in
     let same : with_buffers bare buffers ≡ plan = cc made in
     subst (λ (q : Plan). is_out_of_params p q ≡ false) same
     (three_false (list_any (is_owned_beyond p) bare.owned) (nat_lt p.minislots bare.latest_a)
-        (nat_lt p.minislots bare.latest_b)
+    (nat_lt p.minislots bare.latest_b)
     (list_any (has_wrong_words p) buffers) is_head.owned (not_late p.minislots bare.latest_a is_head.latest.a)
     (not_late p.minislots bare.latest_b is_head.latest.b)
     (none_of (has_wrong_words p) buffers
     (each_of-each (λ b. has_wrong_words p b ≡ false) (buffer_read p node)
-        (λ n v b h. buffer_read-right p node n v b h) 0 values buffers at_b)))
+    (λ n v b h. buffer_read-right p node n v b h) 0 values buffers at_b)))
 
 pub plans-fit : (p : Parameters) (values : List Data) (plans : List Plan) → each_of (plan_of p) 0 values ≡ Ok plans
     → Each (λ q. is_out_of_params p q ≡ false) plans

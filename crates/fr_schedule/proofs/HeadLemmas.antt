@@ -23,7 +23,7 @@ pub owned_is : (p : Parameters) (table : Members) (plan new : Plan) → with_own
 unfolding with_owned_in
 owned_is p table plan new is =
     let (lines, at, rest) = then_some (tables_at (codes "own") table)
-        (λ lines. option_map (owning plan) (all_of (own_of p) lines)) new is in
+    (λ lines. option_map (owning plan) (all_of (own_of p) lines)) new is in
     let (owned, read, made) = map_some (owning plan) (all_of (own_of p) lines) new rest in
     record { lines = lines; owned = owned; read = read; is = made }
 

@@ -21,7 +21,7 @@ owning_all p plan lines = option_map (owning plan) (all_of (own_of p) (map view 
 
 adding_one : (plan : Plan) (own : Own) (more : Option (List Own))
     → option_map (adding plan) (option_and_then (λ rest. Some (own ∷ rest)) more) ≡ option_map
-        (adding (with_own plan own)) more
+    (adding (with_own plan own)) more
 adding_one plan own None = refl
 adding_one plan own (Some more) = ap (λ (lines : List Own). let o : Option Plan = Some (owning plan lines) in o)
     (sym (append_assoc plan.owned (own ∷ []) more))

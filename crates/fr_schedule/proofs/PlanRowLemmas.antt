@@ -21,7 +21,7 @@ plan_refused p n so_far value values e is = rest_refused (plan_of p) made n so_f
 
 pub plan_taken : (p : Parameters) (n : ℕ) (so_far : List Plan) (value : Value) (values : List Value) (plan : Plan)
     → plan_of p n (view value) ≡ Ok plan → plans_left p n so_far (value ∷ values) ≡ plans_left p (n + 1)
-        (so_far ++ plan ∷ []) values
+    (so_far ++ plan ∷ []) values
 plan_taken p n so_far value values plan is = rest_taken (plan_of p) made n so_far (view value) (map view values) plan is
 
 pub plans_end : (p : Parameters) (n : ℕ) (so_far : List Plan) → plans_left p n so_far [] ≡ Ok so_far

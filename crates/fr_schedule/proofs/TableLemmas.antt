@@ -19,6 +19,6 @@ pub few_tables_seen : (values : List Value) → few_tables (map view values) ≡
     (Some (map view values)) None
 few_tables_seen values =
     ap (λ (n : ℕ). cond (nat_le n most_lines && are_tables (map view values)) (Some (map view values)) None)
-        (length-map values view)
+    (length-map values view)
     ∙ ap (λ b. cond (nat_le (length values) most_lines && b) (Some (map view values)) None)
-        (list_all-map is_table view values)
+    (list_all-map is_table view values)

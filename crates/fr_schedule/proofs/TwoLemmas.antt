@@ -21,7 +21,7 @@ module _ {X : Type 0} (t : X → Bool) where
         | inl here ↦
             (let (first, more) = and_parts (t x) (list_any t xs) here in
             or_left (t x && list_any t (xs ++ ys)) (two_pass t (xs ++ ys))
-                (and_from (t x) (list_any t (xs ++ ys)) first (any_left xs ys more)))
+            (and_from (t x) (list_any t (xs ++ ys)) first (any_left xs ys more)))
         | inr later ↦ or_right (t x && list_any t (xs ++ ys)) (two_pass t (xs ++ ys)) (two_left xs ys later)
       ]
 
@@ -37,7 +37,7 @@ module _ {X : Type 0} (t : X → Bool) where
       elim (or_cases (t x) (list_any t xs) any_x) [
         | inl here ↦
             or_left (t x && list_any t (xs ++ ys)) (two_pass t (xs ++ ys))
-                (and_from (t x) (list_any t (xs ++ ys)) here (any_right xs ys any_y))
+            (and_from (t x) (list_any t (xs ++ ys)) here (any_right xs ys any_y))
         | inr later ↦ or_right (t x && list_any t (xs ++ ys)) (two_pass t (xs ++ ys)) (one_of_both xs ys later any_y)
       ]
 
@@ -57,10 +57,10 @@ module _ {X : Type 0} (t : X → Bool) where
     two_at (r ∷ plans) zero zero p q differ at_m at_n any_p any_q = absurd (differ refl)
     two_at (r ∷ plans) zero (suc n) p q differ at_m at_n any_p any_q =
         one_of_both (lines r) (flat_map lines plans) (ap (λ s. list_any t (lines s)) (same_Some r p at_m) ∙ any_p)
-            (any_at plans n q at_n any_q)
+        (any_at plans n q at_n any_q)
     two_at (r ∷ plans) (suc m) zero p q differ at_m at_n any_p any_q =
         one_of_both (lines r) (flat_map lines plans) (ap (λ s. list_any t (lines s)) (same_Some r q at_n) ∙ any_q)
-            (any_at plans m p at_m any_p)
+        (any_at plans m p at_m any_p)
     two_at (r ∷ plans) (suc m) (suc n) p q differ at_m at_n any_p any_q =
         two_right (lines r) (flat_map lines plans) (two_at plans m n p q
-            (λ same. differ (ap suc same)) at_m at_n any_p any_q)
+        (λ same. differ (ap suc same)) at_m at_n any_p any_q)

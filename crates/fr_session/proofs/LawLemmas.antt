@@ -68,7 +68,7 @@ unfolding WithinCycle
 led_within faults due zero old new within = led_same old new within
 led_within faults due (suc count) old new within =
     led_on old within.0 new (led_within faults due count old within.0 within.1)
-        (led_window faults due within.0 None new within.2)
+    (led_window faults due within.0 None new within.2)
 
 led_cycle : (faults : List FaultLine) (due : List Event) (old : WorldState) (found : Option StepError)
     (new : WorldState) → EndsCycle faults due old found new → IsLed old new
@@ -83,7 +83,7 @@ unfolding PassesCycles
 led_passes faults due zero old new passes = led_same old new passes
 led_passes faults due (suc count) old new passes =
     led_on old passes.0 new (led_passes faults due count old passes.0 passes.1)
-        (led_cycle faults due passes.0 None new passes.2)
+    (led_cycle faults due passes.0 None new passes.2)
 
 led_runs : (faults : List FaultLine) (due : List Event) (cycles : ℕ) (old : WorldState) (found : Option StepError)
     (new : WorldState)

@@ -63,7 +63,7 @@ front_asks line =
           let many = ltb-true 1200 (length line) long in
           let len = length-take 1201 line in
           let there : ltb 1200 (length (line_front line)) ≡ true =
-              lt-ltb 1200 (length (line_front line)) (omega (arith, len, many)) in
+          lt-ltb 1200 (length (line_front line)) (omega (arith, len, many)) in
           rw (there, long) refl
       | inr short ↦ ap asked_in (take_whole 1201 line (omega (arith, ltb-false 1200 (length line) short)))
     ]
@@ -119,9 +119,13 @@ module _ (text mid left : Option (List ℕ)) (limit : Option ℕ) (shown front f
   pub took_part : IsFirstByte (is_byte 10) shown None → DropsConsumable mid left limit (length shown)
       → front' ≡ line_front (front ++ shown) → TakesPiece Part text left front front'
   took_part none drops is =
-      let moved = Consumes_shown text mid left limit shown (length shown) (omega arith) starts end kept fits drops in
-      (shown, line_not_found shown none, subst (Consumes text left) (take_whole (length shown) shown (omega arith))
-          moved.0, is)
+      let moved = Consumes_shown text mid left limit shown (length shown) (omega arith) starts end kept fits drops in (
+        shown,
+        line_not_found shown none,
+        subst (Consumes text left) (take_whole (length shown) shown (omega arith))
+            moved.0,
+        is,
+      )
 
 -- ---- a line that is read so far
 

@@ -62,13 +62,13 @@ same_or a b c d one other = grind (arith, one, other)
 
 pub added : {S : Type 0} (old new : HashSet Mark S) (k : Mark)
     → ((q : Mark) → contains derived.eq-value.it new q ≡ cond (derived.eq-value.it k q) true
-        (contains derived.eq-value.it old q))
+    (contains derived.eq-value.it old q))
     → (m : Mark) → contains mark_eq new m ≡ (mark_eq k m || contains mark_eq old m)
 added old new k updates m = sym (has_same new m) ∙ updates m ∙ same_or _ _ _ _ (mark_same k m) (has_same old m)
 
 table : (t f ca c pa p had : Bool)
     → ((t && (f && (ca && pa))) || ((t && (f && (c && pa))) ||
-        ((t && (f && (ca && p))) || ((t && (f && (c && p))) || had))))
+    ((t && (f && (ca && p))) || ((t && (f && (c && p))) || had))))
     ≡ ((t && (f && ((ca || c) && (pa || p)))) || had)
 table false f ca c pa p had = refl
 table true false ca c pa p had = refl

@@ -48,7 +48,7 @@ on_cycles (cycles.Only cycle) (cycles.Only other) = grind arith
 
 on_places : (one other : FaultPlace) → (is_same (in_static other) (in_static one)
     && (leaves_on (places_of other) (first_by (places_of one)) || leaves_on (places_of other)
-        (other_by (places_of one))))
+    (other_by (places_of one))))
     ≡ places_meet one other
 on_places EverySlot EverySlot = refl
 on_places EverySlot (Slot other) = refl
@@ -72,7 +72,7 @@ meeting line other =
     let in_time = on_cycles line.cycles other.cycles in
     let in_place = on_places line.place other.place in
     let all = four (target_eq (target_of other.fault) (target_of line.fault))
-        (is_same (in_static other.place) (in_static line.place))
+    (is_same (in_static other.place) (in_static line.place))
     (leaves_on (cycles_of other.cycles) (first_by (cycles_of line.cycles)))
     (leaves_on (cycles_of other.cycles) (other_by (cycles_of line.cycles)))
     (leaves_on (places_of other.place) (first_by (places_of line.place)))
@@ -131,7 +131,7 @@ marked_by old new own lines line is marked adds =
 pub suits_by : (d : Description) (cycles : ℕ) (lines : List FaultLine) (line : FaultLine) (is_found : Bool)
     → is_found ≡ list_any (lines_meet line) lines → line_fits d cycles line ≡ true
     → (IsTrue (not is_found) → IsFaultAfter d cycles lines line) ×
-        (IsFaultAfter d cycles lines line → IsTrue (not is_found))
+    (IsFaultAfter d cycles lines line → IsTrue (not is_found))
 suits_by d cycles lines line true is fits =
     ((λ none. cc none), λ suits. cc (is ∙ suits.only))
 suits_by d cycles lines line false is fits = ((λ none. record { fits = fits; only = sym is }), λ suits. refl)

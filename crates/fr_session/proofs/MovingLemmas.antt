@@ -22,10 +22,13 @@ use Rattle.fr_slots.specs.Windows.{Opportunity}
 steps_more : (old : WorldState) (events : List Event) (answers : List Answer) (between : WorldState) (event : Event)
     (answer : Answer) (new : WorldState)
     → StepsAll old events answers between → Steps between event answer new
-        → StepsAll old (events ++ event ∷ []) (answers ++ answer ∷ []) new
+    → StepsAll old (events ++ event ∷ []) (answers ++ answer ∷ []) new
 unfolding StepsAll
-steps_more old [] [] between event answer new so_far step = (new,
-    subst (λ (w : WorldState). Steps w event answer new) so_far step, refl)
+steps_more old [] [] between event answer new so_far step = (
+  new,
+  subst (λ (w : WorldState). Steps w event answer new) so_far step,
+  refl,
+)
 steps_more old [] (a ∷ answers) between event answer new so_far step = absurd so_far
 steps_more old (e ∷ events) [] between event answer new so_far step = absurd so_far
 steps_more old (e ∷ events) (a ∷ answers) between event answer new so_far step =
@@ -38,7 +41,7 @@ does_none w = ([], refl, refl)
 pub does_more : (old : WorldState) (events : List Event) (found : Option StepError) (between : WorldState)
     (event : Event) (answer : Answer) (new : WorldState)
     → DoesAll old events found between → Steps between event answer new
-        → DoesAll old (events ++ event ∷ []) (first_refusal found answer) new
+    → DoesAll old (events ++ event ∷ []) (first_refusal found answer) new
 does_more old events found between event answer new so_far step =
     let (answers, steps, is) = so_far in (
       answers ++ answer ∷ [],
@@ -54,7 +57,7 @@ range-more first (suc count) =
     let here : first + 1 + count ≡ first + suc count = omega arith in
     ap (λ (n : ℕ). range_with_len first n) next
     ∙ ap (λ (xs : List ℕ). first ∷ xs) (range-more (first + 1) count ∙ ap
-        (λ (n : ℕ). range_with_len (first + 1) count ++ n ∷ []) here)
+    (λ (n : ℕ). range_with_len (first + 1) count ++ n ∷ []) here)
 
 -- one node more
 pub nodes_more : (events : ℕ → List Event) (count : ℕ) → for_nodes events (count + 1) ≡ for_nodes events count ++ events
@@ -74,7 +77,7 @@ strikes_none faults w none = subst (λ (o : Option Opportunity). Tries w (struck
 pub strikes_some : (faults : List FaultLine) (old : WorldState) (window : Opportunity) (cycle : ℕ) (new : WorldState)
     → collecting_of old.bus ≡ Some window
     → cycle ≡ run_cycle_after old.bus.sealed window → Tries old (flat_map (strike_events cycle window) faults) new
-        → Strikes faults old new
+    → Strikes faults old new
 strikes_some faults old window cycle new opened is tries =
     subst (λ (o : Option Opportunity). Tries old (struck_after faults old.bus.sealed o) new) (sym opened)
     (subst (λ (c : ℕ). Tries old (flat_map (strike_events c window) faults) new) is tries)
@@ -94,11 +97,11 @@ within_next faults due count old mid new so_far moves within = (mid, so_far, mov
 pub within_more : (faults : List FaultLine) (due : List Event) (count : ℕ) (found : Option StepError)
     (old mid new : WorldState) → WithinCycle faults due count old mid
     → MovesOn faults due mid found new → found ≡ None → is_at_cycle new.bus.opened ≡ false
-        → WithinCycle faults due (count + 1) old new
+    → WithinCycle faults due (count + 1) old new
 within_more faults due count found old mid new so_far moves none within =
     subst (λ k. WithinCycle faults due k old new) (omega arith)
     (within_next faults due count old mid new so_far (subst (λ (f : Option StepError). MovesOn faults due mid f new)
-        none moves) within)
+    none moves) within)
 
 pub passes_none : (faults : List FaultLine) (due : List Event) (w : WorldState) → PassesCycles faults due 0 w w
 unfolding PassesCycles
@@ -116,4 +119,4 @@ pub passes_more : (faults : List FaultLine) (due : List Event) (count : ℕ) (fo
 passes_more faults due count found old mid new so_far ends none =
     subst (λ k. PassesCycles faults due k old new) (omega arith)
     (passes_next faults due count old mid new so_far (subst (λ (f : Option StepError). EndsCycle faults due mid f new)
-        none ends))
+    none ends))

@@ -13,8 +13,11 @@ use Rattle.fr_text.specs.Writing.{Writes}
 pub block_told : {W A E : Type 0} (contents : W → Option (List ℕ)) (old new : W) (result : Result A E)
     (lines items : List ℕ) → items ≡ lines → Writes contents old new result (block_text items)
     → Replies contents old new result (IsBlock lines)
-block_told contents old new (Ok x) lines items is told = (block_text lines, inl refl,
-    subst (λ (l : List ℕ). Appends (contents old) (contents new) (block_text l)) is told)
+block_told contents old new (Ok x) lines items is told = (
+  block_text lines,
+  inl refl,
+  subst (λ (l : List ℕ). Appends (contents old) (contents new) (block_text l)) is told,
+)
 block_told contents old new (Err e) lines items is told = tt
 
 -- of a node that is there

@@ -21,13 +21,13 @@ serves_more : (terms : Terms) (old : SessionState) (number : ℕ) (lines : List 
 unfolding Serves
 serves_more terms old number [] replies between line reply new so_far does =
     let here : Does terms old number line reply new = subst (λ (w : SessionState). Does terms w number line reply new)
-        so_far.1
+    so_far.1
     (subst (λ k. Does terms between k line reply new) (omega arith) does) in
     (new, reply, [], here, ap (λ r. r ++ reply) so_far.0 ∙ sym (append-nil reply), (refl, refl))
 serves_more terms old number (first ∷ lines) replies between line reply new so_far does =
     let (mid, answer, later, did, is, rest) = so_far in
     let there : Does terms between (number + 1 + length lines) line reply new =
-        subst (λ k. Does terms between k line reply new) (omega arith) does in (
+    subst (λ k. Does terms between k line reply new) (omega arith) does in (
       mid,
       answer,
       later ++ reply,
@@ -86,7 +86,7 @@ so_far_more terms (Some text) (Some left) (Some left') before after after' numbe
     let (lines, replies, is, all, count, serves, told) = so_far in
     let (line, reply, comes, does, tells) = next in
     let here : Does terms mid (1 + length lines) line reply new =
-        subst (λ k. Does terms mid k line reply new) count does in (
+    subst (λ k. Does terms mid k line reply new) count does in (
       lines ++ line ∷ [],
       replies ++ reply,
       is ∙ ap (λ l. flat_map with_feed lines ++ l) comes.0 ∙ sym (feeds_more lines line left'),
@@ -117,7 +117,7 @@ so_far_over terms (Some text) (Some left) left' before after after' number old m
 pub answered_front : (terms : Terms) (text left before after : Option (List ℕ)) (number : ℕ) (front : List ℕ)
     (old new : SessionState)
     → ComesFront true text left front → (reply : List ℕ) × DoesIf terms old number (asked_in front) reply new
-        × Appends before after reply
+    × Appends before after reply
     → AnswersNext terms true text left before after number old new
 answered_front terms text left before after number front old new comes answered =
     let (line, whole, is) = comes in

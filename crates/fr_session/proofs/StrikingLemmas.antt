@@ -61,7 +61,7 @@ tries_none w = ([], refl)
 pub steps_append : (old : WorldState) (events : List Event) (answers : List Answer) (mid : WorldState)
     (events' : List Event) (answers' : List Answer) (new : WorldState)
     → StepsAll old events answers mid → StepsAll mid events' answers' new
-        → StepsAll old (events ++ events') (answers ++ answers') new
+    → StepsAll old (events ++ events') (answers ++ answers') new
 unfolding StepsAll
 steps_append old [] [] mid events' answers' new first second =
     subst (λ (w : WorldState). StepsAll w events' answers' new) first second
@@ -144,14 +144,14 @@ no_strike cycle window line w none =
 pub strikes_more : (cycle : ℕ) (window : Opportunity) (faults : List FaultLine) (i : ℕ) (line : FaultLine)
     (before next : Result (Unit {0}) StepError) (old mid new : WorldState)
     → i < length faults → line ≡ get_or faults i line → Tells old
-        (flat_map (strike_events cycle window) (take i faults)) before mid
+    (flat_map (strike_events cycle window) (take i faults)) before mid
     → Tells mid (strike_events cycle window line) next new
     → Tells old (flat_map (strike_events cycle window) (take (i + 1) faults)) (first_of before next) new
 strikes_more cycle window faults i line before next old mid new lt is first second =
     let xs = flat_map (strike_events cycle window) (take i faults) in
     let ys = strike_events cycle window line in
     subst (λ (l : List Event). Tells old l (first_of before next) new)
-        (sym (flat-more (strike_events cycle window) faults i line lt is))
+    (sym (flat-more (strike_events cycle window) faults i line lt is))
     (tells_append old xs before mid ys next new first second)
 
 -- all lines
@@ -161,4 +161,4 @@ pub strikes_all : (cycle : ℕ) (window : Opportunity) (faults : List FaultLine)
     → Tells old (flat_map (strike_events cycle window) faults) told new
 strikes_all cycle window faults i told old new all tells =
     subst (λ (l : List FaultLine). Tells old (flat_map (strike_events cycle window) l) told new)
-        (take_all i faults all) tells
+    (take_all i faults all) tells

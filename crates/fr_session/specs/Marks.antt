@@ -114,7 +114,7 @@ abbrev pub finds : (Mark → Bool) → Mark → Bool
 finds has own =
     has (at own (first_by own.cycles) (first_by own.places)) || has (at own (first_by own.cycles) (other_by own.places))
     || has (at own (other_by own.cycles) (first_by own.places)) || has
-        (at own (other_by own.cycles) (other_by own.places))
+    (at own (other_by own.cycles) (other_by own.places))
 
 abbrev pub is_left_by : Mark → FaultLine → Bool
 is_left_by m line = leaves (mark_of line) m

@@ -24,8 +24,14 @@ module _ (w : WorldState) (node : ℕ) where
   same_lines before [] = refl
   same_lines before (Commit task buffer payload ∷ es) =
       ap (λ (t : List ℕ). line_in w (entries_at w node)
-          (record { node = node; buffer = buffer; task = task; cycle = cycles_of before; entry = length before;
-          payload = payload }) ++ t)
+      (record {
+        node = node;
+        buffer = buffer;
+        task = task;
+        cycle = cycles_of before;
+        entry = length before;
+        payload = payload;
+      }) ++ t)
       (same_lines (before ++ Commit task buffer payload ∷ []) es)
   same_lines before (Withdraw task buffer of ∷ es) = same_lines (before ++ Withdraw task buffer of ∷ []) es
   same_lines before (Read task buffer from ∷ es) = same_lines (before ++ Read task buffer from ∷ []) es
@@ -46,13 +52,13 @@ module _ (w : WorldState) (node : ℕ) where
   pub node_more : (s : State) (interfaces : List State) (old now mid : Option (List ℕ)) → interfaces ≡ w.interfaces
       → node < length interfaces → s ≡ get_or interfaces node s
       → Appends old now (flat_map (commit_line w) (flat_map (commits_in w) (range_with_len 0 node)))
-          → Appends now mid (node_text w node s.entries)
+      → Appends now mid (node_text w node s.entries)
       → Appends old mid (flat_map (commit_line w) (flat_map (commits_in w) (range_with_len 0 (node + 1))))
   node_more s interfaces old now mid same lt is before one =
       one_list_more (commit_line w) (commits_in w) node old now mid before
       (subst (λ (t : List ℕ). Appends now mid t)
       (node_is s (subst (λ (l : List State). node < length l) same lt)
-          (subst (λ (l : List State). s ≡ get_or l node s) same is)) one)
+      (subst (λ (l : List State). s ≡ get_or l node s) same is)) one)
 
 -- ---- what took it
 

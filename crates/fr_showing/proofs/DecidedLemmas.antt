@@ -106,7 +106,7 @@ module _ (params : Parameters) (plan : Plan) where
       by_slot (Some slot) is =
           of_offer xs k (may_begin plan w channel) (transmitter plan w channel)
           (named k (cond (owns plan w channel slot) Null Nothing) (commit_offered plan xs w channel)
-              (no_data (owns plan w channel slot) k) is)
+          (no_data (owns plan w channel slot) k) is)
 
   sent_held : (xs : List Entry) (e : Entry) (k : ℕ) → IsLegal params plan xs e → sends k e ≡ true → Holds xs k
   sent_held xs (Commit task buffer payload) k legal is = absurd cc
@@ -146,7 +146,7 @@ module _ (buffer : ℕ) (xs : List Entry) (e : Entry) (k : ℕ) (lt : k < length
   any_then : (p : Entry → Bool) → list_any p (drop (k + 1) (xs ++ e ∷ [])) ≡ (list_any p (drop (k + 1) xs) || p e)
   any_then p =
       ap (list_any p) (drop-front xs (e ∷ []) (k + 1) (omega (arith, lt))) ∙ list_any-append p (drop (k + 1) xs)
-          (e ∷ [])
+      (e ∷ [])
       ∙ ap (λ (b : Bool). list_any p (drop (k + 1) xs) || b) (or_none (p e))
 
   -- a withdrawn commit stays one, where the entry doesn't send it
@@ -156,7 +156,7 @@ module _ (buffer : ℕ) (xs : List Entry) (e : Entry) (k : ℕ) (lt : k < length
       let w : Bool = list_any (takes_back k) (drop (k + 1) xs) in
       let c : Bool = list_any (is_commit_on buffer) (drop (k + 1) xs) in
       withdrawn_by (list_any (sends k) (drop (k + 1) (xs ++ e ∷ [])))
-          (list_any (takes_back k) (drop (k + 1) (xs ++ e ∷ [])))
+      (list_any (takes_back k) (drop (k + 1) (xs ++ e ∷ [])))
       (list_any (is_commit_on buffer) (drop (k + 1) (xs ++ e ∷ [])))
       ∙ (λ i. not (any_then (sends k) i) && any_then (takes_back k) i)
       ∙ still_withdrawn s w (sends k e) (takes_back k e) (sym (withdrawn_by s w c) ∙ is) unsent
@@ -182,8 +182,11 @@ module _ (params : Parameters) (plan : Plan) (buffer k : ℕ) where
   untaken xs e legal there gone =
       is_false (takes_back k e) (λ is.
       let awaits = taken_pending params plan xs e k legal is in
-      gone (on_buffer xs there (record { number = awaits.number; held =
-          pending_held awaits.number xs k awaits.pending })))
+      gone (on_buffer xs there (record {
+        number = awaits.number;
+        held =
+            pending_held awaits.number xs k awaits.pending;
+      })))
 
   stays_gone : (xs : List Entry) (e : Entry) → IsLegal params plan xs e → k < length xs → IsCommitAt buffer xs k
       → IsGone xs → IsGone (xs ++ e ∷ [])
@@ -198,7 +201,7 @@ module _ (params : Parameters) (plan : Plan) (buffer k : ℕ) where
       by_withdrawn : (t : Bool) → last_commit buffer xs ≡ Some k → withdrawn_at buffer xs k ≡ t → ⊥
       by_withdrawn true before is =
           let never : true ≡ false = sym (stays_withdrawn buffer xs e k lt is (unsent xs e legal there gone))
-              ∙ stands in absurd cc
+          ∙ stands in absurd cc
       by_withdrawn false before is = gone (held-some buffer xs k before is)
 
       by_commit : (t : Bool) → is_commit_on buffer e ≡ t → ⊥
@@ -226,9 +229,10 @@ module _ (params : Parameters) (plan : Plan) (buffer k : ℕ) where
   undone xs [] legal lt there gone = (refl, refl)
   undone xs (e ∷ rest) legal lt there gone =
       let later = undone (xs ++ e ∷ []) rest legal.1 (omega (arith, lt, length-append xs (e ∷ [])))
-          (stays_there xs e lt there) (stays_gone xs e legal.0 lt there gone) in
-      (any_none (sends k) e rest (unsent xs e legal.0 there gone) later.0,
-          any_none (takes_back k) e rest (untaken xs e legal.0 there gone) later.1)
+      (stays_there xs e lt there) (stays_gone xs e legal.0 lt there gone) in (
+        any_none (sends k) e rest (unsent xs e legal.0 there gone) later.0,
+        any_none (takes_back k) e rest (untaken xs e legal.0 there gone) later.1,
+      )
 
   -- ---- what ends it
 
@@ -253,9 +257,9 @@ module _ (params : Parameters) (plan : Plan) (buffer k : ℕ) where
       let awaits = taken_pending params plan xs e k legal is in
       let same : awaits.number ≡ buffer =
       same_entry awaits.number buffer (slice_get xs k) (last_there xs awaits.number k
-          (pending_is awaits.number xs k awaits.pending).0) there in
+      (pending_is awaits.number xs k awaits.pending).0) there in
       let parts = taking e is in
       let none : held_commit buffer (xs ++ e ∷ []) ≡ None =
       held-taken buffer xs e parts.0 parts.1 k (subst (λ (n : ℕ). pending_commit n xs ≡ Some k) same awaits.pending) is
-          in
+      in
       let never : None ≡ Some k = sym none ∙ held in absurd cc

@@ -37,8 +37,11 @@ pub cycles_more : (es : List Entry) (n : ℕ) (e : Entry) → slice_get es n ≡
     → cycles_of (take (n + 1) es) ≡ cycles_of (take n es) + cond (begins_cycle_at e) 1 0
 cycles_more es n e is =
     let h = here es n e is in
-    ap cycles_of h.passed ∙ omega (arith, sum_by-append (λ (x : Entry). cond (begins_cycle_at x) 1 0) (take n es)
-        (e ∷ []))
+    ap cycles_of h.passed ∙ omega (
+      arith,
+      sum_by-append (λ (x : Entry). cond (begins_cycle_at x) 1 0) (take n es)
+          (e ∷ []),
+    )
 
 pub cycles_few : (es : List Entry) (n : ℕ) → n ≤ length es → cycles_of (take n es) ≤ n
 cycles_few es n le = omega (arith, count_by-le-length begins_cycle_at (take n es), length_passed es n le)
@@ -61,7 +64,7 @@ cycles_with es buffer k there = by_entry (slice_get es k) refl there
     by_entry None is on = absurd on
     by_entry (Some e) is on =
         let none : ◌≡◌ {A = ℕ} (cond (begins_cycle_at e) 1 0) 0 =
-            ap (λ (b : Bool). cond b 1 0) (no_cycle buffer e on) in
+        ap (λ (b : Bool). cond b 1 0) (no_cycle buffer e on) in
         omega (arith, cycles_more es k e is, none)
 
 -- ---- what one entry decides
@@ -122,7 +125,7 @@ module _ (buffer k : ℕ) (xs : List Entry) (e : Entry) (rest : List Entry) wher
     where
       cases : (s t u : Bool) → sends k e ≡ s → takes_back k e ≡ t → is_commit_on buffer e ≡ u
           → is_pending (cond s Sent (cond t (Withdrawn cycle number) (cond u (Overwritten cycle number) Pending)))
-              ≡ true
+          ≡ true
           → became_in buffer k xs (e ∷ rest) ≡ became_in buffer k (xs ++ e ∷ []) rest
       cases true t u s_is t_is u_is is = absurd cc
       cases false true u s_is t_is u_is is = absurd cc
@@ -148,7 +151,7 @@ module _ (s : State) (buffer k : ℕ) (legal : IsLegalInterface s) (there : IsCo
     legal_here =
         let h = here s.entries n e is in
         subst (AllAfter (IsLegal s.params s.plan) before) h.left
-            (left_after (IsLegal s.params s.plan) s.entries n legal.legal)
+        (left_after (IsLegal s.params s.plan) s.entries n legal.legal)
 
     long : k < length before
     long = let h = here s.entries n e is in omega (arith, later, h.place)
@@ -157,17 +160,22 @@ module _ (s : State) (buffer k : ℕ) (legal : IsLegalInterface s) (there : IsCo
     there_here =
         let same : slice_get s.entries k ≡ slice_get before k =
         ap (λ (l : List Entry). slice_get l k) (sym (both s.entries n)) ∙ slice_get-front before
-            (drop n s.entries) k long in
+        (drop n s.entries) k long in
         subst (λ (o : Option Entry). IsSomeAnd o (λ e. is_commit_on buffer e ≡ true)) same there
 
     longer : k < length (before ++ e ∷ [])
-    longer = let h = here s.entries n e is in omega (arith, long, ap (length {A = Entry}) h.passed,
-        length_passed s.entries (n + 1) (omega (arith, h.within)), later)
+    longer = let h = here s.entries n e is in omega (
+      arith,
+      long,
+      ap (length {A = Entry}) h.passed,
+      length_passed s.entries (n + 1) (omega (arith, h.within)),
+      later,
+    )
 
     there_then : IsCommitAt buffer (before ++ e ∷ []) k
     there_then =
         subst (λ (o : Option Entry). IsSomeAnd o (λ e. is_commit_on buffer e ≡ true))
-            (sym (slice_get-front before (e ∷ []) k long)) there_here
+        (sym (slice_get-front before (e ∷ []) k long)) there_here
 
     legal_now : IsLegal s.params s.plan before e
     unfolding AllAfter
@@ -197,7 +205,7 @@ module _ (s : State) (buffer k : ℕ) (legal : IsLegalInterface s) (there : IsCo
         → became_in buffer k before (drop n s.entries) ≡ became_in buffer k (take (n + 1) s.entries) behind
     same_then cycle pending =
         at_place ∙ undecided buffer k before e behind cycle n pending ∙ ap
-            (λ (l : List Entry). became_in buffer k l behind) (sym (here s.entries n e is).passed)
+        (λ (l : List Entry). became_in buffer k l behind) (sym (here s.entries n e is).passed)
 
     -- the entry decides
     pub decided : (cycle : ℕ) → cycle ≡ cycles_of before → is_pending (became_with buffer k cycle n e) ≡ false
@@ -211,15 +219,15 @@ module _ (s : State) (buffer k : ℕ) (legal : IsLegalInterface s) (there : IsCo
         cases : (s t u : Bool) → sends k e ≡ s → takes_back k e ≡ t → is_commit_on buffer e ≡ u
             → is_pending (cond s Sent (cond t (Withdrawn cycle n) (cond u (Overwritten cycle n) Pending))) ≡ false
             → cond s Sent (cond t (Withdrawn cycle n) (cond u (Overwritten cycle n) Pending))
-                ≡ became_in buffer k before (e ∷ behind)
+            ≡ became_in buffer k before (e ∷ behind)
         cases true t u s_is t_is u_is found = sym (by_sent buffer k before e behind s_is)
         cases false true u s_is t_is u_is found =
             (λ i. Withdrawn (cycle_is i) (sym number_is i)) ∙ sym
-                (by_withdraw buffer k before e behind s_is t_is (after_withdraw t_is).0)
+            (by_withdraw buffer k before e behind s_is t_is (after_withdraw t_is).0)
         cases false false true s_is t_is u_is found =
             let later = after_commit u_is in
             (λ i. Overwritten (cycle_is i) (sym number_is i)) ∙ sym
-                (by_commit buffer k before e behind s_is t_is u_is later.0 later.1)
+            (by_commit buffer k before e behind s_is t_is u_is later.0 later.1)
         cases false false false s_is t_is u_is found = absurd cc
 
 -- where no entry is left, the commit is pending
@@ -241,7 +249,7 @@ unsent_by k xs (Fetch w a b) is =
     let parts = both_false (is_data_of k a) (is_data_of k b) is in
     let cycle : ℕ = run_cycle (xs ++ Fetch w a b ∷ []) in
     λ i. cond (parts.0 i) (record { cycle = cycle; window = w; channel = A } ∷ []) [] ++ cond (parts.1 i)
-        (record { cycle = cycle; window = w; channel = B } ∷ []) []
+    (record { cycle = cycle; window = w; channel = B } ∷ []) []
 unsent_by k xs (Observe number a b) is = refl
 
 pub unsent_later : (k : ℕ) (xs rest : List Entry) → list_any (sends k) rest ≡ false
@@ -262,7 +270,7 @@ handed_is w node k cycle before (Pop task from) is = refl
 handed_is w node k cycle before (Fetch window a b) is =
     let now : ℕ = run_cycle (before ++ Fetch window a b ∷ []) in
     (λ i. flat_map (sending_text w node) (sending_if k (is i) window A a) ++ flat_map (sending_text w node)
-        (sending_if k (is i) window B b))
+    (sending_if k (is i) window B b))
     ∙ sym (flat_map-append (sending_text w node) (sending_if k now window A a) (sending_if k now window B b))
 handed_is w node k cycle before (Observe number a b) is = refl
 
@@ -272,10 +280,17 @@ pub entry_is : (w : WorldState) (node : ℕ) (es : List Entry) (cycle number : �
     → cycle ≡ cycles_of before → number ≡ length before
     → entry_text w node es cycle number e ≡ flat_map (line_in w es) (commit_by node before e)
 entry_is w node es cycle number before (Commit task buffer payload) cycle_is number_is =
-    let made : ℕ → ℕ → Committed = λ (c n : ℕ). record { node = node; buffer = buffer; task = task; cycle = c; entry =
-        n; payload = payload } in
+    let made : ℕ → ℕ → Committed = λ (c n : ℕ). record {
+      node = node;
+      buffer = buffer;
+      task = task;
+      cycle = c;
+      entry =
+          n;
+      payload = payload;
+    } in
     (λ i. line_in w es (made (cycle_is i) (number_is i))) ∙ sym
-        (append-nil (line_in w es (made (cycles_of before) (length before))))
+    (append-nil (line_in w es (made (cycles_of before) (length before))))
 entry_is w node es cycle number before (Withdraw task buffer of) cycle_is number_is = refl
 entry_is w node es cycle number before (Read task buffer from) cycle_is number_is = refl
 entry_is w node es cycle number before (Pop task from) cycle_is number_is = refl
@@ -302,10 +317,10 @@ module _ (s : State) (buffer k : ℕ) (legal : IsLegalInterface s) (there : IsCo
   unsent_here n e later is on =
       let h = here s.entries n e is in
       let unsent : list_any (sends k) (drop (n + 1) s.entries) ≡ false =
-          (after_commit s buffer k legal there n e later is on).0 in
+      (after_commit s buffer k legal there n e later is on).0 in
       ap (λ (l : List Entry). each_after (sendings_by k) (take n s.entries) l) h.left
       ∙ (λ i. unsent_by k (take n s.entries) e (never e on) i ++ unsent_later k (take n s.entries ++ e ∷ [])
-          (drop (n + 1) s.entries) unsent i)
+      (drop (n + 1) s.entries) unsent i)
     where
       never : (e : Entry) → is_commit_on buffer e ≡ true → sends k e ≡ false
       never (Commit task number payload) on = refl

@@ -33,8 +33,13 @@ there (y ∷ xs) zero x is =
 there (y ∷ xs) (suc n) x is =
     let h = there xs n x is in
     let lt : n < length xs = h.within in
-    record { within = omega (arith, lt); passed = ap (λ (l : List _). y ∷ l) h.passed; left = h.left; place =
-        ap suc h.place }
+    record {
+      within = omega (arith, lt);
+      passed = ap (λ (l : List _). y ∷ l) h.passed;
+      left = h.left;
+      place =
+          ap suc h.place;
+    }
 
 pub here : {X : Type 0} (xs : List X) (n : ℕ) (x : X) → slice_get xs n ≡ Some x → IsHere xs n x
 here xs n x is =
@@ -71,7 +76,7 @@ unfolding AllAfter
 AllAfter-rest P before [] ys all = subst (λ (b : List _). AllAfter P b ys) (sym (append-nil before)) all
 AllAfter-rest P before (x ∷ xs) ys all =
     subst (λ (b : List _). AllAfter P b ys) (append_assoc before (x ∷ []) xs)
-        (AllAfter-rest P (before ++ x ∷ []) xs ys all.1)
+    (AllAfter-rest P (before ++ x ∷ []) xs ys all.1)
 
 pub left_after : {X : Type 0} (P : List X → X → Type 0) (xs : List X) (n : ℕ) → AllAfter P [] xs
     → AllAfter P (take n xs) (drop n xs)
@@ -96,7 +101,7 @@ module _ {X A : Type 0} (f : List X → X → List A) (text : A → List ℕ) (x
       ap (λ (l : List X). flat_map text (each_after f (take n xs) l)) h.left
       ∙ flat_map-append text (f (take n xs) x) (each_after f (take n xs ++ x ∷ []) (drop (n + 1) xs))
       ∙ ap (λ (l : List X). flat_map text (f (take n xs) x) ++ flat_map text (each_after f l (drop (n + 1) xs)))
-          (sym h.passed)
+      (sym h.passed)
 
   pub starts : (all : List ℕ) (old : Option (List ℕ)) (n : ℕ) → text_left n ≡ all → IsWritten all old old n
   starts all old n is = record { then_all = λ new more. subst (λ (t : List ℕ). Appends old new t) is more }
@@ -132,7 +137,7 @@ range_more first (suc count) =
     let place : first + 1 + count ≡ first + suc count = omega arith in
     ap (λ (n : ℕ). range_with_len first n) next
     ∙ ap (λ (xs : List ℕ). first ∷ xs) (range_more (first + 1) count ∙ ap
-        (λ (n : ℕ). range_with_len (first + 1) count ++ n ∷ []) place)
+    (λ (n : ℕ). range_with_len (first + 1) count ++ n ∷ []) place)
 
 -- the texts of one number's list more
 pub one_list_more : {A : Type 0} (text : A → List ℕ) (f : ℕ → List A) (n : ℕ) (old mid new : Option (List ℕ))
@@ -144,7 +149,7 @@ one_list_more text f n old mid new before more =
     ap (flat_map f) (range_more 0 n) ∙ flat_map-append f (range_with_len 0 n) ((0 + n) ∷ [])
     ∙ ap (λ (l : List _). flat_map f (range_with_len 0 n) ++ l) (append-nil (f (0 + n)) ∙ ap f place) in
     subst (λ (t : List ℕ). Appends old new t) (sym
-        (ap (flat_map text) all ∙ flat_map-append text (flat_map f (range_with_len 0 n)) (f n)))
+    (ap (flat_map text) all ∙ flat_map-append text (flat_map f (range_with_len 0 n)) (f n)))
     (Appends-trans old mid new (flat_map text (flat_map f (range_with_len 0 n))) (flat_map text (f n)) before more)
 
 -- ---- an element that a loop has

@@ -19,7 +19,7 @@ module _ (rs : List Recorded) (n : ℕ) (r : Recorded) (lt : n < length rs) (is 
 
   by_front : (front : List Recorded) → take n rs ++ r ∷ [] ≡ front
       → has_struck_after p line (take n rs) (r ∷ drop (n + 1) rs) ≡
-          (has_struck_in p line (cycles_begun front - 1) r || has_struck_after p line front (drop (n + 1) rs))
+      (has_struck_in p line (cycles_begun front - 1) r || has_struck_after p line front (drop (n + 1) rs))
   unfolding has_struck_after
   by_front front same = ap (λ (f : List Recorded). has_struck_in p line (cycles_begun f - 1) r
       || has_struck_after p line f (drop (n + 1) rs)) same
@@ -27,12 +27,12 @@ module _ (rs : List Recorded) (n : ℕ) (r : Recorded) (lt : n < length rs) (is 
   -- the windows that are left, by the first of them
   pub struck_by_next : (begun : ℕ) → begun ≡ cycles_begun (take (n + 1) rs)
       → has_struck_after p line (take n rs) (drop n rs) ≡ (has_struck_in p line (begun - 1) r || has_struck_after p line
-          (take (n + 1) rs) (drop (n + 1) rs))
+      (take (n + 1) rs) (drop (n + 1) rs))
   struck_by_next begun begun_is =
       ap (has_struck_after p line (take n rs)) next_left
       ∙ by_front (take (n + 1) rs) (sym (passed rs n r lt is))
       ∙ ap (λ (b : ℕ). has_struck_in p line (b - 1) r || has_struck_after p line (take (n + 1) rs) (drop (n + 1) rs))
-          (sym begun_is)
+      (sym begun_is)
 
 pub struck_in_none : (p : Parameters) (line : FaultLine) (rs : List Recorded) (n : ℕ) → length rs ≤ n
     → has_struck_after p line (take n rs) (drop n rs) ≡ false
@@ -69,8 +69,8 @@ module _ (p : Parameters) (rs : List Recorded) where
     line_idle none =
         append_assoc idle (number ∷ []) (idle_numbers p rs lines numbers)
         ∙ sym (ap (λ (xs : List ℕ). idle ++ xs) (by_first ∙ ap
-            (λ (b : Bool). cond b (idle_numbers p rs lines numbers) (number ∷ idle_numbers p rs lines numbers)) none))
-            ∙ so_far
+        (λ (b : Bool). cond b (idle_numbers p rs lines numbers) (number ∷ idle_numbers p rs lines numbers)) none))
+        ∙ so_far
 
   none_left : (lines : List FaultLine) (numbers : List ℕ) → (lines ≡ []) ⊎ (numbers ≡ [])
       → idle_numbers p rs lines numbers ≡ []

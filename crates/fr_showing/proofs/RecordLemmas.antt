@@ -17,19 +17,22 @@ module _ (rs : List Recorded) (n : ℕ) (r : Recorded) (lt : n < length rs) (is 
   passed = take_more rs n r lt ∙ ap (λ (x : Recorded). take n rs ++ x ∷ []) (sym is)
 
   pub begun_more : cycles_begun (take (n + 1) rs) ≡ cycles_begun (take n rs) + cond (begins_cycle r) 1 0
-  begun_more = ap cycles_begun passed ∙ omega (arith, sum_by-append (λ (x : Recorded). cond (begins_cycle x) 1 0)
-      (take n rs) (r ∷ []))
+  begun_more = ap cycles_begun passed ∙ omega (
+    arith,
+    sum_by-append (λ (x : Recorded). cond (begins_cycle x) 1 0)
+        (take n rs) (r ∷ []),
+  )
 
   pub window_more : (s : Contents) (p : Parameters) (begun : ℕ) (old mid new : Option (List ℕ))
       → begun ≡ cycles_begun (take (n + 1) rs)
       → Appends old mid (record_text s p (take n rs)) → Appends mid new (window_text s p (begun - 1) r)
-          → Appends old new (record_text s p (take (n + 1) rs))
+      → Appends old new (record_text s p (take (n + 1) rs))
   window_more s p begun old mid new begun_is before more =
       let cycle : begun ≡ cycles_begun (take n rs ++ r ∷ []) = begun_is ∙ ap cycles_begun passed in
       let text : window_text s p (begun - 1) r ≡ window_after s p (take n rs) r =
-          ap (λ (b : ℕ). window_text s p (b - 1) r) cycle in
+      ap (λ (b : ℕ). window_text s p (b - 1) r) cycle in
       let all : record_text s p (take (n + 1) rs) ≡ record_text s p (take n rs) ++ window_after s p (take n rs) r =
       ap (record_text s p) passed ∙ each_after-snoc (window_after s p) (take n rs) r in
       subst (λ (t : List ℕ). Appends old new t) (sym all)
       (Appends-trans old mid new (record_text s p (take n rs)) (window_after s p (take n rs) r) before
-          (subst (λ (t : List ℕ). Appends mid new t) text more))
+      (subst (λ (t : List ℕ). Appends mid new t) text more))

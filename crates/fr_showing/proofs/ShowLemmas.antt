@@ -55,7 +55,7 @@ unwritten d cycles shown text old new (refusal.Text (bench.Midpoint e)) same = s
 pub node_missing : (d : Description) (cycles : ℕ) (shown : Shown) (text : Option (List ℕ)) (file : PlayedFile)
     (e : PlayError) → IfSome text (λ t. IsPlayOf d cycles t (Ok file))
     → (e ≡ refusal.Text bench.Memory) ⊎ ((e ≡ refusal.UnknownNode) × LacksNode shown file)
-        → IfSome text (λ t. Tells d cycles shown t (Err e))
+    → IfSome text (λ t. Tells d cycles shown t (Err e))
 node_missing d cycles shown None file e is why = tt
 node_missing d cycles shown (Some t) file e is (inl memory) =
     subst (λ (x : PlayError). Tells d cycles shown t (Err x)) (sym memory) tt
@@ -66,7 +66,7 @@ node_missing d cycles shown (Some t) file e is (inr (unknown, none)) =
 pub shown_of : (d : Description) (cycles : ℕ) (shown : Shown) (text old new : Option (List ℕ)) (file : PlayedFile)
     (written idle : List ℕ)
     → IfSome text (λ t. IsPlayOf d cycles t (Ok file)) → IsShown shown file written → Appends old new written
-        → idle ≡ idle_lines file
+    → idle ≡ idle_lines file
     → IfSome text (Adds d cycles shown old new idle)
 shown_of d cycles shown None old new file written idle is of_run added told = tt
 shown_of d cycles shown (Some t) old new file written idle is of_run added told =

@@ -65,7 +65,7 @@ starts first all old = record { then_all = λ new more. more; same_any = refl }
 pub goes_on : (first : Bool) (all : List Taker) (old now mid : Option (List ℕ)) (any then : Bool)
     (left part rest : List Taker) → left ≡ part ++ rest
     → Appends now mid (after_commas any part) → then ≡ (any || is_any part) → IsGoing first all old now any left
-        → IsGoing first all old mid then rest
+    → IsGoing first all old mid then rest
 goes_on first all old now mid any then left part rest cut one then_is so_far = record {
   then_all = λ new more.
       so_far.then_all new (
@@ -74,7 +74,7 @@ goes_on first all old now mid any then left part rest cut one then_is so_far = r
       (subst (λ (b : Bool). Appends mid new (after_commas b rest)) then_is more)));
   same_any =
       ap (λ (b : Bool). b || is_any rest) then_is ∙ sym (or_assoc any (is_any part) (is_any rest)) ∙ ap
-          (λ (b : Bool). any || b) (sym (ap is_any cut ∙ any-append part rest))
+      (λ (b : Bool). any || b) (sym (ap is_any cut ∙ any-append part rest))
       ∙ so_far.same_any;
 }
 
@@ -96,18 +96,18 @@ ends_any first all old now any left none so_far =
 pub after_both : {E : Type 0} (r : Result Bool E) (any then : Bool) (old mid new : Option (List ℕ)) (xs ys : List Taker)
     → Appends old mid (after_commas any xs)
     → then ≡ (any || is_any xs) → OnOk r (Appends mid new (after_commas then ys))
-        → OnOk r (Appends old new (after_commas any (xs ++ ys)))
+    → OnOk r (Appends old new (after_commas any (xs ++ ys)))
 after_both (Ok x) any then old mid new xs ys one then_is two =
     subst (λ (t : List ℕ). Appends old new t) (sym (commas-append any xs ys))
     (Appends-trans old mid new (after_commas any xs) (after_commas (any || is_any xs) ys) one
-        (subst (λ (b : Bool). Appends mid new (after_commas b ys)) then_is two))
+    (subst (λ (b : Bool). Appends mid new (after_commas b ys)) then_is two))
 after_both (Err e) any then old mid new xs ys one then_is two = tt
 
 any_both : (any then : Bool) (xs ys : List Taker) → then ≡ (any || is_any xs)
     → (then || is_any ys) ≡ (any || is_any (xs ++ ys))
 any_both any then xs ys then_is =
     ap (λ (b : Bool). b || is_any ys) then_is ∙ sym (or_assoc any (is_any xs) (is_any ys)) ∙ ap (λ (b : Bool). any || b)
-        (sym (any-append xs ys))
+    (sym (any-append xs ys))
 
 -- ---- the words of all
 
@@ -131,11 +131,11 @@ module _ (p : Parameters) (r : Recorded) (node : ℕ) where
 
   buffers_then : (channel : Channel) (number : ℕ) (lines : List Buffer)
       → buffers_by r.window (is_some on_a) (is_some on_b) channel node number lines
-          ≡ buffers_from p r channel node number lines
+      ≡ buffers_from p r channel node number lines
   buffers_then channel number [] = refl
   buffers_then channel number (line ∷ lines) =
       λ i. taker_if (takes_is p r.window (seen_by p r A node) (seen_by p r B node) channel line i) node
-          (Some number) ++ buffers_then channel (number + 1) lines i
+      (Some number) ++ buffers_then channel (number + 1) lines i
 
   pub buffers_is : (a b : Bool) → a ≡ is_some on_a → b ≡ is_some on_b → (channel : Channel) (lines : List Buffer)
       → buffers_by r.window a b channel node 0 lines ≡ buffers_from p r channel node 0 lines
@@ -154,14 +154,14 @@ module _ (p : Parameters) (r : Recorded) (node : ℕ) where
       → a ≡ is_some (data_frame_seen p r.window A (seen_by p r A node))
       → b ≡ is_some (data_frame_seen p r.window B (seen_by p r B node))
       → (plan : Plan) (channel : Channel) (lines : List Buffer) (takes : Bool) → lines ≡ plan.buffers
-          → takes ≡ queue_takes_by plan w a b channel plan.queue
+      → takes ≡ queue_takes_by plan w a b channel plan.queue
       → (buffers_by w a b channel node 0 lines ++ taker_if takes node None) ≡ takers_of p plan r channel node
   takers_is w a b w_is a_is b_is plan channel lines takes lines_is takes_is_so =
       (λ i. buffers_by (w_is i) a b channel node 0 (lines_is i) ++ taker_if (takes_is_so i) node None)
       ∙ (λ i. buffers_is a b a_is b_is channel plan.buffers i ++ taker_if
-          (queue_takes_by plan (w_is i) a b channel plan.queue) node None)
+      (queue_takes_by plan (w_is i) a b channel plan.queue) node None)
       ∙ (λ i. buffers_from p r channel node 0 plan.buffers ++ taker_if
-          (queue_is a b a_is b_is plan channel plan.queue i) node None)
+      (queue_is a b a_is b_is plan channel plan.queue i) node None)
 
 -- ---- what is answered
 

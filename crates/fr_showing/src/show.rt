@@ -32,13 +32,7 @@ fn idle_in(alloc: Global, file: &PlayedFile) -> Result<Vec<u32>, PlayError>
 ///
 /// Refused as `play_file` refuses, and then as `text_of` does. On every refusal but `Write`, which comes where the
 /// writer fails, nothing is written.
-#[tactic(auto, using(
-    crate::proofs::ShowLemmas::unshown_of,
-    crate::proofs::ShowLemmas::unwritten,
-    crate::proofs::ShowLemmas::node_missing,
-    crate::proofs::ShowLemmas::shown_of,
-    crate::proofs::ShowLemmas::can_be_had
-))]
+#[tactic(auto, using(crate::proofs::ShowLemmas::unshown_of, crate::proofs::ShowLemmas::unwritten, crate::proofs::ShowLemmas::node_missing, crate::proofs::ShowLemmas::shown_of, crate::proofs::ShowLemmas::can_be_had))]
 pub fn show_run<R: Read, W: Write>(
     alloc: Global,
     cluster: &Cluster,

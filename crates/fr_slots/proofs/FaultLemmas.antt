@@ -60,9 +60,9 @@ module _ {A : Type 0} (f : ℕ → Option A) where
         | inl same ↦ ap (λ o. option_or o (first_of f (numbers_from (least + 1) more))) (ap f same ∙ found)
         | inr other ↦
             ap (λ o. option_or o (first_of f (numbers_from (least + 1) more)))
-                (before least (omega arith) (omega arith))
+            (before least (omega arith) (omega arith))
             ∙ first-is (least + 1) more n x (omega arith) (omega arith) found
-                (λ k low high. before k (omega arith) high)
+            (λ k low high. before k (omega arith) high)
       ]
 
   pub first-is_none : (least more : ℕ) → ((k : ℕ) → least ≤ k → k < least + more → f k ≡ None)
@@ -84,7 +84,7 @@ module _ {A : Type 0} (f : ℕ → Option A) where
               | inl same ↦ ap f same ∙ none
               | inr other ↦
                   first-none (least + 1) more (ap (λ o. option_or o (first_of f (numbers_from (least + 1) more)))
-                      (sym none) ∙ first) k
+                  (sym none) ∙ first) k
                   (omega arith) (omega arith)
             ]
         | inr some ↦ cc (ap (λ o. option_or o (first_of f (numbers_from (least + 1) more))) some.1, first)
@@ -125,7 +125,7 @@ module _ {A : Type 0} (f : ℕ → Option A) where
             below = omega arith;
             found = some.1 ∙
                 (let e : Some some.0 ≡ Some x = sym (ap (λ o. option_or o (first_of f (numbers_from (least + 1) more)))
-                    some.1) ∙ first in e);
+                some.1) ∙ first in e);
             before = λ k low high. absurd (omega arith);
           },
         )
@@ -179,12 +179,12 @@ module _ (slot : ℕ) (channel : Channel) where
   one_pass : (cycle : ℕ) (own : Own) → is_undivided slot channel own ≡ true → claims slot channel cycle own ≡ true
   one_pass cycle own undivided =
       let (front, every) = and_parts (own.slot == slot && includes own.channels channel)
-          (is_every_cycle own.cycles) undivided in
+      (is_every_cycle own.cycles) undivided in
       let (zero_is, one_is) = and_parts (own.cycles.base == 0) (own.cycles.repetition == 1) every in
       and_from (own.slot == slot && includes own.channels channel) (cycle_admitted own.cycles cycle) front
       (eq-eqb (cycle % own.cycles.repetition) own.cycles.base
       (ap (λ r. cycle % r) (eqb-true own.cycles.repetition 1 one_is) ∙ mod-one cycle ∙ sym
-          (eqb-true own.cycles.base 0 zero_is)))
+      (eqb-true own.cycles.base 0 zero_is)))
 
   owned_always : (owned : List Own) (cycle : ℕ) → is_owned_always owned slot channel ≡ true
       → is_owned owned slot channel cycle ≡ true
@@ -201,7 +201,7 @@ pub none_unowned : (owned : List Own) (f : Filter) (channel : Channel) → is_ow
 none_unowned owned f channel always =
     any-is_none (is_unowned_in owned f channel) 0 64
     (λ cycle. ap (λ b. cycle_admitted f.cycles cycle && not b) (owned_always f.slot channel owned cycle always) ∙ never
-        (cycle_admitted f.cycles cycle))
+    (cycle_admitted f.cycles cycle))
   where
     never : (b : Bool) → (b && false) ≡ false
     never true = refl

@@ -53,7 +53,7 @@ position_from-none test i (y ∷ xs) zero x none at =
     ap test (sym (same_Some y x at))
     ∙ false_from_ne_true (test y)
     (λ pass. let found : Some i ≡ None = sym (cond-true (test y) (Some i) (position_from test (i + 1) xs) pass) ∙ none
-        in cc found)
+    in cc found)
 position_from-none test i (y ∷ xs) (suc n) x none at =
     elim (cases_Bool (test y)) [
       | inl pass ↦ (let found : Some i ≡ None = sym (cond-true (test y) (Some i) (position_from test (i + 1) xs) pass) ∙
@@ -70,7 +70,7 @@ buffer_none : (fault : ℕ → PlanFault) (test : Buffer → Bool) (buffers : Li
     → first_buffer fault test buffers ≡ None → slice_get buffers n ≡ Some b → test b ≡ false
 buffer_none fault test buffers n b none at =
     position_from-none test 0 buffers n b (sym (position_from-zero test buffers) ∙ map_none fault
-        (position test buffers) none) at
+    (position test buffers) none) at
 
 -- ---- two of a list
 
@@ -89,7 +89,7 @@ two_pass-once test (z ∷ xs) (suc m) zero x y none at_m at_n pass_x pass_y =
     (true_from_ne_false (list_any test xs) (λ fail. both_ways (test x) (any_none test xs m x fail at_m) pass_x))))
 two_pass-once test (z ∷ xs) (suc m) (suc n) x y none at_m at_n pass_x pass_y =
     ap suc (two_pass-once test xs m n x y (or_parts (test z && list_any test xs) (two_pass test xs) none).1 at_m at_n
-        pass_x pass_y)
+    pass_x pass_y)
 
 -- ---- slots and channels
 
@@ -117,7 +117,7 @@ no_overlap owned buffers slot channel cycle none in_cycles is_slot =
     let free : overlap_on owned buffers slot channel ≡ None = on_channels (overlap_on owned buffers slot) channel
     (in_slots (overlap_in owned buffers) slot is_slot none) in
     let no : overlap_at owned buffers slot channel cycle ≡ None =
-        first-none (overlap_at owned buffers slot channel) 0 64 free cycle
+    first-none (overlap_at owned buffers slot channel) 0 64 free cycle
     (omega arith) (omega arith) in
     cond_none (is_overlap owned buffers slot channel cycle) (Overlap slot channel cycle) no
 
@@ -159,7 +159,7 @@ fits_static p plan b is right owned = record {
       (and_second (includes b.filter.channels channel) (any_unowned plan.owned b.filter channel)
       (any_channel (is_unowned_on plan.owned b.filter) channel
       (and_second (transmits_static p b) (list_any (is_unowned_on plan.owned b.filter) channels) owned is))
-          includes_it))
+      includes_it))
       admits_it);
 }
 

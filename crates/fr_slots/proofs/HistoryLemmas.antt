@@ -21,7 +21,7 @@ module _ {X : Type 0} where
   last_after-snoc_from f before [] e = rw append-nil (sym (option_or-none (f before e)))
   last_after-snoc_from f before (x ∷ xs) e =
       ap (λ o. option_or o (f before x)) (last_after-snoc_from f (before ++ x ∷ []) xs e ∙ ap
-          (λ (b : List X). option_or (f b e) (last_after f (before ++ x ∷ []) xs)) (append_assoc before (x ∷ []) xs))
+      (λ (b : List X). option_or (f b e) (last_after f (before ++ x ∷ []) xs)) (append_assoc before (x ∷ []) xs))
       ∙ sym (option_or-assoc (f (before ++ x ∷ xs) e) (last_after f (before ++ x ∷ []) xs) (f before x))
 
   pub last_after-snoc : {A : Type 0} (f : List X → X → Option A) (xs : List X) (e : X)
@@ -34,7 +34,7 @@ module _ {X : Type 0} where
   each_after-snoc_from f before [] e = append-nil (f before e) ∙ ap (λ (b : List X). f b e) (sym (append-nil before))
   each_after-snoc_from f before (x ∷ xs) e =
       ap (λ l. f before x ++ l) (each_after-snoc_from f (before ++ x ∷ []) xs e ∙ ap
-          (λ (b : List X). each_after f (before ++ x ∷ []) xs ++ f b e) (append_assoc before (x ∷ []) xs))
+      (λ (b : List X). each_after f (before ++ x ∷ []) xs ++ f b e) (append_assoc before (x ∷ []) xs))
       ∙ sym (append_assoc (f before x) (each_after f (before ++ x ∷ []) xs) (f (before ++ x ∷ xs) e))
 
   pub each_after-snoc : {A : Type 0} (f : List X → X → List A) (xs : List X) (e : X)
@@ -46,11 +46,11 @@ module _ {X : Type 0} where
   unfolding count_after
   count_after-snoc_from test before [] e =
       let same : cond {A = ℕ} (test (before ++ []) e) 1 0 ≡ cond (test before e) 1 0 =
-          ap (λ (b : List X). cond {A = ℕ} (test b e) 1 0) (append-nil before) in
+      ap (λ (b : List X). cond {A = ℕ} (test b e) 1 0) (append-nil before) in
       omega (arith, same)
   count_after-snoc_from test before (x ∷ xs) e =
       let same : cond {A = ℕ} (test ((before ++ x ∷ []) ++ xs) e) 1 0 ≡ cond (test (before ++ x ∷ xs) e) 1 0 =
-          ap (λ (b : List X). cond {A = ℕ} (test b e) 1 0) (append_assoc before (x ∷ []) xs) in
+      ap (λ (b : List X). cond {A = ℕ} (test b e) 1 0) (append_assoc before (x ∷ []) xs) in
       omega (arith, same, count_after-snoc_from test (before ++ x ∷ []) xs e)
 
   pub count_after-snoc : (test : List X → X → Bool) (xs : List X) (e : X)
@@ -61,9 +61,11 @@ module _ {X : Type 0} where
       → P (before ++ xs) e → AllAfter P before (xs ++ e ∷ [])
   unfolding AllAfter
   AllAfter-snoc_from P before [] e all here = (subst (λ (b : List X). P b e) (append-nil before) here, tt)
-  AllAfter-snoc_from P before (x ∷ xs) e all here =
-      (all.0, AllAfter-snoc_from P (before ++ x ∷ []) xs e all.1
-          (subst (λ (b : List X). P b e) (sym (append_assoc before (x ∷ []) xs)) here))
+  AllAfter-snoc_from P before (x ∷ xs) e all here = (
+    all.0,
+    AllAfter-snoc_from P (before ++ x ∷ []) xs e all.1
+        (subst (λ (b : List X). P b e) (sym (append_assoc before (x ∷ []) xs)) here),
+  )
 
   pub AllAfter-snoc : (P : List X → X → Type 0) (xs : List X) (e : X) → AllAfter P [] xs → P xs e
       → AllAfter P [] (xs ++ e ∷ [])
@@ -76,7 +78,7 @@ module _ {X : Type 0} where
   AllAfter-induction P Q before [] start step all = subst Q (sym (append-nil before)) start
   AllAfter-induction P Q before (x ∷ xs) start step all =
       subst Q (append_assoc before (x ∷ []) xs) (AllAfter-induction P Q (before ++ x ∷ []) xs
-          (step before x start all.0) step all.1)
+      (step before x start all.0) step all.1)
 
 pub IfSome-or : {A : Type 0} (P : A → Type 0) (x y : Option A) → IfSome x P → IfSome y P → IfSome (option_or x y) P
 IfSome-or P None y p q = q

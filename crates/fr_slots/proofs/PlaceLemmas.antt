@@ -84,8 +84,13 @@ cut-at [] k x e = absurd (let none : ⊥ = cc in none)
 cut-at (y ∷ xs) zero x e = record { before = []; after = xs; cut = ap (λ z. z ∷ xs) (same_some y x e); place_is = refl }
 cut-at (y ∷ xs) (suc k) x e =
     let c = cut-at xs k x e in
-    record { before = y ∷ c.before; after = c.after; cut = ap (λ (l : List _). y ∷ l) c.cut; place_is =
-        ap suc c.place_is }
+    record {
+      before = y ∷ c.before;
+      after = c.after;
+      cut = ap (λ (l : List _). y ∷ l) c.cut;
+      place_is =
+          ap suc c.place_is;
+    }
 
 module _ {X : Type 0} where
   -- a cut of a history at one of which this holds after those before it
@@ -98,8 +103,14 @@ module _ {X : Type 0} where
 
   first_here : (P : List X → X → Type 0) (before : List X) (x : X) (xs : List X) → P before x
       → IsCutAt P before (x ∷ xs)
-  first_here P before x xs h = record { inner = []; here = x; after = xs; cut = refl; holds =
-      subst (λ (b : List X). P b x) (sym (append-nil before)) h }
+  first_here P before x xs h = record {
+    inner = [];
+    here = x;
+    after = xs;
+    cut = refl;
+    holds =
+        subst (λ (b : List X). P b x) (sym (append-nil before)) h;
+  }
 
   later_cut : (P : List X → X → Type 0) (before : List X) (x : X) (xs : List X) → IsCutAt P (before ++ x ∷ []) xs
       → IsCutAt P before (x ∷ xs)
@@ -120,7 +131,7 @@ module _ {X : Type 0} where
 
   pub each_after-cut : {A : Type 0} (f : List X → X → List A) (before inner : List X) (x : X) (after : List X)
       → each_after f before (inner ++ x ∷ after) ≡ each_after f before inner ++
-          (f (before ++ inner) x ++ each_after f ((before ++ inner) ++ x ∷ []) after)
+      (f (before ++ inner) x ++ each_after f ((before ++ inner) ++ x ∷ []) after)
   unfolding each_after
   each_after-cut f before [] x after = ap (λ (b : List X). f b x ++ each_after f (b ++ x ∷ []) after)
       (sym (append-nil before))
@@ -128,14 +139,14 @@ module _ {X : Type 0} where
       ap (λ l. f before y ++ l) (
       each_after-cut f (before ++ y ∷ []) inner x after
       ∙ ap (λ (b : List X). each_after f (before ++ y ∷ []) inner ++ (f b x ++ each_after f (b ++ x ∷ []) after))
-          (append_assoc before (y ∷ []) inner)
+      (append_assoc before (y ∷ []) inner)
       )
       ∙ sym (append_assoc (f before y) (each_after f (before ++ y ∷ []) inner)
-          (f (before ++ y ∷ inner) x ++ each_after f ((before ++ (y ∷ inner)) ++ x ∷ []) after))
+      (f (before ++ y ∷ inner) x ++ each_after f ((before ++ (y ∷ inner)) ++ x ∷ []) after))
 
   last_step : {A : Type 0} (f : List X → X → Option A) (before : List X) (x : X) (xs : List X) (a : A) (rest : Option A)
       → (rest ≡ Some a → IsCutAt (λ b e. f b e ≡ Some a) (before ++ x ∷ []) xs) → option_or rest (f before x) ≡ Some a
-          → IsCutAt (λ b e. f b e ≡ Some a) before (x ∷ xs)
+      → IsCutAt (λ b e. f b e ≡ Some a) before (x ∷ xs)
   last_step f before x xs a None deeper e = first_here (λ b e. f b e ≡ Some a) before x xs e
   last_step f before x xs a (Some y) deeper e = later_cut (λ b e. f b e ≡ Some a) before x xs (deeper e)
 
@@ -149,9 +160,9 @@ module _ {X : Type 0} where
 
   each_step : {A : Type 0} (f : List X → X → List A) (before : List X) (x : X) (xs : List X) (a : A)
       → ((k : ℕ) → slice_get (each_after f (before ++ x ∷ []) xs) k ≡ Some a
-          → IsCutAt (λ b e. IsAmong (f b e) a) (before ++ x ∷ []) xs)
+      → IsCutAt (λ b e. IsAmong (f b e) a) (before ++ x ∷ []) xs)
       → (IsAmong (f before x) a ⊎ IsAmong (each_after f (before ++ x ∷ []) xs) a)
-          → IsCutAt (λ b e. IsAmong (f b e) a) before (x ∷ xs)
+      → IsCutAt (λ b e. IsAmong (f b e) a) before (x ∷ xs)
   each_step f before x xs a deeper (inl h) = first_here (λ b e. IsAmong (f b e) a) before x xs h
   each_step f before x xs a deeper (inr h) = later_cut (λ b e. IsAmong (f b e) a) before x xs (deeper h.place h.at)
 
@@ -162,7 +173,7 @@ module _ {X : Type 0} where
   each_after-at f before [] k a e = absurd (let none : ⊥ = cc in none)
   each_after-at f before (x ∷ xs) k a e =
       each_step f before x xs a (λ j. each_after-at f (before ++ x ∷ []) xs j a)
-          (among-append (f before x) (each_after f (before ++ x ∷ []) xs) k a e)
+      (among-append (f before x) (each_after f (before ++ x ∷ []) xs) k a e)
 
 -- ---- cuts with their places
 
@@ -198,15 +209,23 @@ module _ {X A : Type 0} (f : List X → X → List A) where
       → IsPlaced before (x ∷ xs) k a
   unfolding each_after
   placed_here before x xs k a e =
-      record { inner = []; here = x; after = xs; cut = refl; place = k; place_is = omega arith; at =
-          ap (λ (b : List X). slice_get (f b x) k) (append-nil before) ∙ e }
+      record {
+        inner = [];
+        here = x;
+        after = xs;
+        cut = refl;
+        place = k;
+        place_is = omega arith;
+        at =
+            ap (λ (b : List X). slice_get (f b x) k) (append-nil before) ∙ e;
+      }
 
   placed_later : (before : List X) (x : X) (xs : List X) (k j : ℕ) (a : A) → length (f before x) + j ≡ k
       → IsPlaced (before ++ x ∷ []) xs j a → IsPlaced before (x ∷ xs) k a
   unfolding each_after
   placed_later before x xs k j a e h =
       let long : length (f before x ++ each_after f (before ++ x ∷ []) h.inner) ≡ length (f before x) + length
-          (each_after f (before ++ x ∷ []) h.inner) =
+      (each_after f (before ++ x ∷ []) h.inner) =
       length-append (f before x) (each_after f (before ++ x ∷ []) h.inner) in
       let place = h.place_is in
       record {
@@ -226,11 +245,11 @@ module _ {X A : Type 0} (f : List X → X → List A) where
   each_after-placed before [] k a e = absurd (let none : ⊥ = cc in none)
   each_after-placed before (x ∷ xs) k a e =
       step (place-append (f before x) (each_after f (before ++ x ∷ []) xs) k a e)
-          (λ j. each_after-placed (before ++ x ∷ []) xs j a)
+      (λ j. each_after-placed (before ++ x ∷ []) xs j a)
     where
       step : ((slice_get (f before x) k ≡ Some a) ⊎ IsInSecond (f before x) (each_after f (before ++ x ∷ []) xs) k a)
           → ((j : ℕ) → slice_get (each_after f (before ++ x ∷ []) xs) j ≡ Some a → IsPlaced (before ++ x ∷ []) xs j a)
-              → IsPlaced before (x ∷ xs) k a
+          → IsPlaced before (x ∷ xs) k a
       step (inl h) deeper = placed_here before x xs k a h
       step (inr h) deeper = placed_later before x xs k h.place a h.place_is (deeper h.place h.at)
 
@@ -250,7 +269,7 @@ AllAfter-at_from P before (y ∷ xs) zero x all e = subst (P (before ++ [])) (sa
     (subst (λ (b : List _). P b y) (sym (append-nil before)) all.0)
 AllAfter-at_from P before (y ∷ xs) (suc k) x all e =
     subst (λ (b : List _). P b x) (append_assoc before (y ∷ []) (take k xs))
-        (AllAfter-at_from P (before ++ y ∷ []) xs k x all.1 e)
+    (AllAfter-at_from P (before ++ y ∷ []) xs k x all.1 e)
 
 pub AllAfter-at : {X : Type 0} (P : List X → X → Type 0) (xs : List X) (k : ℕ) (x : X) → AllAfter P [] xs
     → slice_get xs k ≡ Some x → P (take k xs) x
@@ -271,5 +290,5 @@ front-map f [] rest more xs e few = refl
 front-map f (y ∷ front) rest more [] e few = absurd (let none : ⊥ = omega (arith, few) in none)
 front-map f (y ∷ front) rest more (x ∷ xs) e few =
     let tail = front-map f front rest more xs (same_tail y (f x) (front ++ rest) (map f xs ++ more) e)
-        (omega (arith, few)) in
+    (omega (arith, few)) in
     ap (λ z. z ∷ front) (same_head y (f x) (front ++ rest) (map f xs ++ more) e) ∙ ap (λ (l : List _). f x ∷ l) tail

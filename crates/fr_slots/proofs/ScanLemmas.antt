@@ -58,7 +58,7 @@ module _ {X : Type 0} (g : ℕ → Channel → Option X) where
       → first_of in_slot slots ≡ Some x
   slots-some slot channel x is_slot found before =
       first-is in_slot 1 2047 slot x is_slot.from_one (omega (arith, is_slot.at_most))
-          (some-slot slot channel x found before)
+      (some-slot slot channel x found before)
       (λ s low less. none-before slot s channel less before)
 
 -- ---- places in the order of slots, channels and cycles
@@ -81,7 +81,7 @@ fails-before : (test : ℕ → Channel → ℕ → Bool) (o : Occasion) → IsFi
     → place_of slot channel cycle < place_of o.slot o.channel o.cycle → test slot channel cycle ≡ false
 fails-before test o is slot channel cycle few less =
     false_from_ne_true _ (λ pass. let le = is.first slot channel cycle few pass in let no : ⊥ =
-        omega (arith, le, less) in no)
+    omega (arith, le, less) in no)
 
 -- ---- lists of filters
 
@@ -152,7 +152,7 @@ pub overlap-shared : (owned : List Own) (buffers : List Buffer)
     → IsEither (is_shared (own_filters owned)) (is_shared (transmit_filters buffers)) (is_overlap owned buffers)
 overlap-shared owned buffers slot channel cycle =
     sym (ap (λ b. b || is_shared (transmit_filters buffers) slot channel cycle)
-        (claimed-shared owned slot channel cycle)
+    (claimed-shared owned slot channel cycle)
     ∙ ap (λ b. two_pass (claims slot channel cycle) owned || b) (sent-shared buffers slot channel cycle))
 
 pub overlap-none : (owned : List Own) (buffers : List Buffer) → IsFirst (is_overlap owned buffers) None
@@ -170,15 +170,15 @@ overlap-some owned buffers o is =
     (omega (arith, is.in_cycles))
     (cond-true _ (Some (Overlap o.slot o.channel o.cycle)) None is.passes)
     (λ cycle low less. not-at o.slot o.channel cycle (omega (arith, is.in_cycles))
-        (same-channel o.slot o.channel cycle o.cycle less)))
+    (same-channel o.slot o.channel cycle o.cycle less)))
     (λ slot channel before.
     first-is_none (overlap_at owned buffers slot channel) 0 64
     (λ cycle low high. not-at slot channel cycle (omega arith)
-        (before-all slot channel cycle o.slot o.channel o.cycle (omega arith) before)))
+    (before-all slot channel cycle o.slot o.channel o.cycle (omega arith) before)))
   where
     not-at : (slot : ℕ) (channel : Channel) (cycle : ℕ) → cycle < 64
         → place_of slot channel cycle < place_of o.slot o.channel o.cycle
         → overlap_at owned buffers slot channel cycle ≡ None
     not-at slot channel cycle few less =
         cond-false _ (Some (Overlap slot channel cycle)) None
-            (fails-before (is_overlap owned buffers) o is slot channel cycle few less)
+        (fails-before (is_overlap owned buffers) o is slot channel cycle few less)

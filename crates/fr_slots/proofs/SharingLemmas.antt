@@ -94,25 +94,31 @@ pub IsFirst-earlier : (s t u : Test) (p q : Option Occasion) → IsEither s t u 
     → IsFirst u (earlier p q)
 IsFirst-earlier s t u None None either is_p is_q = λ slot channel cycle in_cycles.
     either slot channel cycle ∙ ap (λ b. b || t slot channel cycle) (is_p slot channel cycle in_cycles)
-        ∙ is_q slot channel cycle in_cycles
+    ∙ is_q slot channel cycle in_cycles
 IsFirst-earlier s t u None (Some q) either is_p is_q =
     IsFirst-right s t u q either is_q (λ slot channel cycle in_cycles pass. absurd
-        (both_ways _ (is_p slot channel cycle in_cycles) pass))
+    (both_ways _ (is_p slot channel cycle in_cycles) pass))
 IsFirst-earlier s t u (Some p) None either is_p is_q =
     IsFirst-left s t u p either is_p (λ slot channel cycle in_cycles pass. absurd
-        (both_ways _ (is_q slot channel cycle in_cycles) pass))
+    (both_ways _ (is_q slot channel cycle in_cycles) pass))
 IsFirst-earlier s t u (Some p) (Some q) either is_p is_q =
     elim (cases_Bool (is_before q p)) [
       | inl before ↦
           rw before
           (IsFirst-right s t u q either is_q
-          (λ slot channel cycle in_cycles pass. omega (arith, ltb-true _ _ before,
-              is_p.first slot channel cycle in_cycles pass)))
+          (λ slot channel cycle in_cycles pass. omega (
+            arith,
+            ltb-true _ _ before,
+            is_p.first slot channel cycle in_cycles pass,
+          )))
       | inr after ↦
           rw after
           (IsFirst-left s t u p either is_p
-          (λ slot channel cycle in_cycles pass. omega (arith, ltb-false _ _ after,
-              is_q.first slot channel cycle in_cycles pass)))
+          (λ slot channel cycle in_cycles pass. omega (
+            arith,
+            ltb-false _ _ after,
+            is_q.first slot channel cycle in_cycles pass,
+          )))
     ]
 
 -- ---- one more in a list
@@ -160,10 +166,10 @@ both_parts : (f g : Filter) (slot : ℕ) (channel : Channel) (cycle : ℕ) → i
 both_parts f g slot channel cycle pass =
     let (in_g, in_f) = and_parts (admits_at slot channel cycle g) (admits_at slot channel cycle f) pass in
     let (front_g, cycle_g) = and_parts (g.slot == slot && includes g.channels channel)
-        (cycle_admitted g.cycles cycle) in_g in
+    (cycle_admitted g.cycles cycle) in_g in
     let (slot_g, channel_g) = and_parts (g.slot == slot) (includes g.channels channel) front_g in
     let (front_f, cycle_f) = and_parts (f.slot == slot && includes f.channels channel)
-        (cycle_admitted f.cycles cycle) in_f in
+    (cycle_admitted f.cycles cycle) in_f in
     let (slot_f, channel_f) = and_parts (f.slot == slot) (includes f.channels channel) front_f in
     record {
       slot_is = eqb-true f.slot slot slot_f;
@@ -232,7 +238,7 @@ first_channel false false channel is = cc is
 both_pass : (f g : Filter) (channel : Channel) (cycle : ℕ) → f.slot ≡ g.slot
     → both_include f.channels g.channels channel ≡ true
     → (cycle_admitted f.cycles cycle && cycle_admitted g.cycles cycle) ≡ true
-        → is_shared_by f g f.slot channel cycle ≡ true
+    → is_shared_by f g f.slot channel cycle ≡ true
 both_pass f g channel cycle same channel_is cycle_is =
     let (channel_f, channel_g) = and_parts (includes f.channels channel) (includes g.channels channel) channel_is in
     let (cycle_f, cycle_g) = and_parts (cycle_admitted f.cycles cycle) (cycle_admitted g.cycles cycle) cycle_is in
@@ -243,10 +249,10 @@ both_pass f g channel cycle same channel_is cycle_is =
 pub some_shared : (f g : Filter) (channel : Channel) (cycle : ℕ) → IsSlot f.slot → f.slot ≡ g.slot
     → common_channel f.channels g.channels ≡ Some channel
     → first_common f.cycles g.cycles ≡ Some cycle → IsFirstAt (is_shared_by f g)
-        (record { slot = f.slot; channel = channel; cycle = cycle })
+    (record { slot = f.slot; channel = channel; cycle = cycle })
 some_shared f g channel cycle is_slot same channel_is cycle_is =
     let picked = first_channel (both_include f.channels g.channels A)
-        (both_include f.channels g.channels B) channel channel_is in
+    (both_include f.channels g.channels B) channel channel_is in
     let (n, number) = first-some (common_in f.cycles g.cycles) 0 64 cycle cycle_is in
     let (common, n_is) = cond_some (cycle_admitted f.cycles n && cycle_admitted g.cycles n) n cycle number.found in
     record {

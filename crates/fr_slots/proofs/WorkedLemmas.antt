@@ -95,7 +95,7 @@ pub twenty_bounds : (map least_of keys ≡ lowest) × (map greatest_of keys ≡ 
     × (list_all (λ key. admits key (pos (least_of key)) && admits key (pos (greatest_of key))) keys ≡ true)
     × (list_any (λ key. admits key (pos (greatest_of key + 1))) keys ≡ false)
     × (list_any (λ key. admits key (pos (least_of key - 1)))
-        (StaticSlots ∷ StaticMt ∷ MinislotMt ∷ NitMt ∷ CycleMt ∷ WordsPerMinislot ∷ []) ≡ false)
+    (StaticSlots ∷ StaticMt ∷ MinislotMt ∷ NitMt ∷ CycleMt ∷ WordsPerMinislot ∷ []) ≡ false)
     × (list_any (λ key. admits key (negsuc 0)) keys ≡ false)
 twenty_bounds = (refl, refl, refl, refl, refl, refl)
 

@@ -10,8 +10,18 @@ use Rattle.fr_status.specs.Status.{status_in, frame_in, valid_frame, content_err
 use Rattle.std.specs.Prelude.{Some}
 
 abbrev one_word : Parameters
-one_word = record { static_slots = 3; minislots = 4; static_words = 1; static_mt = 20; minislot_mt = 5; symbol_mt = 0;
-    nit_mt = 10; cycle_mt = 90; idle = 0; words_per_minislot = 5 }
+one_word = record {
+  static_slots = 3;
+  minislots = 4;
+  static_words = 1;
+  static_mt = 20;
+  minislot_mt = 5;
+  symbol_mt = 0;
+  nit_mt = 10;
+  cycle_mt = 90;
+  idle = 0;
+  words_per_minislot = 5;
+}
 
 -- these bytes on channel A, in this slot of cycle 0
 abbrev IsContentError : ℕ → List ℕ → Type 0

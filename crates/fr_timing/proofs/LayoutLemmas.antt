@@ -40,8 +40,8 @@ unfolding laid_from
 laid_from-append start [] ys = ap (λ n. laid_from n ys) (omega arith)
 laid_from-append start (x ∷ xs) ys =
     ap (λ (rest : List Interval). record { part = x.part; start = start; end = start + x.length } ∷ rest)
-        (laid_from-append (start + x.length) xs ys ∙ ap (λ n. laid_from (start + x.length) xs ++ laid_from n ys)
-        (omega arith))
+    (laid_from-append (start + x.length) xs ys ∙ ap (λ n. laid_from (start + x.length) xs ++ laid_from n ys)
+    (omega arith))
 
 total-numbered : (part : ℕ → Part) (size first count : ℕ) → total (numbered part size (range_with_len first count)) ≡
     count * size
@@ -74,13 +74,13 @@ in_row part size first (suc count) start zero below =
     let rest = laid_from (start + size) (numbered part size (range_with_len (first + 1) count)) in
     subst (λ (i : Interval). Contains (Interval-of part first start (start + size) ∷ rest) i)
     (same_interval part first (first + 0) start (start + 0 * size) (start + size) (start + 0 * size + size)
-        (omega arith) (omega arith) (omega arith))
+    (omega arith) (omega arith) (omega arith))
     (Contains-head _ rest)
 in_row part size first (suc count) start (suc k) below =
     let rest = laid_from (start + size) (numbered part size (range_with_len (first + 1) count)) in
     subst (λ (i : Interval). Contains (Interval-of part first start (start + size) ∷ rest) i)
     (same_interval part (first + 1 + k) (first + suc k) (start + size + k * size) (start + suc k * size)
-        (start + size + k * size + size) (start + suc k * size + size) (omega arith) (omega arith) (omega arith))
+    (start + size + k * size + size) (start + suc k * size + size) (omega arith) (omega arith) (omega arith))
     (Contains-tail _ _ rest (in_row part size (first + 1) count (start + size) k (omega arith)))
 
 -- each interval of a row is one of these
@@ -101,13 +101,25 @@ of_row part size first (suc count) start i h =
     elim (Contains-append_cases (Interval-of part first start (start + size) ∷ []) rest i h) [
       | inl here ↦
           let same = Contains-one (Interval-of part first start (start + size)) i here in
-          record { k = 0; below = omega arith; part_is = sym (ap (λ (x : Interval). x.part) same) ∙ ap part
-              (omega arith); start_is = sym (ap (λ (x : Interval). x.start) same) ∙ omega arith; end_is =
-              sym (ap (λ (x : Interval). x.end) same) ∙ omega arith }
+          record {
+            k = 0;
+            below = omega arith;
+            part_is = sym (ap (λ (x : Interval). x.part) same) ∙ ap part
+                (omega arith);
+            start_is = sym (ap (λ (x : Interval). x.start) same) ∙ omega arith;
+            end_is =
+                sym (ap (λ (x : Interval). x.end) same) ∙ omega arith;
+          }
       | inr later ↦
           let w = of_row part size (first + 1) count (start + size) i later in
-          record { k = suc w.k; below = omega arith; part_is = w.part_is ∙ ap part (omega arith); start_is =
-              omega arith; end_is = omega arith }
+          record {
+            k = suc w.k;
+            below = omega arith;
+            part_is = w.part_is ∙ ap part (omega arith);
+            start_is =
+                omega arith;
+            end_is = omega arith;
+          }
     ]
 
 -- ---- the whole layout
@@ -137,12 +149,15 @@ layout-parts p =
     let a = numbered static_slot p.static_mt (range_with_len 1 p.static_slots) in
     let b = numbered minislot p.minislot_mt (range_with_len 1 p.minislots) in
     let c : List Stretch = record { part = symbol_window; length = p.symbol_mt } ∷
-        record { part = idle_time; length = p.nit_mt } ∷ [] in
+    record { part = idle_time; length = p.nit_mt } ∷ [] in
     let after_a : 0 + total a ≡ dynamic_start p = omega (arith, total-numbered static_slot p.static_mt 1 p.static_slots)
-        in
-    let after_b : 0 + total (a ++ b) ≡ symbol_start p = omega
-        (arith, total-append a b, total-numbered static_slot p.static_mt 1 p.static_slots,
-        total-numbered minislot p.minislot_mt 1 p.minislots) in
+    in
+    let after_b : 0 + total (a ++ b) ≡ symbol_start p = omega (
+      arith,
+      total-append a b,
+      total-numbered static_slot p.static_mt 1 p.static_slots,
+      total-numbered minislot p.minislot_mt 1 p.minislots,
+    ) in
     laid_from-append 0 (a ++ b) c
     ∙ ap (λ (xs : List Interval). xs ++ laid_from (0 + total (a ++ b)) c) (laid_from-append 0 a b)
     ∙ ap (λ n. laid_from 0 a ++ laid_from n b ++ laid_from (0 + total (a ++ b)) c) after_a
@@ -179,7 +194,7 @@ data Kind (p : Parameters) (i : Interval) : Type 0 where
 kind_of : (p : Parameters) (i : Interval) → Contains (layout p) i → Kind p i
 kind_of p i h =
     let parts : Contains (static_row p ++ dynamic_row p ++ last_two p) i =
-        subst (λ (xs : List Interval). Contains xs i) (layout-parts p) h in
+    subst (λ (xs : List Interval). Contains xs i) (layout-parts p) h in
     elim (Contains-append_cases (static_row p ++ dynamic_row p) (last_two p) i parts) [
       | inl segments ↦
           elim (Contains-append_cases (static_row p) (dynamic_row p) i segments) [
@@ -196,13 +211,17 @@ kind_of p i h =
 names_in_row : (part : ℕ → Part) (same : (a b : ℕ) → part a ≡ part b → a ≡ b) (size start count number offset m : ℕ)
     (i : Interval)
     → IsInRow part size 1 start count i → i.part ≡ part number → i.start + offset ≡ m → m < i.end
-        → IsNamed start count size number offset m
+    → IsNamed start count size number offset m
 names_in_row part same size start count number offset m i w is from before =
     let at : number ≡ 1 + w.k = same number (1 + w.k) (sym is ∙ w.part_is) in
     let less : number - 1 ≡ w.k = omega arith in
     let k_is : start + (number - 1) * size ≡ start + w.k * size = ap (λ n. start + n * size) less in
-    record { from_one = omega arith; at_most = omega (arith, w.below); short = omega (arith, w.start_is, w.end_is);
-        sum_is = omega (arith, w.start_is, k_is) }
+    record {
+      from_one = omega arith;
+      at_most = omega (arith, w.below);
+      short = omega (arith, w.start_is, w.end_is);
+      sum_is = omega (arith, w.start_is, k_is);
+    }
 
 names_alone : (size start end offset m : ℕ) → end ≡ start + size → start + offset ≡ m → m < end
     → IsNamed start 1 size 1 offset m
@@ -300,8 +319,12 @@ layout_from_names p m (Idle offset) h =
 row_found : (first count size number offset m : ℕ) → start_in_row first count size number offset ≡ Some m
     → IsNamed first count size number offset m
 row_found first count size number offset m e =
-    record { from_one = grind (arith, nat_tests); at_most = grind (arith, nat_tests); short = grind (arith, nat_tests);
-        sum_is = grind (arith, nat_tests) }
+    record {
+      from_one = grind (arith, nat_tests);
+      at_most = grind (arith, nat_tests);
+      short = grind (arith, nat_tests);
+      sum_is = grind (arith, nat_tests);
+    }
 
 row_only : (first count size number offset m : ℕ) → IsNamed first count size number offset m
     → start_in_row first count size number offset ≡ Some m
@@ -372,7 +395,7 @@ row_divided : (first count size number offset m : ℕ) → IsNamed first count s
 row_divided first count size number offset m h =
     let from_first : m - first ≡ (number - 1) * size + offset = omega arith in
     let inside : (number - 1) * size + offset < size * count =
-        mul-add-lt (number - 1) size offset count (omega arith) h.short in
+    mul-add-lt (number - 1) size offset count (omega arith) h.short in
     record {
       from = omega arith;
       until = omega arith;
@@ -405,8 +428,13 @@ data Located (p : Parameters) (m : ℕ) : Type 0 where
   behind : place_at p m ≡ None → p.cycle_mt ≤ m → Located p m
 
 alone_at : (start size m : ℕ) → start ≤ m → m < start + size → IsNamed start 1 size 1 (m - start) m
-alone_at start size m from until = record { from_one = omega arith; at_most = omega arith; short = omega arith; sum_is =
-    omega arith }
+alone_at start size m from until = record {
+  from_one = omega arith;
+  at_most = omega arith;
+  short = omega arith;
+  sum_is =
+      omega arith;
+}
 
 located : (p : Parameters) → IsParameters p → (m : ℕ) → Located p m
 located p lawful m =
@@ -415,14 +443,14 @@ located p lawful m =
           at (Static (m / p.static_mt + 1) (m % p.static_mt)) (place-static p m in_static)
           (subst (λ n. IsNamed 0 p.static_slots p.static_mt (n / p.static_mt + 1) (n % p.static_mt) m) (from_zero m)
           (row_divides 0 p.static_slots p.static_mt m (omega (arith, lawful.static_mt_fit.from_least)) (omega arith)
-              (omega arith)))
+          (omega arith)))
       | inr after_static ↦
           elim (cases_lt m (symbol_start p)) [
             | inl in_dynamic ↦
                 at (Minislot ((m - dynamic_start p) / p.minislot_mt + 1) ((m - dynamic_start p) % p.minislot_mt))
-                    (place-dynamic p m after_static in_dynamic)
+                (place-dynamic p m after_static in_dynamic)
                 (row_divides (dynamic_start p) p.minislots p.minislot_mt m
-                    (omega (arith, lawful.minislot_mt_fit.from_least)) after_static in_dynamic)
+                (omega (arith, lawful.minislot_mt_fit.from_least)) after_static in_dynamic)
             | inr after_dynamic ↦
                 elim (cases_lt m (idle_start p)) [
                   | inl in_symbol ↦ at (Symbol (m - symbol_start p)) (place-symbol p m after_dynamic in_symbol)
@@ -442,8 +470,11 @@ names_end : (p : Parameters) → IsParameters p → (m : ℕ) (x : Place) → Na
 names_end p lawful m (Static slot offset) h =
     omega (arith, (row_divided 0 p.static_slots p.static_mt slot offset m h).until, lawful.fills_the_cycle)
 names_end p lawful m (Minislot number offset) h =
-    omega (arith, (row_divided (dynamic_start p) p.minislots p.minislot_mt number offset m h).until,
-        lawful.fills_the_cycle)
+    omega (
+      arith,
+      (row_divided (dynamic_start p) p.minislots p.minislot_mt number offset m h).until,
+      lawful.fills_the_cycle,
+    )
 names_end p lawful m (Symbol offset) h = omega (arith, lawful.fills_the_cycle)
 names_end p lawful m (Idle offset) h = omega (arith, lawful.fills_the_cycle)
 

@@ -66,9 +66,9 @@ params_read : (v : Version) (p : Parameters) → IsParameters p
 params_read v p is =
     let head : take_bytes fresh (head_text v) ≡ reading (params v) [] =
     next_line fresh [] (first_line v) magic (params v) refl refl (first_no_feed v) (first_short v)
-        (ap after_magic (version_again v)) in
+    (ap after_magic (version_again v)) in
     next_line fresh (head_text v) (line_of (params_words p)) (params v) (node v p) head refl (params_no_feed p is)
-        (params_short p is)
+    (params_short p is)
     (ap (after_numbers v) (params_line_again p is) ∙ ap (after_parameters v) (parameters_again p is))
 
 -- ---- the plan
@@ -77,7 +77,7 @@ node_read : (v : Version) (p : Parameters) (plan : Plan) → IsParameters p → 
     → take_bytes fresh (params_text v p ++ line_text (node_words plan)) ≡ reading (lines v p (bare_plan plan)) []
 node_read v p plan is plan_is =
     next_line fresh (params_text v p) (line_of (node_words plan)) (node v p) (lines v p (bare_plan plan))
-        (params_read v p is) refl (node_no_feed plan plan_is) (node_short plan plan_is)
+    (params_read v p is) refl (node_no_feed plan plan_is) (node_short plan plan_is)
     (ap (after_node v p) (node_line_again plan plan_is))
 
 bare_read : (v : Version) (p : Parameters) (plan : Plan) → IsParameters p → IsPlan plan
@@ -93,67 +93,79 @@ own_line_read : (v : Version) (p : Parameters) (plan : Plan) (o : Own) → plan.
     → length plan.owned < 64 → IsSpelledOwn o → tells_own v o ≡ true
     → take_line (lines v p plan) (line_of (own_words v o)) ≡ Ok (lines v p (with_own plan o))
 own_line_read v p plan o no_buffer no_queue room spelled told =
-    rw (own_not_begin v o, own_told v (words_of (line_of (own_words v o))) o (own_line_again v o spelled told),
-        no_buffer, no_queue, own_taken plan o spelled.fits room) refl
+    rw (
+      own_not_begin v o,
+      own_told v (words_of (line_of (own_words v o))) o (own_line_again v o spelled told),
+      no_buffer,
+      no_queue,
+      own_taken plan o spelled.fits room,
+    ) refl
 
 -- further ownership lines
 owned_read : (v : Version) (p : Parameters) (plan : Plan) (more before : List Own) → length before + length more ≤ 64
     → AllFit own_fits more → Each IsOwn more → AreOwnedTold v more
     → take_bytes fresh (plan_text v p (with_lines plan before [])) ≡ reading (lines v p (with_lines plan before [])) []
     → take_bytes fresh (plan_text v p (with_lines plan (before ++ more) [])) ≡ reading
-        (lines v p (with_lines plan (before ++ more) [])) []
+    (lines v p (with_lines plan (before ++ more) [])) []
 owned_read v p plan [] before few fit ranges told came =
     subst (λ (owned : List Own). take_bytes fresh (plan_text v p (with_lines plan owned [])) ≡ reading
-        (lines v p (with_lines plan owned [])) []) (sym (append-nil before)) came
+    (lines v p (with_lines plan owned [])) []) (sym (append-nil before)) came
 owned_read v p plan (o ∷ more) before few fit ranges told came =
     let spelled : IsSpelledOwn o = record { is = ranges.0; fits = fit.0 } in
     let here = with_lines plan before [] in
     let next : take_bytes fresh (plan_text v p (with_own here o)) ≡ reading (lines v p (with_own here o)) [] =
     ap (take_bytes fresh) (own_text v p here o refl refl)
     ∙ next_line fresh (plan_text v p here) (line_of (own_words v o)) (lines v p here)
-        (lines v p (with_own here o)) came refl (own_no_feed v o spelled) (own_short v o spelled)
+    (lines v p (with_own here o)) came refl (own_no_feed v o spelled) (own_short v o spelled)
     (own_line_read v p here o refl refl (omega arith) spelled told.0) in
     subst (λ (owned : List Own). take_bytes fresh (plan_text v p (with_lines plan owned [])) ≡ reading
-        (lines v p (with_lines plan owned [])) []) (append_assoc before (o ∷ []) more)
+    (lines v p (with_lines plan owned [])) []) (append_assoc before (o ∷ []) more)
     (owned_read v p plan more (before ++ o ∷ []) (omega (arith, length-append before (o ∷ []))) fit.1 ranges.1 told.1
-        next)
+    next)
 
 buffer_line_read : (v : Version) (p : Parameters) (plan : Plan) (b : Buffer) → plan.queue ≡ None
     → length plan.buffers < 64 → IsSpelledBuffer b → take_line (lines v p plan) (line_of (buffer_words b)) ≡ Ok
     (lines v p (with_buffer plan b))
 buffer_line_read v p plan b none room spelled =
-    rw (buffer_not_begin b, buffer_told v (words_of (line_of (buffer_words b))) b (buffer_line_again b spelled), none,
-        buffer_taken plan b spelled.fits room) refl
+    rw (
+      buffer_not_begin b,
+      buffer_told v (words_of (line_of (buffer_words b))) b (buffer_line_again b spelled),
+      none,
+      buffer_taken plan b spelled.fits room,
+    ) refl
 
 -- further buffers
 buffers_read : (v : Version) (p : Parameters) (plan : Plan) (owned : List Own) (more before : List Buffer)
     → length before + length more ≤ 64 → AllFit buffer_fits more → Each IsBuffer more
     → take_bytes fresh (plan_text v p (with_lines plan owned before)) ≡ reading
-        (lines v p (with_lines plan owned before)) []
+    (lines v p (with_lines plan owned before)) []
     → take_bytes fresh (plan_text v p (with_lines plan owned (before ++ more))) ≡ reading
-        (lines v p (with_lines plan owned (before ++ more))) []
+    (lines v p (with_lines plan owned (before ++ more))) []
 buffers_read v p plan owned [] before few fit ranges came =
     subst (λ (buffers : List Buffer). take_bytes fresh (plan_text v p (with_lines plan owned buffers)) ≡ reading
-        (lines v p (with_lines plan owned buffers)) []) (sym (append-nil before)) came
+    (lines v p (with_lines plan owned buffers)) []) (sym (append-nil before)) came
 buffers_read v p plan owned (b ∷ more) before few fit ranges came =
     let spelled : IsSpelledBuffer b = record { is = ranges.0; fits = fit.0 } in
     let here = with_lines plan owned before in
     let next : take_bytes fresh (plan_text v p (with_buffer here b)) ≡ reading (lines v p (with_buffer here b)) [] =
     ap (take_bytes fresh) (buffer_text v p here b refl)
     ∙ next_line fresh (plan_text v p here) (line_of (buffer_words b)) (lines v p here)
-        (lines v p (with_buffer here b)) came refl (buffer_no_feed b spelled) (buffer_short b spelled)
+    (lines v p (with_buffer here b)) came refl (buffer_no_feed b spelled) (buffer_short b spelled)
     (buffer_line_read v p here b refl (omega arith) spelled) in
     subst (λ (buffers : List Buffer). take_bytes fresh (plan_text v p (with_lines plan owned buffers)) ≡ reading
-        (lines v p (with_lines plan owned buffers)) []) (append_assoc before (b ∷ []) more)
+    (lines v p (with_lines plan owned buffers)) []) (append_assoc before (b ∷ []) more)
     (buffers_read v p plan owned more (before ++ b ∷ []) (omega (arith, length-append before (b ∷ []))) fit.1 ranges.1
-        next)
+    next)
 
 -- the queue
 queue_line_read : (v : Version) (p : Parameters) (plan : Plan) (q : Queue) → plan.queue ≡ None → IsSpelledQueue q
     → take_line (lines v p plan) (line_of (queue_words q)) ≡ Ok (lines v p (with_queue plan q))
 queue_line_read v p plan q none spelled =
-    rw (queue_not_begin q, queue_told v (words_of (line_of (queue_words q))) q (queue_line_again q spelled),
-        queue_taken plan q spelled.fits none) refl
+    rw (
+      queue_not_begin q,
+      queue_told v (words_of (line_of (queue_words q))) q (queue_line_again q spelled),
+      queue_taken plan q spelled.fits none,
+    ) refl
 
 abbrev with_queue_or_none : Plan → Option Queue → Plan
 with_queue_or_none plan o = record plan { queue = o }
@@ -178,7 +190,7 @@ queue_read v p plan (Some q) none fits ranges came =
     let spelled : IsSpelledQueue q = record { is = ranges; fits = fits } in
     ap (take_bytes fresh) (queue_text v p plan q none)
     ∙ next_line fresh (plan_text v p plan) (line_of (queue_words q)) (lines v p plan)
-        (lines v p (with_queue plan q)) came refl (queue_no_feed q spelled) (queue_short q spelled)
+    (lines v p (with_queue plan q)) came refl (queue_no_feed q spelled) (queue_short q spelled)
     (queue_line_read v p plan q none spelled)
 
 plan_read : (v : Version) (p : Parameters) (plan : Plan) → IsParameters p → IsPlan plan → AreOwnedTold v plan.owned
@@ -187,9 +199,9 @@ plan_read v p plan is plan_is told =
     let few_owned = plan_is.few_owned in
     let few_buffers = plan_is.few_buffers in
     let owned = owned_read v p plan plan.owned [] (omega arith) plan_is.owned_fit plan_is.owned_are told
-        (bare_read v p plan is plan_is) in
+    (bare_read v p plan is plan_is) in
     let buffers = buffers_read v p plan plan.owned plan.buffers []
-        (omega arith) plan_is.buffers_fit plan_is.buffers_are owned in
+    (omega arith) plan_is.buffers_fit plan_is.buffers_are owned in
     queue_read v p (with_lines plan plan.owned plan.buffers) plan.queue refl plan_is.queue_fits plan_is.queue_is buffers
 
 begin_read : (v : Version) (p : Parameters) (plan : Plan) → IsParameters p → IsPlan plan → AreOwnedTold v plan.owned
@@ -197,8 +209,8 @@ begin_read : (v : Version) (p : Parameters) (plan : Plan) → IsParameters p →
     (body v (record { params = p; plan = plan; entries = [] })) []
 begin_read v p plan is plan_is told faultless =
     next_line fresh (plan_text v p plan) begin_line (lines v p plan)
-        (body v (record { params = p; plan = plan; entries = [] })) (plan_read v p plan is plan_is told) refl refl
-        (omega arith)
+    (body v (record { params = p; plan = plan; entries = [] })) (plan_read v p plan is plan_is told) refl refl
+    (omega arith)
     (rw faultless refl)
 
 -- ---- entries
@@ -240,21 +252,21 @@ entries_read : (v : Version) (p : Parameters) (plan : Plan) (items before : List
     → AllAfter (IsLegal p plan) before items → AllAfter (λ _ e. IsEntry e) before items → AreTold v items
     → take_bytes fresh front ≡ reading (body v (record { params = p; plan = plan; entries = before })) []
     → take_bytes fresh (front ++ flat_map entry_line items) ≡ reading
-        (body v (record { params = p; plan = plan; entries = before ++ items })) []
+    (body v (record { params = p; plan = plan; entries = before ++ items })) []
 unfolding AllAfter
 entries_read v p plan [] before front plan_is legal ranges told came =
     ap (take_bytes fresh) (append-nil front) ∙ came ∙ ap (λ xs. reading
-        (body v (record { params = p; plan = plan; entries = xs })) []) (sym (append-nil before))
+    (body v (record { params = p; plan = plan; entries = xs })) []) (sym (append-nil before))
 entries_read v p plan (e ∷ items) before front plan_is legal ranges told came =
     let s : State = record { params = p; plan = plan; entries = before } in
     let spelled = spelled_entry s e plan_is ranges.0 legal.0 in
     let next : take_bytes fresh (front ++ entry_line e) ≡ reading (body v (with_entry s e)) [] =
     next_line fresh front (line_of (entry_words e)) (body v s) (body v (with_entry s e)) came refl
-        (entry_no_feed e spelled) (entry_short e spelled) (entry_line_read v s e plan_is ranges.0 legal.0 told.0) in
+    (entry_no_feed e spelled) (entry_short e spelled) (entry_line_read v s e plan_is ranges.0 legal.0 told.0) in
     ap (take_bytes fresh) (sym (append_assoc front (entry_line e) (flat_map entry_line items)))
     ∙ entries_read v p plan items (before ++ e ∷ []) (front ++ entry_line e) plan_is legal.1 ranges.1 told.1 next
     ∙ ap (λ xs. reading (body v (record { params = p; plan = plan; entries = xs })) [])
-        (append_assoc before (e ∷ []) items)
+    (append_assoc before (e ∷ []) items)
 
 -- ---- the whole text
 
@@ -263,7 +275,7 @@ pub text_again : (v : Version) (s : State) → IsLegalInterface s → AreOwnedTo
 text_again v s is owned told =
     let begun = begin_read v s.params s.plan is.params_are is.plan_is owned is.faultless in
     let entries = entries_read v s.params s.plan s.entries []
-        (begin_text v s.params s.plan) is.plan_is is.legal is.entries_are told begun in
+    (begin_text v s.params s.plan) is.plan_is is.legal is.entries_are told begun in
     next_line fresh (body_text v s) end_line (body v s) (finished v s) entries refl refl (omega arith) refl
 
 -- its line feed of `begin` comes after the plan
@@ -272,12 +284,15 @@ pub text_begins : (v : Version) (s : State) → IsLegalInterface s → AreOwnedT
 text_begins v s is owned =
     let front = plan_text v s.params s.plan ++ begin_line in
     let before : take_bytes fresh (plan_text v s.params s.plan) ≡ reading (lines v s.params s.plan) [] =
-        plan_read v s.params s.plan is.params_are is.plan_is owned in
+    plan_read v s.params s.plan is.params_are is.plan_is owned in
     let at : take_bytes fresh front ≡ reading (lines v s.params s.plan) begin_line =
-        fold-append take_byte fresh (plan_text v s.params s.plan) begin_line ∙ ap
-        (λ p. take_bytes p begin_line) before in
-    let begins : Begins fresh (begin_text v s.params s.plan) =
-    (front, [], sym (append_assoc (plan_text v s.params s.plan) begin_line line_feed),
-        subst IsAtBegin (sym at) (refl, is.faultless)) in
+    fold-append take_byte fresh (plan_text v s.params s.plan) begin_line ∙ ap
+    (λ p. take_bytes p begin_line) before in
+    let begins : Begins fresh (begin_text v s.params s.plan) = (
+      front,
+      [],
+      sym (append_assoc (plan_text v s.params s.plan) begin_line line_feed),
+      subst IsAtBegin (sym at) (refl, is.faultless),
+    ) in
     begins_before fresh (body_text v s) (end_line ++ line_feed)
-        (begins_before fresh (begin_text v s.params s.plan) (flat_map entry_line s.entries) begins)
+    (begins_before fresh (begin_text v s.params s.plan) (flat_map entry_line s.entries) begins)

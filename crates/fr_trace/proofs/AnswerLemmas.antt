@@ -92,7 +92,7 @@ made-answered s (Read task buffer from) h = ap (Read task buffer)
 made-answered s (Pop task from) h = ap (Pop task) (same_origin_is (option_map origin_of (oldest_of s)) from h)
 made-answered s (Fetch window a b) h =
     let parts = and_parts (same_offered (offered s.plan s.entries window A) a)
-        (same_offered (offered s.plan s.entries window B) b) h in
+    (same_offered (offered s.plan s.entries window B) b) h in
     let offer_a = same_offered_is (offered s.plan s.entries window A) a parts.0 in
     let offer_b = same_offered_is (offered s.plan s.entries window B) b parts.1 in
     λ i. Fetch window (offer_a i) (offer_b i)
@@ -160,7 +160,7 @@ pop_queued : (s : State) (o : Option Queue) (from : Option Origin)
     → IsSomeAnd o (λ q. from ≡ option_map origin_of (oldest q.capacity (moves s.params s.plan q s.entries)))
     → is_host_full s ≡ false
     → (unless_queued s o ≡ None) × (option_map origin_of (option_and_then
-        (λ q. oldest q.capacity (moves s.params s.plan q s.entries)) o) ≡ from)
+    (λ q. oldest q.capacity (moves s.params s.plan q s.entries)) o) ≡ from)
 pop_queued s None from h room = absurd h
 pop_queued s (Some q) from h room = (rw room refl, sym h)
 
@@ -182,9 +182,9 @@ legal_fetch : (s : State) (window : Opportunity) (a b : Offered) → IsLegalFetc
     → (is_refused s (Fetch window a b) ≡ false) × (is_answered s (Fetch window a b) ≡ true)
 legal_fetch s window a b legal =
     let above : is_not_above window.number (last_number s.entries) ≡ false =
-        not_above window.number (last_number s.entries) legal.later in
+    not_above window.number (last_number s.entries) legal.later in
     let room : ltb s.plan.slot_entries (count_by is_slot s.entries + 2) ≡ false =
-        le-ltb s.plan.slot_entries (count_by is_slot s.entries + 2) legal.room in (
+    le-ltb s.plan.slot_entries (count_by is_slot s.entries + 2) legal.room in (
       no_refusal (fetch_refusal s window) (rw (legal.closed, legal.fits, above, room) refl),
       rw (← legal.offer_a, ← legal.offer_b, offered_again a, offered_again b) refl,
     )
@@ -197,14 +197,20 @@ closes number (Some w) h = rw (eq-eqb w.number number h) refl
 
 pub legal_accepted : (s : State) (e : Entry) → IsLegal s.params s.plan s.entries e
     → (is_refused s e ≡ false) × (is_answered s e ≡ true)
-legal_accepted s (Commit task buffer payload) legal = (no_refusal (commit_refusal s task buffer payload)
-    (legal_commit s task buffer payload legal), refl)
+legal_accepted s (Commit task buffer payload) legal = (
+  no_refusal (commit_refusal s task buffer payload)
+      (legal_commit s task buffer payload legal),
+  refl,
+)
 legal_accepted s (Withdraw task buffer of) legal = legal_withdraw s task buffer of legal
 legal_accepted s (Read task buffer from) legal = legal_read s task buffer from legal
 legal_accepted s (Pop task from) legal = legal_pop s task from legal
 legal_accepted s (Fetch window a b) legal = legal_fetch s window a b legal
-legal_accepted s (Observe window a b) legal = (no_refusal (observe_refusal s window)
-    (closes window (open_window s.entries) legal), refl)
+legal_accepted s (Observe window a b) legal = (
+  no_refusal (observe_refusal s window)
+      (closes window (open_window s.entries) legal),
+  refl,
+)
 
 pub no_fault : (line : ℕ) (s : State) (e : Entry) → IsLegal s.params s.plan s.entries e → fault_of line s e ≡ None
 no_fault line s e legal = let fine = legal_accepted s e legal in rw (fine.0, fine.1) refl

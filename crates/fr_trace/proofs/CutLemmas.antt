@@ -39,7 +39,7 @@ overflow p line (b ∷ more) opened plain fits long =
           ap (λ s. take_bytes s more) one ∙ stays_failed (too_long p) more
       | inr left ↦
           let one : take_in p line b ≡ reading p (line ++ b ∷ []) =
-              take_in-open p line b opened ∙ rw (other, left) refl in
+          take_in-open p line b opened ∙ rw (other, left) refl in
           let len = length-append line (b ∷ []) in
           let room : length line ≢ 1200 = λ e. cc (sym left ∙ eq-eqb (length line) 1200 e) in
           ap (λ s. take_bytes s more) one ∙ overflow p (line ++ b ∷ []) more opened parts.1 (omega arith) (omega arith)
@@ -62,7 +62,7 @@ direct_open : (p : Phase) (line rest : List ℕ) (new : Progress) → is_open p 
 direct_open p line rest new opened empty plain fits ends =
     subst (λ (l : List ℕ). Reads (reading p l) (rest ++ 10 ∷ []) new) (sym empty)
     (reads_more (reading p []) rest (10 ∷ []) (reading p rest) new
-        (inl (sym (fill p rest [] opened plain (omega arith)))) (feed_read p rest new opened ends))
+    (inl (sym (fill p rest [] opened plain (omega arith)))) (feed_read p rest new opened ends))
 
 -- a whole line at once
 pub direct_read : (old : Progress) (rest : List ℕ) (new : Progress) → held old ≡ [] → has_no_feed rest ≡ true
@@ -136,20 +136,20 @@ finished_more None p line old bytes n v s is fine ended n_is some =
 pub longer_more : (fault : Option TraceError) (p : Given) (line : List ℕ) (old : Progress) (bytes : List ℕ)
     (e : TraceError) → progress_in fault (phase_of p) line ≡ old → is_some fault ≡ false
     → ((v : Version) (s : State) → p ≡ Finished v s → ⊥) → has_no_feed bytes ≡ true → length line ≤ 1200
-        → 1200 < length line + length bytes → e ≡ too_long (phase_of p) → failed e ≡ take_bytes old bytes
+    → 1200 < length line + length bytes → e ≡ too_long (phase_of p) → failed e ≡ take_bytes old bytes
 longer_more (Some f) p line old bytes e is fine going plain fits long e_is = cc fine
 longer_more None p line old bytes e is fine going plain fits long e_is =
     ap failed e_is ∙ sym (overflow (phase_of p) line bytes (phase_open p going) plain fits long) ∙ ap
-        (λ (o : Progress). take_bytes o bytes) is
+    (λ (o : Progress). take_bytes o bytes) is
 
 pub held_more : (fault : Option TraceError) (p : Given) (line : List ℕ) (old : Progress) (bytes new : List ℕ)
     → progress_in fault (phase_of p) line ≡ old → is_some fault ≡ false
     → ((v : Version) (s : State) → p ≡ Finished v s → ⊥) → has_no_feed bytes ≡ true → length line + length bytes ≤ 1200
-        → new ≡ line ++ bytes → progress_in fault (phase_of p) new ≡ take_bytes old bytes
+    → new ≡ line ++ bytes → progress_in fault (phase_of p) new ≡ take_bytes old bytes
 held_more (Some f) p line old bytes new is fine going plain fits new_is = cc fine
 held_more None p line old bytes new is fine going plain fits new_is =
     ap (reading (phase_of p)) new_is ∙ sym (fill (phase_of p) bytes line (phase_open p going) plain fits) ∙ ap
-        (λ (o : Progress). take_bytes o bytes) is
+    (λ (o : Progress). take_bytes o bytes) is
 
 pub nothing_more : (old : Progress) (bytes : List ℕ) → (length bytes == 0) ≡ true → old ≡ take_bytes old bytes
 nothing_more old [] none = refl
@@ -177,5 +177,5 @@ pub piece_cut : (front rest piece : List ℕ) (at : ℕ) → front ++ rest ≡ p
 piece_cut front rest piece at whole lt feed =
     append_assoc front (take at rest ++ 10 ∷ []) (drop 1 (drop at rest))
     ∙ ap (λ (t : List ℕ). front ++ t) (append_assoc (take at rest) (10 ∷ []) (drop 1 (drop at rest))
-        ∙ rest_cut at rest lt feed)
+    ∙ rest_cut at rest lt feed)
     ∙ whole

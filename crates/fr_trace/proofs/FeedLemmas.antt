@@ -19,16 +19,21 @@ begins_before old a b h =
 
 pub begins_behind : (old : Progress) (a b : List ℕ) → Begins (take_bytes old a) b → Begins old (a ++ b)
 begins_behind old a b h =
-    let (front, rest, is, at) = h in
-    (a ++ front, rest, ap (λ t. a ++ t) is ∙ sym (append_assoc a front (10 ∷ rest)),
-        subst IsAtBegin (sym (fold-append take_byte old a front)) at)
+    let (front, rest, is, at) = h in (
+      a ++ front,
+      rest,
+      ap (λ t. a ++ t) is ∙ sym (append_assoc a front (10 ∷ rest)),
+      subst IsAtBegin (sym (fold-append take_byte old a front)) at,
+    )
 
 pub reads_more : (old : Progress) (a b : List ℕ) (s t : Progress) → Reads old a s → Reads s b t → Reads old (a ++ b) t
 reads_more old a b s t (inl x) (inl y) = inl (y ∙ (ap (λ u. take_bytes u b) x ∙ sym (fold-append take_byte old a b)))
 reads_more old a b s t (inl x) (inr y) = inr (y.0, begins_behind old a b (subst (λ u. Begins u b) x y.1))
 reads_more old a b s t (inr x) (inl y) =
-    inr (y ∙ (ap (λ u. take_bytes u b) x.0 ∙ fold_stays take_byte (failed Memory) (λ _. refl) b),
-        begins_before old a b x.1)
+    inr (
+      y ∙ (ap (λ u. take_bytes u b) x.0 ∙ fold_stays take_byte (failed Memory) (λ _. refl) b),
+      begins_before old a b x.1,
+    )
 reads_more old a b s t (inr x) (inr y) = inr (y.0, begins_before old a b x.1)
 
 -- a line feed ends the line

@@ -22,7 +22,7 @@ fill p (b ∷ rest) front opened plain room =
     let len = length-append front (b ∷ []) in
     ap (λ s. take_bytes s rest) one
     ∙ (fill p rest (front ++ b ∷ []) opened parts.1 (omega arith) ∙ ap (λ l. reading p l)
-        (append_assoc front (b ∷ []) rest))
+    (append_assoc front (b ∷ []) rest))
 
 pub whole_line : (p : Phase) (line : List ℕ) (q : Phase) → is_open p ≡ true → has_no_feed line ≡ true
     → length line ≤ 1200 → take_line p line ≡ Ok q
@@ -30,7 +30,7 @@ pub whole_line : (p : Phase) (line : List ℕ) (q : Phase) → is_open p ≡ tru
 whole_line p line q opened plain short led =
     fold-append take_byte (reading p []) line line_feed
     ∙ (ap (λ s. take_bytes s line_feed) (fill p line [] opened plain (omega arith)) ∙
-        (take_in-open p line 10 opened ∙ ap after_line led))
+    (take_in-open p line 10 opened ∙ ap after_line led))
 
 -- the next line, after a text that has been read
 pub next_line : (start : Progress) (text line : List ℕ) (p q : Phase) → take_bytes start text ≡ reading p []
@@ -38,4 +38,4 @@ pub next_line : (start : Progress) (text line : List ℕ) (p q : Phase) → take
     → take_bytes start (text ++ (line ++ line_feed)) ≡ reading q []
 next_line start text line p q came opened plain short led =
     fold-append take_byte start text (line ++ line_feed) ∙ (ap (λ s. take_bytes s (line ++ line_feed)) came
-        ∙ whole_line p line q opened plain short led)
+    ∙ whole_line p line q opened plain short led)

@@ -34,7 +34,7 @@ found_in (reading (body v t) line) text s spelled told h = cc h
 found_in (reading (finished v t) line) text s spelled told h =
     let same : t ≡ s = cc h in
     let whole : text ≡ trace_text v t = spelled.0 ∙ (ap (λ l. trace_text v t ++ l) spelled.1 ∙ append-nil
-        (trace_text v t)) in
+    (trace_text v t)) in
     subst (λ (x : State). IsTraceOf x text) same (v, whole, told.0, told.1)
 
 -- what is accepted is a text of that interface
@@ -88,7 +88,7 @@ piece_begins : (text rest : List ℕ) → StopsIn BeginsIn text rest → Begins 
 piece_begins text rest h =
     let (front, piece, is, short, faultless, begins) = h in
     subst (λ t. Begins fresh t) (sym is) (begins_behind fresh front (piece ++ rest)
-        (begins_before (take_bytes fresh front) piece rest begins))
+    (begins_before (take_bytes fresh front) piece rest begins))
 
 through_begins : (text rest : Option (List ℕ)) → ReadsThrough text rest (Err Memory) → HasBegin text
 through_begins None rest h = tt
@@ -169,7 +169,7 @@ not_refused text old new (Ok x) s h is trace = tt
 not_refused None old new (Err e) s h is trace = absurd trace
 not_refused (Some text) old new (Err e) s h is trace =
     λ of_text. clash (outcome_of (take_bytes fresh text)) s e (legal_outcome text s is trace)
-        (given_fault (Some text) old new e h of_text)
+    (given_fault (Some text) old new e h of_text)
 
 -- ---- an interface alone
 

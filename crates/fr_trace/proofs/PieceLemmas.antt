@@ -42,9 +42,12 @@ read_more (Some text) (Some rest) None s s' bytes so_far consumed fed fine = abs
 read_more (Some text) (Some rest) (Some rest') s s' bytes so_far consumed fed fine =
     let (front, is, state, faultless) = so_far in
     let state' : s' ≡ take_bytes fresh (front ++ bytes) = no_memory s s' bytes fed fine ∙
-        (ap (λ t. take_bytes t bytes) state ∙ sym (fold-append take_byte fresh front bytes)) in
-    (front ++ bytes, is ∙ (ap (λ r. front ++ r) consumed ∙ sym (append_assoc front bytes rest')), state',
-        ap answer_of (sym state') ∙ fine)
+    (ap (λ t. take_bytes t bytes) state ∙ sym (fold-append take_byte fresh front bytes)) in (
+      front ++ bytes,
+      is ∙ (ap (λ r. front ++ r) consumed ∙ sym (append_assoc front bytes rest')),
+      state',
+      ap answer_of (sym state') ∙ fine,
+    )
 
 -- ---- a piece with a fault
 
@@ -84,7 +87,7 @@ piece_fault text front bytes rest e is short faultless stuck =
     let end : take_bytes fresh text ≡ failed e =
     ap (take_bytes fresh) (is ∙ sym (append_assoc front bytes rest))
     ∙ (fold-append take_byte fresh (front ++ bytes) rest ∙ (ap (λ t. take_bytes t rest) stuck ∙ fold_stays take_byte
-        (failed e) (λ b. refl) rest)) in
+    (failed e) (λ b. refl) rest)) in
     fault_in text rest e of_text (ap outcome_of end) (inr (front, bytes, is, short, faultless, stuck))
 
 pub read_fault : (old mid new : Option (List ℕ)) (s s' : Progress) (bytes : List ℕ) (e : TraceError)
@@ -105,9 +108,9 @@ read_fault (Some text) (Some rest) (Some rest') s s' bytes e so_far consumed sho
 read_fault (Some text) (Some rest) (Some rest') s s' bytes e so_far consumed short (inl fed) fault =
     let (front, is, state, faultless) = so_far in
     let state' : s' ≡ take_bytes fresh (front ++ bytes) = fed ∙
-        (ap (λ t. take_bytes t bytes) state ∙ sym (fold-append take_byte fresh front bytes)) in
+    (ap (λ t. take_bytes t bytes) state ∙ sym (fold-append take_byte fresh front bytes)) in
     piece_fault text front bytes rest' e (is ∙ ap (λ r. front ++ r) consumed) short faultless
-        (sym state' ∙ answer_failed s' e fault)
+    (sym state' ∙ answer_failed s' e fault)
 
 -- ---- the end
 
@@ -140,4 +143,4 @@ read_end (Some text) (Some rest) (Some rest') s so_far consumed end =
     let same : take_bytes fresh text ≡ s = ap (take_bytes fresh) all ∙ sym state in
     let fault : FailsByText s = subst FailsByText same (bytes_fault text fresh tt) in
     end_through text rest' (outcome_of s) (outcome_fault s fault) (ap outcome_of same)
-        (end, ap (λ t. answer_of (take_bytes fresh t)) all ∙ faultless)
+    (end, ap (λ t. answer_of (take_bytes fresh t)) all ∙ faultless)

@@ -188,7 +188,7 @@ abbrev WalksTo : ℕ → Progress → List ℕ → Progress → Type 0
 WalksTo n start bytes (reading q l) = line_number q ≡ n + feed_count bytes
 WalksTo n start bytes (failed e) =
     (before : List ℕ) × (b : ℕ) × (after : List ℕ) × (bytes ≡ before ++ b ∷ after) ×
-        (answer_of (take_bytes start before) ≡ Ok tt) × (take_bytes start (before ++ b ∷ []) ≡ failed e)
+    (answer_of (take_bytes start before) ≡ Ok tt) × (take_bytes start (before ++ b ∷ []) ≡ failed e)
     × IfSome (line_of_error e) (λ m. m ≡ n + feed_count before)
 
 feed_count-cons : (b : ℕ) (bytes : List ℕ) → feed_count (b ∷ bytes) ≡ cond (b == 10) 1 0 + feed_count bytes
@@ -201,7 +201,7 @@ longer bytes b p l q m (reading r k) is step walked = omega (arith, step, walked
 longer bytes b p l q m (failed e) is step walked =
     let (before, c, after, parts, none, shown, line) = walked in
     let lines : line_number q + feed_count before ≡ line_number p + feed_count (b ∷ before) =
-        omega (arith, step, feed_count-cons b before) in (
+    omega (arith, step, feed_count-cons b before) in (
       b ∷ before,
       c,
       after,
@@ -214,13 +214,13 @@ longer bytes b p l q m (failed e) is step walked =
 after_byte : (bytes : List ℕ) (b : ℕ) (p : Phase) (l : List ℕ) (s : Progress) → take_in p l b ≡ s
     → StepsTo (line_number p) (b == 10) s
     → ((q : Phase) (m : List ℕ) → WalksTo (line_number q) (reading q m) bytes (take_bytes (reading q m) bytes))
-        → WalksTo (line_number p) (reading p l) (b ∷ bytes) (take_bytes s bytes)
+    → WalksTo (line_number p) (reading p l) (b ∷ bytes) (take_bytes s bytes)
 after_byte bytes b p l (reading q m) is step walks = longer bytes b p l q m (take_bytes (reading q m) bytes) is step
     (walks q m)
 after_byte bytes b p l (failed e) is step walks =
     let same : line_number p ≡ line_number p + 0 = omega arith in
     subst (λ s. WalksTo (line_number p) (reading p l) (b ∷ bytes) s)
-        (sym (fold_stays take_byte (failed e) (λ c. refl) bytes))
+    (sym (fold_stays take_byte (failed e) (λ c. refl) bytes))
     ([], b, bytes, refl, refl, is, subst (λ k. IfSome (line_of_error e) (λ n. n ≡ k)) same step)
 
 walk : (bytes : List ℕ) (p : Phase) (l : List ℕ) → WalksTo (line_number p) (reading p l) bytes
@@ -238,8 +238,13 @@ first_fault text e is =
     let (before, b, after, parts, none, shown, line) = walked in
     let next : 1 + feed_count before ≡ feed_count before + 1 = omega arith in
     let fault : IsFirstFault e text before b after =
-    record { parts = parts; none_before = none; shown = shown; line =
-        subst (λ k. IfSome (line_of_error e) (λ n. n ≡ k)) next line } in
+    record {
+      parts = parts;
+      none_before = none;
+      shown = shown;
+      line =
+          subst (λ k. IfSome (line_of_error e) (λ n. n ≡ k)) next line;
+    } in
     always (line_of_error e) (before, b, after, fault)
 
 outcome_named_in : (s : Progress) (text : List ℕ) → take_bytes fresh text ≡ s → LineIsNamed (outcome_of s) text
@@ -269,7 +274,7 @@ pub hopeless : (bytes : List ℕ) (e : TraceError) → take_bytes fresh bytes �
 hopeless bytes e is rest s legal same =
     let all : take_bytes fresh (bytes ++ rest) ≡ failed e =
     fold-append take_byte fresh bytes rest ∙ (ap (λ t. take_bytes t rest) is ∙ fold_stays take_byte (failed e)
-        (λ b. refl) rest) in
+    (λ b. refl) rest) in
     let taken : outcome_of (take_bytes fresh (bytes ++ rest)) ≡ Ok s = legal_outcome (bytes ++ rest) s legal same in
     cc (sym taken ∙ ap outcome_of all)
 
@@ -292,7 +297,7 @@ pub piece_named : (front piece : List ℕ) (old new : Progress) → Reads old pi
     → LineIsNamed (answer_of new) (front ++ piece)
 piece_named front piece old new (inl read) so_far =
     subst (λ s. LineIsNamed (answer_of s) (front ++ piece)) (sym (read_on front piece old new so_far read))
-        (answer_named (front ++ piece))
+    (answer_named (front ++ piece))
 piece_named front piece old new (inr out) so_far = subst (λ s. LineIsNamed (answer_of s) (front ++ piece)) (sym out.0)
     tt
 
@@ -300,7 +305,7 @@ pub piece_hopeless : (front piece : List ℕ) (old new : Progress) → Reads old
     → HopelessIfRefused (answer_of new) (front ++ piece)
 piece_hopeless front piece old new (inl read) so_far =
     subst (λ s. HopelessIfRefused (answer_of s) (front ++ piece)) (sym (read_on front piece old new so_far read))
-        (answer_hopeless (front ++ piece))
+    (answer_hopeless (front ++ piece))
 piece_hopeless front piece old new (inr out) so_far =
     subst (λ s. HopelessIfRefused (answer_of s) (front ++ piece)) (sym out.0) (λ of_text. absurd of_text)
 
@@ -348,7 +353,7 @@ bytes_short [] n s short = let same : n ≡ n + 0 = omega arith in subst (λ k. 
 bytes_short (b ∷ bytes) n s short =
     let same : (n + 1) + length bytes ≡ n + length (b ∷ bytes) = omega arith in
     subst (λ k. IsShort k (take_bytes (take_byte s b) bytes)) same
-        (bytes_short bytes (n + 1) (take_byte s b) (byte_short n s b short))
+    (bytes_short bytes (n + 1) (take_byte s b) (byte_short n s b short))
 
 whole_short : (p : Progress) (text : List ℕ) (s : State) → IsShort (length text) p → Spelled p text
     → outcome_of p ≡ Ok s → HasFewLines s → length text ≤ longest_text
@@ -369,7 +374,7 @@ pub short_text : (text : List ℕ) (s : State) → outcome_of (take_bytes fresh 
 short_text text s h few =
     let start : IsShort 0 fresh = (omega arith, omega arith) in
     let short : IsShort (length text) (take_bytes fresh text) =
-        subst (λ k. IsShort k (take_bytes fresh text)) (zero-add (length text)) (bytes_short text 0 fresh start) in
+    subst (λ k. IsShort k (take_bytes fresh text)) (zero-add (length text)) (bytes_short text 0 fresh start) in
     whole_short (take_bytes fresh text) text s short (text_spelled text) h few
 
 -- ---- an audit

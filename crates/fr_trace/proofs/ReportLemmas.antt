@@ -25,14 +25,14 @@ answers_is s number b is =
     let held_there = held s.params b.filter s.entries in
     let tally = tally_of number s.entries in
     rw is (elim (is_receive b.mode) as (λ r. cond r (held_words number held_there) (tally_words number tally)
-        ≡ answer_words number (cond r None (Some tally)) (cond r held_there None)) [
+    ≡ answer_words number (cond r None (Some tally)) (cond r held_there None)) [
       | true ↦ refl
       | false ↦ refl
     ])
 
 reports-more : (s : State) (number place : ℕ) (buffers : List Buffer) (b : Buffer) → slice_get buffers place ≡ Some b
     → reports_from s number (take (place + 1) buffers) ≡ reports_from s number (take place buffers) ++ buffer_report s
-        (number + place) b
+    (number + place) b
 unfolding reports_from
 reports-more s number place [] b is = cc is
 reports-more s number zero (x ∷ buffers) b is =
@@ -44,14 +44,14 @@ reports-more s number (suc place) (x ∷ buffers) b is =
     let here : number + 1 + place ≡ number + suc place = omega arith in
     ap (λ (n : ℕ). reports_from s number (take n (x ∷ buffers))) next
     ∙ ap (λ (t : List ℕ). buffer_report s number x ++ t) (reports-more s (number + 1) place buffers b is ∙ ap
-        (λ (n : ℕ). reports_from s (number + 1) (take place buffers) ++ buffer_report s n b) here)
+    (λ (n : ℕ). reports_from s (number + 1) (take place buffers) ++ buffer_report s n b) here)
     ∙ sym (append_assoc (buffer_report s number x) (reports_from s (number + 1) (take place buffers))
-        (buffer_report s (number + suc place) b))
+    (buffer_report s (number + suc place) b))
 
 -- one more line
 pub report-more : (s : State) (place : ℕ) → place < length s.plan.buffers
     → reports_from s 0 (take (place + 1) s.plan.buffers) ≡ reports_from s 0 (take place s.plan.buffers) ++ line_text
-        (answer_words place (tally_by s place) (received_by s place))
+    (answer_words place (tally_by s place) (received_by s place))
 report-more s place lt =
     let (b, is) = line_at s.plan.buffers place lt in
     let here : 0 + place ≡ place = omega arith in

@@ -81,7 +81,7 @@ after_parameters_leads v line numbers (Err e) q read is h = cc h
 after_parameters_leads v line numbers (Ok p) q read is h =
     let end : node v p ≡ q = cc h in
     subst (λ x. Leads (params v) line x) end (ap (λ t. head_text v ++ (t ++ line_feed))
-        (sym (params_line_takes line numbers p read is)))
+    (sym (params_line_takes line numbers p read is)))
 
 after_numbers_leads : (v : Version) (line : List ℕ) (o : Option (List ℤ)) (q : Phase) → params_in (words_of line) ≡ o
     → after_numbers v o ≡ Ok q → Leads (params v) line q
@@ -97,7 +97,7 @@ pub bare_text : (v : Version) (p : Parameters) (plan : Plan) → plan.owned ≡ 
 bare_text v p plan no_own no_buffer no_queue =
     let front = params_text v p ++ line_text (node_words plan) in
     ap (λ (q : Option Queue). front ++ flat_map (own_line v) plan.owned ++ flat_map buffer_line plan.buffers ++
-        queue_lines q) no_queue
+    queue_lines q) no_queue
     ∙ append-nil (front ++ flat_map (own_line v) plan.owned ++ flat_map buffer_line plan.buffers)
     ∙ ap (λ (b : List Buffer). front ++ flat_map (own_line v) plan.owned ++ flat_map buffer_line b) no_buffer
     ∙ append-nil (front ++ flat_map (own_line v) plan.owned)
@@ -112,7 +112,7 @@ after_node_leads v line p (Some plan) q read h =
     let bare = node_no_lines (words_of line) plan read in
     subst (λ x. Leads (node v p) line x) end
     (bare_text v p plan bare.0 bare.1 bare.2 ∙ ap (λ t. params_text v p ++ (t ++ line_feed))
-        (sym (node_line_takes line plan read)))
+    (sym (node_line_takes line plan read)))
 
 -- a plan without buffers
 owned_text : (v : Version) (p : Parameters) (plan : Plan) → plan.buffers ≡ [] → plan.queue ≡ None
@@ -138,11 +138,11 @@ after_own_leads v line p plan o q read h =
     elim (cases_Bool (has_owned_alone plan && is_none (own_refusal plan o))) [
       | inl taken ↦
           let alone = and_parts (length plan.buffers == 0) (is_none plan.queue)
-              (and_parts (has_owned_alone plan) (is_none (own_refusal plan o)) taken).0 in
+          (and_parts (has_owned_alone plan) (is_none (own_refusal plan o)) taken).0 in
           let end : lines v p (with_own plan o) ≡ q = cc (rw taken at h) in
           subst (λ x. Leads (lines v p plan) line x) end
           (own_text v p plan o (nil_is plan.buffers alone.0) (none_is plan.queue alone.1) ∙ ap
-              (λ t. plan_text v p plan ++ (t ++ line_feed)) (sym (own_line_takes v line o read)))
+          (λ t. plan_text v p plan ++ (t ++ line_feed)) (sym (own_line_takes v line o read)))
       | inr refused ↦ cc (rw refused at h)
     ]
 
@@ -168,7 +168,7 @@ after_buffer_leads v line p plan b q read h =
           let end : lines v p (with_buffer plan b) ≡ q = cc (rw taken at h) in
           subst (λ x. Leads (lines v p plan) line x) end
           (buffer_text v p plan b (none_is plan.queue no_queue) ∙ ap (λ t. plan_text v p plan ++ (t ++ line_feed))
-              (sym (buffer_line_takes line b read)))
+          (sym (buffer_line_takes line b read)))
       | inr refused ↦ cc (rw refused at h)
     ]
 
@@ -177,7 +177,7 @@ pub queue_text : (v : Version) (p : Parameters) (plan : Plan) (q : Queue) → pl
     → plan_text v p (with_queue plan q) ≡ plan_text v p plan ++ line_text (queue_words q)
 queue_text v p plan q no_queue =
     let before = params_text v p ++ line_text (node_words plan) ++ flat_map
-        (own_line v) plan.owned ++ flat_map buffer_line plan.buffers in
+    (own_line v) plan.owned ++ flat_map buffer_line plan.buffers in
     ap (λ t. t ++ line_text (queue_words q)) (sym (append-nil before))
     ∙ ap (λ (o : Option Queue). (before ++ queue_lines o) ++ line_text (queue_words q)) (sym no_queue)
 
@@ -190,7 +190,7 @@ after_queue_leads v line p plan q x read h =
           let end : lines v p (with_queue plan q) ≡ x = cc (rw taken at h) in
           subst (λ y. Leads (lines v p plan) line y) end
           (queue_text v p plan q (no_queue_yet plan q taken) ∙ ap (λ t. plan_text v p plan ++ (t ++ line_feed))
-              (sym (queue_line_takes line q read)))
+          (sym (queue_line_takes line q read)))
       | inr refused ↦ cc (rw refused at h)
     ]
 
@@ -212,7 +212,7 @@ after_begin_leads v line p plan q is h =
       | inl pass ↦
           let end : body v (record { params = p; plan = plan; entries = [] }) ≡ q = cc (rw pass at h) in
           subst (λ x. Leads (lines v p plan) line x) end (append-nil (begin_text v p plan) ∙ ap
-              (λ t. plan_text v p plan ++ (t ++ line_feed)) (sym is))
+          (λ t. plan_text v p plan ++ (t ++ line_feed)) (sym is))
       | inr fail ↦ cc (rw fail at h)
     ]
 
@@ -239,7 +239,7 @@ after_fault_leads v s line e None q text is h =
     let end : body v (with_entry s e) ≡ q = ap (λ (x : Entry). body v (with_entry s x)) (sym made) ∙ cc h in
     let spelled : body_text v (with_entry s e) ≡ body_text v s ++ (line ++ line_feed) =
     sym (flat_map_more entry_line (begin_text v s.params s.plan) s.entries e) ∙ ap
-        (λ t. body_text v s ++ (t ++ line_feed)) (sym text) in
+    (λ t. body_text v s ++ (t ++ line_feed)) (sym text) in
     subst (λ x. Leads (body v s) line x) end spelled
 
 after_entry_leads : (v : Version) (s : State) (line : List ℕ) (o : Option Entry) (q : Phase)
@@ -281,9 +281,11 @@ after_line_spelled : (p : Phase) (line text : List ℕ) (r : Result Phase TraceE
     → Spelled (after_line r) (text ++ line_feed)
 after_line_spelled p line text (Err e) is h = tt
 after_line_spelled p line text (Ok q) is h =
-    let led = line_leads p line q h in
-    (ap (λ t. t ++ line_feed) is ∙ (append_assoc (text_of p) line line_feed ∙ (sym led ∙ sym (append-nil (text_of q)))),
-        front_nil q)
+    let led = line_leads p line q h in (
+      ap (λ t. t ++ line_feed) is
+          ∙ (append_assoc (text_of p) line line_feed ∙ (sym led ∙ sym (append-nil (text_of q)))),
+      front_nil q,
+    )
 
 -- ---- bytes
 
@@ -316,11 +318,13 @@ open_spelled p line text b opened h =
       | inl feed ↦
           let is : b ≡ 10 = eqb-true b 10 feed in
           rw feed (subst (λ x. Spelled (after_line (take_line p line)) (text ++ x ∷ [])) (sym is)
-              (after_line_spelled p line text (take_line p line) h.0 refl))
+          (after_line_spelled p line text (take_line p line) h.0 refl))
       | inr other ↦ rw other (elim (cases_Bool (length line == longest_line)) [
         | inl full ↦ rw full tt
-        | inr room ↦ rw room (ap (λ t. t ++ b ∷ []) h.0 ∙ append_assoc (text_of p) line (b ∷ []),
-            front_open p (line ++ b ∷ []) opened)
+        | inr room ↦ rw room (
+          ap (λ t. t ++ b ∷ []) h.0 ∙ append_assoc (text_of p) line (b ∷ []),
+          front_open p (line ++ b ∷ []) opened,
+        )
       ])
     ])
 

@@ -18,10 +18,10 @@ module _ {X : Type 0} (line : X → List ℕ) where
 
   pub written-more : (xs : List X) (i : ℕ) (x : X) (old mid new : Option (List ℕ)) → i < length xs → x ≡ get_or xs i x
       → Appends old mid (flat_map line (take i xs)) → Appends mid new (line x)
-          → Appends old new (flat_map line (take (i + 1) xs))
+      → Appends old new (flat_map line (take (i + 1) xs))
   written-more xs i x old mid new lt is before one =
       subst (λ (t : List ℕ). Appends old new t) (sym (lines-more xs i x lt is))
-          (Appends-trans old mid new (flat_map line (take i xs)) (line x) before one)
+      (Appends-trans old mid new (flat_map line (take i xs)) (line x) before one)
 
 -- an element that is there, and one that isn't
 pub there_is : {X : Type 0} (xs : List X) (i : ℕ) (x : X) → slice_get xs i ≡ Some x → x ≡ get_or xs i x

@@ -91,7 +91,7 @@ asks_nothing (Some (name, rows)) named lacks =
 pub schedule_lacks : (entered : Option (Text × List Row)) (look : Text → Option Text) (found : Option Order)
     → IsNamed (codes "schedule") entered
     → ((id : Text) → look id ≡ word_in entered id) → IfNone found (has_schedule_by look ≡ false)
-        → IfNone found (asks entered ≡ false)
+    → IfNone found (asks entered ≡ false)
 schedule_lacks entered look (Some o) named same lacks = tt
 schedule_lacks entered look None named same lacks = asks_nothing entered named
     (sym (has_alike look (word_in entered) same) ∙ lacks)
@@ -101,11 +101,11 @@ schedule_lacks entered look None named same lacks = asks_nothing entered named
 drawn_alike : (f g : Text → Option Text) → ((id : Text) → f id ≡ g id) → drawn_by f ≡ drawn_by g
 drawn_alike f g same =
     ap (λ w. matrix_of (channel_asked w) (viewer_asked (f (codes "node"))) (from_asked (f (codes "from"))))
-        (same (codes "channel"))
+    (same (codes "channel"))
     ∙ ap (λ w. matrix_of (channel_asked (g (codes "channel"))) (viewer_asked w) (from_asked (f (codes "from"))))
-        (same (codes "node"))
+    (same (codes "node"))
     ∙ ap (λ w. matrix_of (channel_asked (g (codes "channel"))) (viewer_asked (g (codes "node"))) (from_asked w))
-        (same (codes "from"))
+    (same (codes "from"))
 
 -- what is shown by a command of this name, by the word for the node of a trace and by what is drawn
 abbrev asked_with : Text → Option Text → Option Asked → Option Asked
@@ -146,7 +146,7 @@ show_told entered name look None named same told = tt
 show_told None name look (Some o) named same told = cc named
 show_told (Some (entered, rows)) name look (Some o) named same told =
     by o (show_alike entered look (λ id. first_of id rows) same o
-        (subst (λ (n : Text). IsShowBy n look o) (sym is) told))
+    (subst (λ (n : Text). IsShowBy n look o) (sym is) told))
   where
     is : entered ≡ name
     is = cc named
@@ -162,10 +162,10 @@ show_told (Some (entered, rows)) name look (Some o) named same told =
 pub show_lacks : (entered : Option (Text × List Row)) (name : Text) (look : Text → Option Text) (found : Option Order)
     → IsNamed name entered
     → bytes_eq name (codes "capture") ≡ false → bytes_eq name (codes "frames") ≡ false
-        → bytes_eq name (codes "why") ≡ false
+    → bytes_eq name (codes "why") ≡ false
     → bytes_eq name (codes "schedule") ≡ false
     → ((id : Text) → look id ≡ word_in entered id) → IfNone found (has_show_by name look ≡ false)
-        → IfNone found (asks entered ≡ false)
+    → IfNone found (asks entered ≡ false)
 show_lacks entered name look (Some o) named capture frames why schedule same lacks = tt
 show_lacks None name look None named capture frames why schedule same lacks = cc named
 show_lacks (Some (entered, rows)) name look None named capture frames why schedule same lacks =

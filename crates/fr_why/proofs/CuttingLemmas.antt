@@ -29,4 +29,4 @@ pub three_parts : (start at : ℕ) (text : List ℕ) → text ≡ take start tex
 three_parts start at text =
     sym (take-append-drop start text)
     ∙ ap (λ (t : List ℕ). take start text ++ t) (sym (take-append-drop at (drop start text)) ∙ ap
-        (λ (t : List ℕ). take at (drop start text) ++ t) (drop-drop at start text))
+    (λ (t : List ℕ). take at (drop start text) ++ t) (drop-drop at start text))

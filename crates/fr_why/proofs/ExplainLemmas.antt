@@ -35,7 +35,7 @@ all_kept (Some text) limit old new most nothing read =
 pub refused_is : (e : TraceError) (front line words old : List ℕ) (before : ℕ) (h : Head) (o : Option State)
     (r : Reason) (w : ℕ) → Tells front h → old ≡ [] → words ≡ old ++ fault_text e before line r w
     → before ≡ feed_count front → o ≡ state_at (take_bytes fresh front) → r ≡ reason_asked e h o line → w ≡ windows_of o
-        → words ≡ refused_text e front line
+    → words ≡ refused_text e front line
 refused_is e front line words old before h o r w (p, came, told) nothing is count left reason windows =
     let asked : r ≡ reason_for e (take_bytes fresh front) line =
     reason ∙ (ap (λ (x : Option State). reason_asked e h x line) left ∙ reason_told e front line h p came told) in
@@ -44,7 +44,7 @@ refused_is e front line words old before h o r w (p, came, told) nothing is coun
     ∙ (ap (λ (n : ℕ). fault_text e n line r w) count
     ∙ (ap (λ (x : Reason). fault_text e (feed_count front) line x w) asked
     ∙ ap (λ (n : ℕ). fault_text e (feed_count front) line (reason_for e (take_bytes fresh front) line) n)
-        (windows ∙ ap windows_of left))))
+    (windows ∙ ap windows_of left))))
 
 -- ---- what is accepted is whole
 

@@ -79,7 +79,7 @@ front_next : (start at : ℕ) (text : List ℕ) → IsNextFeed (drop start text)
 front_next start at text next =
     ap (λ (k : ℕ). take k text) {x = start + at + 1} {y = start + (at + 1)} (omega arith)
     ∙ (longer_front start (at + 1) text ∙ ap (λ (t : List ℕ). take start text ++ t)
-        (with_feed (drop start text) at next.within next.feed))
+    (with_feed (drop start text) at next.within next.feed))
 
 -- the same, as it is read
 read_next : (start at : ℕ) (text piece : List ℕ) (s : Progress) → take_bytes fresh (take start text) ≡ s
@@ -93,18 +93,18 @@ read_next start at text piece s came is =
 pub goes_on : (text : List ℕ) (start before at : ℕ) (h h' : Head) (auditor new : Progress) (piece line : List ℕ)
     → StandsAt text start before h auditor → IsNextFeed (drop start text) at
     → piece ≡ take at (drop start text) ++ 10 ∷ [] → line ≡ take at (drop start text) → Reads auditor piece new
-        → answer_of new ≡ Ok tt → h' ≡ next_head h line
+    → answer_of new ≡ Ok tt → h' ≡ next_head h line
     → StandsAt text (start + at + 1) (before + 1) h' new
 goes_on text start before at h h' auditor new piece line stands next piece_is line_is reads fine head_is =
     let rest = drop start text in
     let read : new ≡ take_bytes (reading stands.phase []) (take at rest ++ 10 ∷ []) =
     read_without auditor new piece reads fine ∙ (ap (λ (t : Progress). take_bytes t piece) stands.read ∙ ap
-        (take_bytes (reading stands.phase [])) piece_is) in
+    (take_bytes (reading stands.phase [])) piece_is) in
     let (q, leads, taken) = line_leads stands.phase (take at rest) next.plain (ap answer_of (sym read) ∙ fine) in
     let one : feed_count (take at rest ++ 10 ∷ []) ≡ feed_count (take at rest) + 1 =
-        feed_count-append (take at rest) (10 ∷ []) in
+    feed_count-append (take at rest) (10 ∷ []) in
     let count : feed_count (take (start + at + 1) text) ≡ feed_count (take start text) + feed_count
-        (take at rest ++ 10 ∷ []) =
+    (take at rest ++ 10 ∷ []) =
     ap feed_count (front_next start at text next) ∙ feed_count-append (take start text) (take at rest ++ 10 ∷ []) in
     let none = none_in_line (take at rest) next.plain in
     record {
@@ -141,24 +141,24 @@ refused_here text start before at h auditor new piece e stands next piece_is rea
     let rest = drop start text in
     let line = take at rest in
     let read : new ≡ take_bytes (reading stands.phase []) piece =
-        read_of_text auditor new piece e reads answered is ∙ ap (λ (t : Progress). take_bytes t piece) stands.read in
+    read_of_text auditor new piece e reads answered is ∙ ap (λ (t : Progress). take_bytes t piece) stands.read in
     let shown : take_bytes fresh (front ++ (line ++ 10 ∷ [])) ≡ failed e =
     read_next start at text piece (reading stands.phase []) stands.came piece_is ∙
-        (sym read ∙ failed_by new e answered) in
+    (sym read ∙ failed_by new e answered) in
     let tail : drop (start + at) text ≡ 10 ∷ drop (at + 1) rest =
-        sym (drop-drop at start text) ∙ feed_next rest at next.within next.feed in
+    sym (drop-drop at start text) ∙ feed_next rest at next.within next.feed in
     let whole : text ≡ (front ++ (line ++ 10 ∷ [])) ++ drop (at + 1) rest =
     three_parts start at text
     ∙ (ap (λ (t : List ℕ). front ++ (line ++ t)) tail
     ∙ (ap (λ (t : List ℕ). front ++ t) (sym (append_assoc line (10 ∷ []) (drop (at + 1) rest))) ∙ sym
-        (append_assoc front (line ++ 10 ∷ []) (drop (at + 1) rest)))) in
+    (append_assoc front (line ++ 10 ∷ []) (drop (at + 1) rest)))) in
     let out : outcome_of (take_bytes fresh text) ≡ Err e =
     ap outcome_of (ap (take_bytes fresh) whole
     ∙ (fold-append take_byte fresh (front ++ (line ++ 10 ∷ [])) (drop (at + 1) rest)
     ∙ (ap (λ (s : Progress). take_bytes s (drop (at + 1) rest)) shown ∙ stays_failed e (drop (at + 1) rest)))) in
     let none : HasNoFault front = ap answer_of stands.came in
     let shows : ShowsIn e front line (drop (start + at) text) =
-        subst (λ (t : List ℕ). ShowsIn e front line t) (sym tail) (refl, shown) in
+    subst (λ (t : List ℕ). ShowsIn e front line t) (sym tail) (refl, shown) in
     let fault : IsAtFault e text front line (drop (start + at) text) =
     record {
       parts = three_parts start at text;
@@ -188,7 +188,7 @@ read_rest : (text : List ℕ) (start : ℕ) (s new : Progress) → take_bytes fr
 read_rest text start s new came read =
     ap (take_bytes fresh) (sym (take-append-drop start text))
     ∙ (fold-append take_byte fresh (take start text) (drop start text) ∙
-        (ap (λ (t : Progress). take_bytes t (drop start text)) came ∙ sym read))
+    (ap (λ (t : Progress). take_bytes t (drop start text)) came ∙ sym read))
 
 outcome_of_text : (old new : Progress) (piece : List ℕ) (e : TraceError) → Reads old piece new → outcome_of new ≡ Err e
     → IsOfText e → new ≡ take_bytes old piece
@@ -206,20 +206,20 @@ outcome_without old new piece s (inr out) fine = cc (sym fine ∙ ap outcome_of 
 pub refused_last : (text : List ℕ) (start before : ℕ) (h : Head) (auditor new : Progress) (e : TraceError)
     → StandsAt text start before h auditor → has_no_feed (drop start text) ≡ true
     → Reads auditor (drop start text) new → outcome_of new ≡ Err e → IsOfText e
-        → IsFaultIn text (record { error = e; start = start; end = length text; before = before; head = h })
+    → IsFaultIn text (record { error = e; start = start; end = length text; before = before; head = h })
 refused_last text start before h auditor new e stands plain reads answered is =
     let front = take start text in
     let line = drop start text in
     let read : new ≡ take_bytes (reading stands.phase []) line =
-        outcome_of_text auditor new line e reads answered is ∙ ap (λ (t : Progress). take_bytes t line) stands.read in
+    outcome_of_text auditor new line e reads answered is ∙ ap (λ (t : Progress). take_bytes t line) stands.read in
     let out : outcome_of (take_bytes fresh text) ≡ Err e = ap outcome_of
-        (read_rest text start (reading stands.phase []) new stands.came read) ∙ answered in
+    (read_rest text start (reading stands.phase []) new stands.came read) ∙ answered in
     let none : HasNoFault front = ap answer_of stands.came in
     let over : drop (length text) text ≡ [] = drop_all (length text) text (omega arith) in
     let whole : text ≡ front ++ line = sym (take-append-drop start text) in
     let shows : ShowsIn e front line (drop (length text) text) =
     subst (λ (t : List ℕ). ShowsIn e front line t) (sym over)
-        (subst (λ (t : List ℕ). outcome_of (take_bytes fresh t) ≡ Err e) whole out) in
+    (subst (λ (t : List ℕ). outcome_of (take_bytes fresh t) ≡ Err e) whole out) in
     let ended : text ≡ front ++ (line ++ []) = whole ∙ ap (λ (t : List ℕ). front ++ t) (sym (append-nil line)) in
     let fault : IsAtFault e text front line (drop (length text) text) =
     record {
@@ -246,11 +246,11 @@ refused_last text start before h auditor new e stands plain reads answered is =
 pub accepted_last : (text : List ℕ) (start before : ℕ) (h : Head) (auditor new : Progress) (s : State)
     → StandsAt text start before h auditor → has_no_feed (drop start text) ≡ true
     → Reads auditor (drop start text) new → outcome_of new ≡ Ok s
-        → (outcome_of (take_bytes fresh text) ≡ Ok s) × (before ≡ feed_count text)
+    → (outcome_of (take_bytes fresh text) ≡ Ok s) × (before ≡ feed_count text)
 accepted_last text start before h auditor new s stands plain reads fine =
     let line = drop start text in
     let read : new ≡ take_bytes (reading stands.phase []) line =
-        outcome_without auditor new line s reads fine ∙ ap (λ (t : Progress). take_bytes t line) stands.read in
+    outcome_without auditor new line s reads fine ∙ ap (λ (t : Progress). take_bytes t line) stands.read in
     let count : feed_count text ≡ feed_count (take start text) + feed_count line =
     ap feed_count (sym (take-append-drop start text)) ∙ feed_count-append (take start text) line in
     let none = none_in_line line plain in (

@@ -32,19 +32,19 @@ open_leads p line opened plain fine =
     elim (cases_lt 1200 (length line)) [
       | inl long ↦
           let over : take_bytes (reading p []) line ≡ failed (too_long p) =
-              overflow p [] line opened plain (omega arith) (omega (arith, long)) in
+          overflow p [] line opened plain (omega arith) (omega (arith, long)) in
           let all : take_bytes (reading p []) (line ++ 10 ∷ []) ≡ failed (too_long p) =
-              split ∙ ap (λ (s : Progress). take_bytes s (10 ∷ [])) over in
+          split ∙ ap (λ (s : Progress). take_bytes s (10 ∷ [])) over in
           cc (sym fine ∙ ap answer_of all)
       | inr short ↦
           let filled : take_bytes (reading p []) line ≡ reading p line =
-              fill p line [] opened plain (omega (arith, short)) in
+          fill p line [] opened plain (omega (arith, short)) in
           let ended : take_bytes (reading p line) (10 ∷ []) ≡ after_line (take_line p line) =
-              take_in-open p line 10 opened in
+          take_in-open p line 10 opened in
           let all : take_bytes (reading p []) (line ++ 10 ∷ []) ≡ after_line (take_line p line) =
           split ∙ (ap (λ (s : Progress). take_bytes s (10 ∷ [])) filled ∙ ended) in
           subst (λ (t : Progress). Leads p line t) (sym all)
-              (led_by p line (take_line p line) refl (sym (ap answer_of all) ∙ fine))
+          (led_by p line (take_line p line) refl (sym (ap answer_of all) ∙ fine))
     ]
 
 over_leads : (v : Version) (s : State) (line : List ℕ) → answer_of

@@ -39,7 +39,7 @@ none_in_line (b ∷ line) plain =
 abbrev Cut : List ℕ → List ℕ → List ℕ → List ℕ → Type 0
 Cut front rest before after =
     ((more : List ℕ) × (front ≡ before ++ more) × (after ≡ more ++ rest)) ⊎
-        ((more : List ℕ) × (before ≡ front ++ more) × (rest ≡ more ++ after))
+    ((more : List ℕ) × (before ≡ front ++ more) × (rest ≡ more ++ after))
 
 cut_more : (b c : ℕ) (front rest before after : List ℕ) → b ≡ c → Cut front rest before after
     → Cut (b ∷ front) rest (c ∷ before) after
@@ -80,7 +80,7 @@ not_behind e front before b more none shown is =
     let whole : front ≡ (before ++ b ∷ []) ++ more = is ∙ sym (append_assoc before (b ∷ []) more) in
     let bad : take_bytes fresh front ≡ failed e =
     ap (take_bytes fresh) whole ∙ (fold-append take_byte fresh (before ++ b ∷ []) more ∙
-        (ap (λ (s : Progress). take_bytes s more) shown ∙ stays_failed e more)) in
+    (ap (λ (s : Progress). take_bytes s more) shown ∙ stays_failed e more)) in
     cc (sym none ∙ ap answer_of bad)
 
 abbrev IsNamed : TraceError → List ℕ → Type 0
@@ -89,7 +89,7 @@ IsNamed e front = IfSome (line_of_error e) (λ n. n ≡ feed_count front + 1)
 by_cut : (e : TraceError) (front line tail before : List ℕ) (b : ℕ) (after : List ℕ) → HasNoFault front
     → has_no_feed line ≡ true → length tail ≤ 1
     → IsFirstFault e (front ++ (line ++ tail)) before b after → Cut front (line ++ tail) before (b ∷ after)
-        → IsNamed e front
+    → IsNamed e front
 by_cut e front line tail before b after none plain short fault (inl ([], x, y)) =
     let both : feed_count front ≡ feed_count before + 0 = ap feed_count x ∙ feed_count-append before [] in
     let same : feed_count before + 1 ≡ feed_count front + 1 = omega (arith, both) in
@@ -114,4 +114,4 @@ line_named e front line tail none plain short named =
     with_number (λ n. n ≡ feed_count front + 1) (line_of_error e) named (λ found.
     let (before, b, after, fault) = found in
     by_cut e front line tail before b after none plain short fault
-        (cut front (line ++ tail) before (b ∷ after) fault.parts))
+    (cut front (line ++ tail) before (b ∷ after) fault.parts))

@@ -166,15 +166,15 @@ open_fails p line e opened plain fails call =
     elim (cases_lt 1200 (length line)) [
       | inl long ↦
           let over : take_bytes (reading p []) line ≡ failed (too_long p) =
-              overflow p [] line opened plain (omega arith) (omega (arith, long)) in
+          overflow p [] line opened plain (omega arith) (omega (arith, long)) in
           let same : too_long p ≡ e = cc (sym (ap (λ (s : Progress). take_bytes s (10 ∷ [])) over) ∙ sym split ∙ fails)
-              in
+          in
           absurd (not_long p (subst IsCall (sym same) call))
       | inr short ↦
           let filled : take_bytes (reading p []) line ≡ reading p line =
-              fill p line [] opened plain (omega (arith, short)) in
+          fill p line [] opened plain (omega (arith, short)) in
           let ended : take_bytes (reading p line) (10 ∷ []) ≡ after_line (take_line p line) =
-              take_in-open p line 10 opened in
+          take_in-open p line 10 opened in
           let all : take_bytes (reading p []) (line ++ 10 ∷ []) ≡ after_line (take_line p line) =
           split ∙ (ap (λ (s : Progress). take_bytes s (10 ∷ [])) filled ∙ ended) in
           by_line (take_line p line) (reason_in p line) e (line_told p line) (sym all ∙ fails) call
@@ -186,7 +186,7 @@ over_fails v s [] e fails call = let same : refusal.BadLine (line_number (finish
     cc fails in subst IsCall (sym same) call
 over_fails v s (b ∷ line) e fails call =
     let same : refusal.BadLine (line_number (finished v s)) ≡ e =
-        cc (sym (stays_failed (refusal.BadLine (line_number (finished v s))) (line ++ 10 ∷ [])) ∙ fails) in
+    cc (sym (stays_failed (refusal.BadLine (line_number (finished v s))) (line ++ 10 ∷ [])) ∙ fails) in
     subst IsCall (sym same) call
 
 feed_fails : (p : Phase) (line : List ℕ) (e : TraceError) → has_no_feed line ≡ true
@@ -213,12 +213,12 @@ open_ends p line e opened plain fails call =
     elim (cases_lt 1200 (length line)) [
       | inl long ↦
           let over : take_bytes (reading p []) line ≡ failed (too_long p) =
-              overflow p [] line opened plain (omega arith) (omega (arith, long)) in
+          overflow p [] line opened plain (omega arith) (omega (arith, long)) in
           let same : too_long p ≡ e = cc (sym (ap outcome_of over) ∙ fails) in
           not_long p (subst IsCall (sym same) call)
       | inr short ↦
           let filled : take_bytes (reading p []) line ≡ reading p line =
-              fill p line [] opened plain (omega (arith, short)) in
+          fill p line [] opened plain (omega (arith, short)) in
           not_last p line e (sym (ap outcome_of filled) ∙ fails) call
     ]
 
@@ -227,7 +227,7 @@ over_ends : (v : Version) (s : State) (line : List ℕ) (e : TraceError)
 over_ends v s [] e fails call = cc fails
 over_ends v s (b ∷ line) e fails call =
     let same : refusal.BadLine (line_number (finished v s)) ≡ e =
-        cc (sym (ap outcome_of (stays_failed (refusal.BadLine (line_number (finished v s))) line)) ∙ fails) in
+    cc (sym (ap outcome_of (stays_failed (refusal.BadLine (line_number (finished v s))) line)) ∙ fails) in
     subst IsCall (sym same) call
 
 end_fails : (p : Phase) (line : List ℕ) (e : TraceError) → has_no_feed line ≡ true
@@ -254,12 +254,12 @@ call_named : (e : TraceError) (front line rest : List ℕ) (p : Phase) → take_
     → has_no_feed line ≡ true → ShowsIn e front line rest → IsCall e → IsReasonOf e (reason_in p line)
 call_named e front line [] p came plain shows call =
     absurd (end_fails p line e plain (sym (ap outcome_of
-        (fold-append take_byte fresh front line ∙ ap (λ (s : Progress). take_bytes s line) came)) ∙ shows) call)
+    (fold-append take_byte fresh front line ∙ ap (λ (s : Progress). take_bytes s line) came)) ∙ shows) call)
 call_named e front line (b ∷ rest) p came plain (is, shown) call =
     let feed : take_bytes fresh (front ++ (line ++ 10 ∷ [])) ≡ failed e =
-        subst (λ (c : ℕ). take_bytes fresh (front ++ (line ++ c ∷ [])) ≡ failed e) is shown in
+    subst (λ (c : ℕ). take_bytes fresh (front ++ (line ++ c ∷ [])) ≡ failed e) is shown in
     feed_fails p line e plain (sym (fold-append take_byte fresh front (line ++ 10 ∷ []) ∙ ap
-        (λ (s : Progress). take_bytes s (line ++ 10 ∷ [])) came) ∙ feed) call
+    (λ (s : Progress). take_bytes s (line ++ 10 ∷ [])) came) ∙ feed) call
 
 named_in : (e : TraceError) (front line rest : List ℕ) (p : Phase) → take_bytes fresh front ≡ reading p []
     → has_no_feed line ≡ true → ShowsIn e front line rest → IsOfText e
@@ -281,4 +281,4 @@ pub reason_named : (e : TraceError) (text front line rest : List ℕ) → IsOfTe
 reason_named e text front line rest of_text fault =
     let (p, came) = comes_in front (take_bytes fresh front) refl fault.before fault.whole in
     subst (λ (s : Progress). IsReasonOf e (reason_for e s line)) (sym came)
-        (named_in e front line rest p came fault.plain fault.shows of_text)
+    (named_in e front line rest p came fault.plain fault.shows of_text)

@@ -15,7 +15,7 @@ pub spaced : (line : List ℕ) (fits : ℕ) → (length line == 0) ≡ false →
 spaced [] fits some is = cc some
 spaced (b ∷ bytes) fits some is =
     ap (λ (n : ℕ). 32 ∷ flat_map byte_text (take n (b ∷ bytes))) is ∙ ap (λ (t : List ℕ). 32 ∷ flat_map byte_text t)
-        (take_min 1200 (b ∷ bytes))
+    (take_min 1200 (b ∷ bytes))
 
 -- one byte more
 pub bytes_more : (bytes : List ℕ) (i : ℕ) (old mid new : Option (List ℕ)) → i < length bytes

@@ -23,7 +23,7 @@ returns-clause-layout c m h =
     let answer = c.start_of.result in
     let only : (m : ℕ) → IsAt c.args.params.now m x → answer ≡ Some m =
     subst (λ (y : Place). (m : ℕ) → IsAt c.args.params.now m y → answer ≡ Some m) c.place_of.ensures
-        c.start_of.ensures.only in
+    c.start_of.ensures.only in
     c.unwrap_or.ensures ∙ ap (λ (o : Option ℕ). unwrap_or o 0) (only m h)
 
 pub returns-clause-below : goal.returns-clause-below

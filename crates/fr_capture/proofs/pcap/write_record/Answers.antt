@@ -20,15 +20,15 @@ returns g c =
     let error = c.err-error.result in
     let same : error ≡ refusal channel bytes = c.err-error.ensures.value ∙ c.decode_lent.ensures.refused in
     let captured : c.captured_bytes-captured.result.now ≡ captured_bytes error bytes =
-        c.captured_bytes-captured.ensures in
+    c.captured_bytes-captured.ensures in
     let many : length c.captured_bytes-captured.result.now + 2 ≡ length (captured_bytes error bytes) + 2 =
-        ap (λ (l : List ℕ). length l + 2) captured in
+    ap (λ (l : List ℕ). length l + 2) captured in
     let two = λ (a b : ℕ). a ∷ b ∷ [] in
     let marks : Appends first second (channel_mark channel ∷ error_flags error ∷ []) =
     subst (λ (t : List ℕ). Appends first second t) (ap₂ two c.channel_mark.ensures c.error_flags.ensures)
-        c.in_ok-write_all.ensures.bytes in
+    c.in_ok-write_all.ensures.bytes in
     let last : OnOk r (Appends second new (captured_bytes error bytes)) =
-        subst (λ (t : List ℕ). OnOk r (Appends second new t)) captured c.write_all-2.ensures.bytes in
+    subst (λ (t : List ℕ). OnOk r (Appends second new t)) captured c.write_all-2.ensures.bytes in
     let done = record_done r start first second new time (length c.captured_bytes-captured.result.now + 2) channel error
-        bytes many c.in_ok-write_record_header.ensures marks last in
+    bytes many c.in_ok-write_record_header.ensures marks last in
     subst (λ (e : Option DecodeError). OnOk r (Appends start new (record_with time channel e bytes))) same done

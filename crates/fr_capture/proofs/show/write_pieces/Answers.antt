@@ -16,7 +16,7 @@ pub loop-number-init : goal.loop-number-init
 loop-number-init g c =
     let start = g.W.Write.contents c.args.writer.now in
     shown_none c.args.form c.args.interface.now c.journal-journal.result.now.entries start
-        c.write_heading.new.writer.items
+    c.write_heading.new.writer.items
     (c.in_ok-write_heading.ensures ∙ ap (λ (t : List ℕ). t ++ heading c.args.form) c.requires)
 
 pub write_entry-requires : goal.write_entry-requires
@@ -24,7 +24,7 @@ write_entry-requires g c =
     let start = g.W.Write.contents c.args.writer.now in
     let few : c.loop-number.number ≤ 1000000 = omega (arith, c.loop-number-test.true, c.len-number-end.ensures.few) in
     shown_rounds c.args.form c.args.interface.now c.journal-journal.result.now.entries start c.loop-number.number
-        1000000
+    1000000
     (g.W.Write.contents c.loop-number.writer) c.loop-number.piece.items c.loop-number.last c.loop-number.invariant few
 
 pub moment_after-last-requires : goal.moment_after-last-requires
@@ -32,7 +32,7 @@ moment_after-last-requires g c =
     let start = g.W.Write.contents c.args.writer.now in
     let few : c.loop-number.number ≤ 1000000 = omega (arith, c.loop-number-test.true, c.len-number-end.ensures.few) in
     shown_rounds c.args.form c.args.interface.now c.journal-journal.result.now.entries start c.loop-number.number
-        1000000
+    1000000
     (g.W.Write.contents c.loop-number.writer) c.loop-number.piece.items c.loop-number.last c.loop-number.invariant few
 
 pub loop-number-preserved : goal.loop-number-preserved
@@ -49,14 +49,14 @@ loop-number-preserved g c =
       | in-Some+in_ok-write_entry w ↦
           let e = w.in-Some.entry in
           let params_is : moment_after c.params-params.result.now c.loop-number.last count e
-              ≡ moment_after s.params c.loop-number.last count e =
+          ≡ moment_after s.params c.loop-number.last count e =
           ap (λ (p : Parameters). moment_after p c.loop-number.last count e) c.params-params.ensures.value in
           let one = shown_entry form s entries start count e now c.loop-number.piece.items
-              w.write_entry.new.writer.items c.loop-number.last lt
+          w.write_entry.new.writer.items c.loop-number.last lt
           (there_is entries count e (sym c.get.ensures ∙ w.in-Some.is)) c.loop-number.invariant
-              w.in_ok-write_entry.ensures in
+          w.in_ok-write_entry.ensures in
           let with_last = subst (λ (m : Option Moment). IsShown form s entries
-              (count + 1) start now w.write_entry.new.writer.items m)
+          (count + 1) start now w.write_entry.new.writer.items m)
           (sym (w.last-is ∙ w.moment_after-last.ensures ∙ params_is)) one in
           subst (λ x. IsShown form s entries (count + 1) start now x.items c.match-get.last) (sym w.piece-is) with_last
       | in_default w ↦ absurd (none_behind entries count lt (sym c.get.ensures ∙ w.in_default.is))
@@ -65,17 +65,17 @@ loop-number-preserved g c =
       | then-len-ge-ENOUGH+in_ok-hand_on w ↦
           let next = g.W.Write.contents w.hand_on.new.writer in
           let handed = shown_handed form s entries start (count + 1) now next c.match-get.piece.items
-              w.hand_on.new.piece.items c.match-get.last shown
+          w.hand_on.new.piece.items c.match-get.last shown
           w.in_ok-hand_on.ensures.written w.in_ok-hand_on.ensures.empty in
           let with_writer = subst (λ x. IsShown form s entries (count + 1) start
-              (g.W.Write.contents x) w.hand_on.new.piece.items c.match-get.last) (sym w.writer-is) handed in
+          (g.W.Write.contents x) w.hand_on.new.piece.items c.match-get.last) (sym w.writer-is) handed in
           subst (λ x. IsShown form s entries (count + 1) start
-              (g.W.Write.contents c.if-len-ge-ENOUGH.writer) x.items c.match-get.last) (sym w.piece-is) with_writer
+          (g.W.Write.contents c.if-len-ge-ENOUGH.writer) x.items c.match-get.last) (sym w.piece-is) with_writer
       | else-len-ge-ENOUGH w ↦
           let with_writer = subst (λ x. IsShown form s entries (count + 1) start
-              (g.W.Write.contents x) c.match-get.piece.items c.match-get.last) (sym w.writer-is) shown in
+          (g.W.Write.contents x) c.match-get.piece.items c.match-get.last) (sym w.writer-is) shown in
           subst (λ x. IsShown form s entries (count + 1) start
-              (g.W.Write.contents c.if-len-ge-ENOUGH.writer) x.items c.match-get.last) (sym w.piece-is) with_writer
+          (g.W.Write.contents c.if-len-ge-ENOUGH.writer) x.items c.match-get.last) (sym w.piece-is) with_writer
     ]
 
 pub returns : goal.returns
@@ -85,10 +85,13 @@ returns g c =
     let now = g.W.Write.contents c.loop-number.writer in
     let new = g.W.Write.contents c.hand_on-2.new.writer in
     let entries = c.journal-journal.result.now.entries in
-    let all : length entries ≤ c.loop-number.number = omega (arith, c.len-number-end.ensures.value,
-        c.loop-number-test.false) in
+    let all : length entries ≤ c.loop-number.number = omega (
+      arith,
+      c.len-number-end.ensures.value,
+      c.loop-number-test.false,
+    ) in
     let r = c.hand_on-2.result in
     let done = shown_all form c.args.interface.now entries start r c.loop-number.number now new
-        c.loop-number.piece.items c.loop-number.last c.loop-number.invariant all c.hand_on-2.ensures.written in
+    c.loop-number.piece.items c.loop-number.last c.loop-number.invariant all c.hand_on-2.ensures.written in
     subst (λ (es : List Entry). OnOk r (Appends start new (shown_of form c.args.interface.now es)))
-        c.journal-journal.ensures.entries done
+    c.journal-journal.ensures.entries done

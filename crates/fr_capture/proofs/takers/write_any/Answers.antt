@@ -19,10 +19,10 @@ returns-clause-text g c =
     let ys : List Taker = taker_if c.queue_takes-takes.result taker.Queue in
     let all : xs ++ ys ≡ takers_by c.args.plan.now w came.a came.b channel =
     (λ i. buffers_by w came.a came.b channel 0 (c.buffers.ensures.value i) ++ taker_if
-        (c.queue_takes-takes.ensures i) taker.Queue) in
+    (c.queue_takes-takes.ensures i) taker.Queue) in
     subst (λ (ts : List Taker). OnOk c.write_if.result (Appends old new (after_commas false ts))) all
     (after_both c.write_if.result false c.in_ok-any.any old (g.W.Write.contents c.write_buffers.new.writer) new xs ys
-        c.in_ok-any.ensures.text c.in_ok-any.ensures.any
+    c.in_ok-any.ensures.text c.in_ok-any.ensures.any
     c.write_if.ensures.text)
 
 pub returns-clause-any : goal.returns-clause-any
@@ -34,5 +34,5 @@ returns-clause-any g c =
     let ys : List Taker = taker_if c.queue_takes-takes.result taker.Queue in
     let all : xs ++ ys ≡ takers_by c.args.plan.now w came.a came.b channel =
     (λ i. buffers_by w came.a came.b channel 0 (c.buffers.ensures.value i) ++ taker_if
-        (c.queue_takes-takes.ensures i) taker.Queue) in
+    (c.queue_takes-takes.ensures i) taker.Queue) in
     any_answered c.write_if.result false c.in_ok-any.any xs ys _ c.in_ok-any.ensures.any all c.write_if.ensures.any

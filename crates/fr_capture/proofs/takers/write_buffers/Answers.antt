@@ -20,16 +20,16 @@ loop-number-preserved g c =
     let all : List Taker = buffers_by w c.args.came.a c.args.came.b c.args.channel 0 c.args.lines.now in
     let left : List Taker = buffers_by w c.args.came.a c.args.came.b c.args.channel n (drop n c.args.lines.now) in
     let rest : List Taker = buffers_by w c.args.came.a c.args.came.b c.args.channel (n + 1)
-        (drop (n + 1) c.args.lines.now) in
+    (drop (n + 1) c.args.lines.now) in
     let part : List Taker = taker_if (takes_by w c.args.came.a c.args.came.b c.args.channel line) (taker.Buffer n) in
     goes_on false all (g.W.Write.contents c.args.writer.now) now mid c.loop-number.any c.in_ok-any.any left part rest
     (ap (λ (l : List Buffer). buffers_by w c.args.came.a c.args.came.b c.args.channel n l)
-        (drop_more c.args.lines.now n line c.loop-number-test.true ∙ ap
-        (λ (b : Buffer). b ∷ drop (n + 1) c.args.lines.now) (sym c.index-lines-number.is)))
+    (drop_more c.args.lines.now n line c.loop-number-test.true ∙ ap
+    (λ (b : Buffer). b ∷ drop (n + 1) c.args.lines.now) (sym c.index-lines-number.is)))
     (subst (λ (t : Bool). Appends now mid (after_commas c.loop-number.any (taker_if t (taker.Buffer n))))
-        {y = takes_by w c.args.came.a c.args.came.b c.args.channel line} c.takes-takes.ensures c.in_ok-any.ensures.text)
+    {y = takes_by w c.args.came.a c.args.came.b c.args.channel line} c.takes-takes.ensures c.in_ok-any.ensures.text)
     (c.in_ok-any.ensures.any ∙ ap (λ (t : Bool). c.loop-number.any || is_any (taker_if t (taker.Buffer n)))
-        {y = takes_by w c.args.came.a c.args.came.b c.args.channel line} c.takes-takes.ensures)
+    {y = takes_by w c.args.came.a c.args.came.b c.args.channel line} c.takes-takes.ensures)
     c.loop-number.invariant
 
 pub returns-clause-text : goal.returns-clause-text
@@ -38,8 +38,8 @@ returns-clause-text g c =
     let n : ℕ = c.loop-number.number in
     let le : length c.args.lines.now ≤ n = omega (arith, c.loop-number-test.false) in
     ends_text false (buffers_by w c.args.came.a c.args.came.b c.args.channel 0 c.args.lines.now)
-        (g.W.Write.contents c.args.writer.now)
+    (g.W.Write.contents c.args.writer.now)
     (g.W.Write.contents c.loop-number.writer) c.loop-number.any
-        (buffers_by w c.args.came.a c.args.came.b c.args.channel n (drop n c.args.lines.now))
+    (buffers_by w c.args.came.a c.args.came.b c.args.channel n (drop n c.args.lines.now))
     (ap (λ (l : List Buffer). buffers_by w c.args.came.a c.args.came.b c.args.channel n l)
-        (drop_all n c.args.lines.now le)) c.loop-number.invariant
+    (drop_all n c.args.lines.now le)) c.loop-number.invariant

@@ -16,7 +16,7 @@ returns-else-branch g c =
     let mid = g.W.Write.contents c.write_any.new.writer in
     let new = g.W.Write.contents c.write.new.self in
     let here = subst (λ (t : List ℕ). OnOk c.write.result (Appends old new t))
-        (no_word ts (sym c.in_ok-write_any.ensures.any ∙ c.if-branch.false))
+    (no_word ts (sym c.in_ok-write_any.ensures.any ∙ c.if-branch.false))
     (appends-last c.write.result old mid new (after_commas false ts)
-        (codes "-") c.in_ok-write_any.ensures.text c.write.ensures.bytes) in
+    (codes "-") c.in_ok-write_any.ensures.text c.write.ensures.bytes) in
     subst (λ (l : List Taker). OnOk c.write.result (Appends old new (takers_word l))) c.takers.view_is here

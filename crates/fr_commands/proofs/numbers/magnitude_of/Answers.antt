@@ -13,4 +13,4 @@ returns c =
     let is = rw c.in-Ok.ensures.cases.0 at c.parse.ensures.value.0 in
     let some : 0 < length c.args.digits.now = search (rules, c.is_empty.ensures, c.if-is_empty.false) in
     c.ok.ensures.value ∙ rw (parsed c.args.digits.now c.parse.result is are some (omega arith))
-        (sym (is_magnitude c.args.digits.now are some (omega arith)))
+    (sym (is_magnitude c.args.digits.now are some (omega arith)))

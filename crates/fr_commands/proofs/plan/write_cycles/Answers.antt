@@ -12,6 +12,6 @@ loop-number-preserved g c =
     let before = g.W.Write.contents c.loop-number.writer in
     let after = g.W.Write.contents c.write_guard.new.writer in
     one_cycle d c.args.node c.args.channel c.loop-number.number
-        (g.W.Write.contents c.args.writer.now) before after c.loop-number.invariant
+    (g.W.Write.contents c.args.writer.now) before after c.loop-number.invariant
     (subst (λ (n : ℕ). Adds (IsGuardText d c.args.node c.args.channel n) before after) c.from_bits.ensures
-        c.in_ok-write_guard.ensures)
+    c.in_ok-write_guard.ensures)

@@ -20,11 +20,11 @@ loop-number-preserved g c =
     let before = g.W.Write.contents c.loop-number.writer in
     let after = g.W.Write.contents c.write_buffers.new.writer in
     let with_params = subst (λ (p : Parameters). Appends before after
-        (flat_map (buffer_text p number) c.buffers.result.now)) c.params.ensures.value c.in_ok-write_buffers.ensures in
+    (flat_map (buffer_text p number) c.buffers.result.now)) c.params.ensures.value c.in_ok-write_buffers.ensures in
     let written = subst (λ (bs : List Buffer). Appends before after (flat_map (buffer_text d.params number) bs))
-        c.buffers.ensures.value with_params in
+    c.buffers.ensures.value with_params in
     one_node (node_text d.params) d.plans number c.plan-item.result (g.W.Write.contents c.args.writer.now) before after
     (subst (λ (plans : List Plan). slice_get plans number ≡ Some c.plan-item.result) c.plans-plan-items.ensures.value
     (slice_get_read c.plans-plan-items.result.now _ number c.plan-item.result refl c.loop-number-test.true
-        c.plan-item.is))
+    c.plan-item.is))
     c.loop-number.invariant written

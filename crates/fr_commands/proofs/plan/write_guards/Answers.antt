@@ -29,10 +29,10 @@ loop-number-preserved g c =
           subst (λ x. Adds (AreGuardTexts d (number + 1)) start (g.W.Write.contents x)) (sym w.writer-is)
           (one_guard d number start before first last c.loop-number.invariant
           (subst (λ (n : ℕ). Adds (AreCycleTexts d n A (cycles_told d)) before first) same
-              (subst (λ (m : ℕ). Adds (AreCycleTexts d w.in-Some.node A m) before first) told
-              w.in_ok-write_cycles.ensures))
+          (subst (λ (m : ℕ). Adds (AreCycleTexts d w.in-Some.node A m) before first) told
+          w.in_ok-write_cycles.ensures))
           (subst (λ (n : ℕ). Adds (AreCycleTexts d n B (cycles_told d)) first last) same
-              (subst (λ (m : ℕ). Adds (AreCycleTexts d w.in-Some.node B m) first last) told
-              w.in_ok-write_cycles-2.ensures)))
+          (subst (λ (m : ℕ). Adds (AreCycleTexts d w.in-Some.node B m) first last) told
+          w.in_ok-write_cycles-2.ensures)))
       | in_default w ↦ absurd (no_node_is number (omega (arith, c.requires)) (sym w.in_default.ensures))
     ]

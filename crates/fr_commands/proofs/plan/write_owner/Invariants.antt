@@ -7,4 +7,4 @@ use Rattle.fr_commands.proofs.plan.write_owner.Given as goal
 abbrev pub invariant-loop-own : goal.invariant-loop-own
 invariant-loop-own g l =
     Appends (g.W.Write.contents l.fn.writer) (g.W.Write.contents l.writer)
-        (flat_map (own_text l.slot l.channel l.base l.node) (take l.own-index l.plan.owned))
+    (flat_map (own_text l.slot l.channel l.base l.node) (take l.own-index l.plan.owned))

@@ -27,9 +27,9 @@ loop-earlier-preserved g c =
           let after = g.W.Write.contents w.write_slot.new.writer in
           let same = slot_is (earlier + 1) w.in-Some.slot (sym w.in-Some.ensures) in
           subst (λ x. Appends start (g.W.Write.contents x) (flat_map text (range_with_len 1 (earlier + 1))))
-              (sym w.writer-is)
+          (sym w.writer-is)
           (one_more text 1 earlier start before after c.loop-earlier.invariant
-              (subst (λ (n : ℕ). Appends before after (text n))
-              (same ∙ (let e : earlier + 1 ≡ 1 + earlier = omega arith in e)) w.in_ok-write_slot.ensures))
+          (subst (λ (n : ℕ). Appends before after (text n))
+          (same ∙ (let e : earlier + 1 ≡ 1 + earlier = omega arith in e)) w.in_ok-write_slot.ensures))
       | in_default w ↦ absurd (no_slot_is (earlier + 1) (omega arith) (omega arith) (sym w.in_default.ensures))
     ]

@@ -18,9 +18,11 @@ loop-event-init c = record { run = run_none c.args.world.now; few = omega arith 
 pub loop-event-preserved : goal.loop-event-preserved
 loop-event-preserved c =
     record {
-      run = rw (take_more c.args.events.now c.loop-event.event-index c.event-item.result c.loop-event-test.true,
-          ← c.event-item.is)
+      run = rw (
+        take_more c.args.events.now c.loop-event.event-index c.event-item.result c.loop-event-test.true,
+        ← c.event-item.is,
+      )
           (run_more _ _ _ _ _ _ _ _ c.loop-event.invariant.run c.step.ensures.step
-              (c.from-accepted.ensures ∙ byte_is c.is_ok.result ∙ ap (λ b. cond b 1 0) c.is_ok.ensures.value));
+          (c.from-accepted.ensures ∙ byte_is c.is_ok.result ∙ ap (λ b. cond b 1 0) c.is_ok.ensures.value));
       few = omega (arith, c.loop-event.invariant.few, c.from-accepted.ensures, one_at_most c.is_ok.result);
     }

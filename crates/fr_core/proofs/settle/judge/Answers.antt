@@ -15,13 +15,13 @@ number_at-number-requires c =
     let rs = c.args.recorded.now in
     let windows = each_node (WindowsAgree is rs)
     (subst (λ (o : Option ℕ). FindsBelow (last_node + 1) (WindowsAgree is rs) o) c.in_default-window.is
-        c.find_differences-window.ensures.windows) in
+    c.find_differences-window.ensures.windows) in
     let fates = subst (λ (e : Description). FindsPlace (IsFatedAt e rs) c.other_fates.result) c.in-Ok.ensures
-        c.other_fates.ensures in
+    c.other_fates.ensures in
     let first = subst (λ (o : Option (ℕ × ℕ)). FindsPlace (λ n k. IsOfferedAt d rs n (slice_get is n) k) o)
-        (sym c.in-Some-earlier.ensures)
+    (sym c.in-Some-earlier.ensures)
     (offers_found d is rs c.find_differences-window.result.offer c.other_fates.result
-        c.find_differences-window.ensures.offers fates) in
+    c.find_differences-window.ensures.offers fates) in
     offer_within d is rs c.in-Some-earlier.found.0 c.in-Some-earlier.found.1 windows first.0 first.2
 
 pub returns-in-Some-earlier : goal.returns-in-Some-earlier
@@ -33,13 +33,13 @@ returns-in-Some-earlier c =
     let k = c.in-Some-earlier.found.1 in
     let windows = each_node (WindowsAgree is rs)
     (subst (λ (o : Option ℕ). FindsBelow (last_node + 1) (WindowsAgree is rs) o) c.in_default-window.is
-        c.find_differences-window.ensures.windows) in
+    c.find_differences-window.ensures.windows) in
     let fates = subst (λ (e : Description). FindsPlace (IsFatedAt e rs) c.other_fates.result) c.in-Ok.ensures
-        c.other_fates.ensures in
+    c.other_fates.ensures in
     let first = subst (λ (o : Option (ℕ × ℕ)). FindsPlace (λ m j. IsOfferedAt d rs m (slice_get is m) j) o)
-        (sym c.in-Some-earlier.ensures)
+    (sym c.in-Some-earlier.ensures)
     (offers_found d is rs c.find_differences-window.result.offer c.other_fates.result
-        c.find_differences-window.ensures.offers fates) in (
+    c.find_differences-window.ensures.offers fates) in (
       c.in_default.ensures,
       windows,
       first.1,
@@ -54,11 +54,11 @@ number_at-number-requires-in-Some-sight c =
     let rs = c.args.recorded.now in
     let windows = each_node (WindowsAgree is rs)
     (subst (λ (o : Option ℕ). FindsBelow (last_node + 1) (WindowsAgree is rs) o) c.in_default-window.is
-        c.find_differences-window.ensures.windows) in
+    c.find_differences-window.ensures.windows) in
     let first = subst (λ (o : Option (ℕ × ℕ)). FindsPlace (λ n k. IsSeenAt d rs n (slice_get is n) k) o)
-        c.in-Some-sight.is
+    c.in-Some-sight.is
     (subst (λ (p : Parameters). FindsPlace (λ n k. IfThere (slice_get is n) (IsShownAt p rs n k))
-        c.find_differences-window.result.sight) c.params.ensures.value
+    c.find_differences-window.result.sight) c.params.ensures.value
     c.find_differences-window.ensures.sights) in
     sight_within d is rs c.in-Some-sight.found.0 c.in-Some-sight.found.1 windows first.0 first.2
 
@@ -71,17 +71,17 @@ returns-in-Some-sight c =
     let k = c.in-Some-sight.found.1 in
     let windows = each_node (WindowsAgree is rs)
     (subst (λ (o : Option ℕ). FindsBelow (last_node + 1) (WindowsAgree is rs) o) c.in_default-window.is
-        c.find_differences-window.ensures.windows) in
+    c.find_differences-window.ensures.windows) in
     let fates = subst (λ (e : Description). FindsPlace (IsFatedAt e rs) c.other_fates.result) c.in-Ok.ensures
-        c.other_fates.ensures in
+    c.other_fates.ensures in
     let offers = subst (λ (o : Option (ℕ × ℕ)). FindsPlace (λ m j. IsOfferedAt d rs m (slice_get is m) j) o)
-        (sym c.earlier.ensures ∙ c.in_default-earlier.is)
+    (sym c.earlier.ensures ∙ c.in_default-earlier.is)
     (offers_found d is rs c.find_differences-window.result.offer c.other_fates.result
-        c.find_differences-window.ensures.offers fates) in
+    c.find_differences-window.ensures.offers fates) in
     let first = subst (λ (o : Option (ℕ × ℕ)). FindsPlace (λ m j. IsSeenAt d rs m (slice_get is m) j) o)
-        c.in-Some-sight.is
+    c.in-Some-sight.is
     (subst (λ (p : Parameters). FindsPlace (λ m j. IfThere (slice_get is m) (IsShownAt p rs m j))
-        c.find_differences-window.result.sight) c.params.ensures.value
+    c.find_differences-window.result.sight) c.params.ensures.value
     c.find_differences-window.ensures.sights) in (
       c.in_default.ensures,
       windows,

@@ -9,6 +9,6 @@ use Rattle.fr_core.proofs.settle.wrong_node.Goals as goal
 pub returns : goal.returns
 returns c =
     subst (λ (sent : List Sent). FindsLeast (λ n. list_all (is_right c.args.guardian.now n c.args.window.now) sent
-        ≡ true) c.loop-transmission.least)
+    ≡ true) c.loop-transmission.least)
     (take_all c.loop-transmission.transmission-index c.args.sent.now (omega (arith, c.loop-transmission-test.false)))
-        c.loop-transmission.invariant
+    c.loop-transmission.invariant

@@ -21,7 +21,7 @@ loop-number-init c = record {
 pub unreachable-requires : goal.unreachable-requires
 unreachable-requires c =
     none_past c.args.interface.now.entries c.loop-number.number
-        (omega (arith, c.loop-number-test.true, c.entries_of-number-end.ensures.value))
+    (omega (arith, c.loop-number-test.true, c.entries_of-number-end.ensures.value))
     (sym c.entry_at.ensures.entry ∙ ap (option_map whole) c.in_default.is)
 
 pub loop-number-preserved : goal.loop-number-preserved
@@ -34,7 +34,7 @@ loop-number-preserved c =
       observes = observes_on c.args.params.now c.args.interface.now c.args.node c.args.recorded.now c.loop-number.number
           c.loop-number.observes
           (whole c.in-Some.entry) c.observes_past-observes.result c.loop-number.invariant.observes at
-              c.observes_past-observes.ensures;
+          c.observes_past-observes.ensures;
       courses = c.courses_past.ensures;
     }
 
@@ -44,16 +44,20 @@ returns c =
     let rs = c.args.recorded.now in
     let n = c.args.node in
     let k = c.loop-number.number in
-    let end : k ≡ length s.entries = omega (arith, c.loop-number.auto.number-end, c.loop-number-test.false,
-        c.entries_of-number-end.ensures.value) in
+    let end : k ≡ length s.entries = omega (
+      arith,
+      c.loop-number.auto.number-end,
+      c.loop-number-test.false,
+      c.entries_of-number-end.ensures.value,
+    ) in
     let fetches = c.loop-number.invariant.fetches in
     let observes = c.loop-number.invariant.observes in
     record {
       windows = windows_told rs s c.or_rest-fetch.result c.or_rest-observe.result c.are_none.result c.are_none.ensures
           (finds_rest fetches_at s.entries (λ (r : Recorded). r.window) rs k c.loop-number.fetches.count
-              c.loop-number.fetches.window c.or_rest-fetch.result end fetches.windows c.or_rest-fetch.ensures)
+          c.loop-number.fetches.window c.or_rest-fetch.result end fetches.windows c.or_rest-fetch.ensures)
           (finds_rest observes_at s.entries (λ (r : Recorded). r.window) rs k c.loop-number.observes.count
-              c.loop-number.observes.window c.or_rest-observe.result end observes.windows c.or_rest-observe.ensures);
+          c.loop-number.observes.window c.or_rest-observe.result end observes.windows c.or_rest-observe.ensures);
       offers = finds_rest (handed_at s.params s.plan) s.entries
           (offers_of n) rs k c.loop-number.fetches.count c.loop-number.fetches.offer c.or_rest.result end fetches.offers
           c.or_rest.ensures;
@@ -62,5 +66,5 @@ returns c =
       scripts = task_found c.args.scripts.now n (deeds_of s) c.loop-number.courses c.other_task.result
           c.loop-number.invariant.courses.as_many
           (whole_at s c.args.scripts.now n k c.loop-number.courses end c.loop-number.invariant.courses)
-              c.other_task.ensures;
+          c.other_task.ensures;
     }

@@ -12,7 +12,7 @@ loop-sixteen-preserved c =
     let i = c.loop-sixteen.sixteen-index in
     let within : i < length bytes / 16 = omega (arith, c.loop-sixteen-test.true, c.as_chunks.ensures.front_len) in
     let block = ap (λ blocks. get_or blocks i []) c.as_chunks.ensures.front ∙ block_at 16
-        (length bytes / 16) i bytes [] within in
+    (length bytes / 16) i bytes [] within in
     record {
       fits = c.step_sixteen-register.ensures.fits;
       rest = divided-next_block 16 _ _ _ bytes i _ (length-polynomial 6122955 c.loop-sixteen.register)
@@ -24,11 +24,11 @@ loop-sixteen-preserved c =
 pub returns-clause-value : goal.returns-clause-value
 returns-clause-value c =
     let left : divided frame_divisor (bits_of 24 c.step_rest.result) [] ≡ frame_check c.args.channel c.args.bytes.now =
-        search rules in
+    search rules in
     number-divided _ 24 _ _ _ c.step_rest.ensures.fits refl left
 
 pub returns-clause-bits : goal.returns-clause-bits
 returns-clause-bits c =
     let left : divided frame_divisor (bits_of 24 c.step_rest.result) [] ≡ frame_check c.args.channel c.args.bytes.now =
-        search rules in
+    search rules in
     bits-divided _ 24 _ _ _ refl left

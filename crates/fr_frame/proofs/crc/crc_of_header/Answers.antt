@@ -11,11 +11,11 @@ use Rattle.fr_frame.proofs.crc.crc_of_header.Goals as goal
 pub returns-clause-bits : goal.returns-clause-bits
 returns-clause-bits c =
     three_entries header_divisor 11 _ _ _ _ _ _ c.header_entry.ensures.bits c.header_entry-2.ensures.bits
-        c.header_entry-3.ensures.bits
+    c.header_entry-3.ensures.bits
     ∙ ap (λ r. left_by header_divisor 11 (bits_of_bytes (get_or r 1 0 ∷ get_or r 2 0 ∷ get_or r 3 0 ∷ [])))
-        c.to_be_bytes.ensures
+    c.to_be_bytes.ensures
     ∙ ap (λ k. left_by header_divisor 11 (bits_of_bytes
-        (bytes_high_first 3 (bit_xor c.args.covered (k * 512 % 2 ^ 32))))) c.from.ensures
+    (bytes_high_first 3 (bit_xor c.args.covered (k * 512 % 2 ^ 32))))) c.from.ensures
     ∙ header_met c.args.covered c.requires
 
 pub returns-clause-fits : goal.returns-clause-fits

@@ -11,7 +11,7 @@ returns-clause-bits c =
     let four : length c.args.back ≡ 4 = search rules in
     stretches_add frame_divisor 24 c.args.zeros _ _ c.args.front c.args.back
     (c.frame_entries.ensures.bits ∙ ap (λ k. left_by frame_divisor 24
-        (bits_of_bytes c.args.front ++ replicate (8 * (c.args.zeros + k)) false)) (sym four))
+    (bits_of_bytes c.args.front ++ replicate (8 * (c.args.zeros + k)) false)) (sym four))
     c.frame_entries-2.ensures.bits
 
 pub returns-clause-fits : goal.returns-clause-fits

@@ -16,9 +16,9 @@ returns-clause-bits c =
     let front = get_or bytes 0 0 ∷ get_or bytes 1 0 ∷ get_or bytes 2 0 ∷ get_or bytes 3 0 ∷ [] in
     let back = get_or bytes 4 0 ∷ get_or bytes 5 0 ∷ get_or bytes 6 0 ∷ get_or bytes 7 0 ∷ [] in
     let word = word_bits c.from_be_bytes.result front refl (four_fit _ _ _ _ first second third fourth)
-        c.from_be_bytes.ensures in
+    c.from_be_bytes.ensures in
     block_steps 6122955 c.args.register c.from_be_bytes.result _ front back c.requires word refl
     (c.frame_entries_of_two.ensures.bits ∙ ap (λ w. left_by frame_divisor 24
-        (bits_of_bytes (w ++ back) ++ replicate 0 false)) c.to_be_bytes.ensures)
+    (bits_of_bytes (w ++ back) ++ replicate 0 false)) c.to_be_bytes.ensures)
     ∙ ap (λ b. stepped_all (bits_of 24 6122955) (bits_of 24 c.args.register) (bits_of_bytes b))
-        (sym (eight_of bytes eight))
+    (sym (eight_of bytes eight))

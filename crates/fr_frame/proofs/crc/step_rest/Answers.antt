@@ -13,7 +13,7 @@ loop-eight-preserved c =
     let i = c.loop-eight.eight-index in
     let within : i < length bytes / 8 = omega (arith, c.loop-eight-test.true, c.as_chunks.ensures.front_len) in
     let block = ap (λ blocks. get_or blocks i []) c.as_chunks.ensures.front ∙ block_at 8
-        (length bytes / 8) i bytes [] within in
+    (length bytes / 8) i bytes [] within in
     record {
       fits = c.step_eight-register.ensures.fits;
       rest = divided-next_block 8 _ _ _ bytes i _ (length-polynomial 6122955 c.loop-eight.register)
@@ -33,4 +33,4 @@ loop-byte-preserved c = record {
 pub returns-clause-left : goal.returns-clause-left
 returns-clause-left c =
     ap (λ bytes. divided frame_divisor (bits_of 24 c.loop-byte.register) (bits_of_bytes bytes))
-        (sym (drop_all _ _ c.loop-byte-test.false)) ∙ c.loop-byte.invariant.rest
+    (sym (drop_all _ _ c.loop-byte-test.false)) ∙ c.loop-byte.invariant.rest

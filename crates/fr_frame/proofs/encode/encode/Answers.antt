@@ -18,8 +18,13 @@ checked c =
 
 written : (c : goal.After-append-3) → c.append-3.new.bytes.items ≡ encoded c.args.frame.now c.args.channel
 unfolding encoded
-written c = rw (c.append-3.ensures, c.to_be_bytes-2.ensures, c.crc24-check.ensures.value, c.as_slice-2.ensures.value,
-    checked c) refl
+written c = rw (
+  c.append-3.ensures,
+  c.to_be_bytes-2.ensures,
+  c.crc24-check.ensures.value,
+  c.as_slice-2.ensures.value,
+  checked c,
+) refl
 
 is_frame : (c : goal.After-append-3) → IsFrame c.args.frame.now
 is_frame c = record {

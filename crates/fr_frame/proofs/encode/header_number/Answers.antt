@@ -11,7 +11,7 @@ returns-clause-value c =
     (c.from.ensures ∙ digit_is _) (c.from-2.ensures ∙ digit_is _)
     c.covered_bits-covered.ensures.fits (c.covered_bits-covered.ensures.bits ∙ ap covered (sym c.frame.view_is))
     c.crc_of_header.ensures.fits c.crc_of_header.ensures.bits
-        (c.from-5.ensures ∙ c.number.ensures.value) c.number.ensures.fits)
+    (c.from-5.ensures ∙ c.number.ensures.value) c.number.ensures.fits)
 
 pub returns-clause-cycle_fits : goal.returns-clause-cycle_fits
 returns-clause-cycle_fits c = rw (← c.frame.view_is) c.number.ensures.fits

@@ -15,7 +15,7 @@ loop-own-preserved c =
     let repetition = c.repetition.ensures.value in
     let fits = at_most_64 own.cycles.repetition c.repetition.ensures.lawful.repetition_is in
     let greater : c.max-most.result ≡ max own.cycles.repetition c.loop-own.most =
-        c.max-most.ensures ∙ ap (λ n. max n c.loop-own.most) repetition in
+    c.max-most.ensures ∙ ap (λ n. max n c.loop-own.most) repetition in
     record {
       most = taken_more (λ (owned : List Own). c.max-most.result ≡ period owned) c.args.owned.now c.loop-own.own-index
           own c.loop-own-test.true c.own-item.is

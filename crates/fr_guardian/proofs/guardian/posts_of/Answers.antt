@@ -10,10 +10,10 @@ loop-plan-preserved c =
     let d = c.args.cluster.now in
     let index = c.loop-plan.plan-index in
     let here = slice_get_read c.plans-plan-items.result.now _ index c.plan-item.result refl c.loop-plan-test.true
-        c.plan-item.is in
+    c.plan-item.is in
     let at : slice_get d.plans index ≡ Some c.plan-item.result =
-        subst (λ (plans : List Plan). slice_get plans index ≡ Some c.plan-item.result) c.plans-plan-items.ensures.value
-        here in
+    subst (λ (plans : List Plan). slice_get plans index ≡ Some c.plan-item.result) c.plans-plan-items.ensures.value
+    here in
     let more = first_more d index c.loop-plan.posts.items c.in_ok-post_of.field-0 c.loop-plan.invariant
-        (at ∙ ap (λ (x : Plan). Some x) (sym c.in_ok-post_of.ensures.plan)) c.in_ok-post_of.ensures.post in
+    (at ∙ ap (λ (x : Plan). Some x) (sym c.in_ok-post_of.ensures.plan)) c.in_ok-post_of.ensures.post in
     subst (λ (posts : List Post). AreFirst d (index + 1) posts) (sym {A = List Post} c.in_ok-push.ensures.items) more

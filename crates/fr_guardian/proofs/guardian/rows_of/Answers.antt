@@ -12,8 +12,8 @@ loop-number-preserved c =
     let guarded = is_guarded d.guard c.args.channel in
     let row = c.in_ok-intervals_in.field-0 in
     let here = subst (λ cycle. AreMaximalIntervals (IsOpenTo d.params guarded c.args.owned.now cycle c.args.channel)
-        row.items) c.from_bits-cycle.ensures c.in_ok-intervals_in.ensures in
+    row.items) c.from_bits-cycle.ensures c.in_ok-intervals_in.ensures in
     let more = rows_more d.params guarded c.args.owned.now c.args.channel c.loop-number.number c.loop-number.rows.items
-        row c.loop-number.invariant here in
+    row c.loop-number.invariant here in
     subst (λ (rows : List Row). AreFirstRows d.params guarded c.args.owned.now c.args.channel
-        (c.loop-number.number + 1) rows) (sym {A = List Row} c.in_ok-push.ensures.items) more
+    (c.loop-number.number + 1) rows) (sym {A = List Row} c.in_ok-push.ensures.items) more

@@ -8,18 +8,18 @@ pub returns-then-started-gt0 : goal.returns-then-started-gt0
 returns-then-started-gt0 c =
     let xs : List Span = c.args.spans.now in
     let parted = IsPartitionedBy-leb (λ (x : Span). x.0) xs c.args.macrotick
-        (starts_rise xs c.requires.not_empty c.requires.apart) in
+    (starts_rise xs c.requires.not_empty c.requires.apart) in
     let point = IsPartitionPoint-from_clause (λ (x : Span). leb x.0 c.args.macrotick) _ _
-        c.partition_point-started.ensures.partitioned parted (λ a r q k. search rules) in
+    c.partition_point-started.ensures.partitioned parted (λ a r q k. search rules) in
     found_some xs c.requires.not_empty c.requires.apart c.args.macrotick c.partition_point-started.result
-        c.partition_point-started.ensures.bound point (omega (arith, c.if-started-gt0.true))
+    c.partition_point-started.ensures.bound point (omega (arith, c.if-started-gt0.true))
 
 pub returns-else-started-gt0 : goal.returns-else-started-gt0
 returns-else-started-gt0 c =
     let xs : List Span = c.args.spans.now in
     let parted = IsPartitionedBy-leb (λ (x : Span). x.0) xs c.args.macrotick
-        (starts_rise xs c.requires.not_empty c.requires.apart) in
+    (starts_rise xs c.requires.not_empty c.requires.apart) in
     let point = IsPartitionPoint-from_clause (λ (x : Span). leb x.0 c.args.macrotick) _ _
-        c.partition_point-started.ensures.partitioned parted (λ a r q k. search rules) in
+    c.partition_point-started.ensures.partitioned parted (λ a r q k. search rules) in
     found_none xs c.requires.not_empty c.requires.apart c.args.macrotick c.partition_point-started.result
-        c.partition_point-started.ensures.bound point (omega (arith, c.if-started-gt0.false))
+    c.partition_point-started.ensures.bound point (omega (arith, c.if-started-gt0.false))

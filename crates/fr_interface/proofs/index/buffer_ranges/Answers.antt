@@ -11,9 +11,9 @@ loop-place-preserved c =
     let lines = c.args.buffers.now in
     let place = c.loop-place.place in
     ranges-next (λ (line : Buffer). line.filter.slot) lines place c.index-buffers-place.result c.widen.new.ranges.items
-        c.loop-place-test.true c.index-buffers-place.is
+    c.loop-place-test.true c.index-buffers-place.is
     (c.widen.ensures (map (λ (line : Buffer). line.filter.slot) (take place lines))
-        (length-before (λ (line : Buffer). line.filter.slot) lines place c.loop-place-test.true) c.loop-place.invariant)
+    (length-before (λ (line : Buffer). line.filter.slot) lines place c.loop-place-test.true) c.loop-place.invariant)
 
 pub returns : goal.returns
 returns c = ranges-all (λ (line : Buffer). line.filter.slot) c.args.buffers.now c.loop-place.place

@@ -11,9 +11,9 @@ loop-place-preserved c =
     let lines = c.args.owned.now in
     let place = c.loop-place.place in
     ranges-next (λ (line : Own). line.slot) lines place c.index-owned-place.result c.widen.new.ranges.items
-        c.loop-place-test.true c.index-owned-place.is
+    c.loop-place-test.true c.index-owned-place.is
     (c.widen.ensures (map (λ (line : Own). line.slot) (take place lines))
-        (length-before (λ (line : Own). line.slot) lines place c.loop-place-test.true) c.loop-place.invariant)
+    (length-before (λ (line : Own). line.slot) lines place c.loop-place-test.true) c.loop-place.invariant)
 
 pub returns : goal.returns
 returns c = ranges-all (λ (line : Own). line.slot) c.args.owned.now c.loop-place.place c.loop-place.ranges.items

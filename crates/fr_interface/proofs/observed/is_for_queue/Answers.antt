@@ -19,11 +19,11 @@ returns-then-admits c =
     let cycle : c.window.inside.cycle ≡ window.cycle = ap (λ (w : Opportunity). w.cycle) c.window.view_is in
     let admits : queue_admits_slot queue window.cycle channel (slot_of window channel) ≡ true =
     ap (queue_admits_slot queue window.cycle channel) there ∙ ap (λ (n : ℕ). queue_admits queue n slot channel)
-        (sym cycle) ∙ sym c.admits.ensures ∙ c.if-admits.true in
+    (sym cycle) ∙ sym c.admits.ensures ∙ c.if-admits.true in
     let part : c.of-buffers.result.now ≡ slice_range plan.buffers range.first range.end =
     c.of-buffers.ensures ∙ ap (λ (l : List Buffer). slice_range l range.first range.end)
-        (c.buffers.ensures.value ∙ ap (λ (p : Plan). p.buffers) c.as_plan.ensures) in
+    (c.buffers.ensures.value ∙ ap (λ (p : Plan). p.buffers) c.as_plan.ensures) in
     let taken : c.is_taken.result ≡ list_any (takes_window window channel) plan.buffers =
     c.is_taken.ensures ∙ ap (list_any (takes_window window channel)) part ∙ sym
-        (taken-in plan window channel slot range there c.buffer_range.ensures) in
+    (taken-in plan window channel slot range there c.buffer_range.ensures) in
     ap not taken ∙ ap (λ (t : Bool). t && not (list_any (takes_window window channel) plan.buffers)) (sym admits)

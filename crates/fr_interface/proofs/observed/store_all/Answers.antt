@@ -17,12 +17,12 @@ loop-place-init c =
     let b = c.args.b.now in
     let old = c.args.buffers.now in
     let lines : c.buffers-lines.result.now ≡ c.args.plan.now.buffers =
-        c.buffers-lines.ensures.value ∙ ap (λ (p : Plan). p.buffers) c.as_plan.ensures in
+    c.buffers-lines.ensures.value ∙ ap (λ (p : Plan). p.buffers) c.as_plan.ensures in
     let first : c.from-place.result ≡ (joined c.taking_range-range_a.result c.taking_range-range_b.result).first =
-        c.from-place.ensures ∙ ap (λ (r : LineRange). r.first) c.joined-range.ensures in
+    c.from-place.ensures ∙ ap (λ (r : LineRange). r.first) c.joined-range.ensures in
     sym ((λ i. stored_all n w a b (take (first i) (lines i)) old)
     ∙ stored-before n w a b c.args.plan.now.buffers c.taking_range-range_a.result c.taking_range-range_b.result
-        c.taking_range-range_a.ensures c.taking_range-range_b.ensures old)
+    c.taking_range-range_a.ensures c.taking_range-range_b.ensures old)
 
 pub loop-place-preserved : goal.loop-place-preserved
 loop-place-preserved c =
@@ -37,13 +37,13 @@ loop-place-preserved c =
     let held = c.index-buffers-place.result in
     let so_far = stored_all n w a b (take place lines) old in
     let lines_are : length lines ≡ length c.args.plan.now.buffers =
-        ap length (c.buffers-lines.ensures.value ∙ ap (λ (p : Plan). p.buffers) c.as_plan.ensures) in
+    ap length (c.buffers-lines.ensures.value ∙ ap (λ (p : Plan). p.buffers) c.as_plan.ensures) in
     let range_a = c.taking_range-range_a.ensures in
     let range_b = c.taking_range-range_b.ensures in
     let ends = joined-ends (length c.args.plan.now.buffers) c.taking_range-range_a.result c.taking_range-range_b.result
-        (range_a.ordered, range_a.ends) (range_b.ordered, range_b.ends) in
+    (range_a.ordered, range_a.ends) (range_b.ordered, range_b.ends) in
     let end : c.from-place-end.result ≡ (joined c.taking_range-range_a.result c.taking_range-range_b.result).end =
-        c.from-place-end.ensures ∙ ap (λ (r : LineRange). r.end) c.joined-range.ensures in
+    c.from-place-end.ensures ∙ ap (λ (r : LineRange). r.end) c.joined-range.ensures in
     let below : place < length lines = omega (arith, c.loop-place-test.true, end, ends.1, lines_are) in
     let same : length old ≡ length lines = omega (arith, c.requires, lines_are) in
     let new : c.store_in.new.buffer ≡ option_or (taken_by n w a b line) held =
@@ -64,18 +64,18 @@ returns c =
     let range_a = c.taking_range-range_a.result in
     let range_b = c.taking_range-range_b.result in
     let lines : c.buffers-lines.result.now ≡ c.args.plan.now.buffers =
-        c.buffers-lines.ensures.value ∙ ap (λ (p : Plan). p.buffers) c.as_plan.ensures in
+    c.buffers-lines.ensures.value ∙ ap (λ (p : Plan). p.buffers) c.as_plan.ensures in
     let end : c.from-place-end.result ≡ (joined range_a range_b).end =
-        c.from-place-end.ensures ∙ ap (λ (r : LineRange). r.end) c.joined-range.ensures in
+    c.from-place-end.ensures ∙ ap (λ (r : LineRange). r.end) c.joined-range.ensures in
     let first : c.from-place.result ≡ (joined range_a range_b).first =
-        c.from-place.ensures ∙ ap (λ (r : LineRange). r.first) c.joined-range.ensures in
+    c.from-place.ensures ∙ ap (λ (r : LineRange). r.first) c.joined-range.ensures in
     let of_a = c.taking_range-range_a.ensures in
     let of_b = c.taking_range-range_b.ensures in
     let ends = joined-ends (length c.args.plan.now.buffers) range_a range_b (of_a.ordered, of_a.ends)
-        (of_b.ordered, of_b.ends) in
+    (of_b.ordered, of_b.ends) in
     let place : c.loop-place.place ≡ (joined range_a range_b).end =
-        omega (arith, first, end, ends.0, c.loop-place-test.false, c.loop-place.auto.place-end) in
+    omega (arith, first, end, ends.0, c.loop-place-test.false, c.loop-place.auto.place-end) in
     c.loop-place.invariant
     ∙ (λ i. stored_all n w a b (take (place i) (lines i)) old)
     ∙ stored-within n w a b c.args.plan.now.buffers range_a range_b c.taking_range-range_a.ensures
-        c.taking_range-range_b.ensures old
+    c.taking_range-range_b.ensures old

@@ -18,7 +18,7 @@ returns c =
     let cycle : c.window.inside.cycle ≡ window.cycle = ap (λ (w : Opportunity). w.cycle) c.window.view_is in
     let part : c.of-owned.result.now ≡ slice_range plan.owned range.first range.end =
     c.of-owned.ensures ∙ ap (λ (l : List Own). slice_range l range.first range.end)
-        (c.owned.ensures.value ∙ ap (λ (p : Plan). p.owned) c.as_plan.ensures) in
+    (c.owned.ensures.value ∙ ap (λ (p : Plan). p.owned) c.as_plan.ensures) in
     c.ownership.ensures
     ∙ (λ i. ownership (part i) slot channel (cycle i))
     ∙ ownership-in plan.owned slot channel window.cycle range c.own_range.ensures

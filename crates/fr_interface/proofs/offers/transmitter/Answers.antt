@@ -21,12 +21,12 @@ returns-in_err-place c =
     let there : slot_of window channel ≡ Some c.in_ok-slot.slot = sym c.slot.ensures ∙ c.in_ok-slot.was in
     let part : c.of-buffers.result.now ≡ slice_range plan.buffers range.first range.end =
     c.of-buffers.ensures ∙ ap (λ (l : List Buffer). slice_range l range.first range.end)
-        (c.buffers.ensures.value ∙ ap (λ (p : Plan). p.buffers) c.as_plan.ensures) in
+    (c.buffers.ensures.value ∙ ap (λ (p : Plan). p.buffers) c.as_plan.ensures) in
     let found : position (is_admitting window channel) (slice_range plan.buffers range.first range.end) ≡ None =
     sym (ap (position (is_admitting window channel)) part) ∙ sym c.first_admitting.ensures.value ∙ c.in_err-place.was in
     c.from_residual-in_err-place.ensures
     ∙ sym (transmitter-in plan window channel c.in_ok-slot.slot range there c.buffer_range-range.ensures ∙ ap
-        (option_map (λ p. range.first + p)) found)
+    (option_map (λ p. range.first + p)) found)
 
 pub returns : goal.returns
 returns c =
@@ -37,9 +37,9 @@ returns c =
     let there : slot_of window channel ≡ Some c.in_ok-slot.slot = sym c.slot.ensures ∙ c.in_ok-slot.was in
     let part : c.of-buffers.result.now ≡ slice_range plan.buffers range.first range.end =
     c.of-buffers.ensures ∙ ap (λ (l : List Buffer). slice_range l range.first range.end)
-        (c.buffers.ensures.value ∙ ap (λ (p : Plan). p.buffers) c.as_plan.ensures) in
+    (c.buffers.ensures.value ∙ ap (λ (p : Plan). p.buffers) c.as_plan.ensures) in
     let found : position (is_admitting window channel) (slice_range plan.buffers range.first range.end)
-        ≡ Some c.in_ok-place.place =
+    ≡ Some c.in_ok-place.place =
     sym (ap (position (is_admitting window channel)) part) ∙ sym c.first_admitting.ensures.value ∙ c.in_ok-place.was in
     sym (transmitter-in plan window channel c.in_ok-slot.slot range there c.buffer_range-range.ensures ∙ ap
-        (option_map (λ p. range.first + p)) found)
+    (option_map (λ p. range.first + p)) found)

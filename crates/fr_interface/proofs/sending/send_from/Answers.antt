@@ -10,10 +10,10 @@ returns-then-place-buffers c =
     let buffers = c.args.buffers.now in
     let place = c.from-place.result in
     let new : c.send_offered.new.buffer ≡ send_offered c.index-buffers-place.result =
-        c.send_offered.ensures ∙ ap send_offered (sym c.index-buffers-place.is) in
+    c.send_offered.ensures ∙ ap send_offered (sym c.index-buffers-place.is) in
     ap (λ (t : Transmitter). set buffers place t) new
     ∙ change_at-set send_offered buffers place c.index-buffers-place.result c.if-place-buffers.true
-        c.index-buffers-place.is
+    c.index-buffers-place.is
     ∙ ap (λ (n : ℕ). change_at send_offered buffers n) c.from-place.ensures
     ∙ ap (after_sender buffers) (sym c.in-Some.is)
 

@@ -27,8 +27,8 @@ returns-clause-buffers c =
     let buffers = c.args.buffers.now in
     let place = c.from-place.result in
     let new : c.withdraw.new.self ≡ after_withdraw c.index-buffers-place.result =
-        c.withdraw.ensures.buffer ∙ ap after_withdraw (sym c.index-buffers-place.is) in
+    c.withdraw.ensures.buffer ∙ ap after_withdraw (sym c.index-buffers-place.is) in
     ap (λ (t : Transmitter). set buffers place t) new
     ∙ change_at-set after_withdraw buffers place c.index-buffers-place.result c.if-place-buffers.false
-        c.index-buffers-place.is
+    c.index-buffers-place.is
     ∙ ap (λ (n : ℕ). change_at after_withdraw buffers n) c.from-place.ensures

@@ -22,14 +22,14 @@ loop-sealed-preserved g c =
     let begun : c.begun_with-begun.result ≡ cycles_begun (take (n + 1) rs) =
     c.begun_with-begun.ensures
     ∙ counted_more rs n r lt at c.loop-sealed.begun c.cycles_begun-all.result c.loop-sealed.invariant.begun
-        c.cycles_begun-all.ensures in
+    c.cycles_begun-all.ensures in
     record {
       begun = begun;
       written =
           window_more rs n r lt at c.args.params.now c.begun_with-begun.result (g.W.Write.contents c.args.writer.now)
           (g.W.Write.contents c.loop-sealed.writer) (g.W.Write.contents c.write_window.new.writer) begun
-              c.loop-sealed.invariant.written
+          c.loop-sealed.invariant.written
           (subst (λ (k : ℕ). Appends (g.W.Write.contents c.loop-sealed.writer)
-              (g.W.Write.contents c.write_window.new.writer) (window_records c.args.params.now k r))
-              c.saturating_sub.ensures c.in_ok-write_window.ensures);
+          (g.W.Write.contents c.write_window.new.writer) (window_records c.args.params.now k r))
+          c.saturating_sub.ensures c.in_ok-write_window.ensures);
     }

@@ -8,4 +8,4 @@ use Rattle.fr_matrix.proofs.cell.write_all_sent.Given as goal
 abbrev pub invariant-loop-sent : goal.invariant-loop-sent
 invariant-loop-sent g l =
     Appends (g.W.Write.contents l.fn.writer) (g.W.Write.contents l.writer)
-        (flat_map (sent_on l.channel) (take l.sent-index l.all))
+    (flat_map (sent_on l.channel) (take l.sent-index l.all))

@@ -20,24 +20,24 @@ loop-sealed-preserved g c =
     let lt = c.loop-sealed-test.true in
     let h = c.loop-sealed.invariant.0 in
     let counted : Counted (take place all ++ r ∷ []) c.if-opens_cycle.cycles (c.if-opens_cycle.windows + 1)
-        (place + 1) =
+    (place + 1) =
     elim c.if-opens_cycle.branch [
       | then-opens_cycle w ↦
           let begins : begins_cycle r ≡ true = search rules in
           first_counted (take place all) r c.loop-sealed.cycles c.loop-sealed.windows place c.if-opens_cycle.cycles
-              c.if-opens_cycle.windows begins w.cycles-is w.windows-is h
+          c.if-opens_cycle.windows begins w.cycles-is w.windows-is h
       | else-opens_cycle w ↦
           let begins : begins_cycle r ≡ false = search rules in
           later_counted (take place all) r c.loop-sealed.cycles c.loop-sealed.windows place c.if-opens_cycle.cycles
-              c.if-opens_cycle.windows begins w.cycles-is w.windows-is h
+          c.if-opens_cycle.windows begins w.cycles-is w.windows-is h
     ] in
     let one : Appends (g.W.Write.contents c.loop-sealed.writer) (g.W.Write.contents c.write_at.new.writer)
     (cell_at c.args.params.now c.args.view.now (c.if-opens_cycle.cycles - 1) ((c.if-opens_cycle.windows + 1) - 1) r) =
-        search rules in (
+    search rules in (
       counted_longer c.args.params.now c.args.view.now all place r c.if-opens_cycle.cycles
           (c.if-opens_cycle.windows + 1) lt c.sealed-item.is counted,
       cell_more c.args.params.now c.args.view.now all place r c.if-opens_cycle.cycles (c.if-opens_cycle.windows + 1)
           (g.W.Write.contents c.args.writer.now)
           (g.W.Write.contents c.loop-sealed.writer) (g.W.Write.contents c.write_at.new.writer) lt c.sealed-item.is
-              counted c.loop-sealed.invariant.1 one,
+          counted c.loop-sealed.invariant.1 one,
     )

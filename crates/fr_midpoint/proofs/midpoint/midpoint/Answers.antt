@@ -9,19 +9,19 @@ pub middle_of-requires-clause-near : goal.middle_of-requires-clause-near
 middle_of-requires-clause-near c =
     subst (λ (xs : List ℤ). All (λ v. is_large v ≡ false) xs) (sym c.as_slice.ensures.value)
     (none_large_moved is_large c.args.values.now c.in-Some.ascending.items c.in-Some.ensures.moved
-        (sym c.any_large.ensures ∙ c.if-any_large.false))
+    (sym c.any_large.ensures ∙ c.if-any_large.false))
 
 pub returns-clause-none : goal.returns-clause-none
 returns-clause-none c =
     middle_none_of c.args.values.now c.in-Some.ascending.items c.in-Some.ensures.moved c.middle_of.result
-        (c.middle_of.ensures ∙ ap middle_of c.as_slice.ensures.value)
+    (c.middle_of.ensures ∙ ap middle_of c.as_slice.ensures.value)
 
 pub returns-clause-found : goal.returns-clause-found
 returns-clause-found c =
     middle_found c.args.values.now c.in-Some.ascending.items c.in-Some.ensures.moved c.in-Some.ensures.sorted
-        c.middle_of.result (c.middle_of.ensures ∙ ap middle_of c.as_slice.ensures.value)
+    c.middle_of.result (c.middle_of.ensures ∙ ap middle_of c.as_slice.ensures.value)
 
 pub returns-clause-only : goal.returns-clause-only
 returns-clause-only c =
     middle_only c.args.values.now c.in-Some.ascending.items c.in-Some.ensures.moved c.in-Some.ensures.sorted
-        c.middle_of.result (c.middle_of.ensures ∙ ap middle_of c.as_slice.ensures.value)
+    c.middle_of.result (c.middle_of.ensures ∙ ap middle_of c.as_slice.ensures.value)

@@ -20,4 +20,4 @@ returns c =
     c.in_ok-fourth.ensures.shape (search rules) ∙ ap₂ with_subcommand third (ap top c.new-2.ensures.app) in
     let run_is : app_of c.in_ok-run_command.field-0 ≡ run_command = search rules in
     IfOk-weaker c.subcommand-5.result _ _ (λ m h. h.shape (search rules) ∙ ap₂ with_subcommand fourth (ap top run_is))
-        c.subcommand-5.ensures
+    c.subcommand-5.ensures

@@ -10,7 +10,7 @@ pub returns-in_err-matches : goal.returns-in_err-matches
 returns-in_err-matches c =
     let words : List Text = map (λ word. word.now) c.args.words.now in
     let free : is_simple_and_free (app_of c.in_ok-commands.field-0) ≡ true =
-        ap is_simple_and_free c.in_ok-commands.ensures ∙ are_free in
+    ap is_simple_and_free c.in_ok-commands.ensures ∙ are_free in
     let e = c.in_err-matches.field-0.0 in
     let kinds : HasKind (fault_of the_commands words) e =
     subst (λ a. HasKind (fault_of a words) e) c.in_ok-commands.ensures (c.in_err-matches.ensures.kinds free) in

@@ -12,14 +12,14 @@ pub returns-in_ok-get_str-in-check-clause-told : goal.returns-in_ok-get_str-in-c
 returns-in_ok-get_str-in-check-clause-told c =
     let rows = rows_of (found_of c.in_ok-name.arguments.now) in
     let first : first_of (codes "FILE") rows ≡ Some c.in_ok-get_str-in-check.field-0.now =
-        sym (first_value-rows (found_of c.in_ok-name.arguments.now) (codes "FILE")) ∙ search rules in
+    sym (first_value-rows (found_of c.in_ok-name.arguments.now) (codes "FILE")) ∙ search rules in
     (search rules, file_of_rows (subcommand_rows_of c.args.matches.now) rows (search rules) ∙ first)
 
 pub returns-in_ok-get_str-in-plan-clause-told : goal.returns-in_ok-get_str-in-plan-clause-told
 returns-in_ok-get_str-in-plan-clause-told c =
     let rows = rows_of (found_of c.in_ok-name.arguments.now) in
     let first : first_of (codes "FILE") rows ≡ Some c.in_ok-get_str-in-plan.field-0.now =
-        sym (first_value-rows (found_of c.in_ok-name.arguments.now) (codes "FILE")) ∙ search rules in
+    sym (first_value-rows (found_of c.in_ok-name.arguments.now) (codes "FILE")) ∙ search rules in
     (search rules, file_of_rows (subcommand_rows_of c.args.matches.now) rows (search rules) ∙ first)
 
 pub returns-in_err-get_str-in-check-clause-whole : goal.returns-in_err-get_str-in-check-clause-whole
@@ -27,7 +27,7 @@ returns-in_err-get_str-in-check-clause-whole c h =
     let entered = subcommand_rows_of c.args.matches.now in
     let rows = rows_of (found_of c.in_ok-name.arguments.now) in
     let first : first_of (codes "FILE") rows ≡ None = sym (first_value-rows (found_of c.in_ok-name.arguments.now)
-        (codes "FILE")) ∙ search rules in
+    (codes "FILE")) ∙ search rules in
     let file : file_in entered ≡ None = file_of_rows entered rows (search rules) ∙ first in
     let named : IsNamed (codes "check") entered = search rules in
     absurd (none_has_none (file_in entered) file (check_has_file entered named h))
@@ -37,7 +37,7 @@ returns-in_err-get_str-in-plan-clause-whole c h =
     let entered = subcommand_rows_of c.args.matches.now in
     let rows = rows_of (found_of c.in_ok-name.arguments.now) in
     let first : first_of (codes "FILE") rows ≡ None = sym (first_value-rows (found_of c.in_ok-name.arguments.now)
-        (codes "FILE")) ∙ search rules in
+    (codes "FILE")) ∙ search rules in
     let file : file_in entered ≡ None = file_of_rows entered rows (search rules) ∙ first in
     let named : IsNamed (codes "plan") entered = search rules in
     absurd (none_has_none (file_in entered) file (plan_has_file entered named h))

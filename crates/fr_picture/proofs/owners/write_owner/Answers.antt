@@ -13,6 +13,6 @@ returns-in-None g c =
     let new = g.W.Write.contents c.write_free.new.writer in
     let r = c.write_free.result in
     let written = subst (λ (p : Parameters). OnOk r (Appends old new (free_element p c.args.slot c.args.channel)))
-        c.params-in-None.ensures.value c.write_free.ensures in
+    c.params-in-None.ensures.value c.write_free.ensures in
     adds_text r (IsOwnerText d c.args.cycle c.args.slot c.args.channel)
-        (free_element d.params c.args.slot c.args.channel) old new (inr (c.in-None.ensures.nobody, refl)) written
+    (free_element d.params c.args.slot c.args.channel) old new (inr (c.in-None.ensures.nobody, refl)) written

@@ -30,6 +30,6 @@ loop-earlier-preserved g c =
           let same = slot_is (earlier + 1) w.in-Some.slot (sym w.in-Some.ensures) in
           subst (λ x. Adds (AreOwnerTexts d c.args.cycle (earlier + 1)) start (g.W.Write.contents x)) (sym w.writer-is)
           (one_slot d c.args.cycle earlier w.in-Some.slot start before middle after same c.loop-earlier.invariant
-              w.in_ok-write_owner.ensures w.in_ok-write_owner-2.ensures)
+          w.in_ok-write_owner.ensures w.in_ok-write_owner-2.ensures)
       | in_default w ↦ absurd (no_slot_is (earlier + 1) (omega arith) (omega arith) (sym w.in_default.ensures))
     ]

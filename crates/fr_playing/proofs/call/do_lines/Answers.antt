@@ -9,5 +9,5 @@ pub loop-script-preserved : goal.loop-script-preserved
 loop-script-preserved c =
     adds_more (asked_in_script c.args.cycle) c.args.scripts.now c.loop-script.script-index c.script-item.result
     c.args.calls.now.items c.loop-script.calls.items c.do_script.new.calls.items c.args.world.now c.loop-script.world
-        c.do_script.new.world
+    c.do_script.new.world
     c.loop-script-test.true c.script-item.is c.loop-script.invariant c.in_ok-do_script.ensures

@@ -7,4 +7,4 @@ use Rattle.fr_playing.proofs.call.do_lines.Given as goal
 abbrev pub invariant-loop-script : goal.invariant-loop-script
 invariant-loop-script l =
     AddsCalls l.fn.calls.items l.calls.items l.fn.world (flat_map (asked_in_script l.cycle)
-        (take l.script-index l.scripts)) l.world
+    (take l.script-index l.scripts)) l.world

@@ -7,4 +7,4 @@ use Rattle.fr_playing.proofs.call.do_script.Given as goal
 abbrev pub invariant-loop-line : goal.invariant-loop-line
 invariant-loop-line l =
     AddsCalls l.fn.calls.items l.calls.items l.fn.world (flat_map (asked_in_line l.cycle l.script.node l.script.task)
-        (take l.line-index l.lines)) l.world
+    (take l.line-index l.lines)) l.world

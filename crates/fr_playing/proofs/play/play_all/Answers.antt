@@ -7,7 +7,7 @@ use Rattle.fr_session.specs.Moving.{whole_window}
 pub returns : goal.returns
 returns c =
     is_played c.args.cluster.now c.args.scripts.now c.args.faults.now c.args.cycles c.as_slice.result.now
-        c.in_ok-world.world (record { world = c.play_cycles.new.world; calls = c.play_cycles.new.calls })
+    c.in_ok-world.world (record { world = c.play_cycles.new.world; calls = c.play_cycles.new.calls })
     (c.as_slice.ensures.value ∙ c.in_ok-due.ensures ∙ ap whole_window c.nodes.ensures.value) c.in_ok-world.ensures.1
-        c.in_ok-play_cycles.ensures
+    c.in_ok-play_cycles.ensures
     (ap (λ (b : BusState). b.opened) (sym c.bus.ensures.value) ∙ sym c.in-None.ensures)

@@ -8,5 +8,5 @@ loop-cycle-init c = cycles_none c.args.scripts.now c.args.faults.now c.args.due.
 pub loop-cycle-preserved : goal.loop-cycle-preserved
 loop-cycle-preserved c =
     cycles_more c.args.scripts.now c.args.faults.now c.args.due.now c.loop-cycle.cycle c.loop-cycle.calls.items
-        c.play_cycle.new.calls.items
+    c.play_cycle.new.calls.items
     c.args.world.now c.loop-cycle.world c.play_cycle.new.world c.loop-cycle.invariant c.in_ok-play_cycle.ensures

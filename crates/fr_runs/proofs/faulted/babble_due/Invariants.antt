@@ -6,4 +6,4 @@ use Rattle.fr_runs.proofs.faulted.babble_due.Given as goal
 abbrev pub invariant-loop-line : goal.invariant-loop-line
 invariant-loop-line l =
     babble_due (drop l.line-index l.lines) l.cycle l.window l.node l.channel
-        ≡ babble_due l.lines l.cycle l.window l.node l.channel
+    ≡ babble_due l.lines l.cycle l.window l.node l.channel

@@ -37,7 +37,7 @@ loop-sealed-preserved c =
     (subst (λ n. HasFaults c.as_slice.result.now n here) c.saturating_sub.ensures (c.has_faults.ensures is_true)) in
     let last : HasFaultsAt lines rs k =
     faults_at lines c.if-opens_cycle.kept.items rs k (c.if-opens_cycle.begun - 1) here at
-        (ap (λ n. n - 1) counted) kept has in
+    (ap (λ n. n - 1) counted) kept has in
     record { begun = counted; kept = kept; faults = faults_on lines rs k before.faults last }
 
 pub returns : goal.returns

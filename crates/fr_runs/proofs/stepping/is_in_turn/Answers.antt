@@ -13,9 +13,9 @@ returns c =
     let b = c.stands_for.result in
     let of = c.from.ensures ∙ c.number.ensures.value in
     in_turn rs (take c.args.number c.args.interface.now.entries) x c.requires c.args.scripts.now c.args.node
-        (whole c.args.entry.now) c.in-Some.task 0 b
+    (whole c.args.entry.now) c.in-Some.task 0 b
     (sym c.task_of.ensures ∙ c.in-Some.is) (omega (arith, c.number.ensures.fits, c.number.ensures.value))
     (subst (λ n. IsTrue b ↔ StandsFor rs (lines_given c.args.scripts.now c.args.node c.in-Some.task)
-        (slice_index_or x.calls n 0) x) of
+    (slice_index_or x.calls n 0) x) of
     (subst (λ ls. IsTrue b ↔ StandsFor rs ls (slice_index_or x.calls c.from.result 0) x) c.lines_given.ensures
-        c.stands_for.ensures))
+    c.stands_for.ensures))

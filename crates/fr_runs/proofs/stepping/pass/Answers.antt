@@ -9,14 +9,14 @@ use Rattle.fr_runs.proofs.stepping.pass.Goals.{then-is_beginning, else-is_beginn
 pub overflow_add-progress : goal.overflow_add-progress
 overflow_add-progress c =
     let few = few_calls c.args.recorded.now c.args.interface.now.entries c.args.number c.args.progress.now
-        c.requires.so_far (whole c.args.entry.now) c.requires.here
+    c.requires.so_far (whole c.args.entry.now) c.requires.here
     c.from.result 0 (omega (arith, c.from.ensures, c.number.ensures.fits, c.number.ensures.value)) in
     omega (arith, few, c.requires.few)
 
 pub returns-in-Some : goal.returns-in-Some
 returns-in-Some c =
     called c.args.recorded.now c.args.interface.now.entries c.args.number c.args.progress.now c.requires.so_far
-        (whole c.args.entry.now) c.requires.here c.from.result
+    (whole c.args.entry.now) c.requires.here c.from.result
     (sym c.task_of.ensures ∙ c.in-Some.is ∙ ap Some (sym (c.from.ensures ∙ c.number.ensures.value)))
     (omega (arith, c.from.ensures, c.number.ensures.fits, c.number.ensures.value)) 0
 
@@ -29,20 +29,20 @@ returns-after-is_beginning c =
     elim c.if-is_beginning.branch [
       | then-is_beginning w ↦
           subst (λ (p : Progress). IsProgress rs (take (k + 1) es) (record p { fetches = p.fetches + 1 }))
-              (sym w.progress-is)
+          (sym w.progress-is)
           (fetched_first rs es k c.args.progress.now c.requires.so_far e c.requires.here
-              (sym c.task_of.ensures ∙ c.in_default.is)
+          (sym c.task_of.ensures ∙ c.in_default.is)
           (sym c.is_fetch.ensures ∙ c.if-is_fetch.true) (sym c.is_beginning.ensures ∙ w.if-is_beginning.true))
       | else-is_beginning w ↦
           subst (λ (p : Progress). IsProgress rs (take (k + 1) es) (record p { fetches = p.fetches + 1 }))
-              (sym w.progress-is)
+          (sym w.progress-is)
           (fetched_more rs es k c.args.progress.now c.requires.so_far e c.requires.here
-              (sym c.task_of.ensures ∙ c.in_default.is)
+          (sym c.task_of.ensures ∙ c.in_default.is)
           (sym c.is_fetch.ensures ∙ c.if-is_fetch.true) (sym c.is_beginning.ensures ∙ w.if-is_beginning.false))
     ]
 
 pub returns-else-is_fetch : goal.returns-else-is_fetch
 returns-else-is_fetch c =
     observed_more c.args.recorded.now c.args.interface.now.entries c.args.number c.args.progress.now c.requires.so_far
-        (whole c.args.entry.now) c.requires.here
+    (whole c.args.entry.now) c.requires.here
     (sym c.task_of.ensures ∙ c.in_default.is) (sym c.is_fetch.ensures ∙ c.if-is_fetch.false)

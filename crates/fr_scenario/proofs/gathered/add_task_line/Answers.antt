@@ -11,5 +11,5 @@ returns-clause-tasks c =
     let pushed = c.in_ok-push.ensures.items
     ∙ ap (λ v. v.items ++ line ∷ []) c.index_mut-lines.ensures.value
     ∙ ap (λ ls. ls ++ line ∷ []) (sym (get_or-map (λ v. v.items) tasks place lines []
-        (omega (arith, c.args.tasks.now.ok.0)))) in
+    (omega (arith, c.args.tasks.now.ok.0)))) in
     map-set (λ v. v.items) tasks place c.push.new.self ∙ ap (λ ls. set (map (λ v. v.items) tasks) place ls) pushed

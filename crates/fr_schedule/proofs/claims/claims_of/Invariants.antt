@@ -6,4 +6,4 @@ use Rattle.fr_schedule.proofs.claims.claims_of.Given as goal
 abbrev pub invariant-loop-number : goal.invariant-loop-number
 invariant-loop-number l =
     l.claims.items ++ claims_from (filters_by l.lines) l.number (drop l.number l.plans) ≡ claims_from
-        (filters_by l.lines) 0 l.plans
+    (filters_by l.lines) 0 l.plans

@@ -24,14 +24,14 @@ pub returns-in_err-guard-clause-told : goal.returns-in_err-guard-clause-told
 returns-in_err-guard-clause-told c =
     let gone : c.from_residual-in_err-guard.result ≡ Err c.in_err-guard.field-0.0 = search rules in
     λ other. gone ∙ sym (guard_refused (table_view c.args.root.now) c.in_ok-params.params
-        (sym c.in_ok-params.ensures.value) _ (sym c.in_err-guard.ensures))
+    (sym c.in_ok-params.ensures.value) _ (sym c.in_err-guard.ensures))
 
 pub returns-in_default-clause-told : goal.returns-in_default-clause-told
 returns-in_default-clause-told c =
     let root = table_view c.args.root.now in
     let none : nodes_in root ≡ None = search rules in
     λ other. sym (nodes_refused root c.in_ok-params.params (sym c.in_ok-params.ensures.value) c.in_ok-guard.guard
-        (sym c.in_ok-guard.ensures) none)
+    (sym c.in_ok-guard.ensures) none)
 
 pub returns-in_err-plans-clause-told : goal.returns-in_err-plans-clause-told
 returns-in_err-plans-clause-told c =
@@ -43,9 +43,9 @@ returns-in_err-plans-clause-told c =
     λ other.
     gone
     ∙ sym (plans_refused root p (sym c.in_ok-params.ensures.value) c.in_ok-guard.guard
-        (sym c.in_ok-guard.ensures) values found _
+    (sym c.in_ok-guard.ensures) values found _
     (c.in_err-plans.ensures.refused (λ memory. other (gone ∙ ap
-        (λ (e : ConfigError). let r : Result Description ConfigError = Err e in r) memory))))
+    (λ (e : ConfigError). let r : Result Description ConfigError = Err e in r) memory))))
 
 pub senders_of-requires : goal.senders_of-requires
 senders_of-requires c =
@@ -65,12 +65,12 @@ returns-in_err-senders-clause-told c =
     let gone : c.from_residual-in_err-senders.result ≡ Err c.in_err-senders.field-0.0 = search rules in
     λ other.
     (let refused = c.in_err-senders.ensures.refused (λ memory. other
-        (gone ∙ ap (λ (e : ConfigError). let r : Result Description ConfigError = Err e in r) memory)) in
+    (gone ∙ ap (λ (e : ConfigError). let r : Result Description ConfigError = Err e in r) memory)) in
     let fault : file_fault p plans ≡ Some c.in_err-senders.field-0.0 =
-        ap (file_fault p) (sym c.as_slice.ensures.value) ∙ refused in
+    ap (file_fault p) (sym c.as_slice.ensures.value) ∙ refused in
     gone
     ∙ sym (plans_read root p (sym c.in_ok-params.ensures.value) c.in_ok-guard.guard
-        (sym c.in_ok-guard.ensures) values found plans c.in_ok-plans.ensures.plans
+    (sym c.in_ok-guard.ensures) values found plans c.in_ok-plans.ensures.plans
     ∙ ap (λ o. unless_fault o (record { params = p; guard = c.in_ok-guard.guard; plans = plans })) fault))
 
 pub invariant_of-result : goal.invariant_of-result
@@ -82,16 +82,16 @@ invariant_of-result c =
     let some : 1 ≤ length values = subst (λ n. 1 ≤ n) (sym same_length) (search rules) in
     let few : length values ≤ 16 = subst (λ n. n ≤ 16) (sym same_length) (search rules) in
     let free : file_fault p plans ≡ None = ap (file_fault p) (sym c.as_slice.ensures.value) ∙
-        c.in_ok-senders.ensures.faultless in
+    c.in_ok-senders.ensures.faultless in
     let lawful : IsCluster (record { params = p; guard = c.in_ok-guard.guard; plans = plans }) =
     read_cluster p p c.in_ok-guard.guard values plans refl c.in_ok-params.ensures.lawful some few
-        c.in_ok-plans.ensures.plans c.in_ok-plans.ensures.lawful free in
+    c.in_ok-plans.ensures.plans c.in_ok-plans.ensures.lawful free in
     record {
       cluster = lawful;
       table = dense_table (record { params = p; guard = c.in_ok-guard.guard; plans = plans })
           c.in_ok-senders.senders.items lawful
           (subst (λ (ps : List Plan). HasClaims ps c.in_ok-senders.senders.items) c.as_slice.ensures.value
-              c.in_ok-senders.ensures.table);
+          c.in_ok-senders.ensures.table);
     }
 
 pub returns-clause-lawful : goal.returns-clause-lawful
@@ -103,9 +103,9 @@ returns-clause-lawful c =
     let some : 1 ≤ length values = subst (λ n. 1 ≤ n) (sym same_length) (search rules) in
     let few : length values ≤ 16 = subst (λ n. n ≤ 16) (sym same_length) (search rules) in
     let free : file_fault p plans ≡ None = ap (file_fault p) (sym c.as_slice.ensures.value) ∙
-        c.in_ok-senders.ensures.faultless in
+    c.in_ok-senders.ensures.faultless in
     read_cluster p p c.in_ok-guard.guard values plans refl c.in_ok-params.ensures.lawful some few
-        c.in_ok-plans.ensures.plans c.in_ok-plans.ensures.lawful free
+    c.in_ok-plans.ensures.plans c.in_ok-plans.ensures.lawful free
 
 pub returns-clause-told : goal.returns-clause-told
 returns-clause-told c =
@@ -115,10 +115,10 @@ returns-clause-told c =
     let values = map view c.in-Some.values.now in
     let found : nodes_in root ≡ Some values = search rules in
     let free : file_fault p plans ≡ None = ap (file_fault p) (sym c.as_slice.ensures.value) ∙
-        c.in_ok-senders.ensures.faultless in
+    c.in_ok-senders.ensures.faultless in
     λ other.
     ap (λ (q : Parameters). let r : Result Description ConfigError =
-        Ok (record { params = q; guard = c.in_ok-guard.guard; plans = plans }) in r) refl
+    Ok (record { params = q; guard = c.in_ok-guard.guard; plans = plans }) in r) refl
     ∙ sym (plans_read root p (sym c.in_ok-params.ensures.value) c.in_ok-guard.guard
-        (sym c.in_ok-guard.ensures) values found plans c.in_ok-plans.ensures.plans
+    (sym c.in_ok-guard.ensures) values found plans c.in_ok-plans.ensures.plans
     ∙ ap (λ o. unless_fault o (record { params = p; guard = c.in_ok-guard.guard; plans = plans })) free)

@@ -13,7 +13,7 @@ returns-in-Some c =
     sym (nodes_some fault n c.index-plans-number.result (drop (n + 1) c.args.plans.now) c.in-Some.fault
     (ap (λ m. fault m c.index-plans-number.result) (sym c.from_number.ensures) ∙ sym c.in-Some.ensures))
     ∙ sym (at_item (first_in_nodes fault n) c.args.plans.now n c.index-plans-number.result c.loop-number-test.true
-        c.index-plans-number.is)
+    c.index-plans-number.is)
     ∙ c.loop-number.invariant
 
 pub loop-number-preserved : goal.loop-number-preserved
@@ -24,7 +24,7 @@ loop-number-preserved c =
     sym (nodes_none fault n c.index-plans-number.result (drop (n + 1) c.args.plans.now)
     (ap (λ m. fault m c.index-plans-number.result) (sym c.from_number.ensures) ∙ sym c.fault_by.ensures ∙ gone))
     ∙ sym (at_item (first_in_nodes fault n) c.args.plans.now n c.index-plans-number.result c.loop-number-test.true
-        c.index-plans-number.is)
+    c.index-plans-number.is)
     ∙ c.loop-number.invariant
 
 pub returns : goal.returns

@@ -18,10 +18,10 @@ returns-in_err-plan-clause-refused c =
     (λ other.
     sym c.loop-number.invariant.left
     ∙ at_item (plans_left p n c.loop-number.plans.items) c.args.values.now n c.index-values-number.result
-        c.loop-number-test.true c.index-values-number.is
+    c.loop-number-test.true c.index-values-number.is
     ∙ plan_refused p n c.loop-number.plans.items c.index-values-number.result (drop (n + 1) c.args.values.now) _
     (ap (λ m. plan_of p m (view c.index-values-number.result)) (sym c.from_number.ensures)
-        ∙ sym c.in_err-plan.ensures.value))
+    ∙ sym c.in_err-plan.ensures.value))
 
 pub loop-number-preserved : goal.loop-number-preserved
 loop-number-preserved c =
@@ -34,11 +34,11 @@ loop-number-preserved c =
           c.loop-number.invariant.lawful c.in_ok-plan.ensures.lawful);
       left = ap (λ plans. plans_left p (n + 1) plans (drop (n + 1) c.args.values.now)) pushed
           ∙ sym (plan_taken p n c.loop-number.plans.items c.index-values-number.result
-              (drop (n + 1) c.args.values.now) plan
+          (drop (n + 1) c.args.values.now) plan
           (ap (λ m. plan_of p m (view c.index-values-number.result)) (sym c.from_number.ensures)
-              ∙ sym c.in_ok-plan.ensures.value))
+          ∙ sym c.in_ok-plan.ensures.value))
           ∙ sym (at_item (plans_left p n c.loop-number.plans.items) c.args.values.now n c.index-values-number.result
-              c.loop-number-test.true c.index-values-number.is)
+          c.loop-number-test.true c.index-values-number.is)
           ∙ c.loop-number.invariant.left;
     }
 
@@ -48,5 +48,5 @@ returns-clause-plans c =
     let n = c.loop-number.number in
     sym c.loop-number.invariant.left
     ∙ at_drop_all (plans_left p n c.loop-number.plans.items) c.args.values.now n
-        (omega (arith, c.loop-number-test.false))
+    (omega (arith, c.loop-number-test.false))
     ∙ plans_end p n c.loop-number.plans.items

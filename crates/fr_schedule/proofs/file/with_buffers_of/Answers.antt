@@ -22,9 +22,9 @@ returns-in_err-buffer c =
     let gone : c.from_residual.result ≡ Err c.in_err-buffer.field-0.0 = search rules in
     gone
     ∙ sym (left_refused p c.args.node c.args.plan n c.loop-number.plan.buffers c.index-values-number.result
-        (drop (n + 1) c.args.values.now) _ (sym c.in_err-buffer.ensures.value))
+    (drop (n + 1) c.args.values.now) _ (sym c.in_err-buffer.ensures.value))
     ∙ sym (at_item (buffers_left p c.args.node c.args.plan n c.loop-number.plan.buffers) c.args.values.now n
-        c.index-values-number.result c.loop-number-test.true c.index-values-number.is)
+    c.index-values-number.result c.loop-number-test.true c.index-values-number.is)
     ∙ c.loop-number.invariant.left
 
 pub loop-number-preserved : goal.loop-number-preserved
@@ -41,9 +41,9 @@ loop-number-preserved c =
           (ap (with_buffers c.args.plan) buffers);
       left = ap (λ bs. buffers_left p c.args.node c.args.plan (n + 1) bs (drop (n + 1) c.args.values.now)) buffers
           ∙ sym (left_taken p c.args.node c.args.plan n c.loop-number.plan.buffers c.index-values-number.result
-              (drop (n + 1) c.args.values.now) buffer (sym c.in_ok-buffer.ensures.value))
+          (drop (n + 1) c.args.values.now) buffer (sym c.in_ok-buffer.ensures.value))
           ∙ sym (at_item (buffers_left p c.args.node c.args.plan n c.loop-number.plan.buffers) c.args.values.now n
-              c.index-values-number.result c.loop-number-test.true c.index-values-number.is)
+          c.index-values-number.result c.loop-number-test.true c.index-values-number.is)
           ∙ c.loop-number.invariant.left;
     }
 
@@ -54,5 +54,5 @@ returns c =
     ap (λ (plan : Plan). let r : Result Plan ConfigError = Ok plan in r) c.loop-number.invariant.kept
     ∙ sym (left_end p c.args.node c.args.plan n c.loop-number.plan.buffers)
     ∙ sym (at_drop_all (buffers_left p c.args.node c.args.plan n c.loop-number.plan.buffers) c.args.values.now n
-        (omega (arith, c.loop-number-test.false)))
+    (omega (arith, c.loop-number-test.false)))
     ∙ c.loop-number.invariant.left

@@ -11,9 +11,9 @@ returns-in_err-own c =
     let i = c.loop-line.line-index in
     c.from_residual.ensures
     ∙ sym (owning_none p c.loop-line.plan c.line-item.result (drop (i + 1) c.args.lines.now)
-        (sym c.in_err-own.ensures.value))
+    (sym c.in_err-own.ensures.value))
     ∙ sym (at_item (owning_more p c.loop-line.plan) c.args.lines.now i c.line-item.result c.loop-line-test.true
-        c.line-item.is)
+    c.line-item.is)
     ∙ c.loop-line.invariant.left
 
 pub loop-line-preserved : goal.loop-line-preserved
@@ -27,9 +27,9 @@ loop-line-preserved c =
           (λ n. n + 1) c.loop-line.invariant.so_far;
       left = ap (λ (plan : Plan). owning_more p plan (drop (i + 1) c.args.lines.now)) added
           ∙ sym (owning_some p c.loop-line.plan c.line-item.result (drop (i + 1) c.args.lines.now) own
-              (sym c.in_ok-own.ensures.value))
+          (sym c.in_ok-own.ensures.value))
           ∙ sym (at_item (owning_more p c.loop-line.plan) c.args.lines.now i c.line-item.result c.loop-line-test.true
-              c.line-item.is)
+          c.line-item.is)
           ∙ c.loop-line.invariant.left;
     }
 
@@ -38,5 +38,5 @@ returns c =
     let p = c.args.params.now in
     sym (owning_end p c.loop-line.plan)
     ∙ sym (at_drop_all (owning_more p c.loop-line.plan) c.args.lines.now c.loop-line.line-index
-        (omega (arith, c.loop-line-test.false)))
+    (omega (arith, c.loop-line-test.false)))
     ∙ c.loop-line.invariant.left

@@ -13,5 +13,5 @@ loop-claim-preserved c =
     c.args.claims.now c.loop-claim.claim-index c.claim-item.result c.loop-claim-test.true c.claim-item.is
     (rw c.earlier-first.ensures
     (so_far_more (take c.loop-claim.claim-index c.args.claims.now) c.claim-item.result c.args.nodes.now
-        c.loop-claim.nodes c.enter.new.nodes c.loop-claim.first
+    c.loop-claim.nodes c.enter.new.nodes c.loop-claim.first
     c.enter.result c.loop-claim.invariant c.enter.ensures.lawful c.enter.ensures.first c.enter.ensures.entered))

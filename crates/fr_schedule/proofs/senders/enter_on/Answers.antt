@@ -8,12 +8,12 @@ returns-in_err-cycle-clause-first c =
     let f = c.args.claim.now.filter in
     let none : first_taken_in c.args.nodes.now c.start_of-start.result f.cycles ≡ None = search rules in
     rw c.from_residual.ensures (none_retaken c.args.nodes.now c.start_of-start.result f c.args.channel
-        c.start_of-start.ensures.place none)
+    c.start_of-start.ensures.place none)
 
 pub returns-clause-first : goal.returns-clause-first
 returns-clause-first c =
     let f = c.args.claim.now.filter in
     let found : first_taken_in c.args.nodes.now c.start_of-start.result f.cycles ≡ Some c.in_ok-cycle.cycle =
-        search rules in
+    search rules in
     first_retaken c.args.nodes.now c.start_of-start.result f c.args.channel c.in_ok-cycle.cycle
-        c.start_of-start.ensures.place c.start_of-start.ensures.lawful (search rules) found
+    c.start_of-start.ensures.place c.start_of-start.ensures.lawful (search rules) found

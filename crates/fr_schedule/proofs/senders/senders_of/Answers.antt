@@ -23,7 +23,7 @@ file_fault-requires-clause-first c =
     (c.as_slice.ensures.value ∙ c.in_ok-owned.ensures)
     (c.enter_all-of_owners.ensures.first
     (subst (λ (nodes : List ℕ). IsFree nodes) (sym (c.as_mut_slice-nodes.ensures.value ∙ c.in_ok-senders.ensures))
-        free_is)))
+    free_is)))
     (subst (λ (claims : List Claim). IsFirst (is_shared (filters_of claims)) c.enter_anew-of_buffers.result)
     (c.as_slice-2.ensures.value ∙ c.in_ok-transmitting.ensures)
     c.enter_anew-of_buffers.ensures.first))

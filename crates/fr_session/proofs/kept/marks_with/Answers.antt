@@ -8,4 +8,4 @@ returns-in-Ok c = λ lines line is had set same.
     let e : c.add_all.new.marks ≡ set = cc same in
     subst (AreMarksOf (lines ++ line ∷ [])) e
     (marked_by c.in_ok-marks.marks c.add_all.new.marks c.args.own lines line is
-        (had _ c.in_ok-marks.was) c.in-Ok.ensures)
+    (had _ c.in_ok-marks.was) c.in-Ok.ensures)

@@ -10,4 +10,4 @@ returns c =
     let room = c.remaining_capacity-room.ensures in
     let least = c.min-fits.ensures in
     appended ∙ kept_front line c.args.more.now fits (omega (arith, room, least))
-        (λ less. omega (arith, room, least, less))
+    (λ less. omega (arith, room, least, less))

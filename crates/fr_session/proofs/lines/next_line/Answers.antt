@@ -9,13 +9,13 @@ use Rattle.fr_session.proofs.lines.next_line.Goals as goal
 pub returns-in-Ok-Last : goal.returns-in-Ok-Last
 returns-in-Ok-Last g c =
     let taken : TakesPiece Last (g.R.Read.remaining c.loop.reader)
-        (g.R.Read.remaining c.take_piece.new.reader) c.loop.line.items c.take_piece.new.line.items = search rules in
+    (g.R.Read.remaining c.take_piece.new.reader) c.loop.line.items c.take_piece.new.line.items = search rules in
     front_last _ _ _ _ _ c.loop.invariant taken
 
 pub returns-in-Ok-Nothing : goal.returns-in-Ok-Nothing
 returns-in-Ok-Nothing g c =
     let taken : TakesPiece Nothing (g.R.Read.remaining c.loop.reader)
-        (g.R.Read.remaining c.take_piece.new.reader) c.loop.line.items c.take_piece.new.line.items = search rules in
+    (g.R.Read.remaining c.take_piece.new.reader) c.loop.line.items c.take_piece.new.line.items = search rules in
     front_over _ _ (g.R.Read.remaining c.take_piece.new.reader) _ c.take_piece.new.line.items c.loop.invariant taken
 
 pub loop-preserved : goal.loop-preserved
@@ -23,12 +23,12 @@ loop-preserved g c =
     elim c.match-take_piece.branch [
       | in-Ok-Part w ↦
           let taken : TakesPiece Part (g.R.Read.remaining c.loop.reader)
-              (g.R.Read.remaining c.take_piece.new.reader) c.loop.line.items c.take_piece.new.line.items =
-              search rules in
+          (g.R.Read.remaining c.take_piece.new.reader) c.loop.line.items c.take_piece.new.line.items =
+          search rules in
           front_part _ _ _ _ _ c.loop.invariant taken
       | in-Err w ↦
           let kept : Keeps (g.R.Read.remaining c.loop.reader) (g.R.Read.remaining c.take_piece.new.reader) =
-              search rules in
+          search rules in
           let same : c.take_piece.new.line.items ≡ c.loop.line.items = search rules in
           front_kept _ _ _ _ _ c.loop.invariant kept same
     ]

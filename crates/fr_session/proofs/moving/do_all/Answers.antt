@@ -7,6 +7,9 @@ loop-event-init c = does_none c.args.world.now
 
 pub loop-event-preserved : goal.loop-event-preserved
 loop-event-preserved c =
-    rw (take_more c.args.events.now c.loop-event.event-index c.event-item.result c.loop-event-test.true,
-        ← c.event-item.is, c.first_refusal-found.ensures)
+    rw (
+      take_more c.args.events.now c.loop-event.event-index c.event-item.result c.loop-event-test.true,
+      ← c.event-item.is,
+      c.first_refusal-found.ensures,
+    )
     (does_more _ _ _ _ _ _ _ c.loop-event.invariant c.step-answer.ensures.step)

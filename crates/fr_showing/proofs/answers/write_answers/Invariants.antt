@@ -8,4 +8,4 @@ use Rattle.fr_showing.proofs.answers.write_answers.Given as goal
 abbrev pub invariant-loop-call : goal.invariant-loop-call
 invariant-loop-call g l =
     Appends (g.W.Write.contents l.fn.writer) (g.W.Write.contents l.writer)
-        (flat_map (answer_line l.world) (take l.call-index l.calls))
+    (flat_map (answer_line l.world) (take l.call-index l.calls))

@@ -7,4 +7,4 @@ use Rattle.fr_showing.proofs.commits.write_commits.Given as goal
 abbrev pub invariant-loop-node : goal.invariant-loop-node
 invariant-loop-node g l =
     Appends (g.W.Write.contents l.fn.writer) (g.W.Write.contents l.writer)
-        (flat_map (commit_line l.world) (flat_map (commits_in l.world) (range_with_len 0 l.node)))
+    (flat_map (commit_line l.world) (flat_map (commits_in l.world) (range_with_len 0 l.node)))

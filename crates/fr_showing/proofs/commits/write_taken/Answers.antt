@@ -12,9 +12,9 @@ returns-then-is_takeable g c =
     let w = c.args.world.now in
     let s = c.args.sending.now in
     subst (λ (ts : List Taker). Writes g.W.Write.contents c.args.writer.now c.write_takers_of.new.writer
-        c.write_takers_of.result (takers_word ts))
+    c.write_takers_of.result (takers_word ts))
     (takeable c.args.end (takers_in w.bus.cluster.params w.interfaces (recorded_of w s) s.channel)
-        (sym c.is_takeable.ensures ∙ c.if-is_takeable.true)) c.write_takers_of.ensures
+    (sym c.is_takeable.ensures ∙ c.if-is_takeable.true)) c.write_takers_of.ensures
 
 pub returns-else-is_takeable : goal.returns-else-is_takeable
 unfolding taken_text
@@ -23,6 +23,6 @@ returns-else-is_takeable g c =
     let s = c.args.sending.now in
     let ts : List Taker = takers_in w.bus.cluster.params w.interfaces (recorded_of w s) s.channel in
     let none : [] ≡ takers_by c.args.end ts = not_takeable c.args.end ts
-        (sym c.is_takeable.ensures ∙ c.if-is_takeable.false) in
+    (sym c.is_takeable.ensures ∙ c.if-is_takeable.false) in
     subst (λ (l : List Taker). Writes g.W.Write.contents c.args.writer.now c.write.new.self c.write.result
-        (takers_word l)) none c.write.ensures.bytes
+    (takers_word l)) none c.write.ensures.bytes

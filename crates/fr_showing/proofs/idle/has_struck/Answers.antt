@@ -23,7 +23,7 @@ loop-sealed-preserved c =
     let more = begun_more rs n r c.loop-sealed-test.true c.sealed-item.is in
     let begun : c.begun_with-begun.result ≡ cycles_begun (take (n + 1) rs) =
     c.begun_with-begun.ensures ∙ ap (λ (b : ℕ). b + cond (begins_cycle r) 1 0) c.loop-sealed.invariant.begun
-        ∙ sym more in
+    ∙ sym more in
     let next = struck_by_next rs n r c.loop-sealed-test.true c.sealed-item.is p line c.begun_with-begun.result begun in
     let missed : c.has_struck_in.result ≡ false = search rules in
     let here : has_struck_in p line (c.begun_with-begun.result - 1) r ≡ false =
@@ -45,13 +45,13 @@ returns-then-has_struck_in c =
     let more = begun_more rs n r c.loop-sealed-test.true c.sealed-item.is in
     let begun : c.begun_with-begun.result ≡ cycles_begun (take (n + 1) rs) =
     c.begun_with-begun.ensures ∙ ap (λ (b : ℕ). b + cond (begins_cycle r) 1 0) c.loop-sealed.invariant.begun
-        ∙ sym more in
+    ∙ sym more in
     let next = struck_by_next rs n r c.loop-sealed-test.true c.sealed-item.is p line c.begun_with-begun.result begun in
     let struck : c.has_struck_in.result ≡ true = search rules in
     let here : has_struck_in p line (c.begun_with-begun.result - 1) r ≡ true =
     ap (λ (k : ℕ). has_struck_in p line k r) (sym c.saturating_sub.ensures) ∙ sym c.has_struck_in.ensures ∙ struck in
     sym (ap (λ (b : Bool). b || has_struck_after p line (take (n + 1) rs) (drop (n + 1) rs)) here) ∙ sym next
-        ∙ c.loop-sealed.invariant.left
+    ∙ c.loop-sealed.invariant.left
 
 pub returns : goal.returns
 returns c =

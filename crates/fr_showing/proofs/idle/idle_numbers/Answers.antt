@@ -18,17 +18,17 @@ loop-line-preserved-in-Continue-1 c =
     let after = c.next.new.self in
     let all = idle_numbers p rs c.args.lines.now c.args.numbers.now in
     let more = Zip-more before after c.next.result (c.in-Some.line, c.in-Some.number) c.in-Some.is c.next.ensures.steps
-        in
+    in
     let so_far : idle ++ idle_numbers p rs (line ∷ iter_rest (zip_first after)) (number ∷ iter_rest (zip_second after))
-        ≡ all =
+    ≡ all =
     ap (λ (xs : List FaultLine). idle ++ idle_numbers p rs xs (number ∷ iter_rest (zip_second after))) (sym more.0)
     ∙ ap (λ (xs : List ℕ). idle ++ idle_numbers p rs (iter_rest (zip_first before)) xs) (sym more.1)
     ∙ c.loop-line.invariant in
     let missed : c.has_struck.result ≡ false = search rules in
     ap (λ (xs : List ℕ). xs ++ idle_numbers p rs (iter_rest (zip_first after)) (iter_rest (zip_second after)))
-        c.in_ok-push.ensures.items
+    c.in_ok-push.ensures.items
     ∙ line_idle p rs line (iter_rest (zip_first after)) number (iter_rest (zip_second after)) idle all so_far
-        (sym c.has_struck.ensures ∙ missed)
+    (sym c.has_struck.ensures ∙ missed)
 
 pub loop-line-preserved : goal.loop-line-preserved
 loop-line-preserved c =
@@ -41,20 +41,20 @@ loop-line-preserved c =
     let after = c.next.new.self in
     let all = idle_numbers p rs c.args.lines.now c.args.numbers.now in
     let more = Zip-more before after c.next.result (c.in-Some.line, c.in-Some.number) c.in-Some.is c.next.ensures.steps
-        in
+    in
     let so_far : idle ++ idle_numbers p rs (line ∷ iter_rest (zip_first after)) (number ∷ iter_rest (zip_second after))
-        ≡ all =
+    ≡ all =
     ap (λ (xs : List FaultLine). idle ++ idle_numbers p rs xs (number ∷ iter_rest (zip_second after))) (sym more.0)
     ∙ ap (λ (xs : List ℕ). idle ++ idle_numbers p rs (iter_rest (zip_first before)) xs) (sym more.1)
     ∙ c.loop-line.invariant in
     let struck : c.has_struck.result ≡ true = search rules in
     line_struck p rs line (iter_rest (zip_first after)) number (iter_rest (zip_second after)) idle all so_far
-        (sym c.has_struck.ensures ∙ struck)
+    (sym c.has_struck.ensures ∙ struck)
 
 pub returns : goal.returns
 returns c =
     let before = c.loop-line.line-iterator in
     no_line_left c.args.params.now c.args.record.now (iter_rest (zip_first before))
-        (iter_rest (zip_second before)) c.loop-line.idle.items
+    (iter_rest (zip_second before)) c.loop-line.idle.items
     (idle_numbers c.args.params.now c.args.record.now c.args.lines.now c.args.numbers.now)
     (either_empty_from_Zip before c.next.new.self c.next.result c.in-None.is c.next.ensures.steps) c.loop-line.invariant

@@ -8,5 +8,5 @@ use Rattle.fr_showing.proofs.idle.idle_numbers.Given as goal
 abbrev pub invariant-loop-line : goal.invariant-loop-line
 invariant-loop-line l =
     l.idle.items ++ idle_numbers l.params l.record (iter_rest (zip_first l.line-iterator))
-        (iter_rest (zip_second l.line-iterator))
+    (iter_rest (zip_second l.line-iterator))
     ≡ idle_numbers l.params l.record l.lines l.numbers

@@ -9,8 +9,12 @@ use Rattle.fr_showing.proofs.record.write_record.Goals as goal
 
 pub loop-sealed-init : goal.loop-sealed-init
 unfolding each_after
-loop-sealed-init g c = record { begun = refl; few = omega arith; written =
-    Appends-nil (g.W.Write.contents c.args.writer.now) }
+loop-sealed-init g c = record {
+  begun = refl;
+  few = omega arith;
+  written =
+      Appends-nil (g.W.Write.contents c.args.writer.now);
+}
 
 digit : (b : Bool) → cond b 1 0 ≤ 1
 digit true = omega arith
@@ -24,16 +28,16 @@ loop-sealed-preserved g c =
     let more = begun_more rs n r c.loop-sealed-test.true c.sealed-item.is in
     let begun : c.begun_with-begun.result ≡ cycles_begun (take (n + 1) rs) =
     c.begun_with-begun.ensures ∙ ap (λ (b : ℕ). b + cond (begins_cycle r) 1 0) c.loop-sealed.invariant.begun
-        ∙ sym more in
+    ∙ sym more in
     record {
       begun = begun;
       few = omega (arith, c.begun_with-begun.ensures, c.loop-sealed.invariant.few, digit (begins_cycle r));
       written =
           window_more rs n r c.loop-sealed-test.true c.sealed-item.is c.args.scenario.now c.args.params.now
-              c.begun_with-begun.result (g.W.Write.contents c.args.writer.now)
+          c.begun_with-begun.result (g.W.Write.contents c.args.writer.now)
           (g.W.Write.contents c.loop-sealed.writer) (g.W.Write.contents c.write_window.new.writer) begun
-              c.loop-sealed.invariant.written
+          c.loop-sealed.invariant.written
           (subst (λ (k : ℕ). Appends (g.W.Write.contents c.loop-sealed.writer)
-              (g.W.Write.contents c.write_window.new.writer) (window_text c.args.scenario.now c.args.params.now k r))
-              c.saturating_sub-cycle.ensures c.in_ok-write_window.ensures);
+          (g.W.Write.contents c.write_window.new.writer) (window_text c.args.scenario.now c.args.params.now k r))
+          c.saturating_sub-cycle.ensures c.in_ok-write_window.ensures);
     }

@@ -9,7 +9,7 @@ loop-transmission-init g c = Appends-nil (g.W.Write.contents c.args.writer.now)
 pub loop-transmission-preserved : goal.loop-transmission-preserved
 loop-transmission-preserved g c =
     written-more (sent_line c.args.scenario.now c.args.params.now c.args.cycle c.args.sealed.now) _
-        c.loop-transmission.transmission-index c.transmission-item.result
+    c.loop-transmission.transmission-index c.transmission-item.result
     (g.W.Write.contents c.args.writer.now) (g.W.Write.contents c.loop-transmission.writer)
-        (g.W.Write.contents c.write_sent.new.writer)
+    (g.W.Write.contents c.write_sent.new.writer)
     c.loop-transmission-test.true c.transmission-item.is c.loop-transmission.invariant c.in_ok-write_sent.ensures

@@ -8,4 +8,4 @@ use Rattle.fr_showing.proofs.record.write_transmissions.Given as goal
 abbrev pub invariant-loop-transmission : goal.invariant-loop-transmission
 invariant-loop-transmission g l =
     Appends (g.W.Write.contents l.fn.writer) (g.W.Write.contents l.writer)
-        (flat_map (sent_line l.scenario l.params l.cycle l.sealed) (take l.transmission-index l.sent))
+    (flat_map (sent_line l.scenario l.params l.cycle l.sealed) (take l.transmission-index l.sent))

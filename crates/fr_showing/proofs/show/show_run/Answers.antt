@@ -13,9 +13,9 @@ returns-in_err-text-clause-refused g c =
     let e = c.in_err-text.field-0.0 in
     let gone : c.from_residual-in_err-text.result ≡ Err e = search rules in
     subst (λ (r : Result (Vec ℕ) PlayError). IfSome remaining
-        (λ text. Tells c.args.cluster.now c.args.cycles c.args.shown text r)) (sym gone)
+    (λ text. Tells c.args.cluster.now c.args.cycles c.args.shown text r)) (sym gone)
     (node_missing c.args.cluster.now c.args.cycles c.args.shown remaining c.in_ok-file.file e c.in_ok-file.ensures
-        c.in_err-text.ensures.refused)
+    c.in_err-text.ensures.refused)
 
 pub returns-in_err-idle-clause-refused : goal.returns-in_err-idle-clause-refused
 returns-in_err-idle-clause-refused g c =
@@ -23,9 +23,9 @@ returns-in_err-idle-clause-refused g c =
     let e = c.in_err-idle.field-0.0 in
     let gone : c.from_residual-in_err-idle.result ≡ Err e = search rules in
     subst (λ (r : Result (Vec ℕ) PlayError). IfSome remaining
-        (λ text. Tells c.args.cluster.now c.args.cycles c.args.shown text r)) (sym gone)
+    (λ text. Tells c.args.cluster.now c.args.cycles c.args.shown text r)) (sym gone)
     (node_missing c.args.cluster.now c.args.cycles c.args.shown remaining c.in_ok-file.file e c.in_ok-file.ensures
-        (inl c.in_err-idle.ensures.refused))
+    (inl c.in_err-idle.ensures.refused))
 
 pub returns-clause-written : goal.returns-clause-written
 returns-clause-written g c =
@@ -33,7 +33,7 @@ returns-clause-written g c =
     let old = g.W.Write.contents c.args.writer.now in
     let new = g.W.Write.contents c.write_whole.new.writer in
     shown_of c.args.cluster.now c.args.cycles c.args.shown remaining old new c.in_ok-file.file c.in_ok-text.text.items
-        c.in_ok-idle.idle.items c.in_ok-file.ensures
+    c.in_ok-idle.idle.items c.in_ok-file.ensures
     c.in_ok-text.ensures.text
     (subst (λ (xs : List ℕ). Appends old new xs) c.as_slice.ensures.value c.in_ok-write_whole.ensures.written)
-        c.in_ok-idle.ensures.numbers
+    c.in_ok-idle.ensures.numbers

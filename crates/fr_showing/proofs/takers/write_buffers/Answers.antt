@@ -20,19 +20,19 @@ loop-number-preserved g c =
     let mid = g.W.Write.contents c.write_if.new.writer in
     let all : List Taker = buffers_by w c.args.came.a c.args.came.b c.args.channel c.args.node 0 c.args.lines.now in
     let left : List Taker = buffers_by w c.args.came.a c.args.came.b c.args.channel c.args.node n
-        (drop n c.args.lines.now) in
+    (drop n c.args.lines.now) in
     let rest : List Taker = buffers_by w c.args.came.a c.args.came.b c.args.channel c.args.node (n + 1)
-        (drop (n + 1) c.args.lines.now) in
+    (drop (n + 1) c.args.lines.now) in
     let part : List Taker = taker_if (takes_by w c.args.came.a c.args.came.b c.args.channel line) c.args.node
-        (Some n) in
+    (Some n) in
     goes_on c.args.any all (g.W.Write.contents c.args.writer.now) now mid c.loop-number.any c.in_ok-any.any left part
-        rest
+    rest
     (ap (λ (l : List Buffer). buffers_by w c.args.came.a c.args.came.b c.args.channel c.args.node n l)
-        (left_here c.args.lines.now n line c.loop-number-test.true c.index-lines-number.is))
+    (left_here c.args.lines.now n line c.loop-number-test.true c.index-lines-number.is))
     (subst (λ (t : Bool). Appends now mid (after_commas c.loop-number.any (taker_if t c.args.node (Some n))))
-        c.takes-takes.ensures c.in_ok-any.ensures.text)
+    c.takes-takes.ensures c.in_ok-any.ensures.text)
     (c.in_ok-any.ensures.any ∙ ap (λ (t : Bool). c.loop-number.any || is_any (taker_if t c.args.node (Some n)))
-        c.takes-takes.ensures)
+    c.takes-takes.ensures)
     c.loop-number.invariant
 
 pub returns-clause-text : goal.returns-clause-text
@@ -41,8 +41,8 @@ returns-clause-text g c =
     let n : ℕ = c.loop-number.number in
     let le : length c.args.lines.now ≤ n = omega (arith, c.loop-number-test.false) in
     ends_text c.args.any (buffers_by w c.args.came.a c.args.came.b c.args.channel c.args.node 0 c.args.lines.now)
-        (g.W.Write.contents c.args.writer.now)
+    (g.W.Write.contents c.args.writer.now)
     (g.W.Write.contents c.loop-number.writer) c.loop-number.any
-        (buffers_by w c.args.came.a c.args.came.b c.args.channel c.args.node n (drop n c.args.lines.now))
+    (buffers_by w c.args.came.a c.args.came.b c.args.channel c.args.node n (drop n c.args.lines.now))
     (ap (λ (l : List Buffer). buffers_by w c.args.came.a c.args.came.b c.args.channel c.args.node n l)
-        (nothing_left c.args.lines.now n le)) c.loop-number.invariant
+    (nothing_left c.args.lines.now n le)) c.loop-number.invariant

@@ -7,5 +7,5 @@ use Rattle.fr_showing.proofs.takers.write_buffers.Given as goal
 abbrev pub invariant-loop-number : goal.invariant-loop-number
 invariant-loop-number g l =
     IsGoing l.fn.any (buffers_by l.window l.came.a l.came.b l.channel l.node 0 l.lines) (g.W.Write.contents l.fn.writer)
-        (g.W.Write.contents l.writer) l.any
+    (g.W.Write.contents l.writer) l.any
     (buffers_by l.window l.came.a l.came.b l.channel l.node l.number (drop l.number l.lines))

@@ -17,11 +17,11 @@ returns-clause-text g c =
     let ys : List Taker = taker_if c.queue_takes-takes.result c.args.node None in
     subst (λ (ts : List Taker). OnOk c.write_if.result (Appends old new (after_commas c.args.any ts)))
     (takers_is c.args.params.now c.args.sealed.now c.args.node w came.a came.b c.window_of-window.ensures
-        c.came_to-came.ensures.a c.came_to-came.ensures.b
+    c.came_to-came.ensures.a c.came_to-came.ensures.b
     c.args.plan.now c.args.channel c.buffers.result.now c.queue_takes-takes.result c.buffers.ensures.value
-        c.queue_takes-takes.ensures)
+    c.queue_takes-takes.ensures)
     (after_both c.write_if.result c.args.any c.in_ok-any.any old
-        (g.W.Write.contents c.write_buffers.new.writer) new xs ys c.in_ok-any.ensures.text c.in_ok-any.ensures.any
+    (g.W.Write.contents c.write_buffers.new.writer) new xs ys c.in_ok-any.ensures.text c.in_ok-any.ensures.any
     c.write_if.ensures.text)
 
 pub returns-clause-any : goal.returns-clause-any
@@ -32,7 +32,7 @@ returns-clause-any g c =
     let ys : List Taker = taker_if c.queue_takes-takes.result c.args.node None in
     any_answered c.write_if.result c.args.any c.in_ok-any.any xs ys _ c.in_ok-any.ensures.any
     (takers_is c.args.params.now c.args.sealed.now c.args.node w came.a came.b c.window_of-window.ensures
-        c.came_to-came.ensures.a c.came_to-came.ensures.b
+    c.came_to-came.ensures.a c.came_to-came.ensures.b
     c.args.plan.now c.args.channel c.buffers.result.now c.queue_takes-takes.result c.buffers.ensures.value
-        c.queue_takes-takes.ensures)
+    c.queue_takes-takes.ensures)
     c.write_if.ensures.any

@@ -20,11 +20,11 @@ loop-number-preserved g c =
     let same : takers_of p c.plan.result.now r c.args.channel c.from_number-node.result ≡ part =
     λ i. takers_of p (c.plan.ensures.value i) r c.args.channel (c.from_number-node.ensures i) in
     goes_on false (takers_from p r c.args.channel 0 c.args.interfaces.now)
-        (g.W.Write.contents c.args.writer.now) now mid c.loop-number.any c.in_ok-any.any
+    (g.W.Write.contents c.args.writer.now) now mid c.loop-number.any c.in_ok-any.any
     (takers_from p r c.args.channel n (drop n c.args.interfaces.now)) part
-        (takers_from p r c.args.channel (n + 1) (drop (n + 1) c.args.interfaces.now))
+    (takers_from p r c.args.channel (n + 1) (drop (n + 1) c.args.interfaces.now))
     (ap (λ (l : List State). takers_from p r c.args.channel n l)
-        (left_here c.args.interfaces.now n s c.loop-number-test.true c.index-interfaces-number.is))
+    (left_here c.args.interfaces.now n s c.loop-number-test.true c.index-interfaces-number.is))
     (subst (λ (ts : List Taker). Appends now mid (after_commas c.loop-number.any ts)) same c.in_ok-any.ensures.text)
     (c.in_ok-any.ensures.any ∙ ap (λ (ts : List Taker). c.loop-number.any || is_any ts) same)
     c.loop-number.invariant
@@ -36,7 +36,7 @@ returns-clause-text g c =
     let n : ℕ = c.loop-number.number in
     let le : length c.args.interfaces.now ≤ n = omega (arith, c.loop-number-test.false) in
     ends_text false (takers_from p r c.args.channel 0 c.args.interfaces.now) (g.W.Write.contents c.args.writer.now)
-        (g.W.Write.contents c.loop-number.writer)
+    (g.W.Write.contents c.loop-number.writer)
     c.loop-number.any (takers_from p r c.args.channel n (drop n c.args.interfaces.now))
     (ap (λ (l : List State). takers_from p r c.args.channel n l) (nothing_left c.args.interfaces.now n le))
-        c.loop-number.invariant
+    c.loop-number.invariant

@@ -7,5 +7,5 @@ use Rattle.fr_showing.proofs.takers.write_nodes.Given as goal
 abbrev pub invariant-loop-number : goal.invariant-loop-number
 invariant-loop-number g l =
     IsGoing false (takers_from l.params l.sealed l.channel 0 l.interfaces) (g.W.Write.contents l.fn.writer)
-        (g.W.Write.contents l.writer) l.any
+    (g.W.Write.contents l.writer) l.any
     (takers_from l.params l.sealed l.channel l.number (drop l.number l.interfaces))

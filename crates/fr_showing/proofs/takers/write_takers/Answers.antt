@@ -14,6 +14,6 @@ returns-else-branch g c =
     let mid = g.W.Write.contents c.write_nodes.new.writer in
     let new = g.W.Write.contents c.write.new.self in
     subst (λ (t : List ℕ). OnOk c.write.result (Appends old new t))
-        (no_word ts (sym c.in_ok-write_nodes.ensures.any ∙ c.if-branch.false))
+    (no_word ts (sym c.in_ok-write_nodes.ensures.any ∙ c.if-branch.false))
     (appends-last c.write.result old mid new (after_commas false ts)
-        (codes "-") c.in_ok-write_nodes.ensures.text c.write.ensures.bytes)
+    (codes "-") c.in_ok-write_nodes.ensures.text c.write.ensures.bytes)

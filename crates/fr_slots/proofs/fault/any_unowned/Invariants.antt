@@ -6,4 +6,4 @@ use Rattle.fr_slots.proofs.fault.any_unowned.Given as goal
 abbrev pub invariant-loop-number : goal.invariant-loop-number
 invariant-loop-number l =
     list_any (is_unowned_in l.owned l.filter l.channel) (numbers_from l.number (64 - l.number))
-        ≡ any_unowned l.owned l.filter l.channel
+    ≡ any_unowned l.owned l.filter l.channel

@@ -28,13 +28,23 @@ both false q h k = (λ e. absurd (let none : ⊥ = cc in none), λ f. h.1 f.0)
 same_buffer : (a b : Buffer) → Decides (ghosts.eq a b) (a ≡ b)
 same_buffer a b =
     let parts : Decides (ghosts.eq a b) ((a.mode ≡ b.mode) ×
-        ((a.filter ≡ b.filter) × ((a.words ≡ b.words) × (a.preamble ≡ b.preamble)))) =
+    ((a.filter ≡ b.filter) × ((a.words ≡ b.words) × (a.preamble ≡ b.preamble)))) =
     both _ _ (same_mode a.mode b.mode) (both _ _ (same_filter a.filter b.filter)
-        (both _ _ (same_words a.words b.words) (booleans_Decides a.preamble b.preamble))) in (
-      λ e. (let h = parts.0 e in λ i. record { mode = h.0 i; filter = h.1.0 i; words = h.1.1.0 i; preamble =
-          h.1.1.1 i }),
-      λ e. parts.1 (ap (λ (x : Buffer). x.mode) e, (ap (λ (x : Buffer). x.filter) e,
-          (ap (λ (x : Buffer). x.words) e, ap (λ (x : Buffer). x.preamble) e))),
+    (both _ _ (same_words a.words b.words) (booleans_Decides a.preamble b.preamble))) in (
+      λ e. (let h = parts.0 e in λ i. record {
+        mode = h.0 i;
+        filter = h.1.0 i;
+        words = h.1.1.0 i;
+        preamble =
+            h.1.1.1 i;
+      }),
+      λ e. parts.1 (
+        ap (λ (x : Buffer). x.mode) e,
+        (
+          ap (λ (x : Buffer). x.filter) e,
+          (ap (λ (x : Buffer). x.words) e, ap (λ (x : Buffer). x.preamble) e),
+        ),
+      ),
     )
 
 pub returns : goal.returns

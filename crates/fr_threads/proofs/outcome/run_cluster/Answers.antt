@@ -10,15 +10,23 @@ returns-in-Ok-clause-written g c =
     let written : Appends (g.W.Write.contents c.args.writer.now) (g.W.Write.contents c.write_whole.new.writer)
     (outcome_text run.interfaces.items run.settled.windows) = search rules in
     printed c.args.cluster.now c.args.cycles c.args.free (g.R.Read.remaining c.args.reader.now)
-        (g.W.Write.contents c.args.writer.now)
+    (g.W.Write.contents c.args.writer.now)
     (g.W.Write.contents c.write_whole.new.writer)
-        (record { scripts = c.in_ok-scenario.scenario.scripts; faults = c.in_ok-scenario.scenario.faults; numbers =
-        c.in_ok-scenario.scenario.numbers }) run
+    (record {
+      scripts = c.in_ok-scenario.scenario.scripts;
+      faults = c.in_ok-scenario.scenario.faults;
+      numbers =
+          c.in_ok-scenario.scenario.numbers;
+    }) run
     c.in_ok-scenario.ensures (search rules) written
 
 pub returns-in-Ok-clause-refused : goal.returns-in-Ok-clause-refused
 returns-in-Ok-clause-refused g c =
     run_refused c.args.cluster.now c.args.cycles (g.R.Read.remaining c.args.reader.now)
-    (record { scripts = c.in_ok-scenario.scenario.scripts; faults = c.in_ok-scenario.scenario.faults; numbers =
-        c.in_ok-scenario.scenario.numbers }) None
+    (record {
+      scripts = c.in_ok-scenario.scenario.scripts;
+      faults = c.in_ok-scenario.scenario.faults;
+      numbers =
+          c.in_ok-scenario.scenario.numbers;
+    }) None
     c.in_ok-scenario.ensures (search rules)

@@ -11,7 +11,7 @@ pub returns : goal.returns
 returns g c =
     let same_interfaces = c.as_slice-2.ensures.value in
     let settled = settles_same _ _ _ _ _ _ _ same_interfaces c.as_slice-3.ensures.value c.in_ok-settled.ensures.answer
-        in
+    in
     let at_end : IsTrue c.in_ok-is_at_end.field-0 = search rules in
     let stepped : c.args.stepped ≡ true → AreStepped c.args.bus.sealed c.args.given.now c.args.nodes.interfaces.items =
     elim c.else-stepped.branch [

@@ -6,9 +6,9 @@ pub returns-in-Err-fed-clause-through : goal.returns-in-Err-fed-clause-through
 returns-in-Err-fed-clause-through g c =
     let room : length c.read.new.buf ≡ 4096 = c.read.auto.buf ∙ c.pieces.invariant.1 in
     let short : length (take c.in-Ok.count c.read.new.buf) ≤ 4096 =
-        omega (arith, room, c.in-Ok.ensures.bound.0, c.in-Ok.ensures.bound.1) in
+    omega (arith, room, c.in-Ok.ensures.bound.0, c.in-Ok.ensures.bound.1) in
     read_fault _ _ _ c.pieces.auditor c.feed-fed.new.self _ c.in-Err-fed.fault c.pieces.invariant.0
-        c.in-Ok.ensures.bytes.0 short c.feed-fed.ensures.state
+    c.in-Ok.ensures.bytes.0 short c.feed-fed.ensures.state
     (sym c.feed-fed.ensures.answer ∙ c.in-Err-fed.is)
 
 pub pieces-preserved : goal.pieces-preserved

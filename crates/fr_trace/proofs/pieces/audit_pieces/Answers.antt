@@ -47,7 +47,7 @@ returns c =
     let text = flat_map (λ p. p.now) c.args.pieces.now in
     let result = c.lawful.result in
     let which = exact c.fed-auditor.result text result c.fed-auditor.ensures
-        (c.lawful.ensures.same ∙ c.finish.ensures) in
+    (c.lawful.ensures.same ∙ c.finish.ensures) in
     record {
       found = found text result c.lawful.ensures.legal which;
       only = λ s is same. only text result s is same which;

@@ -15,7 +15,7 @@ loop-piece-preserved c =
     let joined : flat_map (λ p. p.now) (take (i + 1) pieces) ≡ flat_map (λ p. p.now) (take i pieces) ++ piece.now =
     ap (flat_map (λ p. p.now)) (take_more pieces i (record { ref_ptr = (0, 0); now = [] }) c.loop-piece-test.true)
     ∙ (flat_map-append (λ p. p.now) (take i pieces) (piece ∷ []) ∙ ap (λ t. flat_map (λ p. p.now) (take i pieces) ++ t)
-        (append-nil piece.now)) in
+    (append-nil piece.now)) in
     subst (λ t. Reads fresh t c.feed.new.self) (sym joined)
     (reads_more fresh (flat_map (λ p. p.now) (take i pieces)) piece.now c.loop-piece.auditor c.feed.new.self
-        c.loop-piece.invariant c.feed.ensures.state)
+    c.loop-piece.invariant c.feed.ensures.state)

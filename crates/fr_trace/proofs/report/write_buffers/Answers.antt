@@ -21,9 +21,9 @@ loop-number-preserved g c =
     let mid = g.W.Write.contents c.loop-number.writer in
     let new = g.W.Write.contents c.write_buffer.new.writer in
     let buffers : c.buffers.result.now ≡ s.plan.buffers = c.buffers.ensures.value ∙ ap (λ (p : Plan). p.buffers)
-        c.plan.ensures.value in
+    c.plan.ensures.value in
     let lt : place < length s.plan.buffers = omega (arith, ap length buffers, c.loop-number-test.true) in
     subst (λ (t : List ℕ). Appends old new t) (sym (report-more s place lt))
     (Appends-trans old mid new (reports_from s 0 (take place s.plan.buffers))
-        (line_text (answer_words place (tally_by s place) (received_by s place))) c.loop-number.invariant
-        c.in_ok-write_buffer.ensures)
+    (line_text (answer_words place (tally_by s place) (received_by s place))) c.loop-number.invariant
+    c.in_ok-write_buffer.ensures)

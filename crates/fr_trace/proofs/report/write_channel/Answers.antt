@@ -22,5 +22,5 @@ returns g c =
     let first : Appends start mid front = search rules in
     subst (λ (t : List ℕ). OnOk c.write_errors.result (Appends start end t))
     (sym (line-behind_three letter valid syntax (decimal (slice_index counts 2))
-        (decimal (slice_index counts 3) ∷ decimal (slice_index counts 4) ∷ [])))
+    (decimal (slice_index counts 3) ∷ decimal (slice_index counts 4) ∷ [])))
     (appends-last c.write_errors.result start mid end front back first c.write_errors.ensures)

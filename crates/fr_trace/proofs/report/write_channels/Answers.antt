@@ -16,8 +16,8 @@ returns g c =
     let end = g.W.Write.contents c.write_channel-2.new.writer in
     let first : Appends start mid (channel_report s A) =
     subst (λ (k : Counters). Appends start mid (line_text (channel_words A (counts_in k.a))))
-        c.counters-counters.ensures c.in_ok-write_channel.ensures in
+    c.counters-counters.ensures c.in_ok-write_channel.ensures in
     let second : OnOk c.write_channel-2.result (Appends mid end (channel_report s B)) =
     subst (λ (k : Counters). OnOk c.write_channel-2.result (Appends mid end
-        (line_text (channel_words B (counts_in k.b))))) c.counters-counters.ensures c.write_channel-2.ensures in
+    (line_text (channel_words B (counts_in k.b))))) c.counters-counters.ensures c.write_channel-2.ensures in
     appends-last c.write_channel-2.result start mid end (channel_report s A) (channel_report s B) first second

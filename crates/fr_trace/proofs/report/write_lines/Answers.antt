@@ -15,4 +15,4 @@ returns g c =
     let end = g.W.Write.contents c.write_channels.new.writer in
     appends-last c.write_channels.result start second end (buffers ++ queue) (channels_report s)
     (Appends-trans start first second buffers queue c.in_ok-write_buffers.ensures c.in_ok-write_queue.ensures)
-        c.write_channels.ensures
+    c.write_channels.ensures

@@ -9,6 +9,6 @@ loop-buffer-init g c = Appends-nil (g.W.Write.contents c.args.writer.now)
 pub loop-buffer-preserved : goal.loop-buffer-preserved
 loop-buffer-preserved g c =
     written-more buffer_line c.args.buffers.now c.loop-buffer.buffer-index c.buffer-item.result
-        (g.W.Write.contents c.args.writer.now) (g.W.Write.contents c.loop-buffer.writer)
-        (g.W.Write.contents c.write_buffer.new.writer)
+    (g.W.Write.contents c.args.writer.now) (g.W.Write.contents c.loop-buffer.writer)
+    (g.W.Write.contents c.write_buffer.new.writer)
     c.loop-buffer-test.true c.buffer-item.is c.loop-buffer.invariant c.in_ok-write_buffer.ensures

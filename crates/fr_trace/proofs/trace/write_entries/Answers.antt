@@ -20,9 +20,9 @@ loop-number-preserved g c =
       | in-Some+in_ok-write_entry w ↦
           let e = w.in-Some.entry in
           subst (λ x. Appends start (g.W.Write.contents x) (flat_map entry_line (take (i + 1) entries)))
-              (sym w.writer-is)
+          (sym w.writer-is)
           (written-more entry_line entries i e start (g.W.Write.contents c.loop-number.writer)
-              (g.W.Write.contents w.write_entry.new.writer) lt
+          (g.W.Write.contents w.write_entry.new.writer) lt
           (there_is entries i e (sym c.get.ensures ∙ w.in-Some.is)) c.loop-number.invariant w.in_ok-write_entry.ensures)
       | in_default w ↦ absurd (none_behind entries i lt (sym c.get.ensures ∙ w.in_default.is))
     ]

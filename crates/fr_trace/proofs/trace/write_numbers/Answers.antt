@@ -12,6 +12,6 @@ returns g c =
     let first = g.W.Write.contents c.writeln.new.self in
     let second = g.W.Write.contents c.write_params.new.writer in
     appends-last c.write_node.result start second (g.W.Write.contents c.write_node.new.writer)
-        (params_text Three params) (line_text (node_words c.args.plan.now))
+    (params_text Three params) (line_text (node_words c.args.plan.now))
     (Appends-trans start first second (head_text Three) (line_text (params_words params)) c.in_ok-writeln.ensures.bytes
-        c.in_ok-write_params.ensures) c.write_node.ensures
+    c.in_ok-write_params.ensures) c.write_node.ensures

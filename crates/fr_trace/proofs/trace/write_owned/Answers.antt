@@ -10,6 +10,6 @@ loop-own-init g c = Appends-nil (g.W.Write.contents c.args.writer.now)
 pub loop-own-preserved : goal.loop-own-preserved
 loop-own-preserved g c =
     written-more (own_line Three) c.args.owned.now c.loop-own.own-index c.own-item.result
-        (g.W.Write.contents c.args.writer.now) (g.W.Write.contents c.loop-own.writer)
-        (g.W.Write.contents c.write_own.new.writer)
+    (g.W.Write.contents c.args.writer.now) (g.W.Write.contents c.loop-own.writer)
+    (g.W.Write.contents c.write_own.new.writer)
     c.loop-own-test.true c.own-item.is c.loop-own.invariant c.in_ok-write_own.ensures

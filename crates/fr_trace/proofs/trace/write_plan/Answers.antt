@@ -21,17 +21,17 @@ returns g c =
     let third = g.W.Write.contents c.write_buffers.new.writer in
     let end = g.W.Write.contents c.write_queues.new.writer in
     let owned : Appends first second (flat_map (own_line Three) plan.owned) =
-        subst (λ (o : List Own). Appends first second (flat_map (own_line Three) o)) c.owned.ensures.value
-        c.in_ok-write_owned.ensures in
+    subst (λ (o : List Own). Appends first second (flat_map (own_line Three) o)) c.owned.ensures.value
+    c.in_ok-write_owned.ensures in
     let buffers : Appends second third (flat_map buffer_line plan.buffers) =
     subst (λ (b : List Buffer). Appends second third (flat_map buffer_line b)) c.buffers.ensures.value
-        c.in_ok-write_buffers.ensures in
+    c.in_ok-write_buffers.ensures in
     let queue : OnOk c.write_queues.result (Appends third end (queue_lines plan.queue)) =
     subst (λ (q : Option Queue). OnOk c.write_queues.result (Appends third end (queue_lines q))) c.queue.ensures.value
-        c.write_queues.ensures in
+    c.write_queues.ensures in
     appends-last c.write_queues.result start third end (numbers_text Three params plan ++ flat_map
-        (own_line Three) plan.owned ++ flat_map buffer_line plan.buffers) (queue_lines plan.queue)
+    (own_line Three) plan.owned ++ flat_map buffer_line plan.buffers) (queue_lines plan.queue)
     (Appends-trans start second third (numbers_text Three params plan ++ flat_map (own_line Three) plan.owned)
-        (flat_map buffer_line plan.buffers)
+    (flat_map buffer_line plan.buffers)
     (Appends-trans start first second (numbers_text Three params plan)
-        (flat_map (own_line Three) plan.owned) c.in_ok-write_numbers.ensures owned) buffers) queue
+    (flat_map (own_line Three) plan.owned) c.in_ok-write_numbers.ensures owned) buffers) queue

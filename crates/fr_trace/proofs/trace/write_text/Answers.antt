@@ -21,13 +21,13 @@ returns-clause-written g c =
     let plan : Appends start first (plan_text Three s.params s.plan) =
     subst (λ (p : Plan). Appends start first (plan_text Three s.params p)) c.plan.ensures.value
     (subst (λ (q : Parameters). Appends start first (plan_text Three q c.plan.result.now)) c.params.ensures.value
-        c.in_ok-write_plan.ensures) in
+    c.in_ok-write_plan.ensures) in
     let entries : Appends second third (flat_map entry_line s.entries) =
     subst (λ (es : List Entry). Appends second third (flat_map entry_line es)) c.journal.ensures.entries
-        c.in_ok-write_entries.ensures in
+    c.in_ok-write_entries.ensures in
     let begun = Appends-trans start first second (plan_text Three s.params s.plan)
-        (begin_line ++ line_feed) plan c.in_ok-writeln.ensures.bytes in
+    (begin_line ++ line_feed) plan c.in_ok-writeln.ensures.bytes in
     appends-last c.writeln-2.result start third (g.W.Write.contents c.writeln-2.new.self) (body_text Three s)
-        (end_line ++ line_feed)
+    (end_line ++ line_feed)
     (Appends-trans start second third (begin_text Three s.params s.plan) (flat_map entry_line s.entries) begun entries)
-        c.writeln-2.ensures.bytes
+    c.writeln-2.ensures.bytes

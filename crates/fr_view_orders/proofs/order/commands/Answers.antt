@@ -8,7 +8,7 @@ pub returns : goal.returns
 returns c =
     let top = λ (a : App). a.top in
     let bus_is : app_of c.in_ok-of_run.field-0 ≡ of_run (codes "bus") =
-        c.in_ok-of_run.ensures.app ∙ ap with_run c.new.ensures.app in
+    c.in_ok-of_run.ensures.app ∙ ap with_run c.new.ensures.app in
     let matrix_is : app_of c.in_ok-matrix_command.field-0 ≡ matrix_command = c.in_ok-matrix_command.ensures.app in
     let trace_is : app_of c.in_ok-trace_command.field-0 ≡ trace_command = c.in_ok-trace_command.ensures.app in
     let heard : app_of c.in_ok-heard.heard ≡ with_bus =
@@ -16,4 +16,4 @@ returns c =
     let drawn : app_of c.in_ok-drawn.drawn ≡ with_matrix =
     c.in_ok-drawn.ensures.shape (search rules) ∙ ap₂ with_subcommand heard (ap top matrix_is) in
     IfOk-weaker c.subcommand-3.result _ _ (λ m h. h.shape (search rules) ∙ ap₂ with_subcommand drawn (ap top trace_is))
-        c.subcommand-3.ensures
+    c.subcommand-3.ensures

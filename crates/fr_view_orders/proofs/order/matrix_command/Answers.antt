@@ -18,7 +18,7 @@ returns c =
     c.in_ok-arg-2.ensures.shape (search rules) ∙ ap₂ with_rule first node_is in
     let local : (out-Command c.in_ok-arg-2.field-0).has_globals ≡ false = search rules in
     let drawn : app_of c.in_ok-drawn.drawn ≡ matrix_drawn = c.in_ok-drawn.ensures.shape (search rules) ∙ ap₂ with_rule
-        second from_is in
+    second from_is in
     record {
       app = IfOk-weaker c.of_run.result _ _ (λ m h. h ∙ ap with_run drawn) c.of_run.ensures.app;
       local = c.of_run.ensures.local;

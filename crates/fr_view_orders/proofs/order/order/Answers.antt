@@ -10,7 +10,7 @@ pub returns-in_err-matches : goal.returns-in_err-matches
 returns-in_err-matches c =
     let words : List Text = map (λ word. word.now) c.args.words.now in
     let free : is_simple_and_free (app_of c.in_ok-commands.field-0) ≡ true =
-        ap is_simple_and_free c.in_ok-commands.ensures ∙ are_free in
+    ap is_simple_and_free c.in_ok-commands.ensures ∙ are_free in
     let e = c.in_err-matches.field-0.0 in
     let kinds : HasKind (fault_of the_commands words) e =
     subst (λ a. HasKind (fault_of a words) e) c.in_ok-commands.ensures (c.in_err-matches.ensures.kinds free) in
@@ -28,5 +28,5 @@ returns c =
     let told = subst (λ x. IfSome c.order_in.result (IsOrder x)) entered c.order_in.ensures.told in
     let nothing = subst (λ x. IfNone c.order_in.result (asks x ≡ false)) entered c.order_in.ensures.nothing in
     let answer = subst (IsAnswerTo words) (sym c.ok_or.ensures.value)
-        (taken_for words c.order_in.result none told nothing) in
+    (taken_for words c.order_in.result none told nothing) in
     search rules

@@ -31,9 +31,11 @@ returns-in-capture-clause-told c =
     let found = found_of c.in_ok-name.arguments.now in
     let named : IsNamed (codes "capture") entered = search rules in
     let words : (id : Text) → first_value found id ≡ word_in entered id =
-    λ id. first_value-rows found id ∙ sym (word_of_rows entered (rows_of found) id (search rules)) in
-    (named, c.flags_in-until_fault.ensures.until_fault ∙ ap is_true (words (codes "until-fault")),
-        c.flags_in-until_fault.ensures.more ∙ ap is_true (words (codes "own")))
+    λ id. first_value-rows found id ∙ sym (word_of_rows entered (rows_of found) id (search rules)) in (
+      named,
+      c.flags_in-until_fault.ensures.until_fault ∙ ap is_true (words (codes "until-fault")),
+      c.flags_in-until_fault.ensures.more ∙ ap is_true (words (codes "own")),
+    )
 
 pub returns-in-frames-clause-told : goal.returns-in-frames-clause-told
 returns-in-frames-clause-told c =
@@ -41,9 +43,11 @@ returns-in-frames-clause-told c =
     let found = found_of c.in_ok-name.arguments.now in
     let named : IsNamed (codes "frames") entered = search rules in
     let words : (id : Text) → first_value found id ≡ word_in entered id =
-    λ id. first_value-rows found id ∙ sym (word_of_rows entered (rows_of found) id (search rules)) in
-    (named, c.flags_in-until_fault-in-frames.ensures.until_fault ∙ ap is_true (words (codes "until-fault")),
-        c.flags_in-until_fault-in-frames.ensures.more ∙ ap is_true (words (codes "all")))
+    λ id. first_value-rows found id ∙ sym (word_of_rows entered (rows_of found) id (search rules)) in (
+      named,
+      c.flags_in-until_fault-in-frames.ensures.until_fault ∙ ap is_true (words (codes "until-fault")),
+      c.flags_in-until_fault-in-frames.ensures.more ∙ ap is_true (words (codes "all")),
+    )
 
 pub returns-in_default-clause-told : goal.returns-in_default-clause-told
 returns-in_default-clause-told c =
@@ -62,5 +66,5 @@ returns-in_default-clause-nothing c =
     let words : (id : Text) → first_value found id ≡ word_in entered id =
     λ id. first_value-rows found id ∙ sym (word_of_rows entered (rows_of found) id (search rules)) in
     show_lacks entered c.in_ok-name.name.now (first_value found) c.show_in.result named (search rules) (search rules)
-        (search rules) (search rules)
+    (search rules) (search rules)
     words c.show_in.ensures.nothing

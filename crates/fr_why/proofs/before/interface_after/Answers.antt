@@ -11,10 +11,10 @@ returns-in-Ok-clause-left c =
       | in-Body w ↦
           subst (LeavesIn (take_bytes fresh front)) (sym w.text-is ∙ c.in-Ok.is)
           (body_left _ front c.args.head.now w.audit_pieces-text.result c.requires w.in-Body.is
-              w.audit_pieces-text.ensures.exact)
+          w.audit_pieces-text.ensures.exact)
       | in-Finished w ↦
           subst (LeavesIn (take_bytes fresh front)) (sym w.text-is ∙ c.in-Ok.is)
           (finished_left front c.args.head.now w.audit_pieces-text-in-Finished.result c.requires w.in-Finished.is
           (subst (λ (t : List ℕ). Answers t w.audit_pieces-text-in-Finished.result)
-              (append-nil front) w.audit_pieces-text-in-Finished.ensures.exact))
+          (append-nil front) w.audit_pieces-text-in-Finished.ensures.exact))
     ]

@@ -16,13 +16,13 @@ loop-number-preserved c =
           let e = w.in-Some.entry in
           let more = windows_more entries i e lt (there_is entries i e (sym c.get.ensures ∙ w.in-Some.is)) in
           let one : ◌≡◌ {A = ℕ} (cond (is_fetch e) 1 0) 1 = ap (λ (b : Bool). cond {A = ℕ} b 1 0)
-              (sym w.is_fetch.ensures ∙ w.if-is_fetch.true) in
+          (sym w.is_fetch.ensures ∙ w.if-is_fetch.true) in
           (omega (arith, more, one, so_far, w.count-is), omega (arith, few, w.count-is))
       | in-Some+else-is_fetch w ↦
           let e = w.in-Some.entry in
           let more = windows_more entries i e lt (there_is entries i e (sym c.get.ensures ∙ w.in-Some.is)) in
           let none : ◌≡◌ {A = ℕ} (cond (is_fetch e) 1 0) 0 =
-              ap (λ (b : Bool). cond {A = ℕ} b 1 0) (sym w.is_fetch.ensures ∙ w.if-is_fetch.false) in
+          ap (λ (b : Bool). cond {A = ℕ} b 1 0) (sym w.is_fetch.ensures ∙ w.if-is_fetch.false) in
           (omega (arith, more, none, so_far, w.count-is), omega (arith, few, w.count-is))
       | in_default w ↦ absurd (none_behind entries i lt (sym c.get.ensures ∙ w.in_default.is))
     ]

@@ -13,6 +13,6 @@ returns-in_ok-write_form-in-Ok-Some g c =
     let old = g.W.Write.contents c.args.writer.now in
     let new = g.W.Write.contents c.write_form.new.writer in
     shows_fault c.args.form text (take f.start text) (between f.start f.end text)
-        (drop f.end text) old new f.error c.requires.of_text c.requires.at_fault
+    (drop f.end text) old new f.error c.requires.of_text c.requires.at_fault
     (subst (λ (o : Option State). Appends old new (shown_so_far c.args.form o))
-        (sym c.in-Ok-Some.field-0-is ∙ c.in-Ok-Some.ensures.left) c.in_ok-write_form-in-Ok-Some.ensures.written)
+    (sym c.in-Ok-Some.field-0-is ∙ c.in-Ok-Some.ensures.left) c.in_ok-write_form-in-Ok-Some.ensures.written)

@@ -12,6 +12,6 @@ returns g c =
     let start = g.W.Write.contents c.args.writer.now in
     let end = g.W.Write.contents c.write_bytes.new.writer in
     subst (λ (t : List ℕ). OnOk c.write_bytes.result (Appends start end t))
-        (spaced line c.min.result (sym c.is_empty.ensures ∙ c.if-is_empty.false) c.min.ensures)
+    (spaced line c.min.result (sym c.is_empty.ensures ∙ c.if-is_empty.false) c.min.ensures)
     (appends-last c.write_bytes.result start (g.W.Write.contents c.write_all.new.self) end (32 ∷ [])
-        (flat_map byte_text (take c.min.result line)) c.in_ok-write_all.ensures.bytes c.write_bytes.ensures)
+    (flat_map byte_text (take c.min.result line)) c.in_ok-write_all.ensures.bytes c.write_bytes.ensures)

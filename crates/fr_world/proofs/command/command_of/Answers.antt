@@ -13,7 +13,7 @@ returns-in_err-matches c =
     let e = c.in_err-matches.field-0.0 in
     let kinds : HasKind (fault_of the_command words) e =
     subst (λ a. HasKind (fault_of a words) e) is (c.in_err-matches.ensures.kinds (ap is_simple_and_free is ∙ are_free))
-        in
+    in
     let answer = refused_for words e kinds in
     search rules
 

@@ -15,4 +15,4 @@ pub returns-clause-all_cycles : goal.returns-clause-all_cycles
 returns-clause-all_cycles c =
     subst (λ (b : BusState). b.phase ≡ Finished → cycles_begun b.sealed ≡ b.cycles) c.self.view_is
     (all_cycles (state_in c.self.inside) c.self.inside.course c.self.invariant.run c.known.ensures
-        c.self.invariant.course_is)
+    c.self.invariant.course_is)

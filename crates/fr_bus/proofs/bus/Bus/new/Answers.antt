@@ -16,15 +16,20 @@ invariant_of-result c =
     let guardian : c.in-Ok.guardian ≡ d = c.in-Ok.ensures in
     let params : c.params.result.now ≡ d.params = c.params.ensures.value in
     let opened = c.next-opened.ensures ∙ ap next_of c.new-course.ensures ∙ next_is c.params.result.now c.args.cycles []
-        ∙ ap (λ (p : Parameters). following p c.args.cycles []) params in
+    ∙ ap (λ (p : Parameters). following p c.args.cycles []) params in
     let count : c.from.result ≡ length d.plans = c.from.ensures ∙ c.nodes.ensures.value in
     let stations = c.in-Ok-idle.ensures ∙ ap (λ n. replicate n idle_station) count in
     let some : 1 ≤ c.args.cycles = omega (arith, c.if-cycles-eq0.false) in
     let few : c.args.cycles ≤ 1024 = omega (arith, c.if-cycles-gt1024.false) in
     record {
       run = subst IsRun
-          (λ i. record (new_bus d c.args.cycles) { cluster = sym guardian i; opened = sym opened i; stations =
-              sym stations i; sealed = sym c.new-2.ensures.items i })
+          (λ i. record (new_bus d c.args.cycles) {
+            cluster = sym guardian i;
+            opened = sym opened i;
+            stations =
+                sym stations i;
+            sealed = sym c.new-2.ensures.items i;
+          })
           (run_new d c.args.cycles c.nodes.ensures.lawful some few);
       course_is = c.new-course.ensures ∙ (λ i. course_of
           ((params ∙ sym (ap (λ (e : Description). e.params) guardian)) i) c.args.cycles (sym c.new-2.ensures.items i));

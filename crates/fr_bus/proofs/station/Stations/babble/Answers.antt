@@ -13,14 +13,14 @@ returns c =
     let put = slice_index_or i.put n false in
     let taken = slice_index_or i.taken n false in
     ap (λ (ps : List Bool). stations_of ps i.taken (slice_set i.sides.items n c.babble.new.self))
-        (sym (set-get_or i.put n false))
+    (sym (set-get_or i.put n false))
     ∙ ap (λ (ts : List Bool). stations_of (slice_set i.put n put) ts (slice_set i.sides.items n c.babble.new.self))
-        (sym (set-get_or i.taken n false))
+    (sym (set-get_or i.taken n false))
     ∙ write_station i c.self.invariant c.args.self.now c.self.view_is n c.args.node
-        (c.from.ensures ∙ c.number.ensures.value) c.requires
+    (c.from.ensures ∙ c.number.ensures.value) c.requires
     false false c.index_mut.result.now put taken c.babble.new.self
-        (λ (s : Station). babbling c.args.channel c.args.bytes s)
+    (λ (s : Station). babbling c.args.channel c.args.bytes s)
     (babbling_is c.args.channel c.args.bytes put taken (slice_index_or i.sides.items n c.index_mut.result.now)
     ∙ ap (λ (s : Sides). station_of put taken (with_babble c.args.channel c.args.bytes s))
-        (sym c.index_mut.ensures.value)
+    (sym c.index_mut.ensures.value)
     ∙ ap (λ (s : Sides). station_of put taken s) (sym c.babble.ensures))

@@ -7,4 +7,4 @@ pub returns : goal.returns
 returns c =
     sym (ap (λ (s : Station). s.taken)
     (read_station c.self.inside c.self.invariant c.args.self.now c.self.view_is c.from.result c.args.node
-        (c.from.ensures ∙ c.number.ensures.value) c.requires false false silent_sides))
+    (c.from.ensures ∙ c.number.ensures.value) c.requires false false silent_sides))

@@ -12,9 +12,9 @@ returns c =
     let n = c.from-place.result in
     let there = slice_index_or i.taken n false in
     ap (λ (ts : List Bool). stations_of (slice_set i.put n true) ts (slice_set i.sides.items n c.put.new.self))
-        (sym (set-get_or i.taken n false))
+    (sym (set-get_or i.taken n false))
     ∙ write_station i c.self.invariant c.args.self.now c.self.view_is n c.args.node
-        (c.from-place.ensures ∙ c.number.ensures.value) c.requires
+    (c.from-place.ensures ∙ c.number.ensures.value) c.requires
     false false c.index_mut.result.now true there c.put.new.self (λ (s : Station). offering s c.args.offer.now)
     (ap (λ (s : Sides). station_of true there (with_offers s c.args.offer.now)) (sym c.index_mut.ensures.value)
     ∙ ap (λ (s : Sides). station_of true there s) (sym c.put.ensures))

@@ -12,8 +12,8 @@ returns c =
     let n = c.from.result in
     ap (λ (ps : List Bool). stations_of ps (slice_set i.taken n true) i.sides.items) (sym (set-get_or i.put n false))
     ∙ ap (λ (ss : List Sides). stations_of (slice_set i.put n (slice_index_or i.put n false))
-        (slice_set i.taken n true) ss) (sym (set-get_or i.sides.items n silent_sides))
+    (slice_set i.taken n true) ss) (sym (set-get_or i.sides.items n silent_sides))
     ∙ write_station i c.self.invariant c.args.self.now c.self.view_is n c.args.node
-        (c.from.ensures ∙ c.number.ensures.value) c.requires
+    (c.from.ensures ∙ c.number.ensures.value) c.requires
     false false silent_sides (slice_index_or i.put n false) true
-        (slice_index_or i.sides.items n silent_sides) taking refl
+    (slice_index_or i.sides.items n silent_sides) taking refl

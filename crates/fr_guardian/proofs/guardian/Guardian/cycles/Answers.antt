@@ -21,4 +21,4 @@ returns-clause-some c = subst (λ n. 1 ≤ n) (sym (returns-clause-value c))
 pub returns-clause-again : goal.returns-clause-again
 returns-clause-again c node cycle macrotick channel =
     opens_again c.args.self.now (subst IsCluster c.self.view_is c.self.invariant.cluster) c.cycles_of.result
-        (returns-clause-value c) node cycle macrotick channel
+    (returns-clause-value c) node cycle macrotick channel

@@ -16,10 +16,10 @@ returns-clause-spelled c =
     let channel = c.args.channel in
     let outgoing : c.args.outgoing.now ≡ outgoing_on h.plan h.transmit window channel =
     c.requires ∙ ap (λ (t : State). outgoing_in t window channel) (sym c.self.view_is) ∙ sym
-        (answer-outgoing h s window channel c.self.invariant.history) in
+    (answer-outgoing h s window channel c.self.invariant.history) in
     subst (λ (f : Option Fields). IsHandedOut channel f c.hand_out.new.bytes)
     (ap (frame_by h.params h.plan h.transmit window channel) outgoing
-        ∙ answer-frame h s window channel c.self.invariant.history
+    ∙ answer-frame h s window channel c.self.invariant.history
     ∙ ap (λ (t : State). frame_offered t.params t.plan t.entries window channel) c.self.view_is)
     c.hand_out.ensures.spelled
 
@@ -31,8 +31,8 @@ returns-clause-bytes c =
     let channel = c.args.channel in
     let outgoing : c.args.outgoing.now ≡ outgoing_on h.plan h.transmit window channel =
     c.requires ∙ ap (λ (t : State). outgoing_in t window channel) (sym c.self.view_is) ∙ sym
-        (answer-outgoing h s window channel c.self.invariant.history) in
+    (answer-outgoing h s window channel c.self.invariant.history) in
     c.hand_out.ensures.bytes
     ∙ ap (bytes_of channel) (ap (frame_by h.params h.plan h.transmit window channel) outgoing
-        ∙ answer-frame h s window channel c.self.invariant.history
+    ∙ answer-frame h s window channel c.self.invariant.history
     ∙ ap (λ (t : State). frame_offered t.params t.plan t.entries window channel) c.self.view_is)

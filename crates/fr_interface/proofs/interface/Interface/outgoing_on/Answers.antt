@@ -13,6 +13,6 @@ returns-clause-offered c =
     let window = c.args.window.now in
     let channel = c.args.channel in
     ap (λ (o : Outgoing). o.offered) (c.outgoing_on.ensures.value
-        ∙ answer-outgoing c.self.inside.state s window channel c.self.invariant.history)
+    ∙ answer-outgoing c.self.inside.state s window channel c.self.invariant.history)
     ∙ offered-place s.plan s.entries window channel
     ∙ ap (λ (t : State). offered t.plan t.entries window channel) c.self.view_is

@@ -17,17 +17,17 @@ invariant_of-self-2 c =
     let s = state_in c.self.inside in
     let from_is : c.origin_in-from.result ≡ option_map origin_of (oldest_of s) =
     c.origin_in-from.ensures.value ∙ ap (option_map origin_of)
-        (c.in_ok-oldest.ensures.answer ∙ oldest-there c.self.inside.state s c.self.invariant.history) in
+    (c.in_ok-oldest.ensures.answer ∙ oldest-there c.self.inside.state s c.self.invariant.history) in
     let pushed : Option Origin → Kept = λ from. record c.self.inside.journal
-        { entries = c.self.inside.journal.entries ++ Pop c.args.task from ∷ [] } in
+    { entries = c.self.inside.journal.entries ++ Pop c.args.task from ∷ [] } in
     lawful-more c.self.inside c.pop.new.self c.push_host.new.self (pop_entry s c.args.task) c.self.invariant
-        (c.push_host.ensures ∙ ap pushed from_is) c.in_ok-oldest.ensures.terms
+    (c.push_host.ensures ∙ ap pushed from_is) c.in_ok-oldest.ensures.terms
     (c.in_ok-oldest.ensures.history s c.self.invariant.history)
 
 pub returns-clause-frames : goal.returns-clause-frames
 returns-clause-frames c =
     let s = state_in c.self.inside in
     subst (λ (o : Option Fields). IfSome o IsReceivable) (sym
-        (c.frame_in.ensures ∙ ap (option_map frame_of) (c.in_ok-oldest.ensures.answer
-        ∙ oldest-there c.self.inside.state s c.self.invariant.history)))
+    (c.frame_in.ensures ∙ ap (option_map frame_of) (c.in_ok-oldest.ensures.answer
+    ∙ oldest-there c.self.inside.state s c.self.invariant.history)))
     (front_receivable s.params s.plan s.entries c.self.invariant.history.legal.entries_are s.plan.queue)

@@ -16,14 +16,14 @@ invariant_of-self c =
     let s = state_in c.self.inside in
     let window = c.args.window.now in
     let offer_a : c.args.a.now.offered ≡ offered s.plan s.entries window A =
-        ap (λ (o : Outgoing). o.offered) (c.requires.outgoing_a ∙ ap (λ (t : State). outgoing_in t window A)
-        (sym c.self.view_is)) ∙ offered-place s.plan s.entries window A in
+    ap (λ (o : Outgoing). o.offered) (c.requires.outgoing_a ∙ ap (λ (t : State). outgoing_in t window A)
+    (sym c.self.view_is)) ∙ offered-place s.plan s.entries window A in
     let offer_b : c.args.b.now.offered ≡ offered s.plan s.entries window B =
-        ap (λ (o : Outgoing). o.offered) (c.requires.outgoing_b ∙ ap (λ (t : State). outgoing_in t window B)
-        (sym c.self.view_is)) ∙ offered-place s.plan s.entries window B in
+    ap (λ (o : Outgoing). o.offered) (c.requires.outgoing_b ∙ ap (λ (t : State). outgoing_in t window B)
+    (sym c.self.view_is)) ∙ offered-place s.plan s.entries window B in
     lawful-more c.self.inside c.fetch.new.self c.push_slot.new.self (fetch_entry s window) c.self.invariant
     (c.push_slot.ensures ∙ (λ i. record c.self.inside.journal
-        { entries = c.self.inside.journal.entries ++ Fetch window (offer_a i) (offer_b i) ∷ [] }))
+    { entries = c.self.inside.journal.entries ++ Fetch window (offer_a i) (offer_b i) ∷ [] }))
     c.fetch.ensures.terms
     (c.fetch.ensures.history s c.self.invariant.history)
 
@@ -32,13 +32,13 @@ returns c =
     let s = state_in c.self.inside in
     let window = c.args.window.now in
     let offer_a : c.args.a.now.offered ≡ offered s.plan s.entries window A =
-        ap (λ (o : Outgoing). o.offered) (c.requires.outgoing_a ∙ ap (λ (t : State). outgoing_in t window A)
-        (sym c.self.view_is)) ∙ offered-place s.plan s.entries window A in
+    ap (λ (o : Outgoing). o.offered) (c.requires.outgoing_a ∙ ap (λ (t : State). outgoing_in t window A)
+    (sym c.self.view_is)) ∙ offered-place s.plan s.entries window A in
     let offer_b : c.args.b.now.offered ≡ offered s.plan s.entries window B =
-        ap (λ (o : Outgoing). o.offered) (c.requires.outgoing_b ∙ ap (λ (t : State). outgoing_in t window B)
-        (sym c.self.view_is)) ∙ offered-place s.plan s.entries window B in
+    ap (λ (o : Outgoing). o.offered) (c.requires.outgoing_b ∙ ap (λ (t : State). outgoing_in t window B)
+    (sym c.self.view_is)) ∙ offered-place s.plan s.entries window B in
     sym (state-more c.self.inside c.fetch.new.self c.push_slot.new.self (fetch_entry s window)
     (c.push_slot.ensures ∙ (λ i. record c.self.inside.journal
-        { entries = c.self.inside.journal.entries ++ Fetch window (offer_a i) (offer_b i) ∷ [] }))
+    { entries = c.self.inside.journal.entries ++ Fetch window (offer_a i) (offer_b i) ∷ [] }))
     c.fetch.ensures.terms)
     ∙ ap (λ (t : State). with_entry t (fetch_entry t window)) c.self.view_is

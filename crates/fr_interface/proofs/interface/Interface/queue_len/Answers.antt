@@ -13,5 +13,5 @@ pub returns-clause-within : goal.returns-clause-within
 returns-clause-within c =
     subst (λ (o : Option ℕ). IfSome o (λ n. IfSome c.args.self.now.plan.queue (λ q. n ≤ q.capacity)))
     (sym (c.queue_len.ensures ∙ answer-length c.self.inside.state (state_in c.self.inside) c.self.invariant.history
-        ∙ ap length_of c.self.view_is))
+    ∙ ap length_of c.self.view_is))
     (length-within c.args.self.now)

@@ -16,17 +16,17 @@ invariant_of-self-2 c =
     let s = state_in c.self.inside in
     let from_is : c.origin_in-from.result ≡ option_map origin_of (received_by s c.args.buffer) =
     c.origin_in-from.ensures.value ∙ ap (option_map origin_of)
-        (c.in_ok-held.ensures.answer s c.self.invariant.history) in
+    (c.in_ok-held.ensures.answer s c.self.invariant.history) in
     let pushed : Option Origin → Kept = λ from. record c.self.inside.journal
-        { entries = c.self.inside.journal.entries ++ Read c.args.task c.args.buffer from ∷ [] } in
+    { entries = c.self.inside.journal.entries ++ Read c.args.task c.args.buffer from ∷ [] } in
     lawful-more c.self.inside c.read.new.self c.push_host.new.self
-        (read_entry s c.args.task c.args.buffer) c.self.invariant
-        (c.push_host.ensures ∙ ap pushed from_is) c.in_ok-held.ensures.terms
+    (read_entry s c.args.task c.args.buffer) c.self.invariant
+    (c.push_host.ensures ∙ ap pushed from_is) c.in_ok-held.ensures.terms
     (c.in_ok-held.ensures.history s c.self.invariant.history)
 
 pub returns-clause-frames : goal.returns-clause-frames
 returns-clause-frames c =
     let s = state_in c.self.inside in
     subst (λ (o : Option Fields). IfSome o IsReceivable) (sym
-        (c.frame_in.ensures ∙ ap (option_map frame_of) (c.in_ok-held.ensures.answer s c.self.invariant.history)))
+    (c.frame_in.ensures ∙ ap (option_map frame_of) (c.in_ok-held.ensures.answer s c.self.invariant.history)))
     (received_receivable s c.args.buffer c.self.invariant.history.legal.entries_are)

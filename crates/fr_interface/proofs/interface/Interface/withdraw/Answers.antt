@@ -12,29 +12,29 @@ pub invariant_of-self-2 : goal.invariant_of-self-2
 invariant_of-self-2 c =
     let s = state_in c.self.inside in
     let of_is : c.in_ok-of.of ≡ pending_commit c.args.buffer s.entries =
-        answer-pending c.self.inside.state s c.args.task c.args.buffer c.in_ok-of.of c.self.invariant.history
-        c.in_ok-of.ensures.refusal c.in_ok-of.ensures.answer in
+    answer-pending c.self.inside.state s c.args.task c.args.buffer c.in_ok-of.of c.self.invariant.history
+    c.in_ok-of.ensures.refusal c.in_ok-of.ensures.answer in
     let pushed : Option ℕ → Kept = λ of. record c.self.inside.journal
-        { entries = c.self.inside.journal.entries ++ Withdraw c.args.task c.args.buffer of ∷ [] } in
+    { entries = c.self.inside.journal.entries ++ Withdraw c.args.task c.args.buffer of ∷ [] } in
     lawful-more c.self.inside c.withdraw.new.self c.push_host.new.self
-        (withdraw_entry s c.args.task c.args.buffer) c.self.invariant
-        (c.push_host.ensures ∙ ap pushed of_is) c.in_ok-of.ensures.terms
+    (withdraw_entry s c.args.task c.args.buffer) c.self.invariant
+    (c.push_host.ensures ∙ ap pushed of_is) c.in_ok-of.ensures.terms
     (c.in_ok-of.ensures.history s c.self.invariant.history)
 
 pub returns-clause-answer : goal.returns-clause-answer
 returns-clause-answer c =
     answer-pending c.self.inside.state (state_in c.self.inside) c.args.task c.args.buffer c.in_ok-of.of
-        c.self.invariant.history c.in_ok-of.ensures.refusal c.in_ok-of.ensures.answer
+    c.self.invariant.history c.in_ok-of.ensures.refusal c.in_ok-of.ensures.answer
     ∙ ap (λ (s : State). pending_commit c.args.buffer s.entries) c.self.view_is
 
 pub returns-clause-accepted : goal.returns-clause-accepted
 returns-clause-accepted c =
     let s = state_in c.self.inside in
     let of_is : c.in_ok-of.of ≡ pending_commit c.args.buffer s.entries =
-        answer-pending c.self.inside.state s c.args.task c.args.buffer c.in_ok-of.of c.self.invariant.history
-        c.in_ok-of.ensures.refusal c.in_ok-of.ensures.answer in
+    answer-pending c.self.inside.state s c.args.task c.args.buffer c.in_ok-of.of c.self.invariant.history
+    c.in_ok-of.ensures.refusal c.in_ok-of.ensures.answer in
     let pushed : Option ℕ → Kept = λ of. record c.self.inside.journal
-        { entries = c.self.inside.journal.entries ++ Withdraw c.args.task c.args.buffer of ∷ [] } in
+    { entries = c.self.inside.journal.entries ++ Withdraw c.args.task c.args.buffer of ∷ [] } in
     sym (state-more c.self.inside c.withdraw.new.self c.push_host.new.self (withdraw_entry s c.args.task c.args.buffer)
-        (c.push_host.ensures ∙ ap pushed of_is) c.in_ok-of.ensures.terms)
+    (c.push_host.ensures ∙ ap pushed of_is) c.in_ok-of.ensures.terms)
     ∙ ap (λ (t : State). with_entry t (withdraw_entry t c.args.task c.args.buffer)) c.self.view_is

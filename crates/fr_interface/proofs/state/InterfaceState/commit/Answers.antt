@@ -18,14 +18,14 @@ pub commit_to-requires-clause-there : goal.commit_to-requires-clause-there
 commit_to-requires-clause-there c =
     subst (λ (l : List Transmitter). c.args.buffer < length l) (sym c.deref_mut.ensures.value)
     (commit-fits (standing_in c.self.inside) c.self.invariant.0 c.args.buffer c.in-Some.line c.self.invariant.1
-        (sym c.buffer.ensures ∙ c.in-Some.is)).0
+    (sym c.buffer.ensures ∙ c.in-Some.is)).0
 
 pub commit_to-requires-clause-few : goal.commit_to-requires-clause-few
 commit_to-requires-clause-few c =
     subst (λ (l : List Transmitter). IfSome (slice_get l c.args.buffer) (λ b. b.tally.committed + 1 < 2 ^ 32))
-        (sym c.deref_mut.ensures.value)
+    (sym c.deref_mut.ensures.value)
     (commit-fits (standing_in c.self.inside) c.self.invariant.0 c.args.buffer c.in-Some.line c.self.invariant.1
-        (sym c.buffer.ensures ∙ c.in-Some.is)).1
+    (sym c.buffer.ensures ∙ c.in-Some.is)).1
 
 pub invariant_of-self : goal.invariant_of-self
 invariant_of-self c =
@@ -34,27 +34,30 @@ invariant_of-self c =
     let payload = c.args.payload.now in
     let kept : c.kept_payload-payload.result.now ≡ payload = c.kept_payload-payload.ensures.value in
     let entry : c.entries-entry.result ≡ entries_before h = c.entries-entry.ensures.value ∙ ap entries_before
-        (sym c.self.view_is) in
+    (sym c.self.view_is) in
     let transmit : (Rattle.std.specs.Vec.with_items c.self.inside.transmit c.commit_to.new.buffers).items ≡
-        (after_commit h c.args.buffer payload).transmit =
+    (after_commit h c.args.buffer payload).transmit =
     written c.self.inside.transmit.len c.commit_to.new.buffers _
-        (omega (arith, c.deref_mut.ensures.len, c.commit_to.auto.buffers))
+    (omega (arith, c.deref_mut.ensures.len, c.commit_to.auto.buffers))
     ∙ c.commit_to.ensures
     ∙ (λ i. change_at (λ b. with_commit b (record { entry = entry i; payload = kept i }))
-        (c.deref_mut.ensures.value i) c.args.buffer) in
+    (c.deref_mut.ensures.value i) c.args.buffer) in
     let words : length payload ≡ 2 * words_of h.params line =
-        words_from_test h.params line payload (sym c.has_words.ensures ∙ c.if-not-has_words.false) in (
+    words_from_test h.params line payload (sym c.has_words.ensures ∙ c.if-not-has_words.false) in (
       with_entry c.self.invariant.0 (Commit c.args.task c.args.buffer payload),
       subst (λ (x : Standing). IsHistory x (with_entry c.self.invariant.0 (Commit c.args.task c.args.buffer payload)))
-      (λ i. record (after_commit h c.args.buffer payload) { transmit = sym transmit i })
-      (history-commit h c.self.invariant.0 c.args.task c.args.buffer payload line c.self.invariant.1
-      (c.number.ensures.fits, c.ranges.buffer.fits, c.kept_payload-payload.ensures.is_payload,
-          c.kept_payload-payload.ensures.bytes)
-      (omega (arith, c.number.ensures.value, c.tasks.ensures.value))
-      (sym c.buffer.ensures ∙ c.in-Some.is)
-      (sym c.is_receive.ensures ∙ c.if-is_receive.false)
-      words
-      (omega arith)),
+          (λ i. record (after_commit h c.args.buffer payload) { transmit = sym transmit i })
+          (history-commit h c.self.invariant.0 c.args.task c.args.buffer payload line c.self.invariant.1 (
+            c.number.ensures.fits,
+            c.ranges.buffer.fits,
+            c.kept_payload-payload.ensures.is_payload,
+            c.kept_payload-payload.ensures.bytes,
+          )
+          (omega (arith, c.number.ensures.value, c.tasks.ensures.value))
+          (sym c.buffer.ensures ∙ c.in-Some.is)
+          (sym c.is_receive.ensures ∙ c.if-is_receive.false)
+          words
+          (omega arith)),
     )
 
 pub returns-clause-history : goal.returns-clause-history
@@ -64,22 +67,25 @@ returns-clause-history c = λ s is.
     let payload = c.args.payload.now in
     let kept : c.kept_payload-payload.result.now ≡ payload = c.kept_payload-payload.ensures.value in
     let entry : c.entries-entry.result ≡ entries_before h = c.entries-entry.ensures.value ∙ ap entries_before
-        (sym c.self.view_is) in
+    (sym c.self.view_is) in
     let transmit : (Rattle.std.specs.Vec.with_items c.self.inside.transmit c.commit_to.new.buffers).items ≡
-        (after_commit h c.args.buffer payload).transmit =
+    (after_commit h c.args.buffer payload).transmit =
     written c.self.inside.transmit.len c.commit_to.new.buffers _
-        (omega (arith, c.deref_mut.ensures.len, c.commit_to.auto.buffers))
+    (omega (arith, c.deref_mut.ensures.len, c.commit_to.auto.buffers))
     ∙ c.commit_to.ensures
     ∙ (λ i. change_at (λ b. with_commit b (record { entry = entry i; payload = kept i }))
-        (c.deref_mut.ensures.value i) c.args.buffer) in
+    (c.deref_mut.ensures.value i) c.args.buffer) in
     let words : length payload ≡ 2 * words_of h.params line =
-        words_from_test h.params line payload (sym c.has_words.ensures ∙ c.if-not-has_words.false) in
+    words_from_test h.params line payload (sym c.has_words.ensures ∙ c.if-not-has_words.false) in
     subst (λ (x : Standing). IsHistory x (with_entry s (Commit c.args.task c.args.buffer payload)))
     (λ i. record (after_commit h c.args.buffer payload) { transmit = sym transmit i })
     (history-commit h s c.args.task c.args.buffer payload line
-        (subst (λ (x : Standing). IsHistory x s) (sym c.self.view_is) is)
-    (c.number.ensures.fits, c.ranges.buffer.fits, c.kept_payload-payload.ensures.is_payload,
-        c.kept_payload-payload.ensures.bytes)
+    (subst (λ (x : Standing). IsHistory x s) (sym c.self.view_is) is) (
+      c.number.ensures.fits,
+      c.ranges.buffer.fits,
+      c.kept_payload-payload.ensures.is_payload,
+      c.kept_payload-payload.ensures.bytes,
+    )
     (omega (arith, c.number.ensures.value, c.tasks.ensures.value))
     (sym c.buffer.ensures ∙ c.in-Some.is)
     (sym c.is_receive.ensures ∙ c.if-is_receive.false)

@@ -22,37 +22,43 @@ invariant_of-result c =
     let plan_is : c.in_ok-indexed.indexed ≡ plan = c.in_ok-indexed.ensures in
     let transmit : c.in_ok-transmit.transmit.items ≡ transmitters plan [] =
     c.in_ok-transmit.ensures ∙ ap (map (λ (b : Buffer). new_transmitter b.mode)) c.buffers.ensures.value
-        ∙ transmitters-none plan in
+    ∙ transmitters-none plan in
     let receive : c.in_ok-receive.receive.items ≡ map (held_in params []) plan.buffers =
     c.in_ok-receive.ensures ∙ ap (map (λ (b : Buffer). let empty : Option Arrival = None in empty))
-        c.buffers-2.ensures.value ∙ sym (held-none params plan.buffers) in
+    c.buffers-2.ensures.value ∙ sym (held-none params plan.buffers) in
     let queue : c.in_ok-queue.queue ≡ option_map (waiting_of params plan []) plan.queue =
     c.in_ok-queue.ensures ∙ ap (option_map empty_queue) c.queue.ensures.value ∙ queue-none params plan [] plan.queue in
-    let start : State = record { params = params; plan = with_limits plan c.args.host_limit c.args.slot_limit; entries =
-        [] } in
-    (start, record {
-      legal = record {
-        params_are = search rules;
-        few = c.requires;
-        entries_are = tt;
-        legal = tt;
-      };
-      host_room = omega arith;
-      slot_room = omega arith;
-      leaves = λ i. record {
-        params = sym params_is i;
-        plan = with_limits (sym plan_is i) c.args.host_limit c.args.slot_limit;
-        host_limit = c.args.host_limit;
-        slot_limit = c.args.slot_limit;
-        hosts = 0;
-        slots = 0;
-        opening = opening-none i;
-        transmit = sym transmit i;
-        receive = sym receive i;
-        queue = sym queue i;
-        counters = counters-none params i;
-      };
-    })
+    let start : State = record {
+      params = params;
+      plan = with_limits plan c.args.host_limit c.args.slot_limit;
+      entries =
+          [];
+    } in (
+      start,
+      record {
+        legal = record {
+          params_are = search rules;
+          few = c.requires;
+          entries_are = tt;
+          legal = tt;
+        };
+        host_room = omega arith;
+        slot_room = omega arith;
+        leaves = λ i. record {
+          params = sym params_is i;
+          plan = with_limits (sym plan_is i) c.args.host_limit c.args.slot_limit;
+          host_limit = c.args.host_limit;
+          slot_limit = c.args.slot_limit;
+          hosts = 0;
+          slots = 0;
+          opening = opening-none i;
+          transmit = sym transmit i;
+          receive = sym receive i;
+          queue = sym queue i;
+          counters = counters-none params i;
+        };
+      },
+    )
 
 pub returns-clause-history : goal.returns-clause-history
 unfolding AllAfter
@@ -63,14 +69,18 @@ returns-clause-history c =
     let plan_is : c.in_ok-indexed.indexed ≡ plan = c.in_ok-indexed.ensures in
     let transmit : c.in_ok-transmit.transmit.items ≡ transmitters plan [] =
     c.in_ok-transmit.ensures ∙ ap (map (λ (b : Buffer). new_transmitter b.mode)) c.buffers.ensures.value
-        ∙ transmitters-none plan in
+    ∙ transmitters-none plan in
     let receive : c.in_ok-receive.receive.items ≡ map (held_in params []) plan.buffers =
     c.in_ok-receive.ensures ∙ ap (map (λ (b : Buffer). let empty : Option Arrival = None in empty))
-        c.buffers-2.ensures.value ∙ sym (held-none params plan.buffers) in
+    c.buffers-2.ensures.value ∙ sym (held-none params plan.buffers) in
     let queue : c.in_ok-queue.queue ≡ option_map (waiting_of params plan []) plan.queue =
     c.in_ok-queue.ensures ∙ ap (option_map empty_queue) c.queue.ensures.value ∙ queue-none params plan [] plan.queue in
-    let start : State = record { params = params; plan = with_limits plan c.args.host_limit c.args.slot_limit; entries =
-        [] } in
+    let start : State = record {
+      params = params;
+      plan = with_limits plan c.args.host_limit c.args.slot_limit;
+      entries =
+          [];
+    } in
     record {
       legal = record {
         params_are = search rules;

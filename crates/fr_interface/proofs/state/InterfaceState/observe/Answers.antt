@@ -35,38 +35,39 @@ invariant_of-self c =
     let a = c.args.a.now in
     let b = c.args.b.now in
     let entry : c.entries-entry.result ≡ entries_before h = c.entries-entry.ensures.value ∙ ap entries_before
-        (sym c.self.view_is) in
+    (sym c.self.view_is) in
     let status_a : c.of-told_a.result.status ≡ status_seen h.params window A a = c.of-told_a.ensures.status in
     let status_b : c.of-told_b.result.status ≡ status_seen h.params window B b = c.of-told_b.ensures.status in
     let frame_a : c.of-told_a.result.frame ≡ data_frame_seen h.params window A a = c.of-told_a.ensures.frame in
     let frame_b : c.of-told_b.result.frame ≡ data_frame_seen h.params window B b = c.of-told_b.ensures.frame in
     let counters : c.count_seen-2.new.counters ≡ with_seen (with_seen h.counters A (status_seen h.params window A a)) B
-        (status_seen h.params window B b) =
+    (status_seen h.params window B b) =
     c.count_seen-2.ensures ∙ (λ i. with_seen (c.count_seen.ensures i) B (status_b i)) ∙
-        (λ i. with_seen (with_seen h.counters A (status_a i)) B (status_seen h.params window B b)) in
+    (λ i. with_seen (with_seen h.counters A (status_a i)) B (status_seen h.params window B b)) in
     let receive : (with_items c.self.inside.receive c.store_all.new.buffers).items ≡ stored_all
-        (entries_before h) window (data_frame_seen h.params window A a)
-        (data_frame_seen h.params window B b) h.plan.buffers h.receive =
+    (entries_before h) window (data_frame_seen h.params window A a)
+    (data_frame_seen h.params window B b) h.plan.buffers h.receive =
     written c.self.inside.receive.len c.store_all.new.buffers _
-        (omega (arith, c.deref_mut.ensures.len, c.store_all.auto.buffers))
+    (omega (arith, c.deref_mut.ensures.len, c.store_all.auto.buffers))
     ∙ c.store_all.ensures
     ∙ (λ i. stored_all (entry i) window (frame_a i) (frame_b i) h.plan.buffers (c.deref_mut.ensures.value i)) in
     let queue : c.arrive_all.new.queue ≡ with_arrivals h.plan (entries_before h) window
-        (data_frame_seen h.params window A a) (data_frame_seen h.params window B b) h.plan.queue h.queue =
+    (data_frame_seen h.params window A a) (data_frame_seen h.params window B b) h.plan.queue h.queue =
     c.arrive_all.ensures ∙ (λ i. with_arrivals h.plan (entry i) window (frame_a i) (frame_b i) h.plan.queue h.queue) in
     let g = limited h in
     let arrived : c.arrive_all.new.queue ≡ with_arrivals g.plan (entries_before h) window
-        (data_frame_seen h.params window A a) (data_frame_seen h.params window B b) h.plan.queue h.queue =
+    (data_frame_seen h.params window A a) (data_frame_seen h.params window B b) h.plan.queue h.queue =
     queue ∙ sym (arrivals-limits h.plan h.host_limit h.slot_limit (entries_before h) window
-        (data_frame_seen h.params window A a) (data_frame_seen h.params window B b) h.plan.queue h.queue) in
-    let numbered : window.number ≡ c.args.number = search rules in
-    (with_entry c.self.invariant.0 (Observe c.args.number a b),
-        subst (λ (x : Standing). Leaves x (with_entry c.self.invariant.0 (Observe c.args.number a b)))
-    (λ i. record (after_observe g window (status_seen h.params window A a) (status_seen h.params window B b)
-        (data_frame_seen h.params window A a) (data_frame_seen h.params window B b))
-        { receive = sym receive i; queue = sym arrived i; counters = sym counters i })
-    (history-observe h c.self.invariant.0 c.args.number a b window c.self.invariant.1
-        (c.ranges.number.fits, c.seen_within-a.ensures.fits, c.seen_within-b.ensures.fits) c.in-Some.is numbered))
+    (data_frame_seen h.params window A a) (data_frame_seen h.params window B b) h.plan.queue h.queue) in
+    let numbered : window.number ≡ c.args.number = search rules in (
+      with_entry c.self.invariant.0 (Observe c.args.number a b),
+      subst (λ (x : Standing). Leaves x (with_entry c.self.invariant.0 (Observe c.args.number a b)))
+          (λ i. record (after_observe g window (status_seen h.params window A a) (status_seen h.params window B b)
+          (data_frame_seen h.params window A a) (data_frame_seen h.params window B b))
+          { receive = sym receive i; queue = sym arrived i; counters = sym counters i })
+          (history-observe h c.self.invariant.0 c.args.number a b window c.self.invariant.1
+          (c.ranges.number.fits, c.seen_within-a.ensures.fits, c.seen_within-b.ensures.fits) c.in-Some.is numbered),
+    )
 
 pub returns-clause-history : goal.returns-clause-history
 returns-clause-history c = λ s is.
@@ -75,34 +76,34 @@ returns-clause-history c = λ s is.
     let a = c.args.a.now in
     let b = c.args.b.now in
     let entry : c.entries-entry.result ≡ entries_before h = c.entries-entry.ensures.value ∙ ap entries_before
-        (sym c.self.view_is) in
+    (sym c.self.view_is) in
     let status_a : c.of-told_a.result.status ≡ status_seen h.params window A a = c.of-told_a.ensures.status in
     let status_b : c.of-told_b.result.status ≡ status_seen h.params window B b = c.of-told_b.ensures.status in
     let frame_a : c.of-told_a.result.frame ≡ data_frame_seen h.params window A a = c.of-told_a.ensures.frame in
     let frame_b : c.of-told_b.result.frame ≡ data_frame_seen h.params window B b = c.of-told_b.ensures.frame in
     let counters : c.count_seen-2.new.counters ≡ with_seen (with_seen h.counters A (status_seen h.params window A a)) B
-        (status_seen h.params window B b) =
+    (status_seen h.params window B b) =
     c.count_seen-2.ensures ∙ (λ i. with_seen (c.count_seen.ensures i) B (status_b i)) ∙
-        (λ i. with_seen (with_seen h.counters A (status_a i)) B (status_seen h.params window B b)) in
+    (λ i. with_seen (with_seen h.counters A (status_a i)) B (status_seen h.params window B b)) in
     let receive : (with_items c.self.inside.receive c.store_all.new.buffers).items ≡ stored_all
-        (entries_before h) window (data_frame_seen h.params window A a)
-        (data_frame_seen h.params window B b) h.plan.buffers h.receive =
+    (entries_before h) window (data_frame_seen h.params window A a)
+    (data_frame_seen h.params window B b) h.plan.buffers h.receive =
     written c.self.inside.receive.len c.store_all.new.buffers _
-        (omega (arith, c.deref_mut.ensures.len, c.store_all.auto.buffers))
+    (omega (arith, c.deref_mut.ensures.len, c.store_all.auto.buffers))
     ∙ c.store_all.ensures
     ∙ (λ i. stored_all (entry i) window (frame_a i) (frame_b i) h.plan.buffers (c.deref_mut.ensures.value i)) in
     let queue : c.arrive_all.new.queue ≡ with_arrivals h.plan (entries_before h) window
-        (data_frame_seen h.params window A a) (data_frame_seen h.params window B b) h.plan.queue h.queue =
+    (data_frame_seen h.params window A a) (data_frame_seen h.params window B b) h.plan.queue h.queue =
     c.arrive_all.ensures ∙ (λ i. with_arrivals h.plan (entry i) window (frame_a i) (frame_b i) h.plan.queue h.queue) in
     let g = limited h in
     let arrived : c.arrive_all.new.queue ≡ with_arrivals g.plan (entries_before h) window
-        (data_frame_seen h.params window A a) (data_frame_seen h.params window B b) h.plan.queue h.queue =
+    (data_frame_seen h.params window A a) (data_frame_seen h.params window B b) h.plan.queue h.queue =
     queue ∙ sym (arrivals-limits h.plan h.host_limit h.slot_limit (entries_before h) window
-        (data_frame_seen h.params window A a) (data_frame_seen h.params window B b) h.plan.queue h.queue) in
+    (data_frame_seen h.params window A a) (data_frame_seen h.params window B b) h.plan.queue h.queue) in
     let numbered : window.number ≡ c.args.number = search rules in
     subst (λ (x : Standing). Leaves x (with_entry s (Observe c.args.number a b)))
     (λ i. record (after_observe g window (status_seen h.params window A a) (status_seen h.params window B b)
-        (data_frame_seen h.params window A a) (data_frame_seen h.params window B b))
-        { receive = sym receive i; queue = sym arrived i; counters = sym counters i })
+    (data_frame_seen h.params window A a) (data_frame_seen h.params window B b))
+    { receive = sym receive i; queue = sym arrived i; counters = sym counters i })
     (history-observe h s c.args.number a b window (subst (λ (x : Standing). IsHistory x s) (sym c.self.view_is) is)
-        (c.ranges.number.fits, c.seen_within-a.ensures.fits, c.seen_within-b.ensures.fits) c.in-Some.is numbered)
+    (c.ranges.number.fits, c.seen_within-a.ensures.fits, c.seen_within-b.ensures.fits) c.in-Some.is numbered)

@@ -19,28 +19,29 @@ invariant_of-self c =
     let line = c.in-Some.line in
     let there : buffer_at h.plan c.args.buffer ≡ Some line = sym c.buffer.ensures ∙ c.in-Some.is in
     let found : pending_at c.deref_mut.result.now c.args.buffer
-        ≡ pending_commit c.args.buffer c.self.invariant.0.entries =
+    ≡ pending_commit c.args.buffer c.self.invariant.0.entries =
     ap (λ (l : List Transmitter). pending_at l c.args.buffer) c.deref_mut.ensures.value
-        ∙ pending-there h c.self.invariant.0 c.args.buffer line c.self.invariant.1 there in
+    ∙ pending-there h c.self.invariant.0 c.args.buffer line c.self.invariant.1 there in
     let fits : IfSome (pending_commit c.args.buffer c.self.invariant.0.entries) (λ n. n < 2 ^ 32) =
     subst (λ (o : Option ℕ). IfSome o (λ n. n < 2 ^ 32)) (c.withdraw_from-of.ensures.answer ∙ found)
-        c.withdraw_from-of.ensures.fits in
+    c.withdraw_from-of.ensures.fits in
     let transmit : (with_items c.self.inside.transmit c.withdraw_from-of.new.buffers).items
-        ≡ change_at after_withdraw h.transmit c.args.buffer =
+    ≡ change_at after_withdraw h.transmit c.args.buffer =
     written c.self.inside.transmit.len c.withdraw_from-of.new.buffers _
-        (omega (arith, c.deref_mut.ensures.len, c.withdraw_from-of.auto.buffers))
+    (omega (arith, c.deref_mut.ensures.len, c.withdraw_from-of.auto.buffers))
     ∙ c.withdraw_from-of.ensures.buffers
-    ∙ (λ i. change_at after_withdraw (c.deref_mut.ensures.value i) c.args.buffer) in
-    (with_entry c.self.invariant.0 (withdraw_entry c.self.invariant.0 c.args.task c.args.buffer),
-        subst (λ (x : Standing). IsHistory x (with_entry c.self.invariant.0
-        (withdraw_entry c.self.invariant.0 c.args.task c.args.buffer)))
-    (λ i. record (after_taking_back h c.args.buffer) { transmit = sym transmit i })
-    (history-withdraw h c.self.invariant.0 c.args.task c.args.buffer line c.self.invariant.1
-    (c.number.ensures.fits, c.ranges.buffer.fits, fits)
-    (omega (arith, c.number.ensures.value, c.tasks.ensures.value))
-    there
-    (sym c.is_receive.ensures ∙ c.if-is_receive.false)
-    (omega arith)))
+    ∙ (λ i. change_at after_withdraw (c.deref_mut.ensures.value i) c.args.buffer) in (
+      with_entry c.self.invariant.0 (withdraw_entry c.self.invariant.0 c.args.task c.args.buffer),
+      subst (λ (x : Standing). IsHistory x (with_entry c.self.invariant.0
+          (withdraw_entry c.self.invariant.0 c.args.task c.args.buffer)))
+          (λ i. record (after_taking_back h c.args.buffer) { transmit = sym transmit i })
+          (history-withdraw h c.self.invariant.0 c.args.task c.args.buffer line c.self.invariant.1
+          (c.number.ensures.fits, c.ranges.buffer.fits, fits)
+          (omega (arith, c.number.ensures.value, c.tasks.ensures.value))
+          there
+          (sym c.is_receive.ensures ∙ c.if-is_receive.false)
+          (omega arith)),
+    )
 
 pub returns-clause-history : goal.returns-clause-history
 returns-clause-history c = λ s is.
@@ -49,21 +50,21 @@ returns-clause-history c = λ s is.
     let there : buffer_at h.plan c.args.buffer ≡ Some line = sym c.buffer.ensures ∙ c.in-Some.is in
     let found : pending_at c.deref_mut.result.now c.args.buffer ≡ pending_commit c.args.buffer s.entries =
     ap (λ (l : List Transmitter). pending_at l c.args.buffer) c.deref_mut.ensures.value
-        ∙ pending-there h s c.args.buffer line (subst (λ (x : Standing). IsHistory x s) (sym c.self.view_is) is) there
-        in
+    ∙ pending-there h s c.args.buffer line (subst (λ (x : Standing). IsHistory x s) (sym c.self.view_is) is) there
+    in
     let fits : IfSome (pending_commit c.args.buffer s.entries) (λ n. n < 2 ^ 32) =
     subst (λ (o : Option ℕ). IfSome o (λ n. n < 2 ^ 32)) (c.withdraw_from-of.ensures.answer ∙ found)
-        c.withdraw_from-of.ensures.fits in
+    c.withdraw_from-of.ensures.fits in
     let transmit : (with_items c.self.inside.transmit c.withdraw_from-of.new.buffers).items
-        ≡ change_at after_withdraw h.transmit c.args.buffer =
+    ≡ change_at after_withdraw h.transmit c.args.buffer =
     written c.self.inside.transmit.len c.withdraw_from-of.new.buffers _
-        (omega (arith, c.deref_mut.ensures.len, c.withdraw_from-of.auto.buffers))
+    (omega (arith, c.deref_mut.ensures.len, c.withdraw_from-of.auto.buffers))
     ∙ c.withdraw_from-of.ensures.buffers
     ∙ (λ i. change_at after_withdraw (c.deref_mut.ensures.value i) c.args.buffer) in
     subst (λ (x : Standing). IsHistory x (with_entry s (withdraw_entry s c.args.task c.args.buffer)))
     (λ i. record (after_taking_back h c.args.buffer) { transmit = sym transmit i })
     (history-withdraw h s c.args.task c.args.buffer line (subst (λ (x : Standing). IsHistory x s)
-        (sym c.self.view_is) is)
+    (sym c.self.view_is) is)
     (c.number.ensures.fits, c.ranges.buffer.fits, fits)
     (omega (arith, c.number.ensures.value, c.tasks.ensures.value))
     there

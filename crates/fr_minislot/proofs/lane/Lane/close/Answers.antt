@@ -10,5 +10,5 @@ invariant_of-self c =
     let s = standing_in c.self.inside in
     let opened : is_row s.params s.slot s.begins ≡ true = search rules in
     subst (λ (n : ℕ). IsStanding (record { params = s.params; slot = s.slot + 1; begins = s.begins + n }))
-        (sym c.row_length-length.ensures.value)
+    (sym c.row_length-length.ensures.value)
     (closed_stands s c.args.bytes opened c.self.invariant)

@@ -12,8 +12,8 @@ pub invariant_of-result-2 : goal.invariant_of-result-2
 invariant_of-result-2 c =
     let p = c.args.params.now in
     let same : c.params.inside.static_slots ≡ p.static_slots =
-        ap (λ (q : Parameters). q.static_slots) c.params.view_is in
+    ap (λ (q : Parameters). q.static_slots) c.params.view_is in
     let slot : slot_after p [] ≡ c.params.inside.static_slots + 1 = omega (arith, same) in
     subst (λ (q : Parameters). IsStanding (record { params = q; slot = c.params.inside.static_slots + 1; begins = 1 }))
-        (sym c.params.view_is)
+    (sym c.params.view_is)
     (subst (λ (n : ℕ). IsStanding (record { params = p; slot = n; begins = 1 })) slot (new_stands p))

@@ -13,27 +13,27 @@ returns-in_err-gathered c =
     let version = c.in-Some.version in
     let rest = c.in-Some.rest.now in
     let text = begun_first version c.args.text.now c.as_bytes.result.now rest c.as_bytes.ensures.value
-        c.in-Some.ensures.first in
+    c.in-Some.ensures.first in
     let gone : c.from_residual.result ≡ Err c.in_err-gathered.field-0.0 = search rules in
     λ other.
     gone
     ∙ refused version c.args.text.now rest c.in_err-gathered.field-0.0 text
     (c.in_err-gathered.ensures.refused (λ memory. other (gone ∙ ap
-        (λ (e : ScenarioError). let r : Result Contents ScenarioError = Err e in r) memory)))
+    (λ (e : ScenarioError). let r : Result Contents ScenarioError = Err e in r) memory)))
 
 pub invariant_of-result : goal.invariant_of-result
 invariant_of-result c =
     made_unanswered c.in-Some.version c.in-Some.rest.now c.in_ok-gathered.gathered c.in_ok-scripts.scripts.items
-        c.in_ok-gathered.ensures.found c.in_ok-scripts.ensures.scripts
+    c.in_ok-gathered.ensures.found c.in_ok-scripts.ensures.scripts
 
 pub returns : goal.returns
 returns c =
     let version = c.in-Some.version in
     let rest = c.in-Some.rest.now in
     let text = begun_first version c.args.text.now c.as_bytes.result.now rest c.as_bytes.ensures.value
-        c.in-Some.ensures.first in
+    c.in-Some.ensures.first in
     λ other.
     made version c.args.text.now rest c.in_ok-gathered.gathered c.in_ok-scripts.scripts.items
-        c.in_ok-scripts.faults.items c.in_ok-scripts.numbers.items text
+    c.in_ok-scripts.faults.items c.in_ok-scripts.numbers.items text
     c.in_ok-gathered.ensures.found c.in_ok-scripts.ensures.scripts c.in_ok-scripts.ensures.faults
-        c.in_ok-scripts.ensures.numbers
+    c.in_ok-scripts.ensures.numbers

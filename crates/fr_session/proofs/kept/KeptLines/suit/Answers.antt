@@ -12,7 +12,7 @@ returns-then-suits_after c =
     (c.suits_after.ensures.0 c.if-suits_after.true).fits in
     let marked : AreMarksOf c.args.self.now c.in-Some.marks =
     subst (λ lines. AreMarksOf lines c.in-Some.marks) c.self.view_is
-        (c.self.inside.marked c.in-Some.marks c.in-Some.is) in
+    (c.self.inside.marked c.in-Some.marks c.in-Some.is) in
     let is : c.is_met.result ≡ list_any (lines_meet c.args.line.now) c.args.self.now =
     c.is_met.ensures ∙ ap (finds (contains mark_eq c.in-Some.marks)) c.mark_of.ensures
     ∙ met c.in-Some.marks c.args.self.now c.args.line.now marked in

@@ -9,18 +9,18 @@ use Rattle.fr_session.proofs.session.Session.answer_all.Goals as goal
 pub loop-number-init : goal.loop-number-init
 loop-number-init g c =
     let told : Appends (g.W.Write.contents c.args.writer.now) (g.W.Write.contents c.greet.new.writer) greeting =
-        search rules in
+    search rules in
     so_far_none (terms_in c.args.terms.now) (g.R.Read.remaining c.args.reader.now)
-        (g.W.Write.contents c.args.writer.now) (g.W.Write.contents c.greet.new.writer)
+    (g.W.Write.contents c.args.writer.now) (g.W.Write.contents c.greet.new.writer)
     (state_of c.args.world.now c.args.self.now.faults) told
 
 pub loop-number-preserved : goal.loop-number-preserved
 loop-number-preserved g c =
     let next = subst (λ b. AnswersNext (terms_in c.args.terms.now) b (g.R.Read.remaining c.loop-number.reader)
-        (g.R.Read.remaining c.answer_next-answered.new.reader)
+    (g.R.Read.remaining c.answer_next-answered.new.reader)
     (g.W.Write.contents c.loop-number.writer) (g.W.Write.contents c.answer_next-answered.new.writer)
-        c.loop-number.number
+    c.loop-number.number
     (state_of c.loop-number.world c.loop-number.self.faults)
-        (state_of c.answer_next-answered.new.world c.answer_next-answered.new.self.faults))
+    (state_of c.answer_next-answered.new.world c.answer_next-answered.new.self.faults))
     c.in-Ok-true.field-0-test c.in-Ok-true.ensures.answers in
     so_far_more _ _ _ _ _ _ _ _ _ _ _ c.loop-number.invariant next

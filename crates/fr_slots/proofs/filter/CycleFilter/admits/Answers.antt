@@ -7,5 +7,5 @@ pub returns : goal.returns
 returns c =
     ap (λ n. bit_and n (c.self.inside.repetition - 1) == c.self.inside.base) c.number.ensures.value
     ∙ ap (λ n. n == c.self.inside.base) (rest_below c.args.cycle c.self.inside.repetition
-        c.self.invariant.repetition_is)
+    c.self.invariant.repetition_is)
     ∙ ap (λ class. cycle_admitted class c.args.cycle) c.self.view_is

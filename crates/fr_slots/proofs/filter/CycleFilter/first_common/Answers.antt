@@ -9,7 +9,7 @@ returns-then-both_admit c =
     ∙ first-found (common_in c.args.self.now c.args.other.now) c.loop-number.number 64 _ _ c.loop-number-test.true
     (rw (← c.from_bits-cycle.ensures)
     (ap (λ b. let r : Option ℕ = cond b (Some c.from_bits-cycle.result) None in r)
-        (sym c.both_admit.ensures ∙ c.if-both_admit.true)))
+    (sym c.both_admit.ensures ∙ c.if-both_admit.true)))
     c.loop-number.invariant
 
 pub loop-number-preserved : goal.loop-number-preserved
@@ -17,10 +17,10 @@ loop-number-preserved c =
     first-goes_on (common_in c.args.self.now c.args.other.now) c.loop-number.number 64 _ c.loop-number-test.true
     (rw (← c.from_bits-cycle.ensures)
     (ap (λ b. let r : Option ℕ = cond b (Some c.from_bits-cycle.result) None in r)
-        (sym c.both_admit.ensures ∙ c.if-both_admit.false)))
+    (sym c.both_admit.ensures ∙ c.if-both_admit.false)))
     c.loop-number.invariant
 
 pub returns : goal.returns
 returns c = first-ended
     (common_in c.args.self.now c.args.other.now) c.loop-number.number 64 _ c.loop-number-test.false
-        c.loop-number.invariant
+    c.loop-number.invariant

@@ -16,19 +16,19 @@ pub returns-in-Finished : goal.returns-in-Finished
 returns-in-Finished c =
     let some : c.args.bytes.now ≡ [] → ⊥ = search rules in
     finished_more c.self.inside.fault c.self.inside.phase c.self.inside.line.items c.args.self.now c.args.bytes.now _ _
-        _ c.self.view_is (sym c.is_some.ensures ∙ c.if-is_some.false) c.in-Finished.is c.line_number.ensures some
+    _ c.self.view_is (sym c.is_some.ensures ∙ c.if-is_some.false) c.in-Finished.is c.line_number.ensures some
 
 pub returns-then-bytes-as_slice : goal.returns-then-bytes-as_slice
 returns-then-bytes-as_slice c =
     let fits : length c.self.inside.line.items ≤ 1200 = search rules in
     let long : 1200 < length c.self.inside.line.items + length c.args.bytes.now = search rules in
     longer_more c.self.inside.fault c.self.inside.phase c.self.inside.line.items c.args.self.now c.args.bytes.now _
-        c.self.view_is (sym c.is_some.ensures ∙ c.if-is_some.false) c.in_default.not-Finished c.requires fits long
-        c.too_long.ensures
+    c.self.view_is (sym c.is_some.ensures ∙ c.if-is_some.false) c.in_default.not-Finished c.requires fits long
+    c.too_long.ensures
 
 pub returns-else-bytes-as_slice : goal.returns-else-bytes-as_slice
 returns-else-bytes-as_slice c =
     let fits : length c.self.inside.line.items + length c.args.bytes.now ≤ 1200 = search rules in
     held_more c.self.inside.fault c.self.inside.phase c.self.inside.line.items c.args.self.now c.args.bytes.now _
-        c.self.view_is (sym c.is_some.ensures ∙ c.if-is_some.false) c.in_default.not-Finished c.requires fits
-        (search rules)
+    c.self.view_is (sym c.is_some.ensures ∙ c.if-is_some.false) c.in_default.not-Finished c.requires fits
+    (search rules)

@@ -15,7 +15,7 @@ take_line-requires c =
     let found = c.in-Some.ensures in
     let within : at < length rest = found.0.high in
     ap has_no_feed c.split_at.ensures.front ∙ no_feed_before rest at (omega arith)
-        (λ k lt feed. found.0.before k (omega arith) lt feed)
+    (λ k lt feed. found.0.before k (omega arith) lt feed)
 
 pub loop-at-preserved : goal.loop-at-preserved
 loop-at-preserved c =
@@ -27,9 +27,9 @@ loop-at-preserved c =
     let feed : get_or rest at 0 ≡ 10 = eqb-true _ 10 found.1 in
     let back = c.split_at.result.1.now in
     let all : take (length back - 1) (drop 1 back) ≡ drop 1 (drop at rest) =
-        take_rest back 1 ∙ ap (drop 1) c.split_at.ensures.back in
+    take_rest back 1 ∙ ap (drop 1) c.split_at.ensures.back in
     let line : c.split_at.result.0.now ++ 10 ∷ [] ≡ take at rest ++ 10 ∷ [] =
-        ap (λ t. t ++ 10 ∷ []) c.split_at.ensures.front in (
+    ap (λ t. t ++ 10 ∷ []) c.split_at.ensures.front in (
       front ++ (take at rest ++ 10 ∷ []),
       ap (λ t. (front ++ (take at rest ++ 10 ∷ [])) ++ t) all
           ∙ piece_cut front rest c.args.piece.now at whole within feed,
@@ -44,4 +44,4 @@ pub returns : goal.returns
 returns c =
     let (front, whole, read) = c.loop-at.invariant in
     subst (λ (p : List ℕ). Reads c.args.self.now p c.add.new.self) whole
-        (reads_more c.args.self.now front c.loop-at.rest.now c.loop-at.self c.add.new.self read (inl c.add.ensures))
+    (reads_more c.args.self.now front c.loop-at.rest.now c.loop-at.self c.add.new.self read (inl c.add.ensures))
