@@ -5,3 +5,4 @@ pub mod PartReading
 pub mod Reading
 pub mod Spelled
 pub mod Bare
+pub mod Forms

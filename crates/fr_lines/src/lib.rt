@@ -20,6 +20,7 @@
 pub mod bare;
 pub mod buffers;
 pub mod entries;
+pub mod forms;
 pub mod frames;
 pub mod nodes;
 pub mod owned;
