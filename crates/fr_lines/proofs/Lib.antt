@@ -1,6 +1,7 @@
 pub mod BufferLemmas
 pub mod EntryLemmas
 pub mod FirstLemmas
+pub mod FormLaws
 pub mod FormLemmas
 pub mod NodeLemmas
 pub mod OwnLemmas

@@ -1,5 +1,5 @@
 -- The words that a line of a trace has after its first, and which of its words is wrong (project-defined).
-use Rattle.std.specs.Prelude.{ℕ, ◌+◌, ◌^◌, Bool, List, [], ◌∷◌, codes, take, Option, Some, None, is_some, option_map}
+use Rattle.std.specs.Prelude.{◌≡◌, ⊥, ◌⊎◌, IsSome, ℕ, ◌+◌, ◌^◌, Bool, List, [], ◌∷◌, codes, take, Option, Some, None, is_some, option_map}
 use Rattle.std.specs.Prelude.{if◌then◌else◌}
 use Rattle.std.specs.Str.{bytes_eq}
 use Rattle.fr_lines.specs.declared.forms.WordForm.{WordForm}
@@ -8,10 +8,12 @@ use Rattle.fr_lines.specs.declared.forms.WordPlace.{WordPlace}
 use Rattle.fr_lines.specs.declared.versions.Version.{Version}
 use Rattle.fr_lines.specs.PartReading.{slot_in, optional_slot_in, channels_in, flag_in, mode_in, size_in, payload_in}
 use Rattle.fr_lines.specs.PartReading.{taken_back_in, from_in, offered_in, seen_in}
+use Rattle.fr_lines.specs.Reading.{params_in, node_in, plan_line_in, entry_in}
+use Rattle.fr_lines.specs.Spelling.{begin_line, end_line}
 use Rattle.fr_lines.specs.Versions.{has_withdraws, has_own_cycles}
 use Rattle.fr_slots.specs.Admission.{is_repetition}
 use Rattle.fr_text.specs.Reading.{◌>>=◌, number_in}
-use Rattle.fr_text.specs.Spaces.{room_of}
+use Rattle.fr_text.specs.Spaces.{words_of, room_of}
 
 -- ---- words
 
@@ -137,3 +139,14 @@ wrong_in version (kind ∷ words) = wrong_after (forms_of version kind) words
 -- the word of this number, and the column at which it begins, or would begin: both count from 1
 abbrev pub place_in : List (List ℕ) → ℕ → WordPlace
 place_in words n = record { word = n + 1; column = room_of (take n words) + 1 }
+
+-- ---- lines that a trace of the version can have
+
+abbrev pub IsLine : Version → List (List ℕ) → Type 0
+IsLine version words = IsSome (params_in words) ⊎ IsSome (node_in words) ⊎ IsSome (plan_line_in version words)
+    ⊎ (words ≡ words_of begin_line) ⊎ IsSome (entry_in version words) ⊎ (words ≡ words_of end_line)
+
+-- no such line begins with the words up to this place
+abbrev pub BeginsNoLine : Version → List (List ℕ) → WordPlace → Type 0
+BeginsNoLine version words place =
+    (others : List (List ℕ)) → take place.word others ≡ take place.word words → IsLine version others → ⊥

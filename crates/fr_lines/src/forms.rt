@@ -1,7 +1,7 @@
 //! The words that the lines of a trace have after their first, and which of a line's words is wrong.
-ghost use Rattle.std.specs.Prelude.{◌≡◌, ◌+◌, is_some, option_map, take};
+ghost use Rattle.std.specs.Prelude.{◌≡◌, ◌+◌, is_some, option_map, take, IfSome};
 ghost use Rattle.fr_lines.specs.Forms.{repetition_in, own_forms, plan_forms_of, journal_forms_of, forms_of};
-ghost use Rattle.fr_lines.specs.Forms.{wrong_at, wrong_in, place_in};
+ghost use Rattle.fr_lines.specs.Forms.{wrong_at, wrong_in, place_in, BeginsNoLine};
 ghost use Rattle.fr_lines.specs.PartReading.{optional_slot_in, offered_in, seen_in};
 ghost use Rattle.fr_text.specs.Spaces.{words_of, room_of};
 
@@ -335,7 +335,8 @@ pub struct WordPlace {
 /// without its line feed. `None` where each word may stand in its place, as in each line of the version, and where they
 /// don't go together.
 pub fn wrong_word(version: Version, line: &[u8]) -> Option<WordPlace>
-    ensures { result ≡ option_map (place_in (words_of line.now)) (wrong_in version (words_of line.now)) }
+    ensures place { result ≡ option_map (place_in (words_of line.now)) (wrong_in version (words_of line.now)) }
+    ensures wrong { IfSome result (BeginsNoLine version (words_of line.now)) }
 {
     let place = wrong_in(version, line)?;
     Some(WordPlace {

@@ -1,6 +1,7 @@
 pub mod BeforeLemmas
 pub mod CuttingLemmas
 pub mod ExplainLemmas
+pub mod FeedLaws
 pub mod FindingLemmas
 pub mod HeadLemmas
 pub mod LineLemmas

@@ -40,7 +40,7 @@ use Rattle.fr_why.specs.declared.reason.Reason.{Reason}
 use Rattle.fr_why.specs.declared.reason.Reason.TheVariants as reason
 use Rattle.fr_why.specs.Faults.{IsAtFault, ShowsIn}
 use Rattle.fr_why.specs.Reasons.{reason_of_range, reason_of_numbers, reason_of_fault, reason_of_call, reason_of_entry}
-use Rattle.fr_why.specs.Reasons.{reason_in, reason_for, IsReasonOf}
+use Rattle.fr_why.specs.Reasons.{reason_in, reason_for, feed_in, IsReasonOf}
 
 -- ---- the errors behind which a reason stands that is looked for
 
@@ -261,6 +261,18 @@ call_named e front line (b ∷ rest) p came plain (is, shown) call =
     feed_fails p line e plain (sym (fold-append take_byte fresh front (line ++ 10 ∷ []) ∙ ap
     (λ (s : Progress). take_bytes s (line ++ 10 ∷ [])) came) ∙ feed) call
 
+-- a text that breaks off says no more than that its line feed is missing
+end_told : (p : Phase) (line : List ℕ) → IsReasonOf refusal.Truncated (feed_in p line)
+end_told magic line = tt
+end_told (params v) line = tt
+end_told (node v p) line = tt
+end_told (lines v p plan) line = tt
+end_told (body v s) line = elim (cases_Bool (bytes_eq line end_line)) [
+  | inl is ↦ rw is tt
+  | inr other ↦ rw other tt
+]
+end_told (finished v s) line = tt
+
 named_in : (e : TraceError) (front line rest : List ℕ) (p : Phase) → take_bytes fresh front ≡ reading p []
     → has_no_feed line ≡ true → ShowsIn e front line rest → IsOfText e
     → IsReasonOf e (reason_for e (reading p []) line)
@@ -271,7 +283,7 @@ named_in (refusal.Refused n) front line rest p came plain shows of_text =
     call_named (refusal.Refused n) front line rest p came plain shows tt
 named_in (refusal.WrongAnswer n) front line rest p came plain shows of_text =
     call_named (refusal.WrongAnswer n) front line rest p came plain shows tt
-named_in refusal.Truncated front line rest p came plain shows of_text = tt
+named_in refusal.Truncated front line rest p came plain shows of_text = end_told p line
 named_in refusal.Read front line rest p came plain shows of_text = absurd of_text
 named_in refusal.Write front line rest p came plain shows of_text = absurd of_text
 named_in refusal.Memory front line rest p came plain shows of_text = absurd of_text

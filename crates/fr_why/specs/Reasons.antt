@@ -6,10 +6,14 @@ use Rattle.fr_interface.specs.State.{State, commit_refusal, withdraw_refusal, re
 use Rattle.fr_interface.specs.State.{observe_refusal}
 use Rattle.fr_journal.specs.declared.entry.Entry.{Entry}
 use Rattle.fr_journal.specs.declared.entry.Entry.TheVariants as entry
+use Rattle.fr_lines.specs.declared.forms.WordPlace.{WordPlace}
 use Rattle.fr_lines.specs.declared.plan_lines.PlanLine.{PlanLine}
 use Rattle.fr_lines.specs.declared.plan_lines.PlanLine.TheVariants as plan_line
+use Rattle.fr_lines.specs.declared.versions.Version.{Version}
+use Rattle.fr_lines.specs.declared.versions.Version.TheVariants.{Three}
+use Rattle.fr_lines.specs.Forms.{wrong_in, place_in}
 use Rattle.fr_lines.specs.Reading.{params_in, plan_line_in, entry_in}
-use Rattle.fr_lines.specs.Spelling.{begin_line}
+use Rattle.fr_lines.specs.Spelling.{begin_line, end_line}
 use Rattle.fr_slots.specs.declared.fault.PlanFault.{PlanFault}
 use Rattle.fr_slots.specs.declared.params.RangeError.{RangeError}
 use Rattle.fr_slots.specs.Faults.{plan_fault}
@@ -24,7 +28,7 @@ use Rattle.fr_trace.specs.Stream.{has_owned_alone}
 use Rattle.fr_why.specs.declared.reason.Misfit.{Misfit}
 use Rattle.fr_why.specs.declared.reason.Misfit.TheVariants.{Word, Form, Late, Full, After}
 use Rattle.fr_why.specs.declared.reason.Reason.{Reason}
-use Rattle.fr_why.specs.declared.reason.Reason.TheVariants.{Plain, Line, Params, Host, Slot, Due}
+use Rattle.fr_why.specs.declared.reason.Reason.TheVariants.{Plain, Line, Feed, Params, Host, Slot, Due}
 use Rattle.fr_why.specs.declared.reason.Reason.TheVariants as reason
 
 -- ---- lines that can't stand where they do
@@ -66,6 +70,42 @@ misfit_in (node v p) words = misfit_of (bytes_eq (first_word words) (codes "node
 misfit_in (lines v p plan) words = misfit_in_plan plan (first_word words) (plan_line_in v words)
 misfit_in (body v s) words = misfit_of (is_of_journal (first_word words))
 misfit_in (finished v s) words = After
+
+-- the version that the lines have told, where it matters
+abbrev pub told_version : Phase → Version
+told_version magic = Three
+told_version (params v) = v
+told_version (node v p) = v
+told_version (lines v p plan) = v
+told_version (body v s) = v
+told_version (finished v s) = Three
+
+-- the first word, where no line that begins with it may stand there; of a line of another form the word that is wrong,
+-- where one alone is
+abbrev pub place_of : Version → Misfit → List (List ℕ) → Option WordPlace
+place_of v Word words = Some (place_in words 0)
+place_of v Form words = option_map (place_in words) (wrong_in v words)
+place_of v Late words = None
+place_of v Full words = None
+place_of v After words = None
+
+abbrev pub reason_of_misfit : Version → Misfit → List (List ℕ) → Reason
+reason_of_misfit v misfit words = Line misfit (place_of v misfit words)
+
+-- ---- the end of the text
+
+-- of a text that breaks off in this line: whether its line feed alone is missing
+abbrev pub feed_in : Phase → List ℕ → Reason
+feed_in magic line = Plain
+feed_in (params v) line = Plain
+feed_in (node v p) line = Plain
+feed_in (lines v p plan) line = Plain
+feed_in (body v s) line = if bytes_eq line end_line then Feed else Plain
+feed_in (finished v s) line = Plain
+
+abbrev pub feed_at : Progress → List ℕ → Reason
+feed_at (reading p held) line = feed_in p line
+feed_at (failed e) line = Plain
 
 -- ---- parameters and plan
 
@@ -116,14 +156,15 @@ reason_at (reading p held) line = reason_in p line
 reason_at (failed e) line = Plain
 
 abbrev pub misfit_at : Progress → List ℕ → Reason
-misfit_at (reading p held) line = Line (misfit_in p (words_of line))
+misfit_at (reading p held) line = reason_of_misfit (told_version p) (misfit_in p (words_of line)) (words_of line)
 misfit_at (failed e) line = Plain
 
--- what this error of the line rests on: behind these three stands more
+-- what this error of the line rests on: behind these four stands more
 abbrev pub reason_for : TraceError → Progress → List ℕ → Reason
 reason_for (refusal.BadLine n) before line = misfit_at before line
 reason_for (refusal.Refused n) before line = reason_at before line
 reason_for (refusal.WrongAnswer n) before line = reason_at before line
+reason_for refusal.Truncated before line = feed_at before line
 reason_for e before line = Plain
 
 -- ---- that nothing is left out
@@ -131,7 +172,7 @@ reason_for e before line = Plain
 -- a refusal of a line or of a call is reported with its own reason, and a wrong answer with the entry that the call
 -- makes
 abbrev pub IsReasonOf : TraceError → Reason → Type 0
-IsReasonOf (refusal.BadLine n) (Line misfit) = ⊤
+IsReasonOf (refusal.BadLine n) (Line misfit place) = ⊤
 IsReasonOf (refusal.Refused n) (Params e) = ⊤
 IsReasonOf (refusal.Refused n) (reason.Plan e) = ⊤
 IsReasonOf (refusal.Refused n) (Host e) = ⊤
@@ -140,4 +181,5 @@ IsReasonOf (refusal.WrongAnswer n) (Due made) = ⊤
 IsReasonOf refusal.BadMagic Plain = ⊤
 IsReasonOf (refusal.LineTooLong n) Plain = ⊤
 IsReasonOf refusal.Truncated Plain = ⊤
+IsReasonOf refusal.Truncated Feed = ⊤
 IsReasonOf e r = ⊥

@@ -1,8 +1,10 @@
 -- What is written about a text: that it is accepted, or where and why it is refused (project-defined).
-use Rattle.std.specs.Prelude.{ℕ, ◌+◌, ◌==◌, nat_le, not, Bool, ◌&&◌, List, [], ◌∷◌, ◌++◌, codes, take, if◌then◌else◌}
+use Rattle.std.specs.Prelude.{ℕ, ◌+◌, ◌==◌, nat_le, not, Bool, ◌&&◌, List, [], ◌∷◌, ◌++◌, codes, take, Option, Some, None}
+use Rattle.std.specs.Prelude.{if◌then◌else◌}
 use Rattle.std.specs.Fmt.{decimal}
 use Rattle.std.specs.List.{flat_map}
 use Rattle.fr_interface.specs.ErrorNames.{host_error_name, slot_error_name}
+use Rattle.fr_lines.specs.declared.forms.WordPlace.{WordPlace}
 use Rattle.fr_lines.specs.Spelling.{line_feed, line_text}
 use Rattle.fr_slots.specs.Admission.{letter_of}
 use Rattle.fr_slots.specs.declared.fault.PlanFault.{PlanFault}
@@ -19,7 +21,7 @@ use Rattle.fr_trace.specs.TraceText.{entry_line}
 use Rattle.fr_why.specs.declared.reason.Misfit.{Misfit}
 use Rattle.fr_why.specs.declared.reason.Misfit.TheVariants.{Word, Form, Late, Full, After}
 use Rattle.fr_why.specs.declared.reason.Reason.{Reason}
-use Rattle.fr_why.specs.declared.reason.Reason.TheVariants.{Plain, Line, Params, Plan, Host, Slot, Due}
+use Rattle.fr_why.specs.declared.reason.Reason.TheVariants.{Plain, Line, Feed, Params, Plan, Host, Slot, Due}
 use Rattle.fr_why.specs.Faults.{state_at, windows_of}
 use Rattle.fr_why.specs.Reasons.{reason_for}
 
@@ -74,10 +76,16 @@ misfit_word Late = codes "Late"
 misfit_word Full = codes "Full"
 misfit_word After = codes "After"
 
+-- the number of the word that is wrong, and its column
+abbrev pub place_words : Option WordPlace → List (List ℕ)
+place_words None = []
+place_words (Some place) = decimal place.word ∷ decimal place.column ∷ []
+
 -- whose refusal it is, and its name there; or the line of the entry that the call makes
 abbrev pub reason_text : Reason → List ℕ
 reason_text Plain = []
-reason_text (Line misfit) = line_text (codes "reason" ∷ codes "Line" ∷ misfit_word misfit ∷ [])
+reason_text (Line misfit place) = line_text (codes "reason" ∷ codes "Line" ∷ misfit_word misfit ∷ place_words place)
+reason_text Feed = line_text (codes "reason" ∷ codes "Feed" ∷ [])
 reason_text (Params e) = line_text (codes "reason" ∷ codes "Params" ∷ range_words e)
 reason_text (Plan e) = line_text (codes "reason" ∷ codes "Plan" ∷ fault_words e)
 reason_text (Host e) = line_text (codes "reason" ∷ codes "Host" ∷ host_error_name e ∷ [])

@@ -2,6 +2,7 @@
 
 use fr_interface::errors::{HostError, SlotError};
 use fr_journal::entry::Entry;
+use fr_lines::forms::WordPlace;
 use fr_slots::fault::PlanFault;
 use fr_slots::params::RangeError;
 
@@ -25,8 +26,10 @@ pub enum Misfit {
 pub enum Reason {
     /// The error of the line says all.
     Plain,
-    /// The line can't stand where it does.
-    Line(Misfit),
+    /// The line can't stand where it does, and this word of it is wrong, where one alone is.
+    Line(Misfit, Option<WordPlace>),
+    /// The line feed after the last line is missing, and nothing else.
+    Feed,
     /// The numbers of the line `params` are no parameters.
     Params(RangeError),
     /// The plan that ends with the line `begin` has this fault for its parameters.

@@ -2,14 +2,15 @@
 ghost use Rattle.std.specs.Prelude.{◌≡◌, None};
 ghost use Rattle.fr_lines.specs.Reading.{params_in};
 ghost use Rattle.fr_text.specs.Spaces.{words_of};
-ghost use Rattle.fr_why.specs.Asking.{reason_by_head, reason_by_state, reason_asked};
-ghost use Rattle.fr_why.specs.Reasons.{reason_of_numbers};
+ghost use Rattle.fr_why.specs.Asking.{reason_by_head, reason_by_state, reason_asked, version_by_head, feed_by_head};
+ghost use Rattle.fr_why.specs.Reasons.{reason_of_numbers, place_of};
 
 use crate::call::reason_of_line;
 use crate::head::Head;
 use crate::misfits::misfit_of;
-use crate::reason::Reason;
+use crate::reason::{Misfit, Reason};
 use fr_interface::interface::Interface;
+use fr_lines::forms::{WordPlace, wrong_word};
 use fr_lines::parameters::params_of;
 use fr_lines::versions::Version;
 use fr_slots::params::Params;
@@ -64,6 +65,45 @@ fn reason_by(head: &Head, interface: &mut Option<Interface>, line: &[u8]) -> Rea
     }
 }
 
+/// Returns the version of the format that the lines have told, or the newest one where it no longer matters.
+fn version_of(head: &Head) -> Version
+    ensures { result ≡ version_by_head head.now }
+{
+    match head {
+        Head::Parameters(version) | Head::Body(version) => *version,
+        Head::Node(version, _) => *version,
+        Head::Lines(version, _, _) => *version,
+        Head::Start | Head::Finished => Version::Three,
+    }
+}
+
+/// Returns the place of the word that is wrong in a line that can't stand where it does, where one alone is.
+fn place_of(version: Version, misfit: Misfit, line: &[u8]) -> Option<WordPlace>
+    ensures { result ≡ place_of version misfit (words_of line.now) }
+{
+    match misfit {
+        Misfit::Word => Some(WordPlace { word: 1, column: 1 }),
+        Misfit::Form => wrong_word(version, line),
+        Misfit::Late | Misfit::Full | Misfit::After => None,
+    }
+}
+
+/// What it rests on that the text breaks off in this line.
+fn reason_of_end(head: &Head, line: &[u8]) -> Reason
+    ensures { result ≡ feed_by_head head.now line.now }
+{
+    match head {
+        Head::Body(_) => {
+            if line == b"end".as_slice() {
+                Reason::Feed
+            } else {
+                Reason::Plain
+            }
+        }
+        _ => Reason::Plain,
+    }
+}
+
 /// What this error of the line rests on. A line of the journal is tried on the interface that the lines before left.
 pub(crate) fn reason_of(
     error: TraceError,
@@ -74,8 +114,12 @@ pub(crate) fn reason_of(
     ensures { result ≡ reason_asked error head.now interface.old line.now }
 {
     match error {
-        TraceError::BadLine(_) => Reason::Line(misfit_of(head, line)),
+        TraceError::BadLine(_) => {
+            let misfit = misfit_of(head, line);
+            Reason::Line(misfit, place_of(version_of(head), misfit, line))
+        }
         TraceError::Refused(_) | TraceError::WrongAnswer(_) => reason_by(head, interface, line),
+        TraceError::Truncated => reason_of_end(head, line),
         _ => Reason::Plain,
     }
 }

@@ -7,6 +7,7 @@ ghost use Rattle.fr_why.specs.WhyText.{error_words, is_shown, byte_text, after_s
 ghost use Rattle.fr_why.specs.WhyText.{misfit_word, count_text, accepted_text, fault_text};
 
 use crate::reason::{Misfit, Reason};
+use fr_lines::forms::WordPlace;
 use fr_lines::writing::write_entry;
 use fr_slots::fault::PlanFault;
 use fr_slots::params::RangeError;
@@ -119,13 +120,29 @@ fn write_fault<W: Write>(writer: &mut W, fault: PlanFault) -> io::Result<()>
     }
 }
 
+/// Writes the line of a line that can't stand where it does, with the place of the word that is wrong.
+fn write_misfit<W: Write>(
+    writer: &mut W,
+    misfit: Misfit,
+    place: Option<WordPlace>,
+) -> io::Result<()>
+    ensures { Writes W.contents writer.old writer.new result (reason_text (Reason.Line misfit place)) }
+{
+    let name = misfit_word(misfit);
+    match place {
+        Some(place) => writeln!(writer, "reason Line {name} {} {}", place.word, place.column),
+        None => writeln!(writer, "reason Line {name}"),
+    }
+}
+
 /// Writes what a refusal rests on.
 fn write_reason<W: Write>(writer: &mut W, reason: &Reason) -> io::Result<()>
     ensures { Writes W.contents writer.old writer.new result (reason_text reason.now) }
 {
     match reason {
         Reason::Plain => Ok(()),
-        Reason::Line(misfit) => writeln!(writer, "reason Line {}", misfit_word(*misfit)),
+        Reason::Line(misfit, place) => write_misfit(writer, *misfit, *place),
+        Reason::Feed => writeln!(writer, "reason Feed"),
         Reason::Params(error) => write_range(writer, *error),
         Reason::Plan(fault) => write_fault(writer, *fault),
         Reason::Host(error) => writeln!(writer, "reason Host {error}"),
