@@ -27,7 +27,7 @@ pub enum Failure {
 }
 
 impl Failure {
-    /// The program's exit status: 2 for words that are no command, 1 for everything else.
+    /// Returns the program's exit status: 2 for words that are no command, 1 for everything else.
     pub fn status(&self) -> u8
         ensures { result ≡ status_of self.now }
     {

@@ -33,8 +33,8 @@ impl ReceiveQueue {
     ghost use Rattle.fr_buffers.specs.Waiting.{with_frame, without_oldest};
     ghost use Rattle.fr_journal.specs.Held.{arrival_of};
 
-    /// An empty queue that holds at most so many frames, for all of which it takes memory. Refused where that is
-    /// refused.
+    /// Returns an empty queue that holds at most so many frames, for all of which it takes memory. Refused where that
+    /// is refused.
     pub fn new(alloc: Global, capacity: u16) -> Result<ReceiveQueue, AllocError>
         ensures { IfOk result (λ q. q ≡ record { capacity = capacity; frames = []; lost = 0 }) }
     {
@@ -65,7 +65,7 @@ impl ReceiveQueue {
         self.ring.pop_front()
     }
 
-    /// How many frames wait, at most the capacity.
+    /// Returns how many frames wait, at most the capacity.
     pub fn len(&self) -> u32
         ensures value { result ≡ length self.now.frames }
         ensures within { result ≤ self.now.capacity }
@@ -73,14 +73,14 @@ impl ReceiveQueue {
         self.ring.len() as u32
     }
 
-    /// Whether no frame waits.
+    /// Returns whether no frame waits.
     pub fn is_empty(&self) -> bool
         ensures { IsTrue result ↔ (self.now.frames ≡ []) }
     {
         self.ring.is_empty()
     }
 
-    /// How many frames were lost.
+    /// Returns how many frames were lost.
     pub fn lost(&self) -> u32
         ensures { result ≡ self.now.lost }
     {

@@ -26,7 +26,7 @@ impl Model for RxBuffer {
 }
 
 impl RxBuffer {
-    /// An empty buffer.
+    /// Returns an empty buffer.
     pub fn new() -> RxBuffer
         ensures { result ≡ None }
     {
@@ -58,7 +58,7 @@ impl RxBuffer {
         }
     }
 
-    /// The frame that it holds, and where that comes from.
+    /// Returns the frame that it holds, and where that comes from.
     pub fn held(&self) -> Option<&Arrival>
         ensures { option_copied result ≡ self.now }
     {

@@ -41,7 +41,7 @@ impl Model for TxBuffer {
 }
 
 impl TxBuffer {
-    /// A buffer without a commit. In mode `Receive` it never offers anything.
+    /// Returns a buffer without a commit. In mode `Receive` it never offers anything.
     pub fn new(mode: Mode) -> TxBuffer
         ensures { result ≡ new_transmitter mode }
     {
@@ -82,7 +82,7 @@ impl TxBuffer {
         };
     }
 
-    /// The entry of the commit that it offers where it admits a slot and may begin: in event mode the last one
+    /// Returns the entry of the commit that it offers where it admits a slot and may begin: in event mode the last one
     /// where it is pending, in state mode the last one unless it was withdrawn.
     pub fn offers(&self) -> Option<u32>
         ensures { result ≡ offer_of self.now }
@@ -100,14 +100,14 @@ impl TxBuffer {
         }
     }
 
-    /// The entry of the commit that it holds, sent or not.
+    /// Returns the entry of the commit that it holds, sent or not.
     pub fn entry(&self) -> Option<u32>
         ensures { result ≡ entry_of self.now }
     {
         self.last.as_ref().map(|commit| commit.entry)
     }
 
-    /// The payload of the commit that it holds, sent or not.
+    /// Returns the payload of the commit that it holds, sent or not.
     pub fn payload(&self) -> Option<&Payload>
         ensures { option_copied result ≡ payload_of self.now }
     {
@@ -146,7 +146,8 @@ impl TxBuffer {
         entry
     }
 
-    /// What became of its commits: each was sent, overwritten or withdrawn or is pending, and at most one is pending.
+    /// Returns what became of its commits: each was sent, overwritten or withdrawn or is pending, and at most one is
+    /// pending.
     pub fn tally(&self) -> Tally
         ensures value { result ≡ self.now.tally }
         ensures fates { result.committed ≡ result.sent + result.overwritten + result.pending + result.withdrawn }

@@ -63,7 +63,7 @@ impl Model for Bus {
     ghost invariant = { IsLawful };
 }
 
-/// The outcome of a window.
+/// Returns the outcome of a window.
 fn sealed_window(
     alloc: Global,
     guardian: &Guardian,
@@ -98,7 +98,7 @@ fn append(list: &mut Vec<Sealed>, sealed: Sealed) -> Result<(), AllocError>
     Ok(())
 }
 
-/// The phase in which this window opens, or the run's last where there is none.
+/// Returns the phase in which this window opens, or the run's last where there is none.
 fn phase_at(window: &Option<Window>) -> Phase
     ensures { result ≡ phase_at window.now }
 {
@@ -108,7 +108,7 @@ fn phase_at(window: &Option<Window>) -> Phase
     }
 }
 
-/// Whether this is the window's number, if there is a window.
+/// Returns whether this is the window's number, if there is a window.
 fn has_number(number: u32, window: &Option<Window>) -> bool
     ensures { result ≡ has_number number window.now }
 {
@@ -129,7 +129,8 @@ impl Bus {
     ghost use Rattle.fr_bus.specs.States.{seen_last, advance_refusal, advanced, IsRun, OneSenderEach, Opens};
     ghost use Rattle.fr_slots.specs.declared.channel.Channel.TheVariants as channel;
 
-    /// The bus of a cluster for a run of so many cycles, 1 to 1024. It collects in its first window: cycle 0, slot 1.
+    /// Returns the bus of a cluster for a run of so many cycles, 1 to 1024. It collects in its first window: cycle 0,
+    /// slot 1.
     ///
     /// Refused with `BadCycles` for 0 cycles or more than 1024, and then with `Memory` where memory is refused.
     pub fn new(alloc: Global, cluster: &Cluster, cycles: u16) -> Result<Bus, BusError>
@@ -161,21 +162,21 @@ impl Bus {
         })
     }
 
-    /// The open window. None once the run is over.
+    /// Returns the open window. None once the run is over.
     pub fn window(&self) -> Option<Window>
         ensures { result ≡ self.now.opened }
     {
         self.opened
     }
 
-    /// Where the open window stands.
+    /// Returns where the open window stands.
     pub fn phase(&self) -> Phase
         ensures { result ≡ self.now.phase }
     {
         self.phase
     }
 
-    /// The open window, while nodes put their offers. None once it is sealed, and once the run is over.
+    /// Returns the open window, while nodes put their offers. None once it is sealed, and once the run is over.
     pub fn collecting(&self) -> Option<Window>
         ensures { result ≡ collecting_of self.now }
     {
@@ -186,14 +187,14 @@ impl Bus {
         }
     }
 
-    /// The number of nodes, 1 to 16.
+    /// Returns the number of nodes, 1 to 16.
     pub fn nodes(&self) -> u8
         ensures { result ≡ length self.now.stations }
     {
         self.stations.len() as u8
     }
 
-    /// Whether all nodes have put their offers in the open window.
+    /// Returns whether all nodes have put their offers in the open window.
     #[tactic(auto, using(crate::proofs::CountLemmas::all_counted))]
     pub fn all_put(&self) -> bool
         ensures { result ≡ all_put self.now }
@@ -201,7 +202,7 @@ impl Bus {
         self.put_count == self.stations.len()
     }
 
-    /// Whether all nodes have taken what they see in the open window.
+    /// Returns whether all nodes have taken what they see in the open window.
     #[tactic(auto, using(crate::proofs::CountLemmas::all_counted))]
     pub fn all_taken(&self) -> bool
         ensures { result ≡ all_taken self.now }
@@ -209,7 +210,7 @@ impl Bus {
         self.taken_count == self.stations.len()
     }
 
-    /// The windows that were sealed, in order of their numbers, which are counted from 0.
+    /// Returns the windows that were sealed, in order of their numbers, which are counted from 0.
     ///
     /// Each is the window that follows those before it, and has what became of the offers and faults of the cluster's
     /// nodes. So in a static slot of a guarded channel what passed is all of one sender.
@@ -222,9 +223,9 @@ impl Bus {
         self.record.as_slice()
     }
 
-    /// How many cycles began with a window that was sealed, 0 to 1024. While the bus collects in the first window of a
-    /// cycle this is the number of its run cycle, counted from 0 and not wrapped at 64; in any other window, and once
-    /// it is sealed, it is one more.
+    /// Returns how many cycles began with a window that was sealed, 0 to 1024. While the bus collects in the first
+    /// window of a cycle this is the number of its run cycle, counted from 0 and not wrapped at 64; in any other
+    /// window, and once it is sealed, it is one more.
     pub fn cycles_begun(&self) -> u16
         ensures { result ≡ cycles_begun self.now.sealed }
     {
@@ -241,7 +242,7 @@ impl Bus {
         self.course.known();
     }
 
-    /// Whether the cluster has the node.
+    /// Returns whether the cluster has the node.
     fn is_node(&self, node: NodeId) -> bool
         ensures { result ≡ is_node self.now node }
     {
@@ -389,7 +390,7 @@ impl Bus {
         Ok(())
     }
 
-    /// The window that was sealed last.
+    /// Returns the window that was sealed last.
     fn last(&self) -> Option<&Sealed>
         ensures { option_map (λ sealed. sealed.now) result ≡ last_recorded self.now }
     {
@@ -407,7 +408,7 @@ impl Bus {
         }
     }
 
-    /// What the node sees in the sealed window, of which this is the number, on channel A and on B.
+    /// Returns what the node sees in the sealed window, of which this is the number, on channel A and on B.
     ///
     /// Refused, in this order, with `UnknownNode`, `NotSealed`, `WrongWindow` where another window is open, and
     /// `AlreadyTaken`; the bus is then unchanged.

@@ -46,7 +46,7 @@ impl Model for Course {
     ghost invariant = { IsLawful };
 }
 
-/// The lesser of two numbers, of which either may lack.
+/// Returns the lesser of two numbers, of which either may lack.
 fn least_of(a: Option<u16>, b: Option<u16>) -> Option<u16>
     ensures { result ≡ least_of a b }
 {
@@ -57,14 +57,14 @@ fn least_of(a: Option<u16>, b: Option<u16>) -> Option<u16>
     }
 }
 
-/// The cycle number of the run's cycle of this number: cycles are counted up to 63, and then from 0 again.
+/// Returns the cycle number of the run's cycle of this number: cycles are counted up to 63, and then from 0 again.
 fn cycle_of(number: u16) -> Cycle
     ensures { result ≡ number % 64 }
 {
     Cycle::from_bits((number % 64) as u8)
 }
 
-/// The static slot of this number.
+/// Returns the static slot of this number.
 fn slot_of(number: u16) -> SlotId
     requires from_one { 1 ≤ number }
     requires at_most { number ≤ 2047 }
@@ -83,14 +83,14 @@ fn static_count(window: &Window) -> u16
     if window.is_static() { 1 } else { 0 }
 }
 
-/// Whether the window is dynamic and has a slot on the channel.
+/// Returns whether the window is dynamic and has a slot on the channel.
 fn has_row(channel: Channel, window: &Window) -> bool
     ensures { result ≡ has_row channel window.now }
 {
     !window.is_static() && window.slot(channel).is_some()
 }
 
-/// The lane after the window, in which the longest transmission that passed on the channel had so many bytes.
+/// Returns the lane after the window, in which the longest transmission that passed on the channel had so many bytes.
 fn lane_after(channel: Channel, lane: &Lane, window: &Window, bytes: u16) -> Lane
     requires { has_row channel window.now ≡ true → close_refusal lane.now bytes ≡ None }
     ensures { result ≡ ended channel lane.now window.now bytes }
@@ -108,7 +108,7 @@ impl Course {
     ghost use Rattle.std.specs.Prelude.{◌≡◌, ◌≤◌, [], Some};
     ghost use Rattle.fr_bus.specs.Courses.{IsCourse, course_of, passed, first_next, inner_next, dynamic_next, next_of};
 
-    /// The course of a run of so many cycles, from its start.
+    /// Returns the course of a run of so many cycles, from its start.
     pub(crate) fn new(params: &Params, cycles: u16) -> Course
         requires { cycles ≤ 1024 }
         ensures { result ≡ course_of params.now cycles [] }
@@ -126,14 +126,14 @@ impl Course {
         }
     }
 
-    /// The parameters of the cluster.
+    /// Returns the parameters of the cluster.
     pub(crate) fn params(&self) -> &Params
         ensures { result.now ≡ self.now.params }
     {
         &self.params
     }
 
-    /// How many cycles began, with the windows gone past.
+    /// Returns how many cycles began, with the windows gone past.
     pub(crate) fn begun(&self) -> u16
         ensures { result ≡ self.now.begun }
     {
@@ -147,7 +147,7 @@ impl Course {
         let _ = &self.windows;
     }
 
-    /// The first window of the next cycle, if the run has a further cycle.
+    /// Returns the first window of the next cycle, if the run has a further cycle.
     fn first_next(&self) -> Option<Window>
         ensures { result ≡ first_next self.now }
     {
@@ -158,7 +158,7 @@ impl Course {
         }
     }
 
-    /// The next dynamic window of the cycle.
+    /// Returns the next dynamic window of the cycle.
     fn dynamic_next(&self) -> Option<Window>
         requires { 1 ≤ self.now.windows }
         ensures { result ≡ dynamic_next self.now }
@@ -170,7 +170,7 @@ impl Course {
         Window::dynamic(self.windows, cycle, minislot, a, b)
     }
 
-    /// The next window of the cycle.
+    /// Returns the next window of the cycle.
     fn inner_next(&self) -> Option<Window>
         requires { 1 ≤ self.now.windows }
         ensures { result ≡ inner_next self.now }
@@ -183,7 +183,7 @@ impl Course {
         }
     }
 
-    /// The next window, if the run has one.
+    /// Returns the next window, if the run has one.
     pub(crate) fn next(&self) -> Option<Window>
         ensures { result ≡ next_of self.now }
     {

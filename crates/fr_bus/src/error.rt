@@ -18,14 +18,14 @@ pub enum Phase {
 }
 
 impl Phase {
-    /// Whether nodes put offers.
+    /// Returns whether nodes put offers.
     pub(crate) fn collects(self) -> bool
         ensures { result ≡ collects self }
     {
         matches!(self, Phase::Collect)
     }
 
-    /// Whether nodes take what they see.
+    /// Returns whether nodes take what they see.
     pub(crate) fn seals(self) -> bool
         ensures { result ≡ seals self }
     {
@@ -64,7 +64,7 @@ impl BusError {
     ghost use Rattle.std.specs.Prelude.{◌≡◌};
     ghost use Rattle.fr_bus.specs.ErrorNames.{bus_error_name};
 
-    /// The refusal's name, as it is printed (project-defined).
+    /// Returns the refusal's name, as it is printed (project-defined).
     pub fn name(self) -> &'static str
         ensures { result.now ≡ bus_error_name self }
     {

@@ -29,7 +29,7 @@ pub enum Fault {
 }
 
 impl Fault {
-    /// A copy of the fault.
+    /// Returns a copy of the fault.
     pub fn duplicate(&self) -> Fault
         ensures { result ≡ self.now }
     {

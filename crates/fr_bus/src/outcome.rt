@@ -54,14 +54,14 @@ pub struct Sent {
 }
 
 impl Sent {
-    /// Whether it passed on the channel (project-defined).
+    /// Returns whether it passed on the channel (project-defined).
     pub fn passed_on(&self, channel: Channel) -> bool
         ensures { result ≡ passed_on channel self.now }
     {
         self.channel == channel && self.fate == Fate::Passed
     }
 
-    /// Whether it is too long for the window: longer than a static slot's frame, or beyond the last minislot
+    /// Returns whether it is too long for the window: longer than a static slot's frame, or beyond the last minislot
     /// (project-defined).
     pub fn overruns(&self, params: &Params, window: &Window) -> bool
         ensures { result ≡ overruns params.now window.now (length self.now.bytes.items) }
@@ -93,7 +93,7 @@ impl Model for Sealed {
     ghost view = { recorded_in };
 }
 
-/// What becomes of a transmission that a fault loses or not, and that the guardian lets pass or not.
+/// Returns what becomes of a transmission that a fault loses or not, and that the guardian lets pass or not.
 fn fate_of(muted: bool, let_pass: bool) -> Fate
     ensures { result ≡ fate_of muted let_pass }
 {
@@ -216,7 +216,7 @@ fn add_station(
     )
 }
 
-/// What all nodes send. The list has room for these alone, so no transmission is moved as it grows.
+/// Returns what all nodes send. The list has room for these alone, so no transmission is moved as it grows.
 pub(crate) fn all_sent(
     alloc: Global,
     guardian: &Guardian,
@@ -233,14 +233,14 @@ pub(crate) fn all_sent(
     Ok(list)
 }
 
-/// Whether it is the node's.
+/// Returns whether it is the node's.
 fn is_of(node: NodeId, sent: &Sent) -> bool
     ensures { result ≡ is_of node sent.now }
 {
     sent.node == node
 }
 
-/// The first transmission that passed on the channel, and all that were sent after it.
+/// Returns the first transmission that passed on the channel, and all that were sent after it.
 fn next_passed<'a>(channel: Channel, sent: &'a [Sent]) -> Option<(&'a Sent, &'a [Sent])>
     ensures none { IfNone result (all_passed channel sent.now ≡ []) }
     ensures some { IfSome result (λ r. all_passed channel sent.now ≡ r.0.now ∷ all_passed channel r.1.now) }
@@ -253,7 +253,7 @@ fn next_passed<'a>(channel: Channel, sent: &'a [Sent]) -> Option<(&'a Sent, &'a 
     None
 }
 
-/// Whether a transmission of the node passed on the channel.
+/// Returns whether a transmission of the node passed on the channel.
 #[tactic(auto, using(crate::proofs::SeenLemmas::any_filtered))]
 fn any_own(channel: Channel, node: NodeId, sent: &[Sent]) -> bool
     ensures { result ≡ list_any (is_of node) (all_passed channel sent.now) }
@@ -268,7 +268,7 @@ fn any_passed_of(channel: Channel, node: NodeId, sent: &[Sent]) -> bool
     sent.iter().any(|t| t.passed_on(channel) && is_of(node, t))
 }
 
-/// Whether so many bytes are too long for the window.
+/// Returns whether so many bytes are too long for the window.
 fn is_too_long(params: &Params, window: &Window, bytes: usize) -> bool
     requires { bytes ≤ 262 }
     ensures { result ≡ overruns params.now window.now bytes }
@@ -281,7 +281,7 @@ fn is_too_long(params: &Params, window: &Window, bytes: usize) -> bool
     }
 }
 
-/// The byte with this bit turned, counted from its most significant one, which is 0.
+/// Returns the byte with this bit turned, counted from its most significant one, which is 0.
 fn byte_with_bit_turned(byte: u8, bit: u16) -> u8
     requires { bit < 8 }
     ensures { result ≡ turned byte bit }
@@ -300,7 +300,7 @@ fn turn_bit(bytes: &mut Bytes, bit: u16)
     }
 }
 
-/// The bytes with the bit turned, if there is one to turn.
+/// Returns the bytes with the bit turned, if there is one to turn.
 fn bytes_with_bit_turned(bytes: &Bytes, corrupt: Option<u16>) -> Bytes
     ensures { result ≡ corrupted bytes.now corrupt }
 {
@@ -352,7 +352,7 @@ fn see_alone(params: &Params, window: &Window, corrupt: Option<u16>, bytes: &Byt
     }
 }
 
-/// What a node sees where several passed, its own among them or not.
+/// Returns what a node sees where several passed, its own among them or not.
 fn sight_of_several(any_own: bool) -> Seen
     ensures { result ≡ (if any_own then Sight.Conflict else Sight.Noise) }
 {
@@ -404,7 +404,8 @@ fn hear_in(
     }
 }
 
-/// Whether the other nodes see this of the only transmission that passed. Bytes are copied only to flip a bit of them.
+/// Returns whether the other nodes see this of the only transmission that passed. Bytes are copied only to flip a bit
+/// of them.
 fn shows_alone(
     params: &Params,
     window: &Window,
@@ -422,7 +423,7 @@ fn shows_alone(
     }
 }
 
-/// Whether these are the bytes with the bit turned, if there is one to turn.
+/// Returns whether these are the bytes with the bit turned, if there is one to turn.
 fn are_turned(bytes: &Bytes, corrupt: Option<u16>, seen: &[u8]) -> bool
     ensures { IsTrue result ↔ ((corrupted bytes.now corrupt).items ≡ seen.now) }
 {
@@ -433,7 +434,7 @@ fn are_turned(bytes: &Bytes, corrupt: Option<u16>, seen: &[u8]) -> bool
     }
 }
 
-/// Whether a node sees this on a channel of the window where this was sent, and this bit is flipped.
+/// Returns whether a node sees this on a channel of the window where this was sent, and this bit is flipped.
 fn shows_in(
     params: &Params,
     window: &Window,
@@ -463,14 +464,14 @@ fn shows_in(
     }
 }
 
-/// Whether it is the node's offer on the channel.
+/// Returns whether it is the node's offer on the channel.
 fn is_offer_of(channel: Channel, node: NodeId, sent: &Sent) -> bool
     ensures { result ≡ is_offer_of channel node sent.now }
 {
     is_of(node, sent) && sent.channel == channel && !sent.babble
 }
 
-/// The bytes of the node's offer on the channel, if it is among these.
+/// Returns the bytes of the node's offer on the channel, if it is among these.
 fn offer_in(channel: Channel, node: NodeId, sent: &[Sent]) -> Option<&Bytes>
     ensures { option_copied result ≡ offer_in channel node sent.now }
 {
@@ -489,8 +490,8 @@ impl Sealed {
     ghost use Rattle.fr_bus.specs.Outcome.{longest};
     ghost use Rattle.fr_status.specs.Lent.{whole_seen};
 
-    /// The bit that a fault turns on the channel, if any, counted from the most significant bit of the first byte
-    /// (project-defined).
+    /// Returns the bit that a fault turns on the channel, if any, counted from the most significant bit of the first
+    /// byte (project-defined).
     pub fn corrupt_on(&self, channel: Channel) -> Option<u16>
         ensures { result ≡ corrupt_on self.now channel }
     {
@@ -500,8 +501,8 @@ impl Sealed {
         }
     }
 
-    /// What the node sees on the channel of what passed there and of the bit that is turned, by the parameters of the
-    /// cluster (project-defined).
+    /// Returns what the node sees on the channel of what passed there and of the bit that is turned, by the parameters
+    /// of the cluster (project-defined).
     pub fn seen(&self, params: &Params, channel: Channel, node: NodeId) -> Seen
         ensures { result ≡ seen_by params.now self.now channel node }
     {
@@ -527,8 +528,8 @@ impl Sealed {
         );
     }
 
-    /// What a node sees on the channel that sends nothing there: the bytes of what passed alone, with the bit that is
-    /// turned, or how else the window went (project-defined).
+    /// Returns what a node sees on the channel that sends nothing there: the bytes of what passed alone, with the bit
+    /// that is turned, or how else the window went (project-defined).
     pub fn heard(&self, params: &Params, channel: Channel) -> Seen
         ensures { result ≡ heard params.now self.now channel }
     {
@@ -545,7 +546,7 @@ impl Sealed {
         seen
     }
 
-    /// Whether the node sees this on the channel, as `seen` says it.
+    /// Returns whether the node sees this on the channel, as `seen` says it.
     pub fn shows(&self, params: &Params, channel: Channel, node: NodeId, seen: LentSeen<'_>) -> bool
         ensures { IsTrue result ↔ (seen_by params.now self.now channel node ≡ whole_seen seen.entry) }
     {
@@ -561,14 +562,15 @@ impl Sealed {
         )
     }
 
-    /// The bytes of the node's offer on the channel, whatever became of it. None where it offered nothing there.
+    /// Returns the bytes of the node's offer on the channel, whatever became of it. None where it offered nothing
+    /// there.
     pub fn offered(&self, channel: Channel, node: NodeId) -> Option<&Bytes>
         ensures { option_copied result ≡ offer_in channel node self.now.sent }
     {
         offer_in(channel, node, self.sent.as_slice())
     }
 
-    /// The bytes of the longest transmission that passed on the channel, up to 262, or 0 where none did.
+    /// Returns the bytes of the longest transmission that passed on the channel, up to 262, or 0 where none did.
     pub(crate) fn longest(&self, channel: Channel) -> u16
         ensures value { result ≡ longest channel self.now.sent }
         ensures few { result ≤ 262 }
@@ -577,7 +579,7 @@ impl Sealed {
     }
 }
 
-/// The bytes of the longest transmission that passed on the channel, or 0 where none did.
+/// Returns the bytes of the longest transmission that passed on the channel, or 0 where none did.
 fn longest(channel: Channel, sent: &[Sent]) -> u16
     ensures value { result ≡ longest channel sent.now }
     ensures few { result ≤ 262 }
@@ -591,7 +593,7 @@ fn longest(channel: Channel, sent: &[Sent]) -> u16
     most
 }
 
-/// How many bytes it has.
+/// Returns how many bytes it has.
 fn length_of(sent: &Sent) -> u16
     ensures value { result ≡ length sent.now.bytes.items }
     ensures few { result ≤ 262 }

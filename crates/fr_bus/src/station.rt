@@ -33,7 +33,7 @@ struct Sides {
 }
 
 impl Sides {
-    /// What is sent on the channel.
+    /// Returns what is sent on the channel.
     fn side(&self, channel: Channel) -> &Side
         ensures { result.now ≡ side_in channel self.now }
     {
@@ -79,7 +79,7 @@ impl Sides {
         self.b.clear();
     }
 
-    /// How many transmissions there may be.
+    /// Returns how many transmissions there may be.
     fn count_offered(&self) -> usize
         ensures { result ≤ 4 }
     {
@@ -128,7 +128,7 @@ impl Stations {
         })
     }
 
-    /// How many there are.
+    /// Returns how many there are.
     #[tactic(auto, using(crate::proofs::StationLemmas::length_stations))]
     pub(crate) fn len(&self) -> usize
         ensures value { result ≡ length self.now }
@@ -137,7 +137,7 @@ impl Stations {
         self.sides.len()
     }
 
-    /// Whether the node has put its offer.
+    /// Returns whether the node has put its offer.
     pub(crate) fn has_put(&self, node: NodeId) -> bool
         requires { node < length self.now }
         ensures { result ≡ (slice_index_or self.now node idle_station).put }
@@ -145,7 +145,7 @@ impl Stations {
         self.put[usize::from(node.number())]
     }
 
-    /// Whether the node has taken what it sees.
+    /// Returns whether the node has taken what it sees.
     pub(crate) fn has_taken(&self, node: NodeId) -> bool
         requires { node < length self.now }
         ensures { result ≡ (slice_index_or self.now node idle_station).taken }
@@ -153,7 +153,7 @@ impl Stations {
         self.taken[usize::from(node.number())]
     }
 
-    /// What the node does on the channel.
+    /// Returns what the node does on the channel.
     #[tactic(auto, using(crate::proofs::StationLemmas::length_stations))]
     pub(crate) fn side(&self, node: NodeId, channel: Channel) -> &Side
         requires { node < length self.now }
@@ -209,7 +209,7 @@ impl Stations {
         clear_sides(&mut self.sides);
     }
 
-    /// How many transmissions there may be.
+    /// Returns how many transmissions there may be.
     pub(crate) fn count_offered(&self) -> usize
         ensures { result ≤ 64 }
     {
@@ -217,7 +217,7 @@ impl Stations {
     }
 }
 
-/// How many offers and babbles there are, of which some may be no transmissions.
+/// Returns how many offers and babbles there are, of which some may be no transmissions.
 fn count_offered(sides: &[Sides]) -> usize
     requires { length sides.now ≤ 16 }
     ensures { result ≤ 64 }
@@ -241,7 +241,7 @@ impl Side {
         }
     }
 
-    /// How many transmissions it may have.
+    /// Returns how many transmissions it may have.
     fn count_offered(&self) -> usize
         ensures { result ≤ 2 }
     {
@@ -292,7 +292,7 @@ fn forget(kept: &mut Option<Bytes>)
     }
 }
 
-/// A side on which nothing was done yet.
+/// Returns a side on which nothing was done yet.
 fn silent_side() -> Side
     ensures { result ≡ silent_side }
 {
@@ -303,7 +303,7 @@ fn silent_side() -> Side
     }
 }
 
-/// What a node sends that has done nothing yet.
+/// Returns what a node sends that has done nothing yet.
 fn silent_both() -> Sides
     ensures { result ≡ silent_sides }
 {
@@ -322,7 +322,7 @@ fn clear_sides(sides: &mut Vec<Sides>)
     }
 }
 
-/// What so many nodes send that have done nothing yet.
+/// Returns what so many nodes send that have done nothing yet.
 fn silent_sides(alloc: Global, count: usize) -> Result<Vec<Sides>, AllocError>
     ensures { IfOk result (λ sides. sides.items ≡ replicate count silent_sides) }
 {

@@ -5,7 +5,7 @@ ghost use Rattle.fr_bus.specs.Windows.{opens_cycle};
 
 use fr_slots::window::Window;
 
-/// Whether the window is the first of its cycle: its static slot 1 (chapter 5).
+/// Returns whether the window is the first of its cycle: its static slot 1 (chapter 5).
 pub fn opens_cycle(window: &Window) -> bool
     ensures { result ≡ opens_cycle window.now }
 {

@@ -38,8 +38,8 @@ struct Told<'a> {
     frame: Option<LentFrame<'a>>,
 }
 
-/// The word of the status of a slot in which this was seen, and the frame that came there, if a valid one did; a
-/// channel without a slot has neither.
+/// Returns the word of the status of a slot in which this was seen, and the frame that came there, if a valid one did;
+/// a channel without a slot has neither.
 fn status_told<'a>(
     params: &Params,
     window: &Window,
@@ -60,7 +60,7 @@ fn status_told<'a>(
     }
 }
 
-/// The word for what was seen, where this is that of the slot's status.
+/// Returns the word for what was seen, where this is that of the slot's status.
 #[tactic(auto, unfolding(fr_status::specs::Status::status_in))]
 fn word_of(
     params: &Params,
@@ -83,7 +83,7 @@ fn word_of(
     }
 }
 
-/// What is reported of a channel on which this was seen.
+/// Returns what is reported of a channel on which this was seen.
 fn told_of<'a>(params: &Params, window: &Window, channel: Channel, seen: &'a Seen) -> Told<'a>
     ensures channel { result.channel ≡ channel }
     ensures seen { result.seen.now ≡ seen.now }
@@ -101,7 +101,7 @@ fn told_of<'a>(params: &Params, window: &Window, channel: Channel, seen: &'a See
     }
 }
 
-/// Whether this is a data frame.
+/// Returns whether this is a data frame.
 fn is_data(frame: &Option<LentFrame<'_>>) -> bool
     ensures { result ≡ is_some (option_and_then with_data frame.now) }
 {
@@ -111,7 +111,7 @@ fn is_data(frame: &Option<LentFrame<'_>>) -> bool
     }
 }
 
-/// Whether what was seen has a line.
+/// Returns whether what was seen has a line.
 fn is_told(all: bool, slot: Option<SlotId>, seen: &Seen) -> bool
     ensures { result ≡ is_told all slot seen.now }
 {

@@ -24,7 +24,7 @@ pub struct Moment {
     pub place: u32,
 }
 
-/// Where a window begins in the cycle.
+/// Returns where a window begins in the cycle.
 fn place_of(window: &Window) -> Place
     ensures { result ≡ place_of window.now }
 {
@@ -41,7 +41,7 @@ fn place_of(window: &Window) -> Place
     }
 }
 
-/// The macrotick of its cycle at which a window begins (chapter 5).
+/// Returns the macrotick of its cycle at which a window begins (chapter 5).
 ///
 /// 0 for a window that the parameters don't have.
 pub fn start_of_window(params: &Params, window: &Window) -> u32
@@ -53,7 +53,7 @@ pub fn start_of_window(params: &Params, window: &Window) -> u32
     start_of(params, place_of(window)).unwrap_or(0)
 }
 
-/// How far a window's first macrotick is from the start of its round of 64 cycles.
+/// Returns how far a window's first macrotick is from the start of its round of 64 cycles.
 fn place_in_round(params: &Params, window: &Window) -> u32
     ensures { result ≡ place_in_round params.now window.now }
 {
@@ -61,8 +61,8 @@ fn place_in_round(params: &Params, window: &Window) -> u32
     u32::from(window.cycle.number()) * cycle_mt + start_of_window(params, window)
 }
 
-/// How many rounds are over at a window of this place, after the last one. Since the numbers of windows rise, one that
-/// isn't later in its round than the one before is of the next.
+/// Returns how many rounds are over at a window of this place, after the last one. Since the numbers of windows rise,
+/// one that isn't later in its round than the one before is of the next.
 fn rounds_at(place: u32, last: &Option<Moment>) -> u32
     requires { HasRounds 1000000 last.now }
     ensures { result ≡ rounds_at place last.now }
@@ -74,7 +74,7 @@ fn rounds_at(place: u32, last: &Option<Moment>) -> u32
     }
 }
 
-/// The window fetched last, after the entry of this number.
+/// Returns the window fetched last, after the entry of this number.
 pub fn moment_after(
     params: &Params,
     last: Option<Moment>,

@@ -26,7 +26,7 @@ pub fn write_file_header<W: Write>(writer: &mut W) -> io::Result<()>
     writer.write_all(&FILE_HEADER)
 }
 
-/// The byte of the measurement header that names the channel.
+/// Returns the byte of the measurement header that names the channel.
 fn channel_mark(channel: Channel) -> u8
     ensures { result ≡ channel_mark channel }
 {
@@ -36,7 +36,7 @@ fn channel_mark(channel: Channel) -> u8
     }
 }
 
-/// The byte of the measurement header that says why bytes are no frame.
+/// Returns the byte of the measurement header that says why bytes are no frame.
 fn error_flags(error: Option<DecodeError>) -> u8
     ensures { result ≡ error_flags error }
 {
@@ -48,7 +48,7 @@ fn error_flags(error: Option<DecodeError>) -> u8
     }
 }
 
-/// The bytes without the trailer, or all of them where it can't be told which those are.
+/// Returns the bytes without the trailer, or all of them where it can't be told which those are.
 fn captured_bytes(error: Option<DecodeError>, bytes: &[u8]) -> &[u8]
     ensures { result.now ≡ captured_bytes error bytes.entry.now }
 {

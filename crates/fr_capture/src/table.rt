@@ -35,7 +35,7 @@ pub(crate) fn write_head_line<W: Write>(writer: &mut W) -> io::Result<()>
     )
 }
 
-/// The word of the status bit that is set.
+/// Returns the word of the status bit that is set.
 pub(crate) fn status_word(status: &SlotStatus) -> &'static str
     ensures { result.now ≡ bit_word status.now }
 {
@@ -50,7 +50,7 @@ pub(crate) fn status_word(status: &SlotStatus) -> &'static str
     }
 }
 
-/// The word of why bytes are no frame.
+/// Returns the word of why bytes are no frame.
 fn error_word(error: DecodeError) -> &'static str
     ensures { result.now ≡ error_word error }
 {

@@ -18,7 +18,7 @@ pub struct Came {
     pub b: bool,
 }
 
-/// Whether this line is a receive buffer that takes what came on the channel (chapter 9; channel A before B is
+/// Returns whether this line is a receive buffer that takes what came on the channel (chapter 9; channel A before B is
 /// project-defined).
 pub fn takes(window: &Window, came: Came, channel: Channel, line: &Buffer) -> bool
     ensures { result ≡ takes_by window.now came.a came.b channel line.now }
@@ -31,21 +31,21 @@ pub fn takes(window: &Window, came: Came, channel: Channel, line: &Buffer) -> bo
     }
 }
 
-/// Whether this is a receive buffer that admits the window on the channel.
+/// Returns whether this is a receive buffer that admits the window on the channel.
 fn takes_window(window: &Window, channel: Channel, line: &Buffer) -> bool
     ensures { result ≡ takes_window window.now channel line.now }
 {
     line.mode.is_receive() && line.filter.admits_window(window, channel)
 }
 
-/// Whether one of the buffers is a receive buffer that admits the window on the channel.
+/// Returns whether one of the buffers is a receive buffer that admits the window on the channel.
 fn is_taken(lines: &[Buffer], window: &Window, channel: Channel) -> bool
     ensures { result ≡ list_any (takes_window window.now channel) lines.now }
 {
     lines.iter().any(|line| takes_window(window, channel, line))
 }
 
-/// Whether the queue, and no receive buffer, is for what comes in the window on the channel.
+/// Returns whether the queue, and no receive buffer, is for what comes in the window on the channel.
 fn is_for_queue(plan: &NodePlan, queue: &Queue, window: &Window, channel: Channel) -> bool
     ensures { result ≡ is_for_queue plan.now queue.now window.now channel }
 {
@@ -57,7 +57,7 @@ fn is_for_queue(plan: &NodePlan, queue: &Queue, window: &Window, channel: Channe
     }
 }
 
-/// Whether a valid data frame came on the channel.
+/// Returns whether a valid data frame came on the channel.
 fn came_in(came: Came, channel: Channel) -> bool
     ensures { result ≡ came_in came.a came.b channel }
 {
@@ -67,8 +67,8 @@ fn came_in(came: Came, channel: Channel) -> bool
     }
 }
 
-/// Whether the node has a queue that takes what came on the channel: it admits the slot there, and no receive buffer
-/// does (project-defined).
+/// Returns whether the node has a queue that takes what came on the channel: it admits the slot there, and no receive
+/// buffer does (project-defined).
 pub fn queue_takes(plan: &NodePlan, window: &Window, came: Came, channel: Channel) -> bool
     ensures { result ≡ queue_takes_by plan.now window.now came.a came.b channel plan.now.queue }
 {

@@ -13,7 +13,7 @@ use std::str;
 /// The most bytes that a cluster file may have.
 const MOST_BYTES: u64 = 1_048_576;
 
-/// The cluster that the bytes of a cluster file describe.
+/// Returns the cluster that the bytes of a cluster file describe.
 fn cluster_in(alloc: Global, bytes: &[u8]) -> Result<Cluster, BenchError>
     ensures { IsClusterIn bytes.now result }
 {

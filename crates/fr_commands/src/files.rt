@@ -3,7 +3,7 @@ use crate::error::BenchError;
 use std::rt::Files;
 use std::{fs, io};
 
-/// The file of this name, opened to be read.
+/// Returns the file of this name, opened to be read.
 ///
 /// Refused with `Memory` where memory was refused, and else with `Read` where it can't be opened.
 pub fn file_named<R: Files>(rt: &R, path: &str) -> Result<R::File, BenchError> {

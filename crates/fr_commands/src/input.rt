@@ -6,7 +6,7 @@ use crate::error::BenchError;
 use std::alloc::Global;
 use std::io::{ErrorKind, Read};
 
-/// All bytes that the reader has left, of which there may be `limit` at most.
+/// Returns all bytes that the reader has left, of which there may be `limit` at most.
 ///
 /// Refused with `Read` where the reader fails, with `Memory` where memory is refused, and with
 /// `TooLong` where there are more bytes. No byte is read beyond the first one too many.

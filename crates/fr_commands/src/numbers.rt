@@ -13,14 +13,14 @@ use std::str;
 /// The most digits that a number may have.
 const MOST_DIGITS: usize = 10;
 
-/// Whether all bytes are decimal digits.
+/// Returns whether all bytes are decimal digits.
 fn are_digits(bytes: &[u8]) -> bool
     ensures { result ≡ list_all is_ascii_digit bytes.now }
 {
     bytes.iter().all(|byte| byte.is_ascii_digit())
 }
 
-/// The number that 1 to 10 digits spell.
+/// Returns the number that 1 to 10 digits spell.
 fn magnitude_of(digits: &[u8]) -> Option<u64>
     ensures { result ≡ magnitude_in digits.now }
 {
@@ -36,7 +36,7 @@ fn magnitude_of(digits: &[u8]) -> Option<u64>
     text.parse::<u64>().ok()
 }
 
-/// The number that an optional `-` and 1 to 10 digits spell, where a word spells one. A number that
+/// Returns the number that an optional `-` and 1 to 10 digits spell, where a word spells one. A number that
 /// doesn't fit 32 bits is brought to the nearest one that does.
 fn number_of(word: &[u8]) -> Option<i32>
     ensures { result ≡ number_in word.now }
@@ -53,7 +53,7 @@ fn number_of(word: &[u8]) -> Option<i32>
     }
 }
 
-/// The text with a space in place of each line feed.
+/// Returns the text with a space in place of each line feed.
 fn with_spaces(alloc: Global, text: &[u8]) -> Result<Vec<u8>, AllocError>
     ensures { IfOk result (λ copy. copy.items ≡ map spaced text.now) }
 {
@@ -62,7 +62,7 @@ fn with_spaces(alloc: Global, text: &[u8]) -> Result<Vec<u8>, AllocError>
         .collect(alloc)
 }
 
-/// The numbers that a text spells, separated by spaces and line feeds (project-defined).
+/// Returns the numbers that a text spells, separated by spaces and line feeds (project-defined).
 ///
 /// A number is an optional `-` and 1 to 10 digits. One that doesn't fit 32 bits is brought to the
 /// nearest that does. Refused with `BadNumber` where a word is no number, and with `Memory` where

@@ -27,7 +27,7 @@ use fr_slots::plan::{Buffer, NodePlan, Own};
 use std::alloc::Global;
 use std::io::{self, Read, Write};
 
-/// The word of a channel.
+/// Returns the word of a channel.
 fn letter(channel: Channel) -> &'static str
     ensures word { result.now ≡ letter_of channel }
     ensures short { length result.now ≤ 2 }
@@ -38,7 +38,7 @@ fn letter(channel: Channel) -> &'static str
     }
 }
 
-/// Whether the ownership line is for the slot on the channel, and this is the first of its cycles.
+/// Returns whether the ownership line is for the slot on the channel, and this is the first of its cycles.
 fn begins_at(own: &Own, slot: SlotId, channel: Channel, base: Cycle) -> bool
     ensures { result ≡ begins_at slot channel base own.now }
 {

@@ -39,7 +39,7 @@ impl Model for Controller {
 }
 
 impl Controller {
-    /// A controller that carries nothing.
+    /// Returns a controller that carries nothing.
     pub(crate) fn idle() -> Controller
         ensures { result ≡ Idle }
     {
@@ -51,7 +51,7 @@ impl Controller {
         }
     }
 
-    /// Whether the controller is between two windows: it carries no step of a window that it fetched.
+    /// Returns whether the controller is between two windows: it carries no step of a window that it fetched.
     pub(crate) fn is_between(&self) -> bool
         ensures { result ≡ is_between self.now }
     {

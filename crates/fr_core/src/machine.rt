@@ -44,7 +44,7 @@ impl Model for Machine {
     ghost invariant = { λ m. length m.interfaces.items ≡ length m.controllers.items };
 }
 
-/// An interface for each plan.
+/// Returns an interface for each plan.
 fn interfaces_of(
     alloc: Global,
     params: &Params,
@@ -74,7 +74,7 @@ fn idle_controllers(alloc: Global, count: usize) -> Result<Vec<Controller>, Allo
     Ok(list)
 }
 
-/// The answer to an event that is answered with nothing.
+/// Returns the answer to an event that is answered with nothing.
 fn done(outcome: Result<(), StepError>) -> Result<Reply, StepError>
     ensures { result ≡ answered Done outcome }
 {
@@ -108,21 +108,21 @@ impl Machine {
         })
     }
 
-    /// The interfaces, in the order of the nodes.
+    /// Returns the interfaces, in the order of the nodes.
     pub(crate) fn interfaces(&self) -> &[Interface]
         ensures { result.now ≡ self.now.interfaces }
     {
         self.interfaces.as_slice()
     }
 
-    /// The bus.
+    /// Returns the bus.
     pub(crate) fn bus(&self) -> &Bus
         ensures { result.now ≡ self.now.bus }
     {
         &self.bus
     }
 
-    /// Whether no controller carries a step of a window that it fetched.
+    /// Returns whether no controller carries a step of a window that it fetched.
     pub(crate) fn between_windows(&self) -> bool
         ensures { result ≡ list_all is_between self.now.carried }
     {
@@ -131,7 +131,7 @@ impl Machine {
             .all(|controller| controller.is_between())
     }
 
-    /// The place of the node's interface and controller.
+    /// Returns the place of the node's interface and controller.
     fn place(&self, node: NodeId) -> Result<usize, StepError>
         ensures { result ≡ (if has_node self.now node then Ok node else Err UnknownNode) }
     {
@@ -143,7 +143,7 @@ impl Machine {
         }
     }
 
-    /// A task gives a payload to a transmit buffer.
+    /// Gives a transmit buffer a payload for a task.
     fn commit(
         &mut self,
         node: NodeId,
@@ -158,7 +158,7 @@ impl Machine {
         Ok(Reply::Committed(receipt))
     }
 
-    /// A task takes back what is pending on a transmit buffer.
+    /// Takes back for a task what is pending on a transmit buffer.
     fn withdraw(&mut self, node: NodeId, task: TaskId, buffer: u8) -> Result<Reply, StepError>
         ensures { Steps self.old (event.Withdraw node task buffer) result self.new }
     {
@@ -167,7 +167,7 @@ impl Machine {
         Ok(Reply::Withdrawn(of))
     }
 
-    /// A task reads a receive buffer.
+    /// Reads a receive buffer for a task.
     fn read(&mut self, node: NodeId, task: TaskId, buffer: u8) -> Result<Reply, StepError>
         ensures { Steps self.old (event.Read node task buffer) result self.new }
     {
@@ -176,7 +176,7 @@ impl Machine {
         Ok(Reply::Frame(frame))
     }
 
-    /// A task takes the oldest frame of the receive queue.
+    /// Takes the oldest frame of the receive queue for a task.
     fn pop(&mut self, node: NodeId, task: TaskId) -> Result<Reply, StepError>
         ensures { Steps self.old (event.Pop node task) result self.new }
     {
@@ -185,7 +185,7 @@ impl Machine {
         Ok(Reply::Frame(frame))
     }
 
-    /// A controller asks the bus for the open window.
+    /// Asks the bus for the open window for a controller.
     fn look(&mut self, node: NodeId) -> Result<Window, StepError>
         ensures { Steps self.old (event.Look node) (with_window result) self.new }
     {

@@ -84,7 +84,7 @@ impl Script {
     ghost use Rattle.std.specs.Prelude.{◌≡◌};
     ghost use Rattle.fr_core.specs.Scripts.{is_for};
 
-    /// Whether the script is that task's.
+    /// Returns whether the script is that task's.
     pub fn is_for(&self, node: NodeId, task: TaskId) -> bool
         ensures { result ≡ is_for node task self.now }
     {
@@ -92,7 +92,7 @@ impl Script {
     }
 }
 
-/// Whether one of the scripts is the task's.
+/// Returns whether one of the scripts is the task's.
 pub fn has_script(scripts: &[Script], node: NodeId, task: TaskId) -> bool
     ensures { result ≡ list_any (is_for node task) scripts.now }
 {

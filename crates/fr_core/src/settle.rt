@@ -73,7 +73,7 @@ pub(crate) struct Differences {
     pub script: Option<(NodeId, TaskId)>,
 }
 
-/// Whether interface and node are both there, with the same parameters and the same plan, or neither is.
+/// Returns whether interface and node are both there, with the same parameters and the same plan, or neither is.
 fn are_planned(params: &Params, interface: Option<&Interface>, plan: Option<&NodePlan>) -> bool
     ensures { IsTrue result
         ↔ ArePlanned params.now (option_map (λ i. i.now) interface.entry) (option_map (λ p. p.now) plan.entry) }
@@ -87,14 +87,14 @@ fn are_planned(params: &Params, interface: Option<&Interface>, plan: Option<&Nod
     }
 }
 
-/// The plan at this place.
+/// Returns the plan at this place.
 fn plan_at(plans: &[NodePlan], place: usize) -> Option<&NodePlan>
     ensures { option_map (λ plan. plan.now) result ≡ slice_get plans.now place }
 {
     plans.get(place)
 }
 
-/// The first place at which interface and node aren't both there with the same parameters and plan.
+/// Returns the first place at which interface and node aren't both there with the same parameters and plan.
 fn other_plan(cluster: &Cluster, interfaces: &[Interface]) -> Option<usize>
     ensures { Finds (PlansAgree cluster.now interfaces.now) result }
 {
@@ -108,7 +108,7 @@ fn other_plan(cluster: &Cluster, interfaces: &[Interface]) -> Option<usize>
     None
 }
 
-/// Whether the fate is what the guardian gives, or a mute.
+/// Returns whether the fate is what the guardian gives, or a mute.
 fn is_due(fate: Fate, let_pass: bool) -> bool
     ensures { result ≡ is_due fate let_pass }
 {
@@ -119,7 +119,7 @@ fn is_due(fate: Fate, let_pass: bool) -> bool
     }
 }
 
-/// Whether the transmission is right, if it is the node's.
+/// Returns whether the transmission is right, if it is the node's.
 fn is_right(guardian: &Guardian, node: NodeId, window: &Window, sent: &Sent) -> bool
     ensures { result ≡ is_right guardian.now node window.now sent.now }
 {
@@ -128,7 +128,7 @@ fn is_right(guardian: &Guardian, node: NodeId, window: &Window, sent: &Sent) -> 
             && is_due(sent.fate, guardian.passes(node, window, sent.channel)))
 }
 
-/// The lesser node, or this one where there is no other.
+/// Returns the lesser node, or this one where there is no other.
 fn lesser_node(least: Option<NodeId>, node: NodeId) -> NodeId
     ensures { result ≡ lesser_node least node }
 {
@@ -144,7 +144,7 @@ fn lesser_node(least: Option<NodeId>, node: NodeId) -> NodeId
     }
 }
 
-/// The least node with a transmission among these that isn't right.
+/// Returns the least node with a transmission among these that isn't right.
 fn wrong_node(guardian: &Guardian, window: &Window, sent: &[Sent]) -> Option<NodeId>
     ensures { FindsLeast (λ n. list_all (is_right guardian.now n window.now) sent.now ≡ true) result }
 {
@@ -158,14 +158,14 @@ fn wrong_node(guardian: &Guardian, window: &Window, sent: &[Sent]) -> Option<Nod
     least
 }
 
-/// The least node with a transmission in the window that isn't right.
+/// Returns the least node with a transmission in the window that isn't right.
 fn wrong_in(guardian: &Guardian, sealed: &Sealed) -> Option<NodeId>
     ensures { FindsLeast (λ n. are_right guardian.now n sealed.now ≡ true) result }
 {
     wrong_node(guardian, &sealed.window, sealed.sent.as_slice())
 }
 
-/// What was found before this place, unless the node found here is a lesser one.
+/// Returns what was found before this place, unless the node found here is a lesser one.
 fn or_lesser(
     found: Option<(NodeId, usize)>,
     here: Option<NodeId>,
@@ -186,7 +186,7 @@ fn or_lesser(
     }
 }
 
-/// The first node with a transmission that isn't right, and the first place at which it has one.
+/// Returns the first node with a transmission that isn't right, and the first place at which it has one.
 fn other_fates(guardian: &Guardian, recorded: &[Sealed]) -> Option<(NodeId, usize)>
     ensures { FindsPlace (IsFatedAt guardian.now recorded.now) result }
 {
@@ -215,7 +215,7 @@ fn earlier(one: Option<(NodeId, usize)>, other: Option<(NodeId, usize)>) -> Opti
     }
 }
 
-/// The node, if its windows differ and no node was found before it.
+/// Returns the node, if its windows differ and no node was found before it.
 fn or_node(found: Option<NodeId>, node: NodeId, agrees: bool) -> Option<NodeId>
     ensures { FindsNext (IsTrue agrees) node found result }
 {
@@ -225,7 +225,7 @@ fn or_node(found: Option<NodeId>, node: NodeId, agrees: bool) -> Option<NodeId>
     }
 }
 
-/// The node and its place, if it has one and no node was found before it.
+/// Returns the node and its place, if it has one and no node was found before it.
 fn or_place(
     found: Option<(NodeId, usize)>,
     node: NodeId,
@@ -240,7 +240,7 @@ fn or_place(
     }
 }
 
-/// The node and its task, if it has one and no node was found before it.
+/// Returns the node and its task, if it has one and no node was found before it.
 fn or_task(
     found: Option<(NodeId, TaskId)>,
     node: NodeId,
@@ -255,8 +255,8 @@ fn or_task(
     }
 }
 
-/// What differs first of each kind. Each journal is walked once: those of the first nodes were, which found these, and
-/// all others are walked here.
+/// Returns what differs first of each kind. Each journal is walked once: those of the first nodes were, which found
+/// these, and all others are walked here.
 fn find_differences(
     params: &Params,
     interfaces: &[Interface],
@@ -286,7 +286,7 @@ fn find_differences(
     all
 }
 
-/// The number of the window at this place of the record.
+/// Returns the number of the window at this place of the record.
 fn number_at(recorded: &[Sealed], place: usize) -> u32
     requires { place < length recorded.now }
     ensures { IfSome (slice_get recorded.now place) (λ r. result ≡ r.window.number) }
@@ -295,7 +295,7 @@ fn number_at(recorded: &[Sealed], place: usize) -> u32
     sealed.window.number
 }
 
-/// The number of windows of the record, which an interface that has them all observed.
+/// Returns the number of windows of the record, which an interface that has them all observed.
 fn count_windows(interfaces: &[Interface], recorded: &[Sealed]) -> u32
     requires there { 0 < length interfaces.now }
     requires agree { WindowsAgree interfaces.now recorded.now 0 }
@@ -308,7 +308,7 @@ fn count_windows(interfaces: &[Interface], recorded: &[Sealed]) -> u32
     recorded.len() as u32
 }
 
-/// Whether all agrees, and if not what differs first, where this was found of the first nodes.
+/// Returns whether all agrees, and if not what differs first, where this was found of the first nodes.
 fn judge(
     alloc: Global,
     cluster: &Cluster,
@@ -374,8 +374,8 @@ fn settle_beside(
     answer
 }
 
-/// Whether the interfaces are those of the cluster's nodes, and their journals and the scripts agree with the record of
-/// the bus (project-defined).
+/// Returns whether the interfaces are those of the cluster's nodes, and their journals and the scripts agree with the
+/// record of the bus (project-defined).
 ///
 /// Each of these is tested for all nodes before the next, and where one fails the least node is named, and then the
 /// first window or the least task of that node:

@@ -30,7 +30,7 @@ pub(crate) struct Course {
 /// The courses of all tasks of a node.
 pub(crate) type Courses = [Course; COUNT];
 
-/// The courses of tasks that did nothing.
+/// Returns the courses of tasks that did nothing.
 pub(crate) fn new_courses() -> Courses
     ensures { result ≡ new_courses }
 {
@@ -40,7 +40,7 @@ pub(crate) fn new_courses() -> Courses
     }; COUNT]
 }
 
-/// The answer that names where a frame comes from: that frame, or nothing.
+/// Returns the answer that names where a frame comes from: that frame, or nothing.
 fn frame_reply(interface: &Interface, from: Option<Origin>) -> Reply
     ensures { result ≡ frame_reply interface.now from }
 {
@@ -50,7 +50,7 @@ fn frame_reply(interface: &Interface, from: Option<Origin>) -> Reply
     }
 }
 
-/// What the entry of this number did, and for which task, if it is the host's.
+/// Returns what the entry of this number did, and for which task, if it is the host's.
 fn done_by(interface: &Interface, number: u32, entry: &LentEntry<'_>) -> Option<(TaskId, Deed)>
     requires { HasPayload entry.now }
     ensures { result ≡ done_by interface.now number (whole entry.now) }
@@ -91,7 +91,7 @@ fn done_by(interface: &Interface, number: u32, entry: &LentEntry<'_>) -> Option<
     Some((task, Deed { action, answer }))
 }
 
-/// Whether the line has no answer, or this one.
+/// Returns whether the line has no answer, or this one.
 fn is_answer(told: &Option<Reply>, answer: &Reply) -> bool
     ensures { IsTrue result ↔ IfSome told.now (λ reply. reply ≡ answer.now) }
 {
@@ -101,21 +101,21 @@ fn is_answer(told: &Option<Reply>, answer: &Reply) -> bool
     }
 }
 
-/// Whether the line is what was done.
+/// Returns whether the line is what was done.
 fn is_line(line: &Line, deed: &Deed) -> bool
     ensures { IsTrue result ↔ IsLine line.now deed.now }
 {
     line.action == deed.action && is_answer(&line.answer, &deed.answer)
 }
 
-/// The line at this place.
+/// Returns the line at this place.
 fn line_at(lines: &[Line], place: usize) -> Option<&Line>
     ensures { option_copied result ≡ slice_get lines.now place }
 {
     lines.get(place)
 }
 
-/// Whether the line at this place is there, and is what was done.
+/// Returns whether the line at this place is there, and is what was done.
 fn has_line(lines: &[Line], place: usize, deed: &Deed) -> bool
     ensures { IsTrue result ↔ HasLine (slice_get lines.now place) deed.now }
 {
@@ -125,14 +125,14 @@ fn has_line(lines: &[Line], place: usize, deed: &Deed) -> bool
     }
 }
 
-/// The script at this place.
+/// Returns the script at this place.
 fn script_at(scripts: &[Script], place: usize) -> Option<&Script>
     ensures { option_map (λ script. script.now) result ≡ slice_get scripts.now place }
 {
     scripts.get(place)
 }
 
-/// Whether the script of this place, if it is the task's, has what was done as its line at this place.
+/// Returns whether the script of this place, if it is the task's, has what was done as its line at this place.
 fn has_line_at(
     scripts: &[Script],
     given: usize,
@@ -151,7 +151,7 @@ fn has_line_at(
     }
 }
 
-/// Whether each script of the task has what was done as its line at this place.
+/// Returns whether each script of the task has what was done as its line at this place.
 fn have_lines(scripts: &[Script], node: NodeId, task: TaskId, place: usize, deed: &Deed) -> bool
     ensures { IsTrue result ↔ HaveLines scripts.now node task place deed.now }
 {
@@ -163,7 +163,7 @@ fn have_lines(scripts: &[Script], node: NodeId, task: TaskId, place: usize, deed
     true
 }
 
-/// The course of the task with this deed, where this is the course before it.
+/// Returns the course of the task with this deed, where this is the course before it.
 fn course_past(
     scripts: &[Script],
     node: NodeId,
@@ -203,7 +203,7 @@ pub(crate) fn courses_past(
     courses[place] = course_past(scripts, node, done.0, &done.1, courses[place]);
 }
 
-/// Whether the script of this place, if it is the task's, has as many lines.
+/// Returns whether the script of this place, if it is the task's, has as many lines.
 fn is_as_long_at(scripts: &[Script], given: usize, node: NodeId, task: TaskId, deeds: usize) -> bool
     ensures { IsTrue result ↔ IsAsLongAt scripts.now node task deeds given }
 {
@@ -213,7 +213,7 @@ fn is_as_long_at(scripts: &[Script], given: usize, node: NodeId, task: TaskId, d
     }
 }
 
-/// Whether each script of the task has as many lines.
+/// Returns whether each script of the task has as many lines.
 fn are_as_long(scripts: &[Script], node: NodeId, task: TaskId, deeds: usize) -> bool
     ensures { IsTrue result ↔ ((k : ℕ) → IsAsLongAt scripts.now node task deeds k) }
 {
@@ -225,7 +225,7 @@ fn are_as_long(scripts: &[Script], node: NodeId, task: TaskId, deeds: usize) -> 
     true
 }
 
-/// Whether a task of this course did its scripts; without a script it did nothing.
+/// Returns whether a task of this course did its scripts; without a script it did nothing.
 fn suits(scripts: &[Script], node: NodeId, task: TaskId, course: Course) -> bool
     ensures { IsTrue result ↔ Suits scripts.now node task course }
 {
@@ -234,7 +234,7 @@ fn suits(scripts: &[Script], node: NodeId, task: TaskId, course: Course) -> bool
         && (has_script(scripts, node, task) || course.deeds == 0)
 }
 
-/// The first task that didn't do its scripts, by these courses.
+/// Returns the first task that didn't do its scripts, by these courses.
 pub(crate) fn other_task(scripts: &[Script], node: NodeId, courses: &Courses) -> Option<TaskId>
     ensures { FindsTask (SuitsAt scripts.now node courses.now) result }
 {

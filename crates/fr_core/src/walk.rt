@@ -67,7 +67,7 @@ pub(crate) struct Observes {
     pub sight: Option<usize>,
 }
 
-/// The number of entries.
+/// Returns the number of entries.
 pub(crate) fn entries_of(interface: &Interface) -> u32
     ensures value { result ≡ length interface.now.entries }
     ensures few { result ≤ most_entries }
@@ -75,7 +75,7 @@ pub(crate) fn entries_of(interface: &Interface) -> u32
     interface.journal().len()
 }
 
-/// The entry of this number. The walk along a journal gets its entries here, each once.
+/// Returns the entry of this number. The walk along a journal gets its entries here, each once.
 fn entry_at(interface: &Interface, number: u32) -> Option<LentEntry<'_>>
     ensures entry { option_map whole result ≡ slice_get interface.now.entries number }
     ensures payload { IfSome result HasPayload }
@@ -83,21 +83,21 @@ fn entry_at(interface: &Interface, number: u32) -> Option<LentEntry<'_>>
     interface.journal().lent(number)
 }
 
-/// The interface at this place.
+/// Returns the interface at this place.
 pub(crate) fn interface_at(interfaces: &[Interface], place: usize) -> Option<&Interface>
     ensures { option_map (λ interface. interface.now) result ≡ slice_get interfaces.now place }
 {
     interfaces.get(place)
 }
 
-/// What stands at this place of the record.
+/// Returns what stands at this place of the record.
 fn sealed_at(recorded: &[Sealed], place: usize) -> Option<&Sealed>
     ensures { option_map (λ sealed. sealed.now) result ≡ slice_get recorded.now place }
 {
     recorded.get(place)
 }
 
-/// Whether this is the window at this place of the record.
+/// Returns whether this is the window at this place of the record.
 fn is_window_at(recorded: &[Sealed], place: usize, window: &Window) -> bool
     ensures { IsTrue result ↔ (window_at recorded.now place ≡ Some window.now) }
 {
@@ -107,7 +107,8 @@ fn is_window_at(recorded: &[Sealed], place: usize, window: &Window) -> bool
     }
 }
 
-/// The first place at which two lists differ, which are the same or not at this place, where this was found before it.
+/// Returns the first place at which two lists differ, which are the same or not at this place, where this was found
+/// before it.
 fn next_found(found: Option<usize>, place: usize, is_same: bool) -> Option<usize>
     ensures { FindsNext (IsTrue is_same) place found result }
 {
@@ -117,7 +118,7 @@ fn next_found(found: Option<usize>, place: usize, is_same: bool) -> Option<usize
     }
 }
 
-/// Whether both are the same bytes, or none.
+/// Returns whether both are the same bytes, or none.
 fn are_same(one: &Option<Bytes>, other: Option<&Bytes>) -> bool
     ensures { IsTrue result ↔ (one.now ≡ option_copied other.entry) }
 {
@@ -128,7 +129,7 @@ fn are_same(one: &Option<Bytes>, other: Option<&Bytes>) -> bool
     }
 }
 
-/// Whether the entry handed nothing over on the channel.
+/// Returns whether the entry handed nothing over on the channel.
 fn is_silent(entry: &LentEntry<'_>, channel: Channel) -> bool
     ensures { result ≡ is_silent channel (whole entry.now) }
 {
@@ -141,7 +142,7 @@ fn is_silent(entry: &LentEntry<'_>, channel: Channel) -> bool
     }
 }
 
-/// Whether this is what the entry of this number handed over on the channel, which is spelled anew.
+/// Returns whether this is what the entry of this number handed over on the channel, which is spelled anew.
 ///
 /// It isn't inlined, so that an entry that handed nothing over doesn't pay for the room of a frame.
 #[inline(never)]
@@ -151,7 +152,7 @@ fn is_spelled(interface: &Interface, number: u32, channel: Channel, offered: Opt
     are_same(&interface.handed_at(number, channel), offered)
 }
 
-/// Whether this is what the entry of this number handed over on the channel.
+/// Returns whether this is what the entry of this number handed over on the channel.
 fn is_handed_on(
     interface: &Interface,
     number: u32,
@@ -169,7 +170,7 @@ fn is_handed_on(
     }
 }
 
-/// Whether what the fetch of this number handed over in the window is what the record has of the node.
+/// Returns whether what the fetch of this number handed over in the window is what the record has of the node.
 fn is_handed(
     interface: &Interface,
     number: u32,
@@ -190,7 +191,7 @@ fn is_handed(
         && is_handed_on(interface, number, entry, Channel::B, on_b)
 }
 
-/// Whether that is what the record has of the node at this place.
+/// Returns whether that is what the record has of the node at this place.
 fn is_handed_at(
     interface: &Interface,
     number: u32,
@@ -211,7 +212,7 @@ fn is_handed_at(
     }
 }
 
-/// What is found of the fetches with the entry of this number, where this was found before it.
+/// Returns what is found of the fetches with the entry of this number, where this was found before it.
 fn fetches_past(
     interface: &Interface,
     node: NodeId,
@@ -237,14 +238,14 @@ fn fetches_past(
     }
 }
 
-/// Whether it is of this window.
+/// Returns whether it is of this window.
 fn is_of_window(sealed: &Sealed, window: &Window) -> bool
     ensures { IsTrue result ↔ (sealed.now.window ≡ window.now) }
 {
     sealed.window == *window
 }
 
-/// Whether the node saw this, on A and on B, by the record.
+/// Returns whether the node saw this, on A and on B, by the record.
 fn is_shown(
     params: &Params,
     node: NodeId,
@@ -259,7 +260,7 @@ fn is_shown(
     sealed.shows(params, Channel::A, node, a) && sealed.shows(params, Channel::B, node, b)
 }
 
-/// Whether the record lets the node see this at this place.
+/// Returns whether the record lets the node see this at this place.
 fn is_shown_at(
     params: &Params,
     node: NodeId,
@@ -279,7 +280,7 @@ fn is_shown_at(
     }
 }
 
-/// What is found of the observes with this entry, where this was found before it.
+/// Returns what is found of the observes with this entry, where this was found before it.
 fn observes_past(
     params: &Params,
     node: NodeId,
@@ -310,7 +311,7 @@ fn observes_past(
     }
 }
 
-/// The place that was found, or else this one where the record goes on there.
+/// Returns the place that was found, or else this one where the record goes on there.
 fn or_rest(found: Option<usize>, place: usize, recorded: &[Sealed]) -> Option<usize>
     ensures { result ≡ option_or found (if nat_lt place (length recorded.now) then Some place else None) }
 {
@@ -326,14 +327,14 @@ fn or_rest(found: Option<usize>, place: usize, recorded: &[Sealed]) -> Option<us
     }
 }
 
-/// Whether neither place was found.
+/// Returns whether neither place was found.
 fn are_none(one: Option<usize>, other: Option<usize>) -> bool
     ensures { result ≡ (is_none one && is_none other) }
 {
     one.is_none() && other.is_none()
 }
 
-/// What is found of a node by its journal, which is walked once.
+/// Returns what is found of a node by its journal, which is walked once.
 fn walk(
     interface: &Interface,
     params: &Params,
@@ -373,7 +374,7 @@ fn walk(
     }
 }
 
-/// What is found of the node, by its interface if it is there.
+/// Returns what is found of the node, by its interface if it is there.
 pub(crate) fn find_at(
     interfaces: &[Interface],
     params: &Params,
@@ -394,7 +395,7 @@ pub(crate) fn find_at(
     }
 }
 
-/// What is found of the node, where this was found of the first nodes.
+/// Returns what is found of the node, where this was found of the first nodes.
 pub(crate) fn found_at(
     first: &[Findings],
     interfaces: &[Interface],
@@ -412,7 +413,7 @@ pub(crate) fn found_at(
     }
 }
 
-/// What is found of the node of this place.
+/// Returns what is found of the node of this place.
 fn find_in_place(
     place: usize,
     interfaces: &[Interface],
@@ -432,7 +433,7 @@ fn find_in_place(
     )
 }
 
-/// How many threads run beside one another, or as many as there can be nodes where that isn't known.
+/// Returns how many threads run beside one another, or as many as there can be nodes where that isn't known.
 fn threads_beside<R: Threads>(rt: &R) -> usize
     ensures { 0 < result }
 {
@@ -442,8 +443,8 @@ fn threads_beside<R: Threads>(rt: &R) -> usize
     }
 }
 
-/// What is found of each node that has an interface, in as many threads as run beside one another, where these can be
-/// made, or of none where memory is refused.
+/// Returns what is found of each node that has an interface, in as many threads as run beside one another, where these
+/// can be made, or of none where memory is refused.
 pub(crate) fn find_in_threads<R: Threads + Sync>(
     rt: &R,
     alloc: Global,

@@ -40,8 +40,8 @@ impl World {
     ghost use Rattle.fr_core.specs.Steps.{Steps, Applies};
     ghost use Rattle.fr_core.specs.Worlds.{OpensWorld, is_between};
 
-    /// The opening world of a cluster for a run of so many cycles, 1 to 1024: all journals are empty, the bus is at
-    /// cycle 0, slot 1, and no controller carries anything.
+    /// Returns the opening world of a cluster for a run of so many cycles, 1 to 1024: all journals are empty, the bus
+    /// is at cycle 0, slot 1, and no controller carries anything.
     ///
     /// Refused with `BadCycles` for 0 cycles or more than 1024, and then with `Memory` where memory is refused.
     pub fn new(alloc: Global, cluster: &Cluster, cycles: u16) -> Result<World, BusError>
@@ -84,7 +84,7 @@ impl World {
         outcome
     }
 
-    /// The interfaces, in the order of the nodes. Of their world the headline promise holds.
+    /// Returns the interfaces, in the order of the nodes. Of their world the headline promise holds.
     pub fn interfaces(&self) -> &[Interface]
         ensures value { result.now ≡ self.now.interfaces }
         ensures headline { Headline self.now }
@@ -93,7 +93,7 @@ impl World {
         self.machine.interfaces()
     }
 
-    /// The bus. Of its world the headline promise holds.
+    /// Returns the bus. Of its world the headline promise holds.
     pub fn bus(&self) -> &Bus
         ensures value { result.now ≡ self.now.bus }
         ensures headline { Headline self.now }
@@ -102,7 +102,7 @@ impl World {
         self.machine.bus()
     }
 
-    /// Whether each controller is between two windows: none has fetched one that it hasn't observed.
+    /// Returns whether each controller is between two windows: none has fetched one that it hasn't observed.
     pub fn between_windows(&self) -> bool
         ensures { result ≡ list_all is_between self.now.carried }
     {

@@ -47,14 +47,14 @@ impl<L: Ledger> Model for TaskPass<L> {
 }
 
 impl<L: Ledger> TaskPass<L> {
-    /// The task whose calls are made with it.
+    /// Returns the task whose calls are made with it.
     pub fn task(&self) -> TaskId
         ensures { result ≡ self.now.task }
     {
         self.task
     }
 
-    /// Its share, once the task has made all its calls.
+    /// Returns its share, once the task has made all its calls.
     pub fn into_share(self) -> Share<L>
         ensures { result ≡ self.commits }
     {
@@ -74,7 +74,7 @@ struct Counted<L: Ledger> {
 }
 
 impl<L: Ledger> Counted<L> {
-    /// The interface's commit. One that is accepted is posted with the share.
+    /// Returns the interface's commit. One that is accepted is posted with the share.
     fn commit(
         &mut self,
         task: TaskId,
@@ -102,7 +102,7 @@ impl<L: Ledger> Counted<L> {
         Ok(receipt)
     }
 
-    /// The interface's withdraw. It is no commit, so nothing is posted.
+    /// Returns the interface's withdraw. It is no commit, so nothing is posted.
     fn withdraw(&mut self, task: TaskId, buffer: u8) -> Result<Option<u32>, HostError>
         ensures refusal { result_err result ≡ withdraw_refusal self.old.interface task buffer }
         ensures answer { IfOk result (λ of. of ≡ pending_commit buffer self.old.interface.entries) }
@@ -113,7 +113,7 @@ impl<L: Ledger> Counted<L> {
         self.interface.withdraw(task, buffer)
     }
 
-    /// The interface's read.
+    /// Returns the interface's read.
     fn read(&mut self, task: TaskId, buffer: u8) -> Result<Option<Frame>, HostError>
         ensures refusal { result_err result ≡ read_refusal self.old.interface task buffer }
         ensures answer { IfOk result (λ frame. frame ≡ option_map frame_of (received_by self.old.interface buffer)) }
@@ -125,7 +125,7 @@ impl<L: Ledger> Counted<L> {
         self.interface.read(task, buffer)
     }
 
-    /// The interface's pop.
+    /// Returns the interface's pop.
     fn pop(&mut self, task: TaskId) -> Result<Option<Frame>, HostError>
         ensures refusal { result_err result ≡ pop_refusal self.old.interface task }
         ensures answer { IfOk result (λ frame. frame ≡ option_map frame_of (oldest_of self.old.interface)) }
@@ -176,7 +176,7 @@ pub struct Desk<L: Ledger> {
 }
 
 impl<L: Ledger> Desk<L> {
-    /// The desk of a node over its interface, whose journal is empty, and a pass for each task, in their order.
+    /// Returns the desk of a node over its interface, whose journal is empty, and a pass for each task, in their order.
     ///
     /// The blank is the ledger's, cut into a part for the desk and one for each task. The node is the one for which
     /// the desk's calls pass a gate. Refused where memory for the passes is refused, and the interface is then lost.
@@ -216,7 +216,7 @@ impl<L: Ledger> Desk<L> {
         Ok((desk, passes))
     }
 
-    /// The interface's commit, as the pass's task. One that is accepted is counted in the pass.
+    /// Returns the interface's commit, as the pass's task. One that is accepted is counted in the pass.
     ///
     /// It is refused as the interface's is.
     pub fn commit<R: Wait, G: Gate>(
@@ -241,7 +241,7 @@ impl<L: Ledger> Desk<L> {
         answer
     }
 
-    /// The interface's withdraw, as the pass's task: the number of the commit that was taken back, or none.
+    /// Returns the interface's withdraw, as the pass's task: the number of the commit that was taken back, or none.
     ///
     /// It is refused as the interface's is. The pass counts the commit still, which is withdrawn and not undone.
     pub fn withdraw<R: Wait, G: Gate>(
@@ -262,7 +262,7 @@ impl<L: Ledger> Desk<L> {
         answer
     }
 
-    /// The interface's read, as the pass's task.
+    /// Returns the interface's read, as the pass's task.
     ///
     /// It is refused as the interface's is. A frame that it answers has its data flag, and an ID of 1 to 2047.
     pub fn read<R: Wait, G: Gate>(
@@ -284,7 +284,7 @@ impl<L: Ledger> Desk<L> {
         answer
     }
 
-    /// The interface's pop, as the pass's task.
+    /// Returns the interface's pop, as the pass's task.
     ///
     /// It is refused as the interface's is. A frame that it answers has its data flag, and an ID of 1 to 2047.
     pub fn pop<R: Wait, G: Gate>(
@@ -305,7 +305,7 @@ impl<L: Ledger> Desk<L> {
         answer
     }
 
-    /// The interface's fetch, as the node's controller. It is refused as the interface's is.
+    /// Returns the interface's fetch, as the node's controller. It is refused as the interface's is.
     pub fn fetch<R: Wait, G: Gate>(
         &self,
         rt: &R,
@@ -352,7 +352,7 @@ impl<L: Ledger> Desk<L> {
         answer
     }
 
-    /// The interface, the book of its commits and the desk's own share, which counts none.
+    /// Returns the interface, the book of its commits and the desk's own share, which counts none.
     ///
     /// Each commit was sent, overwritten or withdrawn or is pending.
     pub fn close(self) -> (Interface, Book<L>, Share<L>)

@@ -18,7 +18,7 @@ pub(crate) enum Stage {
 }
 
 impl Stage {
-    /// The stage of this number, as `as` numbers them.
+    /// Returns the stage of this number, as `as` numbers them.
     fn of(number: u32) -> Stage {
         match number {
             0 => Stage::Collecting,
@@ -29,22 +29,22 @@ impl Stage {
         }
     }
 
-    /// Whether a look, a put or an inject needn't wait: the open window collects, or nothing waits any more.
+    /// Returns whether a look, a put or an inject needn't wait: the open window collects, or nothing waits any more.
     pub(crate) fn lets_offer(self) -> bool {
         !matches!(self, Stage::Sealed | Stage::AllTaken)
     }
 
-    /// Whether a seal needn't wait: all have put, or nothing waits any more.
+    /// Returns whether a seal needn't wait: all have put, or nothing waits any more.
     pub(crate) fn lets_seal(self) -> bool {
         matches!(self, Stage::AllPut | Stage::Over)
     }
 
-    /// Whether a take needn't wait: the open window is sealed, or nothing waits any more.
+    /// Returns whether a take needn't wait: the open window is sealed, or nothing waits any more.
     pub(crate) fn lets_take(self) -> bool {
         !matches!(self, Stage::Collecting | Stage::AllPut)
     }
 
-    /// Whether an advance needn't wait: all have taken, or nothing waits any more.
+    /// Returns whether an advance needn't wait: all have taken, or nothing waits any more.
     pub(crate) fn lets_advance(self) -> bool {
         matches!(self, Stage::AllTaken | Stage::Over)
     }
@@ -57,7 +57,7 @@ pub(crate) struct Hint {
 }
 
 impl Hint {
-    /// The hint of a window that just opened.
+    /// Returns the hint of a window that just opened.
     pub(crate) fn new() -> Hint {
         Hint {
             stage: AtomicU32::new(Stage::Collecting as u32),
@@ -69,7 +69,7 @@ impl Hint {
         self.stage.store(stage as u32, Ordering::Release);
     }
 
-    /// The stage that was told last.
+    /// Returns the stage that was told last.
     pub(crate) fn stage(&self) -> Stage {
         Stage::of(self.stage.load(Ordering::Acquire))
     }

@@ -65,7 +65,7 @@ struct Wired {
 }
 
 impl Wired {
-    /// How far the open window has come.
+    /// Returns how far the open window has come.
     fn stage(&self) -> Stage {
         if self.stopped {
             return Stage::Over;
@@ -89,7 +89,7 @@ struct Signal {
 }
 
 impl Signal {
-    /// A signal for which nobody waits yet, of calls that look so often in a row.
+    /// Returns a signal for which nobody waits yet, of calls that look so often in a row.
     fn new(looks: u32) -> Signal {
         Signal {
             looks,
@@ -225,7 +225,7 @@ impl Rest {
     }
 }
 
-/// The time since some start, in microseconds, and 0 where the clock can't be read.
+/// Returns the time since some start, in microseconds, and 0 where the clock can't be read.
 fn microseconds<R: Clock>(rt: &R) -> u128 {
     match rt.monotonic() {
         Ok(time) => time.as_micros(),
@@ -259,7 +259,7 @@ impl Model for Wire {
 }
 
 impl Wire {
-    /// The wire of a bus.
+    /// Returns the wire of a bus.
     pub fn new(bus: Bus) -> Wire
         ensures { result ≡ length bus.stations }
     {
@@ -276,15 +276,15 @@ impl Wire {
         }
     }
 
-    /// Whether the cluster has the node.
+    /// Returns whether the cluster has the node.
     fn has_node(&self, node: NodeId) -> bool
         ensures { result ≡ nat_lt node self.now }
     {
         node.number() < self.nodes
     }
 
-    /// The bus under its lock, once the call is due at the stage that the window has come to. A call that is timed
-    /// tells whether other processes take the cores.
+    /// Returns the bus under its lock, once the call is due at the stage that the window has come to. A call that is
+    /// timed tells whether other processes take the cores.
     fn ready<R: Wait + Clock, F: Fn(Stage) -> bool>(
         &self,
         rt: &R,
@@ -309,7 +309,7 @@ impl Wire {
         }
     }
 
-    /// The open window, once it collects, and `None` once the run is over.
+    /// Returns the open window, once it collects, and `None` once the run is over.
     ///
     /// Refused with `Stopped`, and with `Bus(UnknownNode)` at once for a node that the cluster doesn't have.
     pub fn next<R: Wait + Clock>(&self, rt: &R, node: NodeId) -> Result<Option<Window>, WireError>
@@ -387,7 +387,7 @@ impl Wire {
         answer.map_err(|error| WireError::Bus(error))
     }
 
-    /// The bus's take, once the open window is sealed. Refused with `Stopped`, and as the bus's is.
+    /// Returns the bus's take, once the open window is sealed. Refused with `Stopped`, and as the bus's is.
     pub fn take<R: Wait + Clock>(
         &self,
         rt: &R,
@@ -455,7 +455,7 @@ impl Wire {
         self.for_bus.give();
     }
 
-    /// The bus. Its record is that of a run, and no static slot of a guarded channel carried two senders.
+    /// Returns the bus. Its record is that of a run, and no static slot of a guarded channel carried two senders.
     pub fn close(self) -> Bus
         ensures run { IsRun result }
         ensures one_sender { OneSenderEach result.cluster result.sealed }

@@ -22,7 +22,7 @@ const FRAME_INITIAL_A: u32 = 0xFE_DCBA;
 
 const FRAME_INITIAL_B: u32 = 0xAB_CDEF;
 
-/// The header CRC of these bits, the first bit sent first: 11 bits.
+/// Returns the header CRC of these bits, the first bit sent first: 11 bits.
 pub fn crc11(bits: &[bool]) -> u16
     ensures value { result ≡ number_of (header_check bits.now) }
     ensures fits { result < 2 ^ 11 }
@@ -34,7 +34,7 @@ pub fn crc11(bits: &[bool]) -> u16
     register
 }
 
-/// The frame CRC that these bytes have on a channel: 24 bits.
+/// Returns the frame CRC that these bytes have on a channel: 24 bits.
 pub fn crc24(bytes: &[u8], channel: Channel) -> u32
     ensures value { result ≡ number_of (frame_check channel bytes.now) }
     ensures bits { bits_of 24 result ≡ frame_check channel bytes.now }
@@ -51,7 +51,7 @@ pub fn crc24(bytes: &[u8], channel: Channel) -> u32
     step_rest(register, rest)
 }
 
-/// The header CRC of a frame: 11 bits, which check its sync and startup indicators, its frame ID
+/// Returns the header CRC of a frame: 11 bits, which check its sync and startup indicators, its frame ID
 /// and the length of its payload.
 pub fn header_crc(frame: &Frame) -> u16
     ensures value { result ≡ number_of (header_check (covered frame.now)) }
@@ -60,7 +60,7 @@ pub fn header_crc(frame: &Frame) -> u16
     crc_of_header(covered_bits(frame))
 }
 
-/// The 20 bits that the header CRC of a frame covers.
+/// Returns the 20 bits that the header CRC of a frame covers.
 pub(crate) fn covered_bits(frame: &Frame) -> u32
     ensures bits { bits_of 20 result ≡ covered frame.now }
     ensures fits { result < 2 ^ 20 }
@@ -70,7 +70,7 @@ pub(crate) fn covered_bits(frame: &Frame) -> u32
     (indicators << 11 | u32::from(frame.id)) << 7 | words
 }
 
-/// The header CRC of 20 bits.
+/// Returns the header CRC of 20 bits.
 pub(crate) fn crc_of_header(covered: u32) -> u16
     requires { covered < 2 ^ 20 }
     ensures value { result ≡ number_of (header_check (bits_of 20 covered)) }
@@ -82,7 +82,7 @@ pub(crate) fn crc_of_header(covered: u32) -> u16
     (header_entry(2, first) ^ header_entry(1, second) ^ header_entry(0, third)) as u16
 }
 
-/// What a byte and so many bytes of zeros after it leave of an empty register of the header CRC.
+/// Returns what a byte and so many bytes of zeros after it leave of an empty register of the header CRC.
 fn header_entry(zeros: usize, byte: u8) -> u32
     requires { zeros < 3 }
     ensures bits { bits_of 11 result ≡ left_by header_divisor 11 (bits_of 8 byte ++ replicate (8 * zeros) false) }
@@ -91,7 +91,7 @@ fn header_entry(zeros: usize, byte: u8) -> u32
     entry(&HEADER_TABLES, zeros, byte)
 }
 
-/// The header CRC's register after one more bit.
+/// Returns the header CRC's register after one more bit.
 fn step_header(register: u16, bit: bool) -> u16
     requires { register < 2 ^ 11 }
     ensures fits { result < 2 ^ 11 }
@@ -106,7 +106,7 @@ fn step_header(register: u16, bit: bool) -> u16
     }
 }
 
-/// What a byte and so many bytes of zeros after it leave of an empty register of the frame CRC.
+/// Returns what a byte and so many bytes of zeros after it leave of an empty register of the frame CRC.
 fn frame_entry(zeros: usize, byte: u8) -> u32
     requires { zeros < 16 }
     ensures bits { bits_of 24 result ≡ left_by frame_divisor 24 (bits_of 8 byte ++ replicate (8 * zeros) false) }
@@ -136,7 +136,7 @@ fn frame_entries_of_two(zeros: usize, front: [u8; 4], back: [u8; 4]) -> u32
     frame_entries(zeros + 4, front) ^ frame_entries(zeros, back)
 }
 
-/// The frame CRC's register after sixteen more bytes.
+/// Returns the frame CRC's register after sixteen more bytes.
 fn step_sixteen(register: u32, bytes: [u8; 16]) -> u32
     requires { register < 2 ^ 24 }
     ensures fits { result < 2 ^ 24 }
@@ -149,7 +149,7 @@ fn step_sixteen(register: u32, bytes: [u8; 16]) -> u32
     front ^ frame_entries_of_two(0, [i, j, k, l], [m, n, o, p])
 }
 
-/// The frame CRC's register after eight more bytes.
+/// Returns the frame CRC's register after eight more bytes.
 fn step_eight(register: u32, bytes: [u8; 8]) -> u32
     requires { register < 2 ^ 24 }
     ensures fits { result < 2 ^ 24 }
@@ -161,7 +161,7 @@ fn step_eight(register: u32, bytes: [u8; 8]) -> u32
     frame_entries_of_two(0, met.to_be_bytes(), [e, f, g, h])
 }
 
-/// The frame CRC's register after these bytes, which are few.
+/// Returns the frame CRC's register after these bytes, which are few.
 fn step_rest(register: u32, bytes: &[u8]) -> u32
     requires { register < 2 ^ 24 }
     ensures fits { result < 2 ^ 24 }
@@ -179,7 +179,7 @@ fn step_rest(register: u32, bytes: &[u8]) -> u32
     register
 }
 
-/// The frame CRC's register after one more byte.
+/// Returns the frame CRC's register after one more byte.
 fn step_byte(register: u32, byte: u8) -> u32
     requires { register < 2 ^ 24 }
     ensures fits { result < 2 ^ 24 }

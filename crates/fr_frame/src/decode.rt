@@ -32,7 +32,7 @@ pub enum DecodeError {
     FrameCrc,
 }
 
-/// The frame that the bytes spell on this channel (chapter 4). The reserved bit of the header is
+/// Returns the frame that the bytes spell on this channel (chapter 4). The reserved bit of the header is
 /// ignored, the payload of a null frame is kept as it came, and a frame ID of 0 is let through.
 pub fn decode(bytes: &[u8], channel: Channel) -> Result<Frame, DecodeError>
     ensures refused { result_err result ≡ refusal channel bytes.now }
@@ -52,7 +52,7 @@ pub fn decode_lent(bytes: &[u8], channel: Channel) -> Result<LentFrame<'_>, Deco
     lent_from(bytes, channel)
 }
 
-/// What was read, with a payload of its own.
+/// Returns what was read, with a payload of its own.
 fn frame_of(read: Result<LentFrame<'_>, DecodeError>) -> Result<Frame, DecodeError>
     ensures { result ≡ read.entry }
 {

@@ -12,7 +12,7 @@ use crate::crc::{covered_bits, crc_of_header, crc24};
 use crate::frame::{Bytes, FRAME_BYTES, Frame};
 use fr_slots::channel::Channel;
 
-/// The bytes in which a frame is sent on this channel (chapter 4): 8 and those of its payload,
+/// Returns the bytes in which a frame is sent on this channel (chapter 4): 8 and those of its payload,
 /// with the reserved bit 0. Every frame has them, and no memory is taken.
 pub fn encode(frame: &Frame, channel: Channel) -> Bytes
     ensures value { result.items ≡ encoded frame.now channel }
@@ -28,7 +28,7 @@ pub fn encode(frame: &Frame, channel: Channel) -> Bytes
     bytes
 }
 
-/// The 40 bits of a frame's header as one number, the reserved bit highest and 0.
+/// Returns the 40 bits of a frame's header as one number, the reserved bit highest and 0.
 fn header_number(frame: &Frame) -> u64
     ensures value { result ≡ number_of (header false frame.now) }
     ensures cycle_fits { frame.now.cycle < cycle_count }

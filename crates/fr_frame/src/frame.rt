@@ -19,7 +19,7 @@ pub const FRAME_BYTES: usize = HEADER_BYTES + PAYLOAD_BYTES + TRAILER_BYTES;
 /// What is sent on a channel in one slot: at most the bytes of the longest frame.
 pub type Bytes = ArrayVec<u8, FRAME_BYTES>;
 
-/// A copy of the bytes.
+/// Returns a copy of the bytes.
 pub fn duplicate_bytes(bytes: &Bytes) -> Bytes
     ensures { result ≡ bytes.now }
 {
@@ -95,7 +95,7 @@ impl Frame {
         }
     }
 
-    /// The frame that is lent, with a payload of its own.
+    /// Returns the frame that is lent, with a payload of its own.
     pub fn from_lent(lent: &LentFrame<'_>) -> Frame
         ensures { result ≡ lent.now }
     {

@@ -48,7 +48,7 @@ impl Default for Payload {
 
     ghost is_default = { λ p. p ≡ [] };
 
-    /// The payload without words.
+    /// Returns the payload without words.
     fn default() -> Payload {
         Payload {
             bytes: ArrayVec::new(),
@@ -57,7 +57,7 @@ impl Default for Payload {
 }
 
 impl Payload {
-    /// The payload of these bytes. It is refused as too long above 254 bytes, and else as odd
+    /// Returns the payload of these bytes. It is refused as too long above 254 bytes, and else as odd
     /// where the bytes make no whole words.
     pub fn from_slice(bytes: &[u8]) -> Result<Payload, FrameError>
         ensures refusal { result_err result ≡ payload_refusal bytes.now }
@@ -70,7 +70,7 @@ impl Payload {
         }
     }
 
-    /// The payload of so many words of zeros, at most 127.
+    /// Returns the payload of so many words of zeros, at most 127.
     pub fn zeros(words: u16) -> Payload
         requires { words ≤ most_words }
         ensures { result ≡ replicate (2 * words) 0 }
@@ -78,7 +78,7 @@ impl Payload {
         Payload::of(&[0u8; PAYLOAD_BYTES][..2 * usize::from(words)])
     }
 
-    /// The payload of bytes that are known to be one.
+    /// Returns the payload of bytes that are known to be one.
     pub(crate) fn of(bytes: &[u8]) -> Payload
         requires { IsPayload bytes.now }
         ensures { result ≡ bytes.now }
@@ -130,7 +130,7 @@ impl Payload {
         Payload::of(self.as_slice())
     }
 
-    /// The bytes, of which there are an even number, at most 254.
+    /// Returns the bytes, of which there are an even number, at most 254.
     pub fn as_slice(&self) -> &[u8]
         ensures value { result.now ≡ self.now }
         ensures is_payload { IsPayload self.now }

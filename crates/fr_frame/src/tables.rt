@@ -573,7 +573,7 @@ pub(crate) const FRAME_TABLES: [[u32; 256]; 16] = [
     ],
 ];
 
-/// The entry of a byte in the table of so many bytes of zeros. What is tested of each entry holds of this one.
+/// Returns the entry of a byte in the table of so many bytes of zeros. What is tested of each entry holds of this one.
 pub(crate) fn entry<const N: usize>(tables: &[[u32; 256]; N], zeros: usize, byte: u8) -> u32
     requires { zeros < N }
     ensures { (test : ℕ → ℕ → ℕ → Bool) → are_all test tables.now ≡ true → test zeros byte result ≡ true }

@@ -52,7 +52,7 @@ impl Model for Guardian {
 }
 
 impl Guardian {
-    /// The guardians of the cluster's nodes. Refused where memory for their open intervals is refused.
+    /// Returns the guardians of the cluster's nodes. Refused where memory for their open intervals is refused.
     pub fn new(alloc: Global, cluster: &Cluster) -> Result<Guardian, AllocError>
         ensures { IfOk result (λ guardian. guardian ≡ cluster.now) }
     {
@@ -64,7 +64,7 @@ impl Guardian {
         })
     }
 
-    /// The parameters of the cluster.
+    /// Returns the parameters of the cluster.
     pub fn params(&self) -> &Params
         ensures value { result.now ≡ self.now.params }
         ensures lawful { IsCluster self.now }
@@ -72,7 +72,7 @@ impl Guardian {
         &self.params
     }
 
-    /// The number of nodes, 1 to 16.
+    /// Returns the number of nodes, 1 to 16.
     pub fn nodes(&self) -> u8
         ensures value { result ≡ length self.now.plans }
         ensures lawful { IsCluster self.now }
@@ -93,9 +93,9 @@ impl Guardian {
         cycles_of(self.posts.as_slice())
     }
 
-    /// Whether a transmission of the node passes in the window on the channel. In a static slot of a guarded channel
-    /// only those of the slot's owner in the window's cycle pass, so that none does in a cycle in which nobody owns it,
-    /// and everywhere else all do (project-defined).
+    /// Returns whether a transmission of the node passes in the window on the channel. In a static slot of a guarded
+    /// channel only those of the slot's owner in the window's cycle pass, so that none does in a cycle in which nobody
+    /// owns it, and everywhere else all do (project-defined).
     ///
     /// Nothing passes where the window has no slot on the channel, and nothing of a node that the cluster doesn't have.
     pub fn passes(&self, node: NodeId, window: &Window, channel: Channel) -> bool
@@ -114,9 +114,10 @@ impl Guardian {
             )
     }
 
-    /// The macroticks of the cycle in which the channel is open to the node, as half-open intervals from the first
-    /// macrotick up to the one after the last, in their order and as long as can be: the dynamic segment, and of the
-    /// static one the slots that it owns in this cycle, or all of it where the channel isn't guarded (project-defined).
+    /// Returns the macroticks of the cycle in which the channel is open to the node, as half-open intervals from the
+    /// first macrotick up to the one after the last, in their order and as long as can be: the dynamic segment, and of
+    /// the static one the slots that it owns in this cycle, or all of it where the channel isn't guarded
+    /// (project-defined).
     ///
     /// There are none for a node that the cluster doesn't have.
     pub fn windows(&self, node: NodeId, cycle: Cycle, channel: Channel) -> &[(u32, u32)]
@@ -132,14 +133,14 @@ impl Guardian {
     }
 }
 
-/// The post of the node, if it is one of the cluster's.
+/// Returns the post of the node, if it is one of the cluster's.
 fn post_at(posts: &[Post], node: NodeId) -> Option<&Post>
     ensures { option_map (λ post. post.now) result ≡ slice_get posts.now node }
 {
     posts.get(usize::from(node.number()))
 }
 
-/// The post's intervals on the channel, for each cycle below the node's period.
+/// Returns the post's intervals on the channel, for each cycle below the node's period.
 fn rows_on(post: &Post, channel: Channel) -> &[Vec<(u32, u32)>]
     ensures { result.now ≡ rows_on post.now channel }
 {
@@ -149,7 +150,7 @@ fn rows_on(post: &Post, channel: Channel) -> &[Vec<(u32, u32)>]
     }
 }
 
-/// The intervals of the cycle, which come again after as many cycles as there are rows.
+/// Returns the intervals of the cycle, which come again after as many cycles as there are rows.
 fn row_at(rows: &[Vec<(u32, u32)>], cycle: Cycle) -> &[(u32, u32)]
     requires { 1 ≤ length rows.now }
     ensures { IsRowAt rows.now cycle result.now }
@@ -157,7 +158,7 @@ fn row_at(rows: &[Vec<(u32, u32)>], cycle: Cycle) -> &[(u32, u32)]
     rows[usize::from(cycle.number()) % rows.len()].as_slice()
 }
 
-/// The greatest repetition of the ownership lines, 1 to 64, or 1 where there are none.
+/// Returns the greatest repetition of the ownership lines, 1 to 64, or 1 where there are none.
 fn period_of(owned: &[Own]) -> u8
     ensures value { result ≡ period owned.now }
     ensures few { result ≤ cycle_count }
@@ -169,7 +170,7 @@ fn period_of(owned: &[Own]) -> u8
     most
 }
 
-/// The greatest repetition of the ownership lines of all posts, 1 to 64, or 1 where there are none.
+/// Returns the greatest repetition of the ownership lines of all posts, 1 to 64, or 1 where there are none.
 fn cycles_of(posts: &[Post]) -> u8
     ensures value { result ≡ period (all_owned (map (λ post. post.plan) posts.now)) }
     ensures few { result ≤ cycle_count }
@@ -181,7 +182,7 @@ fn cycles_of(posts: &[Post]) -> u8
     most
 }
 
-/// Whether the channel is among the guarded ones.
+/// Returns whether the channel is among the guarded ones.
 fn is_guarded(guard: Option<Channels>, channel: Channel) -> bool
     ensures { result ≡ is_guarded guard channel }
 {
@@ -191,14 +192,14 @@ fn is_guarded(guard: Option<Channels>, channel: Channel) -> bool
     }
 }
 
-/// Whether the window is a static one, whose channel is among the guarded ones.
+/// Returns whether the window is a static one, whose channel is among the guarded ones.
 fn is_watched(guard: Option<Channels>, window: &Window, channel: Channel) -> bool
     ensures { result ≡ (is_static window.now && is_guarded guard channel) }
 {
     window.is_static() && is_guarded(guard, channel)
 }
 
-/// The guarded channels of the cluster.
+/// Returns the guarded channels of the cluster.
 fn guard_of(cluster: &Cluster) -> Option<Channels>
     ensures { result ≡ cluster.now.guard }
 {
@@ -210,7 +211,7 @@ fn guard_of(cluster: &Cluster) -> Option<Channels>
     }
 }
 
-/// The posts of the cluster's nodes.
+/// Returns the posts of the cluster's nodes.
 fn posts_of(alloc: Global, cluster: &Cluster) -> Result<Vec<Post>, AllocError>
     ensures { IfOk result (λ posts. ArePosts cluster.now posts.items) }
 {
@@ -221,7 +222,7 @@ fn posts_of(alloc: Global, cluster: &Cluster) -> Result<Vec<Post>, AllocError>
     Ok(posts)
 }
 
-/// The post of a node with this plan.
+/// Returns the post of a node with this plan.
 fn post_of(alloc: Global, cluster: &Cluster, plan: &NodePlan) -> Result<Post, AllocError>
     ensures post { IfOk result (λ post. IsPost cluster.now post) }
     ensures plan { IfOk result (λ post. post.plan ≡ plan.now) }
@@ -236,7 +237,7 @@ fn post_of(alloc: Global, cluster: &Cluster, plan: &NodePlan) -> Result<Post, Al
     })
 }
 
-/// The intervals in which the channel is open to a node that owns this, for each cycle below the node's period.
+/// Returns the intervals in which the channel is open to a node that owns this, for each cycle below the node's period.
 fn rows_of(
     alloc: Global,
     cluster: &Cluster,
@@ -254,7 +255,7 @@ fn rows_of(
     Ok(rows)
 }
 
-/// The intervals of the cycle in which the channel is open to a node that owns this.
+/// Returns the intervals of the cycle in which the channel is open to a node that owns this.
 fn intervals_in(
     alloc: Global,
     cluster: &Cluster,

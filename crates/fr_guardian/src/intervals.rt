@@ -30,7 +30,8 @@ fn owned_slots(owned: &[Own], cycle: Cycle, channel: Channel) -> [bool; SLOTS]
     slots
 }
 
-/// Whether the static slot of this number is open to a node that owns these on the channel, which is guarded or not.
+/// Returns whether the static slot of this number is open to a node that owns these on the channel, which is guarded or
+/// not.
 fn is_open_slot(guarded: bool, slots: &[bool; SLOTS], number: u16) -> bool
     requires { number < 2048 }
     ensures { result ≡ (not guarded || slice_index_or slots.now number false) }
@@ -48,7 +49,7 @@ fn add(intervals: &mut Vec<(u32, u32)>, start: u32, end: u32) -> Result<(), Allo
     Ok(())
 }
 
-/// Whether the macrotick lies in one of the intervals, which are found by halves.
+/// Returns whether the macrotick lies in one of the intervals, which are found by halves.
 fn is_covered(spans: &[(u32, u32)], macrotick: u32) -> bool
     requires not_empty { All (λ span. span.0 < span.1) spans.now }
     requires apart { AllPairs (λ span later. span.1 < later.0) spans.now }
@@ -58,7 +59,7 @@ fn is_covered(spans: &[(u32, u32)], macrotick: u32) -> bool
     0 < started && macrotick < spans[started - 1].1
 }
 
-/// Whether the slot is a static one whose first macrotick lies in one of the intervals.
+/// Returns whether the slot is a static one whose first macrotick lies in one of the intervals.
 pub fn is_slot_within(params: &Params, spans: &[(u32, u32)], slot: SlotId) -> bool
     requires not_empty { All (λ span. span.0 < span.1) spans.now }
     requires apart { AllPairs (λ span later. span.1 < later.0) spans.now }
@@ -68,9 +69,9 @@ pub fn is_slot_within(params: &Params, spans: &[(u32, u32)], slot: SlotId) -> bo
     params.is_static(slot) && is_covered(spans, start)
 }
 
-/// The macroticks of the cycle in which a channel is open to a node, as half-open intervals: the static slots that it
-/// owns then, or all of them where the channel isn't guarded, and the dynamic segment. Where such parts touch they are
-/// in one interval.
+/// Returns the macroticks of the cycle in which a channel is open to a node, as half-open intervals: the static slots
+/// that it owns then, or all of them where the channel isn't guarded, and the dynamic segment. Where such parts touch
+/// they are in one interval.
 pub fn open_intervals(
     alloc: Global,
     params: &Params,

@@ -15,7 +15,7 @@ impl InterfaceError {
     ghost use Rattle.std.specs.Prelude.{◌≡◌};
     ghost use Rattle.fr_interface.specs.ErrorNames.{interface_error_name};
 
-    /// The refusal's name, as it is printed (project-defined).
+    /// Returns the refusal's name, as it is printed (project-defined).
     pub fn name(self) -> &'static str
         ensures { result.now ≡ interface_error_name self }
     {
@@ -62,7 +62,7 @@ impl HostError {
     ghost use Rattle.std.specs.Prelude.{◌≡◌};
     ghost use Rattle.fr_interface.specs.ErrorNames.{host_error_name};
 
-    /// The refusal's name, as it is printed (project-defined).
+    /// Returns the refusal's name, as it is printed (project-defined).
     pub fn name(self) -> &'static str
         ensures { result.now ≡ host_error_name self }
     {
@@ -113,7 +113,7 @@ impl SlotError {
     ghost use Rattle.std.specs.Prelude.{◌≡◌};
     ghost use Rattle.fr_interface.specs.ErrorNames.{slot_error_name};
 
-    /// The refusal's name, as it is printed (project-defined).
+    /// Returns the refusal's name, as it is printed (project-defined).
     pub fn name(self) -> &'static str
         ensures { result.now ≡ slot_error_name self }
     {

@@ -16,7 +16,7 @@ use fr_slots::numbers::SlotId;
 use fr_slots::params::Params;
 use fr_slots::window::Window;
 
-/// The payload of the commit of this number among the first entries, or none where it isn't one of these.
+/// Returns the payload of the commit of this number among the first entries, or none where it isn't one of these.
 #[tactic(auto, using(crate::proofs::HandingLemmas::get_take, crate::proofs::HandingLemmas::get_past_take))]
 fn payload_of(journal: &Journal, entries: u32, commit: u32) -> Payload
     ensures { result ≡ payload_of (take entries journal.now.entries) commit }
@@ -30,7 +30,7 @@ fn payload_of(journal: &Journal, entries: u32, commit: u32) -> Payload
     }
 }
 
-/// The data frame with the payload of the commit of this number among the first entries.
+/// Returns the data frame with the payload of the commit of this number among the first entries.
 fn data_frame_of(
     plan: &IndexedPlan,
     journal: &Journal,
@@ -47,7 +47,7 @@ fn data_frame_of(
     data_frame_with(plan, window, channel, slot, &own, payload)
 }
 
-/// The frame that this offer is in the window on the channel, after the first entries.
+/// Returns the frame that this offer is in the window on the channel, after the first entries.
 fn frame_with(
     params: &Params,
     plan: &IndexedPlan,
@@ -82,7 +82,7 @@ fn offered_on(channel: Channel, a: Offered, b: Offered) -> Offered
     }
 }
 
-/// The bytes that the entry handed to the bus on the channel, where so many entries are before it.
+/// Returns the bytes that the entry handed to the bus on the channel, where so many entries are before it.
 pub(crate) fn bytes_in_entry(
     params: &Params,
     plan: &IndexedPlan,

@@ -25,7 +25,7 @@ impl LineRange {
     /// No place.
     pub(crate) const EMPTY: LineRange = LineRange { first: 0, end: 0 };
 
-    /// The range and a place behind it, with all that lies between.
+    /// Returns the range and a place behind it, with all that lies between.
     fn widened(self, place: u8) -> LineRange
         requires { place < most_lines }
         ensures { result ≡ widened self place }
@@ -41,7 +41,7 @@ impl LineRange {
         }
     }
 
-    /// Both ranges, with all that lies between.
+    /// Returns both ranges, with all that lies between.
     pub(crate) fn joined(self, other: LineRange) -> LineRange
         ensures { result ≡ joined self other }
     {
@@ -57,7 +57,7 @@ impl LineRange {
         }
     }
 
-    /// The lines of the range.
+    /// Returns the lines of the range.
     pub(crate) fn of<T>(self, lines: &[T]) -> &[T]
         requires ordered { self.first ≤ self.end }
         requires within { self.end ≤ length lines.now }
@@ -67,7 +67,7 @@ impl LineRange {
     }
 }
 
-/// An empty range for each slot.
+/// Returns an empty range for each slot.
 fn empty_ranges(alloc: Global) -> Result<Vec<LineRange>, AllocError>
     ensures { IfOk result (λ ranges. AreRanges [] ranges.items) }
 {
@@ -133,7 +133,7 @@ impl IndexedPlan {
     ghost use Rattle.fr_interface.specs.Ranges.{IsRangeOf};
     ghost use Rattle.fr_slots.specs.Plans.{IsPlan, buffer_at};
 
-    /// The plan, of which the index takes two rooms of 4096 bytes.
+    /// Returns the plan, of which the index takes two rooms of 4096 bytes.
     pub(crate) fn new(alloc: Global, plan: &NodePlan) -> Result<IndexedPlan, AllocError>
         ensures { IfOk result (λ indexed. indexed ≡ plan.now) }
     {
@@ -146,14 +146,14 @@ impl IndexedPlan {
         })
     }
 
-    /// The plan itself.
+    /// Returns the plan itself.
     pub(crate) fn as_plan(&self) -> &NodePlan
         ensures { result.now ≡ self.now }
     {
         &self.plan
     }
 
-    /// The number of host tasks.
+    /// Returns the number of host tasks.
     pub(crate) fn tasks(&self) -> u8
         ensures value { result ≡ self.now.tasks }
         ensures lawful { IsPlan self.now }
@@ -161,14 +161,14 @@ impl IndexedPlan {
         self.plan.tasks()
     }
 
-    /// The buffer of this number, where the plan has it.
+    /// Returns the buffer of this number, where the plan has it.
     pub(crate) fn buffer(&self, number: u8) -> Option<Buffer>
         ensures { result ≡ buffer_at self.now number }
     {
         self.plan.buffer(number)
     }
 
-    /// The receive queue, where the node has one.
+    /// Returns the receive queue, where the node has one.
     pub(crate) fn queue(&self) -> Option<Queue>
         ensures value { result ≡ self.now.queue }
         ensures lawful { IsPlan self.now }
@@ -176,14 +176,14 @@ impl IndexedPlan {
         self.plan.queue()
     }
 
-    /// A range outside which no buffer is of the slot.
+    /// Returns a range outside which no buffer is of the slot.
     pub(crate) fn buffer_range(&self, slot: SlotId) -> LineRange
         ensures { IsRangeOf slot (buffer_slots self.now.buffers) result }
     {
         self.buffer_ranges[usize::from(slot.number())]
     }
 
-    /// A range outside which no ownership line is of the slot.
+    /// Returns a range outside which no ownership line is of the slot.
     pub(crate) fn own_range(&self, slot: SlotId) -> LineRange
         ensures { IsRangeOf slot (own_slots self.now.owned) result }
     {

@@ -83,7 +83,7 @@ impl Interface {
     ghost use Rattle.fr_interface.specs.State.{pop_refusal, fetch_refusal, observe_refusal, IsLegalInterface};
     ghost use Rattle.fr_slots.specs.Faults.{plan_fault};
 
-    /// An interface with an empty journal, for which it reserves all the room that the plan asks for.
+    /// Returns an interface with an empty journal, for which it reserves all the room that the plan asks for.
     ///
     /// The plan must have no fault for the parameters, as `NodePlan::fault` tells. Refused with `Memory` alone.
     pub fn new(alloc: Global, params: &Params, plan: &NodePlan) -> Result<Interface, InterfaceError>
@@ -252,7 +252,7 @@ impl Interface {
         self.state.check_fetch(window)
     }
 
-    /// What goes out on the channel, once the window is fetched.
+    /// Returns what goes out on the channel, once the window is fetched.
     fn outgoing_on(&self, window: &Window, channel: Channel) -> Outgoing
         ensures value { result ≡ outgoing_in self.now window.now channel }
         ensures offered { result.offered ≡ offered self.now.plan self.now.entries window.now channel }
@@ -308,7 +308,7 @@ impl Interface {
         Ok(())
     }
 
-    /// Where what the buffer holds comes from (chapter 9). None for an empty buffer, and for one that the plan
+    /// Returns where what the buffer holds comes from (chapter 9). None for an empty buffer, and for one that the plan
     /// doesn't have.
     pub fn held(&self, buffer: u8) -> Option<Source>
         ensures { result ≡ source_of self.now buffer }
@@ -316,8 +316,8 @@ impl Interface {
         self.state.held(buffer)
     }
 
-    /// What became of the commits on a transmit buffer (project-defined). None for a receive buffer, and for one that
-    /// the plan doesn't have.
+    /// Returns what became of the commits on a transmit buffer (project-defined). None for a receive buffer, and for
+    /// one that the plan doesn't have.
     pub fn tally(&self, buffer: u8) -> Option<Tally>
         ensures value { result ≡ tally_by self.now buffer }
         // Each commit met one fate, and at most one is pending.
@@ -327,24 +327,24 @@ impl Interface {
         self.state.tally(buffer)
     }
 
-    /// The frame that a receive buffer holds, and where it comes from (chapter 9). None for an empty buffer, for a
-    /// transmit buffer, and for one that the plan doesn't have.
+    /// Returns the frame that a receive buffer holds, and where it comes from (chapter 9). None for an empty buffer,
+    /// for a transmit buffer, and for one that the plan doesn't have.
     pub fn received(&self, buffer: u8) -> Option<Arrival>
         ensures { result ≡ received_by self.now buffer }
     {
         self.state.received(buffer)
     }
 
-    /// The valid data frame that the origin names: that of the observe of its number on its channel (chapter 9). None
-    /// where that entry is no observe, or had no such frame there.
+    /// Returns the valid data frame that the origin names: that of the observe of its number on its channel (chapter
+    /// 9). None where that entry is no observe, or had no such frame there.
     pub fn frame_at(&self, origin: Origin) -> Option<Frame>
         ensures { result ≡ frame_named self.now.params self.now.entries origin }
     {
         frame_named(self.state.params(), &self.journal, origin)
     }
 
-    /// The bytes that the fetch of this entry handed to the bus on the channel (chapters 5 and 9). None where it handed
-    /// nothing out there, and where that entry is no fetch.
+    /// Returns the bytes that the fetch of this entry handed to the bus on the channel (chapters 5 and 9). None where
+    /// it handed nothing out there, and where that entry is no fetch.
     pub fn handed_at(&self, entry: u32, channel: Channel) -> Option<Bytes>
         ensures { result ≡ bytes_handed self.now entry channel }
     {
@@ -359,8 +359,8 @@ impl Interface {
         )
     }
 
-    /// How many frames the receive queue holds, at most its capacity (project-defined). None where the plan has no
-    /// queue.
+    /// Returns how many frames the receive queue holds, at most its capacity (project-defined). None where the plan has
+    /// no queue.
     pub fn queue_len(&self) -> Option<u32>
         ensures value { result ≡ length_of self.now }
         ensures within { IfSome result (λ n. IfSome self.now.plan.queue (λ q. n ≤ q.capacity)) }
@@ -368,8 +368,8 @@ impl Interface {
         self.state.queue_len()
     }
 
-    /// How many frames the receive queue lost since others took their places (project-defined). None where the plan has
-    /// no queue.
+    /// Returns how many frames the receive queue lost since others took their places (project-defined). None where the
+    /// plan has no queue.
     pub fn queue_lost(&self) -> Option<u32>
         ensures value { result ≡ lost_of self.now }
         // What arrived was popped, is still there, or was lost.
@@ -379,15 +379,15 @@ impl Interface {
         self.state.queue_lost()
     }
 
-    /// How many observed windows had each bit of the slot status on each channel (chapter 6). A channel without a
-    /// slot counts nothing.
+    /// Returns how many observed windows had each bit of the slot status on each channel (chapter 6). A channel without
+    /// a slot counts nothing.
     pub fn counters(&self) -> Counters
         ensures { result ≡ counters_of self.now.params self.now.entries }
     {
         self.state.counters()
     }
 
-    /// The journal, which holds each accepted call.
+    /// Returns the journal, which holds each accepted call.
     pub fn journal(&self) -> &Journal
         ensures entries { result.now.entries ≡ self.now.entries }
         ensures limits { (result.now.host_limit ≡ self.now.plan.host_entries)
@@ -397,7 +397,7 @@ impl Interface {
         &self.journal
     }
 
-    /// The parameters that the interface was made with.
+    /// Returns the parameters that the interface was made with.
     pub fn params(&self) -> &Params
         ensures value { result.now ≡ self.now.params }
         ensures legal { IsLegalInterface self.now }
@@ -405,7 +405,7 @@ impl Interface {
         self.state.params()
     }
 
-    /// The plan that the interface was made with.
+    /// Returns the plan that the interface was made with.
     pub fn plan(&self) -> &NodePlan
         ensures value { result.now ≡ self.now.plan }
         ensures legal { IsLegalInterface self.now }
@@ -414,15 +414,15 @@ impl Interface {
     }
 }
 
-/// A slot of a window is a slot.
+/// Returns a slot of a window, which is known to be a slot.
 fn slot_number(slot: Option<SlotId>) -> Option<u16>
     ensures { IsSlotOrNone slot }
 {
     slot.map(|slot| slot.number())
 }
 
-/// A copy of the window. Its numbers are read because only a call of theirs tells their ranges, which the journal asks
-/// of an entry.
+/// Returns a copy of the window. Its numbers are read because only a call of theirs tells their ranges, which the
+/// journal asks of an entry.
 pub(crate) fn kept_window(window: &Window) -> Window
     ensures value { result ≡ window.now }
     ensures fits { IsInRange window.now }
@@ -434,14 +434,14 @@ pub(crate) fn kept_window(window: &Window) -> Window
     *window
 }
 
-/// Whether the payload has the words that the transmit buffer sends.
+/// Returns whether the payload has the words that the transmit buffer sends.
 pub(crate) fn has_words(params: &Params, buffer: &Buffer, payload: &Payload) -> bool
     ensures { result ≡ has_words params.now buffer.now payload.now }
 {
     payload.as_slice().len() == 2 * usize::from(buffer.words(params))
 }
 
-/// The payload, whose bytes are counted for the same reason as a window's numbers are read.
+/// Returns the payload, whose bytes are counted for the same reason as a window's numbers are read.
 pub(crate) fn kept_payload(payload: &Payload) -> &Payload
     ensures value { result.now ≡ payload.now }
     ensures is_payload { IsPayload payload.now }
@@ -451,14 +451,14 @@ pub(crate) fn kept_payload(payload: &Payload) -> &Payload
     payload
 }
 
-/// The number of bytes; a slice of bytes tells that each is below 256 only to a function that takes it.
+/// Returns the number of bytes; a slice of bytes tells that each is below 256 only to a function that takes it.
 fn count_of(bytes: &[u8]) -> usize
     ensures { AreBytes bytes.now }
 {
     bytes.len()
 }
 
-/// What was seen, with its bytes counted, as a payload's are.
+/// Returns what was seen, with its bytes counted, as a payload's are.
 pub(crate) fn seen_within(seen: &Seen) -> &Seen
     ensures value { result.now ≡ seen.now }
     ensures fits { IsSeen seen.now }
@@ -469,7 +469,7 @@ pub(crate) fn seen_within(seen: &Seen) -> &Seen
     seen
 }
 
-/// Where a frame that arrived comes from.
+/// Returns where a frame that arrived comes from.
 pub(crate) fn origin_in(arrival: &Option<Arrival>) -> Option<Origin>
     ensures value { result ≡ option_map origin_of arrival.now }
     ensures fits { IsOrigin result }
@@ -477,14 +477,14 @@ pub(crate) fn origin_in(arrival: &Option<Arrival>) -> Option<Origin>
     arrival.as_ref().map(|arrival| arrival.origin)
 }
 
-/// The frame that arrived.
+/// Returns the frame that arrived.
 fn frame_in(arrival: Option<Arrival>) -> Option<Frame>
     ensures { result ≡ option_map frame_of arrival }
 {
     arrival.map(|arrival| arrival.frame)
 }
 
-/// Whether a window's number isn't above that of the last one.
+/// Returns whether a window's number isn't above that of the last one.
 pub(crate) fn is_not_above(number: u32, last: Option<u32>) -> bool
     ensures { result ≡ is_not_above number last }
 {

@@ -33,7 +33,7 @@ pub(crate) struct Told<'a> {
 }
 
 impl<'a> Told<'a> {
-    /// What the channel tells where this was seen.
+    /// Returns what the channel tells where this was seen.
     pub(crate) fn of(params: &Params, window: &Window, channel: Channel, seen: &'a Seen) -> Told<'a>
         ensures status { result.status ≡ status_seen params.now window.now channel seen.now }
         ensures frame { result.frame ≡ data_frame_seen params.now window.now channel seen.now }
@@ -52,7 +52,7 @@ impl<'a> Told<'a> {
     }
 }
 
-/// The frame, where it is no null frame.
+/// Returns the frame, where it is no null frame.
 fn data_frame(frame: Option<LentFrame<'_>>) -> Option<LentFrame<'_>>
     ensures { result ≡ option_and_then with_data frame.entry }
 {
@@ -106,7 +106,7 @@ fn store_in(
     }
 }
 
-/// A range outside which no buffer takes this data frame of the channel.
+/// Returns a range outside which no buffer takes this data frame of the channel.
 fn taking_range(
     plan: &IndexedPlan,
     window: &Window,
@@ -143,21 +143,21 @@ pub(crate) fn store_all(
     }
 }
 
-/// Whether this is a receive buffer that admits the window on the channel.
+/// Returns whether this is a receive buffer that admits the window on the channel.
 fn takes(window: &Window, channel: Channel, buffer: &Buffer) -> bool
     ensures { result ≡ takes_window window.now channel buffer.now }
 {
     buffer.mode.is_receive() && buffer.filter.admits_window(window, channel)
 }
 
-/// Whether one of the buffers is a receive buffer that admits the window on the channel.
+/// Returns whether one of the buffers is a receive buffer that admits the window on the channel.
 fn is_taken(buffers: &[Buffer], window: &Window, channel: Channel) -> bool
     ensures { result ≡ list_any (takes_window window.now channel) buffers.now }
 {
     buffers.iter().any(|buffer| takes(window, channel, buffer))
 }
 
-/// Whether the queue, and no receive buffer, takes what comes in the window on the channel.
+/// Returns whether the queue, and no receive buffer, takes what comes in the window on the channel.
 fn is_for_queue(plan: &IndexedPlan, queue: &Queue, window: &Window, channel: Channel) -> bool
     ensures { result ≡ is_for_queue plan.now queue.now window.now channel }
 {

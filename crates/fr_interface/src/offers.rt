@@ -22,7 +22,7 @@ use fr_slots::params::Params;
 use fr_slots::plan::{Buffer, Own};
 use fr_slots::window::Window;
 
-/// Whether this is a transmit buffer that admits the window on the channel.
+/// Returns whether this is a transmit buffer that admits the window on the channel.
 fn is_admitting(window: &Window, channel: Channel, buffer: &Buffer) -> bool
     ensures { result ≡ is_admitting window.now channel buffer.now }
 {
@@ -40,7 +40,7 @@ pub(crate) struct Outgoing {
     pub offered: Offered,
 }
 
-/// The place of the first transmit buffer that admits the window on the channel.
+/// Returns the place of the first transmit buffer that admits the window on the channel.
 fn first_admitting(buffers: &[Buffer], window: &Window, channel: Channel) -> Option<usize>
     ensures value { result ≡ position (is_admitting window.now channel) buffers.now }
     ensures there { IfSome result (λ place. place < length buffers.now) }
@@ -50,7 +50,7 @@ fn first_admitting(buffers: &[Buffer], window: &Window, channel: Channel) -> Opt
         .position(|buffer| is_admitting(window, channel, buffer))
 }
 
-/// The number of the transmit buffer that admits the window on the channel.
+/// Returns the number of the transmit buffer that admits the window on the channel.
 pub(crate) fn transmitter(plan: &IndexedPlan, window: &Window, channel: Channel) -> Option<u8>
     ensures { result ≡ transmitter plan.now window.now channel }
 {
@@ -61,14 +61,14 @@ pub(crate) fn transmitter(plan: &IndexedPlan, window: &Window, channel: Channel)
     Some(range.first + place as u8)
 }
 
-/// Whether the node may begin to transmit in the window on the channel.
+/// Returns whether the node may begin to transmit in the window on the channel.
 pub(crate) fn may_begin(plan: &IndexedPlan, window: &Window, channel: Channel) -> bool
     ensures { result ≡ may_begin plan.now window.now channel }
 {
     window.is_static() || window.minislot <= plan.as_plan().latest(channel)
 }
 
-/// The place of the first line for the slot on the channel in the cycle.
+/// Returns the place of the first line for the slot on the channel in the cycle.
 fn first_owned_at(owned: &[Own], cycle: Cycle, slot: SlotId, channel: Channel) -> Option<usize>
     ensures { result ≡ position (claims slot channel cycle) owned.now }
 {
@@ -77,7 +77,7 @@ fn first_owned_at(owned: &[Own], cycle: Cycle, slot: SlotId, channel: Channel) -
         .position(|own| own.claims(cycle, slot, channel))
 }
 
-/// The ownership line for the slot on the channel in the cycle.
+/// Returns the ownership line for the slot on the channel in the cycle.
 fn ownership(owned: &[Own], cycle: Cycle, slot: SlotId, channel: Channel) -> Option<Own>
     ensures { result ≡ ownership owned.now slot channel cycle }
 {
@@ -85,7 +85,7 @@ fn ownership(owned: &[Own], cycle: Cycle, slot: SlotId, channel: Channel) -> Opt
     owned.get(place).copied()
 }
 
-/// The ownership line for the slot of a static window on the channel in the window's cycle.
+/// Returns the ownership line for the slot of a static window on the channel in the window's cycle.
 pub(crate) fn line_of(
     plan: &IndexedPlan,
     window: &Window,
@@ -101,7 +101,7 @@ pub(crate) fn line_of(
     ownership(owned, window.cycle, slot, channel)
 }
 
-/// The ownership line for the slot that the window has on the channel.
+/// Returns the ownership line for the slot that the window has on the channel.
 fn owner_on(plan: &IndexedPlan, window: &Window, channel: Channel) -> Option<Own>
     ensures { result ≡ owner_on plan.now window.now channel }
 {
@@ -109,7 +109,7 @@ fn owner_on(plan: &IndexedPlan, window: &Window, channel: Channel) -> Option<Own
     line_of(plan, window, channel, slot)
 }
 
-/// What the node offers in the window on the channel, where this line is the slot's and this offers a commit.
+/// Returns what the node offers in the window on the channel, where this line is the slot's and this offers a commit.
 fn offered_by(
     window: &Window,
     channel: Channel,
@@ -129,7 +129,7 @@ fn offered_by(
     }
 }
 
-/// What goes out in the window on the channel, where the transmit buffers are these.
+/// Returns what goes out in the window on the channel, where the transmit buffers are these.
 pub(crate) fn outgoing_on(
     plan: &IndexedPlan,
     buffers: &[TxBuffer],
@@ -148,7 +148,7 @@ pub(crate) fn outgoing_on(
     }
 }
 
-/// The sync frame indicator of frames sent by the line.
+/// Returns the sync frame indicator of frames sent by the line.
 fn sync_of(line: &Option<Own>) -> bool
     ensures { result ≡ sync_of line.now }
 {
@@ -158,7 +158,7 @@ fn sync_of(line: &Option<Own>) -> bool
     }
 }
 
-/// The startup frame indicator of frames sent by the line.
+/// Returns the startup frame indicator of frames sent by the line.
 fn startup_of(line: &Option<Own>) -> bool
     ensures { result ≡ startup_of line.now }
 {
@@ -168,7 +168,7 @@ fn startup_of(line: &Option<Own>) -> bool
     }
 }
 
-/// Whether frames of the buffer that admits the window on the channel have the preamble indicator.
+/// Returns whether frames of the buffer that admits the window on the channel have the preamble indicator.
 fn preamble_in(plan: &IndexedPlan, window: &Window, channel: Channel) -> bool
     ensures { result ≡ preamble_in plan.now window.now channel }
 {
@@ -181,7 +181,7 @@ fn preamble_in(plan: &IndexedPlan, window: &Window, channel: Channel) -> bool
     }
 }
 
-/// The null frame of a slot that the node owns in the window's cycle by this line.
+/// Returns the null frame of a slot that the node owns in the window's cycle by this line.
 pub(crate) fn null_frame_with(
     params: &Params,
     window: &Window,
@@ -201,7 +201,7 @@ pub(crate) fn null_frame_with(
     }
 }
 
-/// The data frame with this payload, in a slot that has this ownership line in the window's cycle.
+/// Returns the data frame with this payload, in a slot that has this ownership line in the window's cycle.
 pub(crate) fn data_frame_with(
     plan: &IndexedPlan,
     window: &Window,
@@ -223,7 +223,7 @@ pub(crate) fn data_frame_with(
     }
 }
 
-/// The data frame of the commit that this offers.
+/// Returns the data frame of the commit that this offers.
 fn data_frame_by(
     plan: &IndexedPlan,
     buffers: &[TxBuffer],
@@ -239,7 +239,7 @@ fn data_frame_by(
     data_frame_with(plan, window, channel, slot, own, payload)
 }
 
-/// The frame that goes out in the window on the channel.
+/// Returns the frame that goes out in the window on the channel.
 fn frame_by(
     params: &Params,
     plan: &IndexedPlan,
@@ -259,7 +259,7 @@ fn frame_by(
     }
 }
 
-/// The bytes that go out in the window on the channel.
+/// Returns the bytes that go out in the window on the channel.
 ///
 /// It isn't inlined, so that a window in which nothing goes out doesn't pay for the room of a frame.
 #[inline(never)]

@@ -13,14 +13,14 @@ use fr_journal::entry::Arrival;
 use fr_slots::plan::{Buffer, Queue};
 use std::alloc::{AllocError, Global};
 
-/// An empty buffer for each line.
+/// Returns an empty buffer for each line.
 pub(crate) fn receive_buffers(alloc: Global, lines: &[Buffer]) -> Result<Vec<RxBuffer>, AllocError>
     ensures { IfOk result (λ v. v.items ≡ map (λ _. None) lines.now) }
 {
     lines.iter().map(|_line| RxBuffer::new()).collect(alloc)
 }
 
-/// The empty queue of the plan's line, if it has one.
+/// Returns the empty queue of the plan's line, if it has one.
 pub(crate) fn receive_queue(
     alloc: Global,
     line: Option<Queue>,
@@ -36,7 +36,7 @@ pub(crate) fn receive_queue(
     }
 }
 
-/// What the buffer of this number holds.
+/// Returns what the buffer of this number holds.
 pub(crate) fn arrival_at(buffers: &[RxBuffer], number: u8) -> Option<Arrival>
     ensures { result ≡ option_and_then (λ h. h) (slice_get buffers.now number) }
 {
@@ -47,7 +47,7 @@ pub(crate) fn arrival_at(buffers: &[RxBuffer], number: u8) -> Option<Arrival>
     })
 }
 
-/// Where what the buffer of this number holds comes from.
+/// Returns where what the buffer of this number holds comes from.
 pub(crate) fn observed_at(buffers: &[RxBuffer], number: u8) -> Option<Source>
     ensures { result ≡ option_map (λ a. Source.Observed (origin_of a))
         (option_and_then (λ h. h) (slice_get buffers.now number)) }

@@ -27,7 +27,7 @@ pub(crate) struct Sender {
     pub commit: u32,
 }
 
-/// A buffer without a commit for each line.
+/// Returns a buffer without a commit for each line.
 pub(crate) fn transmit_buffers(alloc: Global, lines: &[Buffer]) -> Result<Vec<TxBuffer>, AllocError>
     ensures { IfOk result (λ v. v.items ≡ map (λ b. new_transmitter b.mode) lines.now) }
 {
@@ -37,7 +37,7 @@ pub(crate) fn transmit_buffers(alloc: Global, lines: &[Buffer]) -> Result<Vec<Tx
         .collect(alloc)
 }
 
-/// Where what the buffer of this number holds comes from.
+/// Returns where what the buffer of this number holds comes from.
 pub(crate) fn commit_at(buffers: &[TxBuffer], number: u8) -> Option<Source>
     ensures { result ≡ option_map Source.Commit (option_and_then entry_of (slice_get buffers.now number)) }
 {
@@ -45,7 +45,7 @@ pub(crate) fn commit_at(buffers: &[TxBuffer], number: u8) -> Option<Source>
     Some(Source::Commit(entry))
 }
 
-/// What became of the commits on the buffer of this number.
+/// Returns what became of the commits on the buffer of this number.
 pub(crate) fn tally_at(buffers: &[TxBuffer], number: u8) -> Option<Tally>
     ensures value { result ≡ option_map (λ b. b.tally) (slice_get buffers.now number) }
     ensures fates { IfSome result (λ t. t.committed ≡ t.sent + t.overwritten + t.pending + t.withdrawn) }
@@ -55,14 +55,14 @@ pub(crate) fn tally_at(buffers: &[TxBuffer], number: u8) -> Option<Tally>
     Some(buffer.tally())
 }
 
-/// The commit that the buffer of this number offers.
+/// Returns the commit that the buffer of this number offers.
 fn ready_at(buffers: &[TxBuffer], number: u8) -> Option<u32>
     ensures { result ≡ ready_at buffers.now number }
 {
     buffers.get(usize::from(number))?.offers()
 }
 
-/// What offers a commit in the window on the channel.
+/// Returns what offers a commit in the window on the channel.
 pub(crate) fn sender_on(
     plan: &IndexedPlan,
     buffers: &[TxBuffer],
@@ -79,7 +79,7 @@ pub(crate) fn sender_on(
     Some(Sender { buffer, commit })
 }
 
-/// The payload that the buffer of this number holds.
+/// Returns the payload that the buffer of this number holds.
 pub(crate) fn payload_at(buffers: &[TxBuffer], number: u8) -> Payload
     ensures { result ≡ payload_at buffers.now number }
 {
@@ -89,7 +89,7 @@ pub(crate) fn payload_at(buffers: &[TxBuffer], number: u8) -> Payload
     }
 }
 
-/// The payload that the buffer holds.
+/// Returns the payload that the buffer holds.
 fn held_payload(buffer: &TxBuffer) -> Payload
     ensures { result ≡ held_payload buffer.now }
 {

@@ -75,8 +75,8 @@ impl InterfaceState {
     ghost use Rattle.fr_journal.specs.Offers.{IsHandedOut, bytes_of};
     ghost use Rattle.fr_interface.specs.Standing.{with_limits, KeepsTerms};
 
-    /// What is at hand before any call, with room for so many entries of the host and of the controller, whatever room
-    /// the plan gives. Refused with `Memory` alone.
+    /// Returns what is at hand before any call, with room for so many entries of the host and of the controller,
+    /// whatever room the plan gives. Refused with `Memory` alone.
     pub fn new(
         alloc: Global,
         params: &Params,
@@ -112,7 +112,7 @@ impl InterfaceState {
         })
     }
 
-    /// The number of the next entry.
+    /// Returns the number of the next entry.
     pub fn entries(&self) -> u32
         ensures value { result ≡ entries_before self.now }
         ensures history { ForEachHistory self.now (λ s. result ≡ length s.entries) }
@@ -251,7 +251,7 @@ impl InterfaceState {
         Ok(())
     }
 
-    /// What goes out on the channel, once the window is fetched.
+    /// Returns what goes out on the channel, once the window is fetched.
     pub(crate) fn outgoing_on(&self, window: &Window, channel: Channel) -> Outgoing
         ensures value { result ≡ outgoing_on self.now.plan self.now.transmit window.now channel }
         ensures fits { IsOffered result.offered }
@@ -359,7 +359,7 @@ impl InterfaceState {
         Ok(())
     }
 
-    /// Where what the buffer holds comes from.
+    /// Returns where what the buffer holds comes from.
     pub fn held(&self, buffer: u8) -> Option<Source>
         ensures { result ≡ source_at self.now buffer }
     {
@@ -371,7 +371,7 @@ impl InterfaceState {
         }
     }
 
-    /// What became of the commits on a transmit buffer.
+    /// Returns what became of the commits on a transmit buffer.
     pub fn tally(&self, buffer: u8) -> Option<Tally>
         ensures value { result ≡ tally_at self.now buffer }
         ensures fates { IfSome result (λ t. t.committed ≡ t.sent + t.overwritten + t.pending + t.withdrawn) }
@@ -384,7 +384,7 @@ impl InterfaceState {
         tally_at(&self.transmit, buffer)
     }
 
-    /// The frame that a receive buffer holds, and where it comes from.
+    /// Returns the frame that a receive buffer holds, and where it comes from.
     pub fn received(&self, buffer: u8) -> Option<Arrival>
         ensures { result ≡ received_at self.now buffer }
     {
@@ -395,7 +395,7 @@ impl InterfaceState {
         arrival_at(&self.receive, buffer)
     }
 
-    /// How many frames the receive queue holds.
+    /// Returns how many frames the receive queue holds.
     pub fn queue_len(&self) -> Option<u32>
         ensures { result ≡ option_map (λ w. length w.frames) self.now.queue }
     {
@@ -405,7 +405,7 @@ impl InterfaceState {
         }
     }
 
-    /// How many frames the receive queue lost.
+    /// Returns how many frames the receive queue lost.
     pub fn queue_lost(&self) -> Option<u32>
         ensures { result ≡ option_map (λ w. w.lost) self.now.queue }
     {
@@ -415,21 +415,21 @@ impl InterfaceState {
         }
     }
 
-    /// How many observed windows had each bit of the slot status on each channel.
+    /// Returns how many observed windows had each bit of the slot status on each channel.
     pub fn counters(&self) -> Counters
         ensures { result ≡ self.now.counters }
     {
         self.counters
     }
 
-    /// The parameters.
+    /// Returns the parameters.
     pub fn params(&self) -> &Params
         ensures { result.now ≡ self.now.params }
     {
         &self.params
     }
 
-    /// The plan, with its index.
+    /// Returns the plan, with its index.
     pub(crate) fn plan(&self) -> &IndexedPlan
         ensures { result.now ≡ self.now.plan }
     {

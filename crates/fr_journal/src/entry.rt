@@ -83,7 +83,7 @@ impl Entry {
     ghost use Rattle.std.specs.Prelude.{◌≡◌};
     ghost use Rattle.fr_journal.specs.Entries.{is_host};
 
-    /// Whether the entry is the host's.
+    /// Returns whether the entry is the host's.
     pub fn is_host(&self) -> bool
         ensures { result ≡ is_host self.now }
     {

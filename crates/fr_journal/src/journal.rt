@@ -52,7 +52,7 @@ impl Model for Journal {
 impl Journal {
     ghost use Rattle.fr_journal.specs.declared.entry.Entry.TheVariants as entries;
 
-    /// A journal without entries, and with room reserved for all that it may have.
+    /// Returns a journal without entries, and with room reserved for all that it may have.
     ///
     /// `host` and `slot` are its limits, at most 16384 and 65536 entries. Refused where memory for them is refused.
     pub fn with_limits(alloc: Global, host: u32, slot: u32) -> Result<Journal, AllocError>
@@ -74,14 +74,14 @@ impl Journal {
         })
     }
 
-    /// How many entries of the host still fit.
+    /// Returns how many entries of the host still fit.
     pub fn host_room(&self) -> u32
         ensures { result ≡ host_room self.now }
     {
         self.host_limit - self.host_count
     }
 
-    /// How many entries of the controller still fit.
+    /// Returns how many entries of the controller still fit.
     pub fn slot_room(&self) -> u32
         ensures { result ≡ slot_room self.now }
     {
@@ -138,7 +138,7 @@ impl Journal {
         self.last_mark = place;
     }
 
-    /// The number of entries.
+    /// Returns the number of entries.
     #[tactic(auto, using(crate::proofs::KindLemmas::kinds_fill))]
     pub fn len(&self) -> u32
         ensures value { result ≡ length self.now.entries }
@@ -147,14 +147,14 @@ impl Journal {
         self.host_count + self.slot_count
     }
 
-    /// Whether there is no entry.
+    /// Returns whether there is no entry.
     pub fn is_empty(&self) -> bool
         ensures { IsTrue result ↔ (self.now.entries ≡ []) }
     {
         self.shorts.is_empty()
     }
 
-    /// The entry of this number, counted from 0.
+    /// Returns the entry of this number, counted from 0.
     pub fn get(&self, number: u32) -> Option<Entry>
         ensures { result ≡ slice_get self.now.entries number }
     {
@@ -171,8 +171,8 @@ impl Journal {
         Some(lent_entry(self.pool.as_slice(), *short))
     }
 
-    /// The window that the entry of this number closes: the one that is open before it, if one is and the entry is an
-    /// observe. `None` too where there is no such entry.
+    /// Returns the window that the entry of this number closes: the one that is open before it, if one is and the entry
+    /// is an observe. `None` too where there is no such entry.
     pub fn closed_window(&self, number: u32) -> Option<Window>
         ensures { result
             ≡ option_and_then (closed_window (take number self.now.entries)) (slice_get self.now.entries number) }

@@ -49,7 +49,7 @@ pub enum LentEntry<'a> {
     },
 }
 
-/// A copy of the payload of a lent commit.
+/// Returns a copy of the payload of a lent commit.
 pub fn payload_of(bytes: &[u8]) -> Payload
     requires { IsPayload bytes.now }
     ensures { result ≡ bytes.now }

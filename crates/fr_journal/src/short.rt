@@ -79,7 +79,7 @@ impl ShortEntry {
     ghost use Rattle.std.specs.Prelude.{◌≡◌};
     ghost use Rattle.fr_journal.specs.Marks.{fetched_window, last_mark};
 
-    /// The window that the entry fetched, if it is a fetch.
+    /// Returns the window that the entry fetched, if it is a fetch.
     fn fetched_window(&self) -> Option<Window>
         ensures { result ≡ fetched_window self.now }
     {
@@ -93,7 +93,8 @@ impl ShortEntry {
         }
     }
 
-    /// Where the last fetch or observe before the entry stands, or 0 where none does, if the entry is an observe.
+    /// Returns where the last fetch or observe before the entry stands, or 0 where none does, if the entry is an
+    /// observe.
     fn last_mark(&self) -> Option<u32>
         ensures { result ≡ last_mark self.now }
     {
@@ -108,14 +109,15 @@ impl ShortEntry {
     }
 }
 
-/// The window that the entry at this place fetched, if there is a fetch.
+/// Returns the window that the entry at this place fetched, if there is a fetch.
 pub(crate) fn fetched_at(shorts: &[ShortEntry], place: u32) -> Option<Window>
     ensures { result ≡ fetched_at shorts.now place }
 {
     shorts.get(place as usize)?.fetched_window()
 }
 
-/// Where the last fetch or observe before the entry at this place stands, or 0 where none does, if there is an observe.
+/// Returns where the last fetch or observe before the entry at this place stands, or 0 where none does, if there is an
+/// observe.
 pub(crate) fn mark_at(shorts: &[ShortEntry], place: u32) -> Option<u32>
     ensures { result ≡ mark_at shorts.now place }
 {
@@ -143,7 +145,7 @@ fn kept_bytes(pool: &mut Vec<u8>, bytes: &[u8]) -> Stretch
     }
 }
 
-/// What was seen in short form, its bytes at the end of the pool.
+/// Returns what was seen in short form, its bytes at the end of the pool.
 fn shortened_seen(pool: &mut Vec<u8>, seen: &Seen) -> ShortSeen
     requires room { length pool.old.items + most_frame_bytes ≤ vec_capacity pool.old }
     requires few { length pool.old.items + most_frame_bytes < 2 ^ 32 }
@@ -163,7 +165,7 @@ fn shortened_seen(pool: &mut Vec<u8>, seen: &Seen) -> ShortSeen
     }
 }
 
-/// A commit in short form, its payload at the end of the pool.
+/// Returns a commit in short form, its payload at the end of the pool.
 pub(crate) fn shortened_commit(
     pool: &mut Vec<u8>,
     task: TaskId,
@@ -183,7 +185,8 @@ pub(crate) fn shortened_commit(
     }
 }
 
-/// An observe in short form, with where the last fetch or observe before it stands, its bytes at the end of the pool.
+/// Returns an observe in short form, with where the last fetch or observe before it stands, its bytes at the end of the
+/// pool.
 pub(crate) fn shortened_observe(
     pool: &mut Vec<u8>,
     mark: u32,
@@ -208,7 +211,7 @@ pub(crate) fn shortened_observe(
     }
 }
 
-/// An entry of the host in short form, its bytes at the end of the pool.
+/// Returns an entry of the host in short form, its bytes at the end of the pool.
 pub(crate) fn shortened_host(pool: &mut Vec<u8>, entry: &Entry) -> ShortEntry
     requires kind { IsTrue (is_host entry.now) }
     requires room { length pool.old.items + most_payload_bytes ≤ vec_capacity pool.old }
@@ -240,8 +243,8 @@ pub(crate) fn shortened_host(pool: &mut Vec<u8>, entry: &Entry) -> ShortEntry
     }
 }
 
-/// An entry of the controller in short form, with where the last fetch or observe before it stands, its bytes at the
-/// end of the pool.
+/// Returns an entry of the controller in short form, with where the last fetch or observe before it stands, its bytes
+/// at the end of the pool.
 pub(crate) fn shortened_slot(pool: &mut Vec<u8>, mark: u32, entry: &Entry) -> ShortEntry
     requires kind { is_host entry.now ≡ false }
     requires room { length pool.old.items + most_seen_bytes ≤ vec_capacity pool.old }
@@ -262,7 +265,7 @@ pub(crate) fn shortened_slot(pool: &mut Vec<u8>, mark: u32, entry: &Entry) -> Sh
     }
 }
 
-/// The bytes of a stretch of the pool.
+/// Returns the bytes of a stretch of the pool.
 fn bytes_at(pool: &[u8], stretch: Stretch) -> &[u8]
     requires order { stretch.start ≤ stretch.end }
     requires within { stretch.end ≤ length pool.now }
@@ -271,7 +274,7 @@ fn bytes_at(pool: &[u8], stretch: Stretch) -> &[u8]
     &pool[stretch.start as usize..stretch.end as usize]
 }
 
-/// What was seen, with its bytes from the pool.
+/// Returns what was seen, with its bytes from the pool.
 fn restored_seen(pool: &[u8], seen: ShortSeen) -> Seen
     requires { IsShortSeen (length pool.now) seen }
     ensures { result ≡ restored_seen pool.now seen }
@@ -286,7 +289,7 @@ fn restored_seen(pool: &[u8], seen: ShortSeen) -> Seen
     }
 }
 
-/// A copy of at most as many bytes as a frame has.
+/// Returns a copy of at most as many bytes as a frame has.
 fn frame_bytes(bytes: &[u8]) -> Bytes
     requires { length bytes.now ≤ most_frame_bytes }
     ensures { result.items ≡ bytes.now }
@@ -298,7 +301,7 @@ fn frame_bytes(bytes: &[u8]) -> Bytes
     copy
 }
 
-/// What was seen, with its bytes in the pool.
+/// Returns what was seen, with its bytes in the pool.
 fn lent_seen(pool: &[u8], seen: ShortSeen) -> LentSeen<'_>
     requires { IsShortSeen (length pool.now) seen }
     ensures { whole_seen result ≡ restored_seen pool.now seen }
@@ -313,7 +316,7 @@ fn lent_seen(pool: &[u8], seen: ShortSeen) -> LentSeen<'_>
     }
 }
 
-/// The entry, with its bytes in the pool.
+/// Returns the entry, with its bytes in the pool.
 pub(crate) fn lent_entry(pool: &[u8], entry: ShortEntry) -> LentEntry<'_>
     requires { IsShort (length pool.now) entry }
     ensures entry { whole result ≡ restored pool.now entry }
@@ -341,7 +344,7 @@ pub(crate) fn lent_entry(pool: &[u8], entry: ShortEntry) -> LentEntry<'_>
     }
 }
 
-/// The entry, with its bytes from the pool.
+/// Returns the entry, with its bytes from the pool.
 pub(crate) fn whole_entry(pool: &[u8], entry: ShortEntry) -> Entry
     requires { IsShort (length pool.now) entry }
     ensures { result ≡ restored pool.now entry }

@@ -42,7 +42,8 @@ impl<L: Ledger> Model for Share<L> {
     ghost invariant = { λ s. s.part.parts ≡ 1 };
 }
 
-/// The book of a ledger, the desk's share and one for each of 0 to 255 tasks, all without a post (project-defined).
+/// Returns the book of a ledger, the desk's share and one for each of 0 to 255 tasks, all without a post
+/// (project-defined).
 ///
 /// The blank is the ledger's, cut into a part for the desk and one for each task. Refused where memory for the list of
 /// the tasks' shares is refused.
@@ -81,8 +82,8 @@ pub fn post<L: Ledger>(book: &mut Book<L>, share: &mut Share<L>)
     book.count += 1;
 }
 
-/// How many posts were made with the desk's share and the tasks' shares together, which is what the book counts, since
-/// these are all parts of the ledger (project-defined).
+/// Returns how many posts were made with the desk's share and the tasks' shares together, which is what the book
+/// counts, since these are all parts of the ledger (project-defined).
 pub fn gather<L: Ledger>(book: &mut Book<L>, desk: Share<L>, tasks: Vec<Share<L>>) -> u64
     requires all { L.parts ≡ parts_for (vec_len tasks) }
     ensures sum { result ≡ posts_of desk tasks.items }

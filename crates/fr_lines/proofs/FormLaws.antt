@@ -83,8 +83,7 @@ window_right n c m a b w h =
     let (cycle, kc, h1) = bind_some (number_in 64 c) _ w h0 in
     let (minislot, km, h2) = bind_some (number_in 8001 m) _ w h1 in
     let (on_a, ka, h3) = bind_some (optional_slot_in a) _ w h2 in
-    let (on_b, kb, h4) = bind_some (optional_slot_in b) _ w h3 in
-    (
+    let (on_b, kb, h4) = bind_some (optional_slot_in b) _ w h3 in (
       known (number_in (2 ^ 32) n) number kn,
       known (number_in 64 c) cycle kc,
       known (number_in 8001 m) minislot km,
@@ -268,7 +267,7 @@ own_right v (s ∷ c ∷ y ∷ t ∷ rest) x h =
     let (x3, k3, h3) = bind_some (flag_in t) _ x h2 in
     let (x4, k4, h4) = bind_some (own_cycles_in v rest) _ x h3 in
     let front = λ (forms : List WordForm) (right : wrong_at forms rest ≡ None). own_front forms s c y t rest
-        (known (slot_in s) x0 k0) (known (channels_in c) x1 k1) (known (flag_in y) x2 k2) (known (flag_in t) x3 k3) right in
+    (known (slot_in s) x0 k0) (known (channels_in c) x1 k1) (known (flag_in y) x2 k2) (known (flag_in t) x3 k3) right in
     elim (cases_Bool (has_own_cycles v)) [
       | inl long ↦ rw long (front _ (last_cycles_right rest x4 (rw long at k4)))
       | inr short ↦ rw short (front _ (end_right every_cycle x4 rest (rw short at k4)))
@@ -356,22 +355,22 @@ plan_lines v (kind ∷ words) x h =
           let (o, is) = mapped plan_line.Own (ownership_in v words) x own.1 in
           begun v kind (codes "own") words (Some (own_forms v)) own.0 refl (after (own_forms v) words (own_right v words o is))
       | inr h1 ↦ elim (word_or kind (codes "tx") (option_map plan_line.Buffer (transmit_in words)) _ x h1) [
-          | inl tx ↦
-              let (o, is) = mapped plan_line.Buffer (transmit_in words) x tx.1 in
-              begun v kind (codes "tx") words (Some tx_forms) tx.0 refl (after tx_forms words (tx_right words o is))
-          | inr h2 ↦ elim (word_or kind (codes "rx") (option_map plan_line.Buffer (receive_in words)) _ x h2) [
-              | inl rx ↦
-                  let (o, is) = mapped plan_line.Buffer (receive_in words) x rx.1 in
-                  begun v kind (codes "rx") words (Some rx_forms) rx.0 refl (after rx_forms words (rx_right words o is))
-              | inr h3 ↦ elim (word_or kind (codes "queue") (option_map plan_line.Queue (reception_in words)) _ x h3) [
-                  | inl queue ↦
-                      let (o, is) = mapped plan_line.Queue (reception_in words) x queue.1 in
-                      begun v kind (codes "queue") words (Some queue_forms) queue.0 refl
-                          (after queue_forms words (queue_right words o is))
-                  | inr h4 ↦ cc h4
-                ]
-            ]
+        | inl tx ↦
+            let (o, is) = mapped plan_line.Buffer (transmit_in words) x tx.1 in
+            begun v kind (codes "tx") words (Some tx_forms) tx.0 refl (after tx_forms words (tx_right words o is))
+        | inr h2 ↦ elim (word_or kind (codes "rx") (option_map plan_line.Buffer (receive_in words)) _ x h2) [
+          | inl rx ↦
+              let (o, is) = mapped plan_line.Buffer (receive_in words) x rx.1 in
+              begun v kind (codes "rx") words (Some rx_forms) rx.0 refl (after rx_forms words (rx_right words o is))
+          | inr h3 ↦ elim (word_or kind (codes "queue") (option_map plan_line.Queue (reception_in words)) _ x h3) [
+            | inl queue ↦
+                let (o, is) = mapped plan_line.Queue (reception_in words) x queue.1 in
+                begun v kind (codes "queue") words (Some queue_forms) queue.0 refl
+                (after queue_forms words (queue_right words o is))
+            | inr h4 ↦ cc h4
+          ]
         ]
+      ]
     ]
 
 slot_lines : (v : Version) (kind : List ℕ) (words : List (List ℕ)) (x : Entry)
@@ -383,10 +382,10 @@ slot_lines v kind words x h =
       | inl fetch ↦ begun v kind (codes "fetch") words (Some fetch_forms) fetch.0 refl
           (after fetch_forms words (fetch_right words x fetch.1))
       | inr h1 ↦ elim (word_or kind (codes "see") (observe_in words) _ x h1) [
-          | inl see ↦ begun v kind (codes "see") words (Some see_forms) see.0 refl
-              (after see_forms words (see_right words x see.1))
-          | inr h2 ↦ cc h2
-        ]
+        | inl see ↦ begun v kind (codes "see") words (Some see_forms) see.0 refl
+            (after see_forms words (see_right words x see.1))
+        | inr h2 ↦ cc h2
+      ]
     ]
 
 pub entry_lines : (v : Version) (words : List (List ℕ)) (x : Entry) → entry_in v words ≡ Some x → wrong_in v words ≡ None
@@ -397,18 +396,18 @@ entry_lines v (kind ∷ words) x h =
       | inl commit ↦ begun v kind (codes "commit") words (Some commit_forms) commit.0 refl
           (after commit_forms words (commit_right words x commit.1))
       | inr h1 ↦ elim (word_or kind (codes "withdraw") (withdraw_in v words) _ x h1) [
-          | inl withdraw ↦ begun v kind (codes "withdraw") words (if has_withdraws v then Some withdraw_forms else None)
-              withdraw.0 refl (withdraw_right v words x withdraw.1)
-          | inr h2 ↦ elim (word_or kind (codes "read") (read_in words) _ x h2) [
-              | inl read ↦ begun v kind (codes "read") words (Some read_forms) read.0 refl
-                  (after read_forms words (read_right words x read.1))
-              | inr h3 ↦ elim (word_or kind (codes "pop") (pop_in words) _ x h3) [
-                  | inl pop ↦ begun v kind (codes "pop") words (Some pop_forms) pop.0 refl
-                      (after pop_forms words (pop_right words x pop.1))
-                  | inr h4 ↦ slot_lines v kind words x h4
-                ]
-            ]
+        | inl withdraw ↦ begun v kind (codes "withdraw") words (if has_withdraws v then Some withdraw_forms else None)
+            withdraw.0 refl (withdraw_right v words x withdraw.1)
+        | inr h2 ↦ elim (word_or kind (codes "read") (read_in words) _ x h2) [
+          | inl read ↦ begun v kind (codes "read") words (Some read_forms) read.0 refl
+              (after read_forms words (read_right words x read.1))
+          | inr h3 ↦ elim (word_or kind (codes "pop") (pop_in words) _ x h3) [
+            | inl pop ↦ begun v kind (codes "pop") words (Some pop_forms) pop.0 refl
+                (after pop_forms words (pop_right words x pop.1))
+            | inr h4 ↦ slot_lines v kind words x h4
+          ]
         ]
+      ]
     ]
 
 -- ---- lines with the same words up to the wrong one

@@ -58,7 +58,7 @@ impl EntryBytes {
     ghost use Rattle.std.specs.Prelude.{◌≡◌, []};
     ghost use Rattle.fr_status.specs.declared.seen.Seen.TheVariants as seen;
 
-    /// The place before an entry was read: a payload without bytes, and silence on both channels.
+    /// Returns the place before an entry was read: a payload without bytes, and silence on both channels.
     pub fn new() -> EntryBytes
         ensures { result ≡ record { payload = []; a = seen.Silence; b = seen.Silence } }
     {

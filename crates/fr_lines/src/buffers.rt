@@ -10,7 +10,7 @@ use crate::parts::{filter_of, flag_of, mode_of, size_of};
 use fr_slots::plan::{Buffer, Mode};
 use fr_text::words::Words;
 
-/// The transmit buffer that the words spell.
+/// Returns the transmit buffer that the words spell.
 #[tactic(auto, unfolding(crate::specs::Reading::transmit_in))]
 pub(crate) fn transmit_of(words: &mut Words<'_>) -> Option<Buffer>
     ensures { result ≡ transmit_in words.old }
@@ -29,7 +29,7 @@ pub(crate) fn transmit_of(words: &mut Words<'_>) -> Option<Buffer>
     })
 }
 
-/// The receive buffer that the words spell.
+/// Returns the receive buffer that the words spell.
 #[tactic(auto, unfolding(crate::specs::Reading::receive_in))]
 pub(crate) fn receive_of(words: &mut Words<'_>) -> Option<Buffer>
     ensures { result ≡ receive_in words.old }
@@ -44,7 +44,7 @@ pub(crate) fn receive_of(words: &mut Words<'_>) -> Option<Buffer>
     })
 }
 
-/// The buffer that the line spells.
+/// Returns the buffer that the line spells.
 #[tactic(auto, unfolding(crate::specs::Reading::buffer_in))]
 fn buffer_in(line: &[u8]) -> Option<Buffer>
     ensures { result ≡ buffer_in (words_of line.now) }
@@ -57,7 +57,7 @@ fn buffer_in(line: &[u8]) -> Option<Buffer>
     }
 }
 
-/// The buffer of a line `tx` or `rx`, which a plan takes as long as it has room.
+/// Returns the buffer of a line `tx` or `rx`, which a plan takes as long as it has room.
 ///
 /// `None` for a line of another form, for a slot that isn't 1 to 2047, for more than 127 words, and where base and
 /// repetition are no cycle filter (chapter 9): the repetition is 1, 2, 4, 8, 16, 32 or 64, and the base is below it.

@@ -21,7 +21,7 @@ use fr_slots::numbers::{Cycle, SlotId, TaskId};
 use fr_slots::window::Window;
 use fr_text::words::Words;
 
-/// The task that the next word spells.
+/// Returns the task that the next word spells.
 fn next_task(words: &mut Words<'_>) -> Option<TaskId>
     ensures task { result ≡ first_in (number_in 8) words.old }
     ensures left { words.new ≡ drop 1 words.old }
@@ -30,7 +30,7 @@ fn next_task(words: &mut Words<'_>) -> Option<TaskId>
     TaskId::new(number as u8)
 }
 
-/// The commit that the words spell.
+/// Returns the commit that the words spell.
 #[tactic(auto, unfolding(crate::specs::Reading::commit_in))]
 fn commit_of(words: &mut Words<'_>, bytes: &mut EntryBytes) -> Option<BareEntry>
     ensures { option_map (with_bytes bytes.new) result ≡ commit_in words.old }
@@ -47,7 +47,7 @@ fn commit_of(words: &mut Words<'_>, bytes: &mut EntryBytes) -> Option<BareEntry>
     })
 }
 
-/// The withdraw that the words spell.
+/// Returns the withdraw that the words spell.
 #[tactic(auto, unfolding(crate::specs::Reading::told_withdraw_in))]
 fn told_withdraw_of(words: &mut Words<'_>) -> Option<BareEntry>
     ensures { (bytes : EntryBytes) → option_map (with_bytes bytes) result ≡ told_withdraw_in words.old }
@@ -63,7 +63,7 @@ fn told_withdraw_of(words: &mut Words<'_>) -> Option<BareEntry>
     })
 }
 
-/// The withdraw that the words spell, in a version that has such a line.
+/// Returns the withdraw that the words spell, in a version that has such a line.
 #[tactic(auto, unfolding(crate::specs::Reading::withdraw_in))]
 fn withdraw_of(version: Version, words: &mut Words<'_>) -> Option<BareEntry>
     ensures { (bytes : EntryBytes) → option_map (with_bytes bytes) result ≡ withdraw_in version words.old }
@@ -74,7 +74,7 @@ fn withdraw_of(version: Version, words: &mut Words<'_>) -> Option<BareEntry>
     told_withdraw_of(words)
 }
 
-/// The read that the words spell.
+/// Returns the read that the words spell.
 #[tactic(auto, unfolding(crate::specs::Reading::read_in))]
 fn read_of(words: &mut Words<'_>) -> Option<BareEntry>
     ensures { (bytes : EntryBytes) → option_map (with_bytes bytes) result ≡ read_in words.old }
@@ -90,7 +90,7 @@ fn read_of(words: &mut Words<'_>) -> Option<BareEntry>
     })
 }
 
-/// The pop that the words spell.
+/// Returns the pop that the words spell.
 #[tactic(auto, unfolding(crate::specs::Reading::pop_in))]
 fn pop_of(words: &mut Words<'_>) -> Option<BareEntry>
     ensures { (bytes : EntryBytes) → option_map (with_bytes bytes) result ≡ pop_in words.old }
@@ -101,7 +101,7 @@ fn pop_of(words: &mut Words<'_>) -> Option<BareEntry>
     Some(BareEntry::Pop { task, from })
 }
 
-/// The slot that the next word spells, or none for `-`.
+/// Returns the slot that the next word spells, or none for `-`.
 #[tactic(auto, unfolding(crate::specs::PartReading::optional_slot_in, crate::specs::PartReading::slot_in))]
 fn next_slot(words: &mut Words<'_>) -> Option<Option<SlotId>>
     ensures slot { result ≡ first_in optional_slot_in words.old }
@@ -117,7 +117,7 @@ fn next_slot(words: &mut Words<'_>) -> Option<Option<SlotId>>
     }
 }
 
-/// What the next word says that a channel was offered.
+/// Returns what the next word says that a channel was offered.
 #[tactic(auto, unfolding(crate::specs::PartReading::offered_in))]
 fn next_offered(words: &mut Words<'_>) -> Option<Offered>
     ensures offered { result ≡ first_in offered_in words.old }
@@ -131,7 +131,7 @@ fn next_offered(words: &mut Words<'_>) -> Option<Offered>
     }
 }
 
-/// The window that the next five words spell.
+/// Returns the window that the next five words spell.
 #[tactic(auto, unfolding(crate::specs::PartReading::window_in))]
 fn next_window(words: &mut Words<'_>) -> Option<Window>
     ensures window { result ≡ window_first words.old }
@@ -151,7 +151,7 @@ fn next_window(words: &mut Words<'_>) -> Option<Window>
     )
 }
 
-/// The fetch that the words spell.
+/// Returns the fetch that the words spell.
 #[tactic(auto, unfolding(crate::specs::Reading::fetch_in))]
 fn fetch_of(words: &mut Words<'_>) -> Option<BareEntry>
     ensures { (bytes : EntryBytes) → option_map (with_bytes bytes) result ≡ fetch_in words.old }
@@ -163,7 +163,7 @@ fn fetch_of(words: &mut Words<'_>) -> Option<BareEntry>
     Some(BareEntry::Fetch { window, a, b })
 }
 
-/// The observe that the words spell.
+/// Returns the observe that the words spell.
 #[tactic(auto, unfolding(crate::specs::Reading::observe_in))]
 fn observe_of(words: &mut Words<'_>, bytes: &mut EntryBytes) -> Option<BareEntry>
     ensures { option_map (with_bytes bytes.new) result ≡ observe_in words.old }
@@ -178,7 +178,7 @@ fn observe_of(words: &mut Words<'_>, bytes: &mut EntryBytes) -> Option<BareEntry
     })
 }
 
-/// The entry that the line spells, by its first word.
+/// Returns the entry that the line spells, by its first word.
 #[tactic(auto, unfolding(crate::specs::Reading::entry_in))]
 fn entry_in(version: Version, line: &[u8], bytes: &mut EntryBytes) -> Option<BareEntry>
     ensures { option_map (with_bytes bytes.new) result ≡ entry_in version (words_of line.now) }
@@ -206,8 +206,8 @@ fn entry_in(version: Version, line: &[u8], bytes: &mut EntryBytes) -> Option<Bar
     None
 }
 
-/// The entry of a line `commit`, `withdraw`, `read`, `pop`, `fetch` or `see` in a text of this version, without its
-/// bytes, which are read in place of those before. Where it is `None`, what they are isn't told.
+/// Returns the entry of a line `commit`, `withdraw`, `read`, `pop`, `fetch` or `see` in a text of this version, without
+/// its bytes, which are read in place of those before. Where it is `None`, what they are isn't told.
 ///
 /// `None` for a line of another form, for `withdraw` in version 1, and where a number is out of its range: a task is
 /// 0 to 7, a buffer 0 to 63, the bytes of a commit are an even number, at most 254, the number of a window or of an

@@ -7,7 +7,7 @@ use fr_frame::lent::LentFrame;
 use std::io;
 use std::io::Write;
 
-/// The letter of what is so, and a dash for what isn't.
+/// Returns the letter of what is so, and a dash for what isn't.
 fn mark(letter: &'static str, is_so: bool) -> &'static str
     ensures { result.now ≡ mark letter.entry.now is_so }
 {

@@ -10,7 +10,7 @@ use fr_slots::plan::NodePlan;
 use fr_text::numbers::number_of;
 use fr_text::words::Words;
 
-/// The plan of the five numbers that the words spell.
+/// Returns the plan of the five numbers that the words spell.
 #[tactic(auto, unfolding(crate::specs::Reading::limits_in))]
 fn limits_of(words: &mut Words<'_>) -> Option<NodePlan>
     ensures { result ≡ limits_in words.old }
@@ -33,7 +33,7 @@ fn limits_of(words: &mut Words<'_>) -> Option<NodePlan>
     }
 }
 
-/// The plan that the line spells.
+/// Returns the plan that the line spells.
 #[tactic(auto, unfolding(crate::specs::Reading::node_in))]
 fn node_in(line: &[u8]) -> Option<NodePlan>
     ensures { result ≡ node_in (words_of line.now) }
@@ -45,7 +45,7 @@ fn node_in(line: &[u8]) -> Option<NodePlan>
     }
 }
 
-/// The plan that a line `node` begins, which has no ownership lines, no buffers and no queue yet.
+/// Returns the plan that a line `node` begins, which has no ownership lines, no buffers and no queue yet.
 ///
 /// `None` for a line of another form and where a number is out of its range: 0 to 8 tasks, a latest minislot from 0
 /// to 8000 for channel A and for B, room for 1 to 16384 host entries and for 2 to 65536 slot entries.

@@ -13,14 +13,14 @@ use fr_slots::filter::CycleFilter;
 use fr_slots::plan::{Own, own_fits};
 use fr_text::words::Words;
 
-/// The ownership line, where a plan can have it.
+/// Returns the ownership line, where a plan can have it.
 fn fitting(own: Own) -> Option<Own>
     ensures { result ≡ fitting_own own }
 {
     if own_fits(&own) { Some(own) } else { None }
 }
 
-/// The cycles that the words spell, which are the line's last.
+/// Returns the cycles that the words spell, which are the line's last.
 #[tactic(auto, unfolding(crate::specs::Reading::last_cycles_in))]
 fn last_cycles_of(words: &mut Words<'_>) -> Option<CycleFilter>
     ensures { result ≡ last_cycles_in words.old }
@@ -29,7 +29,7 @@ fn last_cycles_of(words: &mut Words<'_>) -> Option<CycleFilter>
     cycles_of(base, repetition)
 }
 
-/// The cycles of an ownership: those that the words spell, or every cycle in a version whose line has none.
+/// Returns the cycles of an ownership: those that the words spell, or every cycle in a version whose line has none.
 #[tactic(auto, unfolding(crate::specs::Reading::own_cycles_in))]
 fn own_cycles_of(version: Version, words: &mut Words<'_>) -> Option<CycleFilter>
     ensures { result ≡ own_cycles_in version words.old }
@@ -41,7 +41,7 @@ fn own_cycles_of(version: Version, words: &mut Words<'_>) -> Option<CycleFilter>
     Some(CycleFilter::default())
 }
 
-/// The ownership line that the words spell.
+/// Returns the ownership line that the words spell.
 #[tactic(auto, unfolding(crate::specs::Reading::ownership_in))]
 pub(crate) fn ownership_of(version: Version, words: &mut Words<'_>) -> Option<Own>
     ensures { result ≡ ownership_in version words.old }
@@ -61,7 +61,7 @@ pub(crate) fn ownership_of(version: Version, words: &mut Words<'_>) -> Option<Ow
     })
 }
 
-/// The ownership line that the line spells.
+/// Returns the ownership line that the line spells.
 #[tactic(auto, unfolding(crate::specs::Reading::own_in))]
 fn own_in(version: Version, line: &[u8]) -> Option<Own>
     ensures { result ≡ own_in version (words_of line.now) }
@@ -73,8 +73,8 @@ fn own_in(version: Version, line: &[u8]) -> Option<Own>
     }
 }
 
-/// The ownership of a line `own` in a text of this version, which a plan takes as long as it has room. In versions 1
-/// and 2 it is for every cycle.
+/// Returns the ownership of a line `own` in a text of this version, which a plan takes as long as it has room. In
+/// versions 1 and 2 it is for every cycle.
 ///
 /// `None` for a line of another form, as one with cycles in versions 1 and 2 and one without in version 3; for a slot
 /// that isn't 1 to 1023; for startup frames that aren't sync frames; and where base and repetition are no cycle filter

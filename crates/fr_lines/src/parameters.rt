@@ -8,7 +8,7 @@ ghost use Rattle.fr_lines.specs.Spelling.{params_words};
 use fr_text::numbers::number_of;
 use fr_text::words::Words;
 
-/// The number of at most 32 bits that the word spells.
+/// Returns the number of at most 32 bits that the word spells.
 #[tactic(auto, unfolding(crate::specs::Reading::parameter_in))]
 fn parameter_of(word: &[u8]) -> Option<i64>
     ensures { result ≡ parameter_in word.now }
@@ -17,7 +17,7 @@ fn parameter_of(word: &[u8]) -> Option<i64>
     Some(number as i64)
 }
 
-/// The numbers that the next five words spell.
+/// Returns the numbers that the next five words spell.
 #[tactic(auto, unfolding(crate::specs::Reading::five_in))]
 fn five_of(words: &mut Words<'_>) -> Option<(i64, i64, i64, i64, i64)>
     ensures { option_map (λ numbers. (numbers, words.new)) result ≡ five_in words.old }
@@ -32,7 +32,7 @@ fn five_of(words: &mut Words<'_>) -> Option<(i64, i64, i64, i64, i64)>
     ))
 }
 
-/// The ten numbers that the words spell.
+/// Returns the ten numbers that the words spell.
 #[tactic(auto, unfolding(crate::specs::Reading::ten_in))]
 fn ten_of(words: &mut Words<'_>) -> Option<[i64; 10]>
     ensures { result ≡ ten_in words.old }
@@ -43,7 +43,7 @@ fn ten_of(words: &mut Words<'_>) -> Option<[i64; 10]>
     Some([a, b, c, d, e, f, g, h, i, j])
 }
 
-/// The ten numbers that the line spells.
+/// Returns the ten numbers that the line spells.
 #[tactic(auto, unfolding(crate::specs::Reading::params_in))]
 fn params_in(line: &[u8]) -> Option<[i64; 10]>
     ensures { result ≡ params_in (words_of line.now) }
@@ -55,7 +55,7 @@ fn params_in(line: &[u8]) -> Option<[i64; 10]>
     }
 }
 
-/// The ten numbers of a line `params`, in the order of `Key`.
+/// Returns the ten numbers of a line `params`, in the order of `Key`.
 ///
 /// `None` for a line of another form and where a number doesn't fit 32 bits. The ranges of the keys are left to
 /// `Params::new`.

@@ -21,7 +21,7 @@ use fr_text::hexes::{bytes_into, bytes_of};
 use fr_text::numbers::number_of;
 use fr_text::words::Words;
 
-/// The node that the word spells, 0 to 15 (project-defined). `None` where it spells none.
+/// Returns the node that the word spells, 0 to 15 (project-defined). `None` where it spells none.
 pub fn node_of(word: &[u8]) -> Option<NodeId>
     ensures { result ≡ number_in 16 word.now }
 {
@@ -29,7 +29,7 @@ pub fn node_of(word: &[u8]) -> Option<NodeId>
     NodeId::new(number as u8)
 }
 
-/// The task that the word spells, 0 to 7 (project-defined). `None` where it spells none.
+/// Returns the task that the word spells, 0 to 7 (project-defined). `None` where it spells none.
 pub fn task_of(word: &[u8]) -> Option<TaskId>
     ensures { result ≡ number_in 8 word.now }
 {
@@ -37,7 +37,7 @@ pub fn task_of(word: &[u8]) -> Option<TaskId>
     TaskId::new(number as u8)
 }
 
-/// The number of a buffer that the word spells, 0 to 63 (project-defined). `None` where it spells none.
+/// Returns the number of a buffer that the word spells, 0 to 63 (project-defined). `None` where it spells none.
 pub fn buffer_of(word: &[u8]) -> Option<u8>
     ensures { result ≡ number_in 64 word.now }
 {
@@ -45,7 +45,7 @@ pub fn buffer_of(word: &[u8]) -> Option<u8>
     Some(number as u8)
 }
 
-/// The one channel that the word spells, `A` or `B` (project-defined). `None` where it spells none.
+/// Returns the one channel that the word spells, `A` or `B` (project-defined). `None` where it spells none.
 #[tactic(auto, unfolding(crate::specs::PartReading::channel_in))]
 pub fn channel_of(word: &[u8]) -> Option<Channel>
     ensures { result ≡ channel_in word.now }
@@ -57,7 +57,7 @@ pub fn channel_of(word: &[u8]) -> Option<Channel>
     }
 }
 
-/// The slot that the word spells, 1 to 2047.
+/// Returns the slot that the word spells, 1 to 2047.
 #[tactic(auto, unfolding(crate::specs::PartReading::slot_in))]
 pub(crate) fn slot_of(word: &[u8]) -> Option<SlotId>
     ensures { result ≡ slot_in word.now }
@@ -66,7 +66,7 @@ pub(crate) fn slot_of(word: &[u8]) -> Option<SlotId>
     SlotId::new(number as u16)
 }
 
-/// The channels that the word spells.
+/// Returns the channels that the word spells.
 #[tactic(auto, unfolding(crate::specs::PartReading::channels_in))]
 pub(crate) fn channels_of(word: &[u8]) -> Option<Channels>
     ensures { result ≡ channels_in word.now }
@@ -79,7 +79,7 @@ pub(crate) fn channels_of(word: &[u8]) -> Option<Channels>
     }
 }
 
-/// The cycles of this base and this repetition, where these are a lawful filter.
+/// Returns the cycles of this base and this repetition, where these are a lawful filter.
 #[tactic(auto, unfolding(crate::specs::PartReading::cycles_in))]
 pub(crate) fn cycles_of(base: &[u8], repetition: &[u8]) -> Option<CycleFilter>
     ensures { result ≡ cycles_in base.now repetition.now }
@@ -92,7 +92,7 @@ pub(crate) fn cycles_of(base: &[u8], repetition: &[u8]) -> Option<CycleFilter>
     }
 }
 
-/// The filter that the words spell.
+/// Returns the filter that the words spell.
 #[tactic(auto, unfolding(crate::specs::PartReading::filter_in))]
 pub(crate) fn filter_of(
     slot: &[u8],
@@ -112,7 +112,7 @@ pub(crate) fn filter_of(
     })
 }
 
-/// The flag that the word spells, `1` or `0`.
+/// Returns the flag that the word spells, `1` or `0`.
 #[tactic(auto, unfolding(crate::specs::PartReading::flag_in))]
 pub(crate) fn flag_of(word: &[u8]) -> Option<bool>
     ensures { result ≡ flag_in word.now }
@@ -124,7 +124,7 @@ pub(crate) fn flag_of(word: &[u8]) -> Option<bool>
     }
 }
 
-/// The mode of a transmit buffer that the word spells.
+/// Returns the mode of a transmit buffer that the word spells.
 #[tactic(auto, unfolding(crate::specs::PartReading::mode_in))]
 pub(crate) fn mode_of(word: &[u8]) -> Option<Mode>
     ensures { result ≡ mode_in word.now }
@@ -136,7 +136,7 @@ pub(crate) fn mode_of(word: &[u8]) -> Option<Mode>
     }
 }
 
-/// The words of two bytes that the word spells, 0 to 127, or none for `-`.
+/// Returns the words of two bytes that the word spells, 0 to 127, or none for `-`.
 #[tactic(auto, unfolding(crate::specs::PartReading::size_in))]
 pub(crate) fn size_of(word: &[u8]) -> Option<Option<u8>>
     ensures { result ≡ size_in word.now }
@@ -150,8 +150,8 @@ pub(crate) fn size_of(word: &[u8]) -> Option<Option<u8>>
     }
 }
 
-/// The payload that the word spells: whole words of two bytes, at most 254 bytes (project-defined). `None` where it
-/// spells none.
+/// Returns the payload that the word spells: whole words of two bytes, at most 254 bytes (project-defined). `None`
+/// where it spells none.
 #[tactic(auto, unfolding(crate::specs::PartReading::payload_in))]
 pub fn payload_of(word: &[u8]) -> Option<Payload>
     ensures { result ≡ payload_in word.now }
@@ -172,7 +172,7 @@ pub(crate) fn payload_into(word: &[u8], payload: &mut Payload) -> bool
     payload.set_from_slice(bytes.as_slice()).is_ok()
 }
 
-/// The number of the commit that the word says was taken back, or none for `-`.
+/// Returns the number of the commit that the word says was taken back, or none for `-`.
 #[tactic(auto, unfolding(crate::specs::PartReading::taken_back_in))]
 pub(crate) fn taken_back_of(word: &[u8]) -> Option<Option<u32>>
     ensures { result ≡ taken_back_in word.now }
@@ -186,7 +186,7 @@ pub(crate) fn taken_back_of(word: &[u8]) -> Option<Option<u32>>
     }
 }
 
-/// The channel that stands after the number of an entry.
+/// Returns the channel that stands after the number of an entry.
 #[tactic(auto, unfolding(crate::specs::PartReading::marked_channel_in))]
 fn marked_channel_of(mark: &[u8]) -> Option<Channel>
     ensures { result ≡ marked_channel_in mark.now }
@@ -198,7 +198,7 @@ fn marked_channel_of(mark: &[u8]) -> Option<Channel>
     }
 }
 
-/// The entry and channel that the word spells.
+/// Returns the entry and channel that the word spells.
 #[tactic(auto, unfolding(crate::specs::PartReading::origin_in))]
 fn origin_of(word: &[u8]) -> Option<Origin>
     ensures { result ≡ origin_in word.now }
@@ -212,7 +212,7 @@ fn origin_of(word: &[u8]) -> Option<Origin>
     })
 }
 
-/// The entry and channel that the word spells, or none for `-`.
+/// Returns the entry and channel that the word spells, or none for `-`.
 #[tactic(auto, unfolding(crate::specs::PartReading::from_in))]
 pub(crate) fn from_of(word: &[u8]) -> Option<Option<Origin>>
     ensures { result ≡ from_in word.now }
@@ -280,7 +280,7 @@ pub(crate) fn next_seen_into(words: &mut Words<'_>, seen: &mut Seen) -> bool
     }
 }
 
-/// The window of these numbers: at minislot 0 the static slot that both channels open.
+/// Returns the window of these numbers: at minislot 0 the static slot that both channels open.
 pub(crate) fn window_at(
     number: u32,
     cycle: Cycle,

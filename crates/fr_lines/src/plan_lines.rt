@@ -21,8 +21,8 @@ pub enum PlanLine {
     Queue(Queue),
 }
 
-/// What the line tells of a plan in a text of this version: an ownership line, a buffer or the queue, each as its own
-/// function reads it.
+/// Returns what the line tells of a plan in a text of this version: an ownership line, a buffer or the queue, each as
+/// its own function reads it.
 ///
 /// `None` for a line of another form, or with a number out of its range.
 #[tactic(auto, unfolding(crate::specs::Reading::plan_line_in))]

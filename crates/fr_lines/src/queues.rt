@@ -11,7 +11,7 @@ use fr_slots::plan::{Queue, queue_fits};
 use fr_text::numbers::number_of;
 use fr_text::words::Words;
 
-/// The queue, where a plan can have it.
+/// Returns the queue, where a plan can have it.
 fn fitting(queue: Queue) -> Option<Queue>
     ensures { result ≡ fitting_queue queue }
 {
@@ -22,7 +22,7 @@ fn fitting(queue: Queue) -> Option<Queue>
     }
 }
 
-/// The queue that the words spell.
+/// Returns the queue that the words spell.
 #[tactic(auto, unfolding(crate::specs::Reading::reception_in))]
 pub(crate) fn reception_of(words: &mut Words<'_>) -> Option<Queue>
     ensures { result ≡ reception_in words.old }
@@ -43,7 +43,7 @@ pub(crate) fn reception_of(words: &mut Words<'_>) -> Option<Queue>
     })
 }
 
-/// The queue that the line spells.
+/// Returns the queue that the line spells.
 #[tactic(auto, unfolding(crate::specs::Reading::queue_in))]
 fn queue_in(line: &[u8]) -> Option<Queue>
     ensures { result ≡ queue_in (words_of line.now) }
@@ -55,7 +55,7 @@ fn queue_in(line: &[u8]) -> Option<Queue>
     }
 }
 
-/// The receive queue of a line `queue`, which a plan takes where it has none yet.
+/// Returns the receive queue of a line `queue`, which a plan takes where it has none yet.
 ///
 /// `None` for a line of another form, for a capacity that isn't 1 to 256, for slots that aren't 1 to 2047 or of which
 /// the first is above the last, and where base and repetition are no cycle filter (chapter 9; the queue is

@@ -20,7 +20,7 @@ impl Version {
     ghost use Rattle.std.specs.Prelude.{◌≡◌};
     ghost use Rattle.fr_lines.specs.Versions.{has_withdraws, has_own_cycles};
 
-    /// Whether the version has a line for a withdraw.
+    /// Returns whether the version has a line for a withdraw.
     pub(crate) fn has_withdraws(self) -> bool
         ensures { result ≡ has_withdraws self }
     {
@@ -30,7 +30,7 @@ impl Version {
         }
     }
 
-    /// Whether an ownership line of the version has its cycles.
+    /// Returns whether an ownership line of the version has its cycles.
     pub(crate) fn has_own_cycles(self) -> bool
         ensures { result ≡ has_own_cycles self }
     {
@@ -41,7 +41,7 @@ impl Version {
     }
 }
 
-/// The version that the line names.
+/// Returns the version that the line names.
 #[tactic(auto, unfolding(crate::specs::Reading::version_in))]
 fn version_in(line: &[u8]) -> Option<Version>
     ensures { result ≡ version_in line.now }
@@ -58,7 +58,7 @@ fn version_in(line: &[u8]) -> Option<Version>
     None
 }
 
-/// The version of the text that begins with this line.
+/// Returns the version of the text that begins with this line.
 ///
 /// `None` for any line but `frtrace 1`, `frtrace 2` and `frtrace 3`.
 pub fn version_of(line: &[u8]) -> Option<Version>

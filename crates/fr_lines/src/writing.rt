@@ -22,7 +22,7 @@ use fr_text::hexes::write_hex;
 use std::io;
 use std::io::Write;
 
-/// The word of channels: `A`, `B`, or `AB` for both (project-defined).
+/// Returns the word of channels: `A`, `B`, or `AB` for both (project-defined).
 pub fn channels_word(channels: Channels) -> &'static str
     ensures { result.now ≡ channels_word channels }
 {
@@ -33,7 +33,7 @@ pub fn channels_word(channels: Channels) -> &'static str
     }
 }
 
-/// The word of a flag.
+/// Returns the word of a flag.
 fn flag_word(flag: bool) -> &'static str
     ensures { result.now ≡ flag_word flag }
 {

@@ -55,7 +55,7 @@ fn write_window<W: Write>(
     write_heard(writer, params, cycle, sealed, Channel::B)
 }
 
-/// How many cycles began up to this window and with it, where so many began before it, and so many in all.
+/// Returns how many cycles began up to this window and with it, where so many began before it, and so many in all.
 fn begun_with(begun: u16, all: u16, sealed: &Sealed) -> u16
     ensures { result ≡ (if begins_cycle sealed.now && nat_lt begun all then begun + 1 else begun) }
 {

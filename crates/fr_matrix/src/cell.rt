@@ -111,7 +111,7 @@ fn write_title<W: Write>(writer: &mut W, cell: &Cell) -> io::Result<()>
     )
 }
 
-/// The words of what became of a transmission.
+/// Returns the words of what became of a transmission.
 fn fate_text(fate: Fate) -> &'static str
     ensures { result.now ≡ fate_text fate }
 {

@@ -22,7 +22,7 @@ pub const MOST_CYCLES: usize = 64;
 /// How many windows of a cycle it shows.
 pub const MOST_WINDOWS: usize = 512;
 
-/// How far a column stands from the left.
+/// Returns how far a column stands from the left.
 pub(crate) fn across(column: usize) -> u64
     requires { column ≤ 512 }
     ensures { result ≡ across column }
@@ -30,7 +30,7 @@ pub(crate) fn across(column: usize) -> u64
     70 + 22 * (column as u64)
 }
 
-/// How far a row stands from the top.
+/// Returns how far a row stands from the top.
 pub(crate) fn down(row: usize) -> u64
     requires { row ≤ 64 }
     ensures { result ≡ down row }
@@ -38,7 +38,7 @@ pub(crate) fn down(row: usize) -> u64
     90 + 22 * (row as u64)
 }
 
-/// Whether a window of this cycle of the run, before which so many of the cycle were, is drawn.
+/// Returns whether a window of this cycle of the run, before which so many of the cycle were, is drawn.
 fn is_drawn(view: &View, cycle: usize, column: usize) -> bool
     ensures { result ≡ is_drawn view.now cycle column }
 {
@@ -46,7 +46,7 @@ fn is_drawn(view: &View, cycle: usize, column: usize) -> bool
     from <= cycle && cycle - from < MOST_CYCLES && column < MOST_WINDOWS
 }
 
-/// The cell of a window in which the channel has this slot.
+/// Returns the cell of a window in which the channel has this slot.
 fn cell_of(
     params: &Params,
     view: &View,

@@ -45,7 +45,7 @@ pub struct Marks {
     pub turned: bool,
 }
 
-/// What bytes are on the channel.
+/// Returns what bytes are on the channel.
 fn look_read(channel: Channel, bytes: &[u8]) -> Look
     ensures { result ≡ look_read (decoded channel bytes.now) }
 {
@@ -59,7 +59,7 @@ fn look_read(channel: Channel, bytes: &[u8]) -> Look
     }
 }
 
-/// What was seen.
+/// Returns what was seen.
 fn look_of(channel: Channel, seen: &Seen) -> Look
     ensures { result ≡ look_of channel seen.now }
 {
@@ -72,7 +72,7 @@ fn look_of(channel: Channel, seen: &Seen) -> Look
     }
 }
 
-/// What the node of the view sees of the window, and without one what is heard there by who sends nothing
+/// Returns what the node of the view sees of the window, and without one what is heard there by who sends nothing
 /// (project-defined).
 pub fn look_in(params: &Params, view: &View, sealed: &Sealed) -> Look
     ensures { result ≡ look_in params.now view.now sealed.now }
@@ -94,35 +94,35 @@ pub fn sender_in(channel: Channel, sent: &[Sent]) -> Option<NodeId>
     }
 }
 
-/// Whether a guardian stopped it on the channel.
+/// Returns whether a guardian stopped it on the channel.
 fn is_blocked(channel: Channel, sent: &Sent) -> bool
     ensures { result ≡ is_blocked channel sent.now }
 {
     sent.channel == channel && sent.fate == Fate::Blocked
 }
 
-/// Whether a fault lost it on the channel.
+/// Returns whether a fault lost it on the channel.
 fn is_lost(channel: Channel, sent: &Sent) -> bool
     ensures { result ≡ is_lost channel sent.now }
 {
     sent.channel == channel && sent.fate == Fate::Muted
 }
 
-/// Whether a guardian stopped any of them on the channel.
+/// Returns whether a guardian stopped any of them on the channel.
 fn any_blocked(channel: Channel, sent: &[Sent]) -> bool
     ensures { result ≡ list_any (is_blocked channel) sent.now }
 {
     sent.iter().any(|t| is_blocked(channel, t))
 }
 
-/// Whether a fault lost any of them on the channel.
+/// Returns whether a fault lost any of them on the channel.
 fn any_lost(channel: Channel, sent: &[Sent]) -> bool
     ensures { result ≡ list_any (is_lost channel) sent.now }
 {
     sent.iter().any(|t| is_lost(channel, t))
 }
 
-/// The bit that a fault turned of what came through on the channel, if any (project-defined).
+/// Returns the bit that a fault turned of what came through on the channel, if any (project-defined).
 pub fn turned_bit(params: &Params, channel: Channel, sealed: &Sealed) -> Option<u16>
     ensures { result ≡ turned_bit params.now channel sealed.now }
 {
@@ -132,7 +132,7 @@ pub fn turned_bit(params: &Params, channel: Channel, sealed: &Sealed) -> Option<
     }
 }
 
-/// What became of the transmissions on the channel (project-defined).
+/// Returns what became of the transmissions on the channel (project-defined).
 pub fn marks_in(params: &Params, channel: Channel, sealed: &Sealed) -> Marks
     ensures { result ≡ marks_in params.now channel sealed.now }
 {
@@ -143,7 +143,7 @@ pub fn marks_in(params: &Params, channel: Channel, sealed: &Sealed) -> Marks
     }
 }
 
-/// The word of a look.
+/// Returns the word of a look.
 pub fn look_word(look: Look) -> &'static str
     ensures { result.now ≡ look_word look }
 {
@@ -158,7 +158,7 @@ pub fn look_word(look: Look) -> &'static str
     }
 }
 
-/// What stands in a cell after the sender's number, so that it is read without its colour.
+/// Returns what stands in a cell after the sender's number, so that it is read without its colour.
 pub fn sign(look: Look) -> &'static str
     ensures { result.now ≡ sign look }
 {

@@ -10,7 +10,7 @@ use fr_bus::outcome::Sealed;
 use fr_slots::params::Params;
 use std::alloc::{AllocError, Global};
 
-/// The cells.
+/// Returns the cells.
 fn cells_of(
     alloc: Global,
     params: &Params,
@@ -27,7 +27,7 @@ fn cells_of(
     }
 }
 
-/// The communication matrix of a run with this record, as it happened: an SVG text (project-defined).
+/// Returns the communication matrix of a run with this record, as it happened: an SVG text (project-defined).
 ///
 /// It has a row for each cycle of the run from `view.from` on, up to 64, and a column for each window of the cycle, up
 /// to 512: the static slots, and then the windows of the dynamic segment in their order. A cell is left out where the

@@ -56,7 +56,7 @@ struct Extent {
     longest: usize,
 }
 
-/// How far the record goes.
+/// Returns how far the record goes.
 fn extent_of(view: &View, recorded: &[Sealed]) -> Extent {
     let from = usize::from(view.from);
     let (mut cycles, mut windows, mut most, mut longest): (usize, usize, usize, usize) = (

@@ -14,7 +14,7 @@ ghost use Rattle.fr_midpoint.specs.Selection.{middle_of};
 use crate::ranks::{GREATEST, Midpoint, MidpointError, VALUES};
 use arrayvec::ArrayVec;
 
-/// The fault-tolerant midpoint of values (chapter 8), or none of no values (project-defined).
+/// Returns the fault-tolerant midpoint of values (chapter 8), or none of no values (project-defined).
 ///
 /// Of up to 2 values none is dropped, of 3 to 7 the least and the greatest, and of 8 and more the
 /// two least and the two greatest. The midpoint is half of what the least and the greatest of the rest
@@ -38,7 +38,7 @@ pub fn midpoint(values: &[i32]) -> Result<Option<Midpoint>, MidpointError>
     Ok(middle_of(ascending.as_slice()))
 }
 
-/// The values in ascending order, or none where there are more than 15.
+/// Returns the values in ascending order, or none where there are more than 15.
 fn ascending(values: &[i32]) -> Option<ArrayVec<i32, VALUES>>
     ensures room { IsSome result ↔ (length values.now ≤ 15) }
     ensures moved { IfSome result (λ kept. IsPermutation values.now kept.items) }
@@ -50,14 +50,14 @@ fn ascending(values: &[i32]) -> Option<ArrayVec<i32, VALUES>>
     Some(kept)
 }
 
-/// Whether a value is more than 1,000,000 from 0.
+/// Returns whether a value is more than 1,000,000 from 0.
 fn any_large(values: &[i32]) -> bool
     ensures { result ≡ list_any is_large values.now }
 {
     values.iter().any(|value| value.unsigned_abs() > GREATEST)
 }
 
-/// How many of so many values are dropped at either end.
+/// Returns how many of so many values are dropped at either end.
 fn count_dropped(count: usize) -> usize
     ensures { result ≡ dropped count }
 {
@@ -77,7 +77,7 @@ fn half_sum(low: i32, high: i32) -> i32
     (low + high) / 2
 }
 
-/// The midpoint of values that ascend.
+/// Returns the midpoint of values that ascend.
 fn middle_of(ascending: &[i32]) -> Option<Midpoint>
     requires few { length ascending.now ≤ 15 }
     requires near { All (λ value. is_large value ≡ false) ascending.now }

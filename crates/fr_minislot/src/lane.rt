@@ -55,14 +55,14 @@ impl Model for Lane {
     ghost inverse = { λ s. record { params = s.params; slot = s.slot; begins = s.begins } };
 }
 
-/// Whether a slot of this number and first minislot opens, where all slots before it do.
+/// Returns whether a slot of this number and first minislot opens, where all slots before it do.
 fn is_row(params: &Params, slot: u16, begins: u16) -> bool
     ensures { result ≡ is_row params.now slot begins }
 {
     begins <= params.minislots && slot <= LAST_SLOT
 }
 
-/// The minislots of a slot whose longest transmission has so many bytes.
+/// Returns the minislots of a slot whose longest transmission has so many bytes.
 fn row_length(params: &Params, bytes: u16) -> u16
     requires { bytes ≤ 262 }
     ensures value { result ≡ row_length params.now bytes }
@@ -80,7 +80,7 @@ impl Lane {
     ghost use Rattle.fr_minislot.specs.DynamicRows.{opened_after};
     ghost use Rattle.fr_minislot.specs.Lanes.{IsStanding, close_refusal, closed, next_in, opened_in, standing_after};
 
-    /// The dynamic segment of a cycle from its start (chapter 5).
+    /// Returns the dynamic segment of a cycle from its start (chapter 5).
     pub fn new(params: &Params) -> Lane
         ensures { result ≡ standing_after params.now [] }
     {
@@ -92,7 +92,7 @@ impl Lane {
         }
     }
 
-    /// The parameters that it was made with.
+    /// Returns the parameters that it was made with.
     pub fn params(&self) -> &Params
         ensures value { result.now ≡ self.now.params }
         ensures rows { IsStanding self.now }
@@ -100,8 +100,8 @@ impl Lane {
         &self.params
     }
 
-    /// The slot that the channel opens at the minislot, counted from 1 (chapter 5). None where the slot that is next
-    /// begins at another minislot or after the segment's last one, and where slot 2047 was closed.
+    /// Returns the slot that the channel opens at the minislot, counted from 1 (chapter 5). None where the slot that is
+    /// next begins at another minislot or after the segment's last one, and where slot 2047 was closed.
     pub fn opens(&self, minislot: u16) -> Option<SlotId>
         ensures value { result ≡ opened_in self.now minislot }
         ensures rows { (counts : List ℕ)
@@ -115,8 +115,8 @@ impl Lane {
         }
     }
 
-    /// The minislot, counted from 1, at which the channel opens its next slot (chapter 5). None where it opens no
-    /// further one in the cycle.
+    /// Returns the minislot, counted from 1, at which the channel opens its next slot (chapter 5). None where it opens
+    /// no further one in the cycle.
     pub fn next(&self) -> Option<u16>
         ensures { result ≡ next_in self.now }
     {

@@ -10,7 +10,7 @@ use fr_words::commands::{cycles_of, of_file, program};
 use fr_words::error::OrderError;
 use std::alloc::{AllocError, Global};
 
-/// The command `run`, with its two files, the number of cycles and the flag.
+/// Returns the command `run`, with its two files, the number of cycles and the flag.
 fn run_command<'a>(alloc: Global) -> Result<Command<'a>, AllocError>
     ensures app { IfOk result (λ c. app_of c ≡ run_command) }
     ensures local { IfOk result (λ c. (out-Command c).has_globals ≡ false) }
@@ -24,7 +24,7 @@ fn run_command<'a>(alloc: Global) -> Result<Command<'a>, AllocError>
     files.arg(cycles)?.arg(free)
 }
 
-/// The commands, as `clap` reads them.
+/// Returns the commands, as `clap` reads them.
 fn commands<'a>(alloc: Global) -> Result<Command<'a>, AllocError>
     ensures { IfOk result (λ c. app_of c ≡ the_commands) }
 {
@@ -35,7 +35,7 @@ fn commands<'a>(alloc: Global) -> Result<Command<'a>, AllocError>
     fourth.subcommand(run_command(alloc)?)
 }
 
-/// The run that the arguments of its command ask for.
+/// Returns the run that the arguments of its command ask for.
 fn run_in<'a>(arguments: &ArgMatches<'a>) -> Option<Order<'a>>
     ensures told { IfSome result (IsRunBy (first_value (found_of arguments.now))) }
     ensures whole { has_run_by (first_value (found_of arguments.now)) ≡ true → IsSome result }
@@ -48,7 +48,7 @@ fn run_in<'a>(arguments: &ArgMatches<'a>) -> Option<Order<'a>>
     })
 }
 
-/// The order that the command's name and arguments stand for.
+/// Returns the order that the command's name and arguments stand for.
 fn order_in<'a>(matches: &ArgMatches<'a>) -> Option<Order<'a>>
     ensures told { IfSome result (λ o. IsOrder (subcommand_rows_of matches.now) o) }
     ensures whole { IsWhole (subcommand_rows_of matches.now) → IsSome result }
@@ -64,7 +64,7 @@ fn order_in<'a>(matches: &ArgMatches<'a>) -> Option<Order<'a>>
     }
 }
 
-/// The order that the words after the program's name give (project-defined).
+/// Returns the order that the words after the program's name give (project-defined).
 ///
 /// Refused with `Memory` where memory for the parse was refused, and else with `Usage` for all words
 /// that are no command. A call for help is no command, nor is a run whose number of cycles isn't 1 to 1024, or has a

@@ -13,7 +13,7 @@ use std::str;
 /// The most bytes that a scenario file may have.
 const MOST_BYTES: u64 = 1_048_576;
 
-/// The scenario that the bytes of a scenario file spell.
+/// Returns the scenario that the bytes of a scenario file spell.
 #[tactic(auto, using(crate::proofs::FileLemmas::refused_as))]
 fn scenario_in(alloc: Global, bytes: &[u8]) -> Result<Scenario, FileError>
     ensures { IsScenarioIn bytes.now result }

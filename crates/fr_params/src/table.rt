@@ -10,7 +10,7 @@ use crate::error::ParamError;
 use fr_slots::params::{Five, Key, Params};
 use toml::{Table, Value};
 
-/// The parameters of a table (project-defined). Keys that aren't parameters are ignored.
+/// Returns the parameters of a table (project-defined). Keys that aren't parameters are ignored.
 ///
 /// Refused with the first key at fault in the order of `Key`: `Missing` where the table hasn't the
 /// key, `NotANumber` where what stands there is no integer, `OutOfRange` where the integer is out
@@ -26,7 +26,7 @@ pub fn from_table(table: &Table) -> Result<Params, ParamError>
     params_of(first, last)
 }
 
-/// The parameters of numbers that their keys admit.
+/// Returns the parameters of numbers that their keys admit.
 fn params_of(first: Five, last: Five) -> Result<Params, ParamError>
     requires first_within { AreFirst first }
     requires last_within { AreLast last }
@@ -40,7 +40,7 @@ fn params_of(first: Five, last: Five) -> Result<Params, ParamError>
     }
 }
 
-/// The numbers under the first five keys.
+/// Returns the numbers under the first five keys.
 #[tactic(auto, unfolding(crate::specs::Table::first_five))]
 fn first_five(table: &Table) -> Result<Five, ParamError>
     ensures value { result ≡ first_five (table_view table.now) }
@@ -60,7 +60,7 @@ fn first_five(table: &Table) -> Result<Five, ParamError>
     ))
 }
 
-/// The numbers under the last five keys.
+/// Returns the numbers under the last five keys.
 #[tactic(auto, unfolding(crate::specs::Table::last_five))]
 fn last_five(table: &Table) -> Result<Five, ParamError>
     ensures value { result ≡ last_five (table_view table.now) }
@@ -74,7 +74,7 @@ fn last_five(table: &Table) -> Result<Five, ParamError>
     Ok((symbol_mt, nit_mt, cycle_mt, idle, words_per_minislot))
 }
 
-/// The number under the key, where the key admits it.
+/// Returns the number under the key, where the key admits it.
 #[tactic(auto, unfolding(crate::specs::Table::number_at))]
 fn number_at(table: &Table, key: Key) -> Result<u16, ParamError>
     ensures value { result ≡ number_at key (table_view table.now) }
@@ -93,7 +93,7 @@ fn number_at(table: &Table, key: Key) -> Result<u16, ParamError>
     }
 }
 
-/// What the table has under the name, and none where it has no such key (project-defined).
+/// Returns what the table has under the name, and none where it has no such key (project-defined).
 pub fn value_under<'a>(table: &'a Table, name: &str) -> Option<&'a Value>
     ensures { option_map (λ v. view v.now) result ≡ get_member name.now (table_view table.now) }
 {

@@ -19,7 +19,7 @@ struct Cell {
     length: u64,
 }
 
-/// The node that sends in the dynamic slot of this number in the cycle.
+/// Returns the node that sends in the dynamic slot of this number in the cycle.
 fn sender_in(
     cluster: &Cluster,
     cycle: Cycle,
@@ -34,7 +34,7 @@ fn sender_in(
     Some((slot, node))
 }
 
-/// How many dynamic slots of the channel have a sender in the cycle.
+/// Returns how many dynamic slots of the channel have a sender in the cycle.
 fn count_senders(cluster: &Cluster, cycle: Cycle, channel: Channel) -> u64 {
     let mut count: u64 = 0;
     for number in 1..=LAST_SLOT {
@@ -45,7 +45,7 @@ fn count_senders(cluster: &Cluster, cycle: Cycle, channel: Channel) -> u64 {
     count
 }
 
-/// The buffer from which the node sends in the slot.
+/// Returns the buffer from which the node sends in the slot.
 fn buffer_for(
     cluster: &Cluster,
     node: NodeId,
@@ -75,7 +75,7 @@ fn write_buffer<W: Write>(writer: &mut W, buffer: &Buffer) -> io::Result<()> {
     )
 }
 
-/// Whether the node never begins a transmission in the dynamic segment of the channel.
+/// Returns whether the node never begins a transmission in the dynamic segment of the channel.
 fn never_sends(cluster: &Cluster, node: NodeId, channel: Channel) -> bool {
     match cluster.node(node) {
         Some(plan) => plan.latest(channel) == 0,

@@ -14,14 +14,14 @@ use fr_slots::params::Params;
 use std::io;
 use std::io::Write;
 
-/// The macrotick at which a static slot begins.
+/// Returns the macrotick at which a static slot begins.
 fn start_of(params: &Params, slot: SlotId) -> u32
     ensures { result ≡ start_of params.now slot }
 {
     u32::from(slot.number() - 1) * u32::from(params.static_mt)
 }
 
-/// The macrotick at which the slot after it begins.
+/// Returns the macrotick at which the slot after it begins.
 fn end_of(params: &Params, slot: SlotId) -> u32
     ensures { result ≡ end_of params.now slot }
 {

@@ -46,7 +46,7 @@ fn write_after(
     write_end(text)
 }
 
-/// The elements of the static slots.
+/// Returns the elements of the static slots.
 fn owners_of(alloc: Global, cluster: &Cluster, cycle: Cycle) -> Result<Vec<u8>, BenchError>
     ensures owners { IfOk result
         (λ text. AreOwnerTexts cluster.now cycle cluster.now.params.static_slots text.items) }
@@ -60,7 +60,7 @@ fn owners_of(alloc: Global, cluster: &Cluster, cycle: Cycle) -> Result<Vec<u8>, 
     }
 }
 
-/// The picture of a cycle: an SVG text (project-defined).
+/// Returns the picture of a cycle: an SVG text (project-defined).
 ///
 /// It has the four segments of the cycle, for each channel the static slots with their owners and the dynamic slots
 /// that have a sender, and for each node and channel the intervals in which its guardian is open, all of them in this

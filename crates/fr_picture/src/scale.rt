@@ -18,7 +18,7 @@ pub const CHANNEL_HEIGHT: u64 = 420;
 /// What a number takes that is written into a box.
 pub const NUMBER_LENGTH: u64 = 150;
 
-/// How far a macrotick of the cycle stands from the left.
+/// Returns how far a macrotick of the cycle stands from the left.
 #[tactic(auto, unfolding(crate::specs::Places::across))]
 pub fn across(params: &Params, macrotick: u32) -> u64
     ensures { result ≡ across params.now macrotick }
@@ -26,7 +26,7 @@ pub fn across(params: &Params, macrotick: u32) -> u64
     LEFT + u64::from(macrotick) * LENGTH / u64::from(params.cycle_mt)
 }
 
-/// How long the box of an interval is, at least 1.
+/// Returns how long the box of an interval is, at least 1.
 #[tactic(auto, unfolding(crate::specs::Places::extent))]
 pub fn extent(params: &Params, start: u32, end: u32) -> u64
     ensures { result ≡ extent params.now start end }
@@ -36,7 +36,7 @@ pub fn extent(params: &Params, start: u32, end: u32) -> u64
         .max(1)
 }
 
-/// How far what is drawn of a channel stands from the top.
+/// Returns how far what is drawn of a channel stands from the top.
 #[tactic(auto, unfolding(crate::specs::Places::row_of))]
 pub fn row_of(channel: Channel) -> u64
     ensures { result ≡ row_of channel }

@@ -27,7 +27,7 @@ pub struct Call {
     pub reply: Reply,
 }
 
-/// The action of the node's task as an event.
+/// Returns the action of the node's task as an event.
 fn event_of(node: NodeId, task: TaskId, action: &Action) -> Event
     ensures { result ≡ event_of node task action.now }
 {
@@ -52,7 +52,7 @@ fn event_of(node: NodeId, task: TaskId, action: &Action) -> Event
     }
 }
 
-/// How many entries the node's journal has, and 0 where the cluster doesn't have the node.
+/// Returns how many entries the node's journal has, and 0 where the cluster doesn't have the node.
 fn entries_of(world: &World, node: NodeId) -> u32
     ensures { result ≡ entries_in (slice_get world.now.interfaces node) }
 {

@@ -22,7 +22,7 @@ pub(crate) enum Hindrance {
     Memory,
 }
 
-/// The hindrance as an error.
+/// Returns the hindrance as an error.
 pub(crate) fn error_of(hindrance: Hindrance) -> PlayError
     ensures error { result ≡ error_of_hindrance hindrance }
     ensures told { refusal_of result ≡ None }

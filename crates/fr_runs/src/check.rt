@@ -34,7 +34,7 @@ pub enum RunRefusal {
     NoRoom(NodeId),
 }
 
-/// Whether the scripts for the node have at most so many lines together.
+/// Returns whether the scripts for the node have at most so many lines together.
 fn has_host_room(scripts: &[Script], node: NodeId, host_entries: u16) -> bool
     ensures { IsTrue result ↔ (lines_for node scripts.now ≤ host_entries) }
 {
@@ -50,14 +50,15 @@ fn has_host_room(scripts: &[Script], node: NodeId, host_entries: u16) -> bool
     true
 }
 
-/// The most slot entries that a run of so many cycles leaves in a journal: a fetch and an observe for each window.
+/// Returns the most slot entries that a run of so many cycles leaves in a journal: a fetch and an observe for each
+/// window.
 fn most_slot_entries_in(params: &Params, cycles: u16) -> u64
     ensures { result ≡ most_slot_entries_in params.now cycles }
 {
     2 * u64::from(cycles) * (u64::from(params.static_slots) + u64::from(params.minislots))
 }
 
-/// Whether the journal of a node of this plan has the room that the run may take.
+/// Returns whether the journal of a node of this plan has the room that the run may take.
 fn has_room_in(
     params: &Params,
     cycles: u16,
@@ -71,7 +72,7 @@ fn has_room_in(
         && most_slot_entries_in(params, cycles) <= u64::from(plan.slot_entries())
 }
 
-/// Whether the journal of the node has the room that the run may take, if the cluster has the node.
+/// Returns whether the journal of the node has the room that the run may take, if the cluster has the node.
 fn has_room(cluster: &Cluster, cycles: u16, scripts: &[Script], node: NodeId) -> bool
     ensures { IsTrue result ↔ HasRoom cluster.now cycles scripts.now node }
 {
@@ -81,7 +82,7 @@ fn has_room(cluster: &Cluster, cycles: u16, scripts: &[Script], node: NodeId) ->
     }
 }
 
-/// The first node whose journal hasn't the room.
+/// Returns the first node whose journal hasn't the room.
 fn full_node(cluster: &Cluster, scripts: &[Script], cycles: u16) -> Option<NodeId>
     ensures { Finds (HasRoom cluster.now cycles scripts.now) result }
 {

@@ -61,7 +61,7 @@ pub fn keep_lines_of(
     Ok(())
 }
 
-/// Whether the channel opens the slot of this number.
+/// Returns whether the channel opens the slot of this number.
 fn opens(number: u16, slot: Option<SlotId>) -> bool
     ensures { result ≡ opens number slot }
 {
@@ -75,7 +75,7 @@ impl FaultCycles {
     ghost use Rattle.std.specs.Prelude.{◌≡◌};
     ghost use Rattle.fr_runs.specs.Striking.{names_cycle};
 
-    /// Whether the cycle of this number of the run is one of these.
+    /// Returns whether the cycle of this number of the run is one of these.
     pub(crate) fn names(self, cycle: u16) -> bool
         ensures { result ≡ names_cycle self cycle }
     {
@@ -90,7 +90,7 @@ impl FaultPlace {
     ghost use Rattle.std.specs.Prelude.{◌≡◌};
     ghost use Rattle.fr_runs.specs.Striking.{names_window};
 
-    /// Whether the window is one of these.
+    /// Returns whether the window is one of these.
     fn names(self, window: &Window) -> bool
         ensures { result ≡ names_window self window.now }
     {
@@ -106,7 +106,7 @@ impl FaultLine {
     ghost use Rattle.std.specs.Prelude.{◌≡◌};
     ghost use Rattle.fr_runs.specs.Striking.{strikes};
 
-    /// A copy of the line.
+    /// Returns a copy of the line.
     fn duplicate(&self) -> FaultLine
         ensures { result ≡ self.now }
     {
@@ -117,8 +117,8 @@ impl FaultLine {
         }
     }
 
-    /// Whether the fault comes in this window (project-defined). `cycle` is the number of the window's cycle in the
-    /// run, counted from 0 and going on after 63.
+    /// Returns whether the fault comes in this window (project-defined). `cycle` is the number of the window's cycle in
+    /// the run, counted from 0 and going on after 63.
     pub fn strikes(&self, cycle: u16, window: &Window) -> bool
         ensures { result ≡ strikes self.now cycle window.now }
     {

@@ -18,7 +18,7 @@ use fr_slots::numbers::{NodeId, SlotId};
 use fr_slots::window::Window;
 use std::alloc::{AllocError, Global};
 
-/// The bit that the fault turns on the channel, if it turns one.
+/// Returns the bit that the fault turns on the channel, if it turns one.
 fn bit_turned(channel: Channel, fault: &Fault) -> Option<u16>
     ensures { result ≡ bit_turned channel fault.now }
 {
@@ -28,7 +28,7 @@ fn bit_turned(channel: Channel, fault: &Fault) -> Option<u16>
     }
 }
 
-/// The bytes that the fault has the node send on the channel, if it babbles there.
+/// Returns the bytes that the fault has the node send on the channel, if it babbles there.
 fn bytes_babbled(node: NodeId, channel: Channel, fault: &Fault) -> Option<&Bytes>
     ensures { option_copied result ≡ bytes_babbled node channel fault.now }
 {
@@ -46,7 +46,7 @@ fn bytes_babbled(node: NodeId, channel: Channel, fault: &Fault) -> Option<&Bytes
     }
 }
 
-/// Whether the fault loses what the node offers on the channel.
+/// Returns whether the fault loses what the node offers on the channel.
 fn loses(node: NodeId, channel: Channel, fault: &Fault) -> bool
     ensures { result ≡ loses node channel fault.now }
 {
@@ -59,7 +59,7 @@ fn loses(node: NodeId, channel: Channel, fault: &Fault) -> bool
     }
 }
 
-/// The bit that the line turns on the channel of the window, if it takes effect there.
+/// Returns the bit that the line turns on the channel of the window, if it takes effect there.
 fn bit_by(line: &FaultLine, cycle: u16, window: &Window, channel: Channel) -> Option<u16>
     ensures { result ≡ bit_by line.now cycle window.now channel }
 {
@@ -70,7 +70,7 @@ fn bit_by(line: &FaultLine, cycle: u16, window: &Window, channel: Channel) -> Op
     }
 }
 
-/// The bit that the lines turn on the channel of the window.
+/// Returns the bit that the lines turn on the channel of the window.
 fn bit_due(lines: &[FaultLine], cycle: u16, window: &Window, channel: Channel) -> Option<u16>
     ensures { result ≡ bit_due lines.now cycle window.now channel }
 {
@@ -83,7 +83,7 @@ fn bit_due(lines: &[FaultLine], cycle: u16, window: &Window, channel: Channel) -
     None
 }
 
-/// What the line has the node send on the channel of the window, if it takes effect there.
+/// Returns what the line has the node send on the channel of the window, if it takes effect there.
 fn babble_by<'a>(
     line: &'a FaultLine,
     cycle: u16,
@@ -100,7 +100,7 @@ fn babble_by<'a>(
     }
 }
 
-/// What the lines have the node send on the channel of the window.
+/// Returns what the lines have the node send on the channel of the window.
 fn babble_due<'a>(
     lines: &'a [FaultLine],
     cycle: u16,
@@ -118,14 +118,14 @@ fn babble_due<'a>(
     None
 }
 
-/// Whether the line loses what the node offers on the channel of the window.
+/// Returns whether the line loses what the node offers on the channel of the window.
 fn is_lost_by(cycle: u16, window: &Window, node: NodeId, channel: Channel, line: &FaultLine) -> bool
     ensures { result ≡ is_lost_by cycle window.now node channel line.now }
 {
     line.strikes(cycle, window) && loses(node, channel, &line.fault)
 }
 
-/// Whether a line loses what the node offers on the channel of the window.
+/// Returns whether a line loses what the node offers on the channel of the window.
 fn is_loss_due(
     lines: &[FaultLine],
     cycle: u16,
@@ -140,7 +140,7 @@ fn is_loss_due(
         .any(|line| is_lost_by(cycle, window, node, channel, line))
 }
 
-/// Whether a fault lost it.
+/// Returns whether a fault lost it.
 fn is_muted(fate: Fate) -> bool
     ensures { result ≡ is_muted fate }
 {
@@ -150,14 +150,14 @@ fn is_muted(fate: Fate) -> bool
     }
 }
 
-/// Whether it is the node's babble on the channel.
+/// Returns whether it is the node's babble on the channel.
 fn is_babble_of(channel: Channel, node: NodeId, sent: &Sent) -> bool
     ensures { result ≡ is_babble_of channel node sent.now }
 {
     sent.node == node && sent.channel == channel && sent.babble
 }
 
-/// The bytes of the node's babble on the channel, if it is among these.
+/// Returns the bytes of the node's babble on the channel, if it is among these.
 fn babble_in(channel: Channel, node: NodeId, sent: &[Sent]) -> Option<&Bytes>
     ensures { option_copied result ≡ babble_in channel node sent.now }
 {
@@ -169,7 +169,7 @@ fn babble_in(channel: Channel, node: NodeId, sent: &[Sent]) -> Option<&Bytes>
     None
 }
 
-/// What is recorded of these bytes on a channel with or without a slot.
+/// Returns what is recorded of these bytes on a channel with or without a slot.
 fn recordable(slot: Option<SlotId>, bytes: Option<&Bytes>) -> Option<&Bytes>
     ensures { option_copied result ≡ recordable slot (option_copied bytes.entry) }
 {
@@ -179,7 +179,7 @@ fn recordable(slot: Option<SlotId>, bytes: Option<&Bytes>) -> Option<&Bytes>
     }
 }
 
-/// Whether both are the same bytes, or neither is there.
+/// Returns whether both are the same bytes, or neither is there.
 fn are_same(one: Option<&Bytes>, other: Option<&Bytes>) -> bool
     ensures { IsTrue result ↔ (option_copied one.entry ≡ option_copied other.entry) }
 {
@@ -190,7 +190,7 @@ fn are_same(one: Option<&Bytes>, other: Option<&Bytes>) -> bool
     }
 }
 
-/// Whether the babble is what the lines have its node send.
+/// Returns whether the babble is what the lines have its node send.
 fn is_babble_due(lines: &[FaultLine], cycle: u16, window: &Window, sent: &Sent) -> bool
     ensures { IsTrue result
         ↔ (recordable
@@ -203,7 +203,7 @@ fn is_babble_due(lines: &[FaultLine], cycle: u16, window: &Window, sent: &Sent) 
     are_same(recorded, Some(&sent.bytes))
 }
 
-/// Whether the transmission is muted exactly where it is an offer that a line loses.
+/// Returns whether the transmission is muted exactly where it is an offer that a line loses.
 fn is_loss_right(lines: &[FaultLine], cycle: u16, window: &Window, sent: &Sent) -> bool
     ensures { IsTrue result
         ↔ (is_muted sent.now.fate
@@ -213,8 +213,8 @@ fn is_loss_right(lines: &[FaultLine], cycle: u16, window: &Window, sent: &Sent) 
     is_muted(sent.fate) == is_lost
 }
 
-/// Whether the transmission is due, as a babble of a line that takes effect, or as an offer that such a line loses or
-/// not.
+/// Returns whether the transmission is due, as a babble of a line that takes effect, or as an offer that such a line
+/// loses or not.
 fn is_due(lines: &[FaultLine], cycle: u16, window: &Window, sent: &Sent) -> bool
     ensures { IsTrue result ↔ IsDue lines.now cycle window.now sent.now }
 {
@@ -222,21 +222,21 @@ fn is_due(lines: &[FaultLine], cycle: u16, window: &Window, sent: &Sent) -> bool
         && is_loss_right(lines, cycle, window, sent)
 }
 
-/// The transmission at this place.
+/// Returns the transmission at this place.
 fn sent_at(sent: &[Sent], place: usize) -> Option<&Sent>
     ensures { option_map (λ t. t.now) result ≡ slice_get sent.now place }
 {
     sent.get(place)
 }
 
-/// The line at this place.
+/// Returns the line at this place.
 fn line_at(lines: &[FaultLine], place: usize) -> Option<&FaultLine>
     ensures { option_map (λ line. line.now) result ≡ slice_get lines.now place }
 {
     lines.get(place)
 }
 
-/// Whether the transmission at this place of the window is due, if there is one.
+/// Returns whether the transmission at this place of the window is due, if there is one.
 fn is_due_at(lines: &[FaultLine], cycle: u16, sealed: &Sealed, place: usize) -> bool
     ensures { IsTrue result ↔ IsDueAt lines.now cycle sealed.now place }
 {
@@ -246,7 +246,7 @@ fn is_due_at(lines: &[FaultLine], cycle: u16, sealed: &Sealed, place: usize) -> 
     }
 }
 
-/// Whether all transmissions of the window are due.
+/// Returns whether all transmissions of the window are due.
 fn are_due(lines: &[FaultLine], cycle: u16, sealed: &Sealed) -> bool
     ensures { IsTrue result ↔ ((k : ℕ) → IsDueAt lines.now cycle sealed.now k) }
 {
@@ -258,7 +258,7 @@ fn are_due(lines: &[FaultLine], cycle: u16, sealed: &Sealed) -> bool
     true
 }
 
-/// Whether what the fault has a node send in the window was sent.
+/// Returns whether what the fault has a node send in the window was sent.
 fn is_babbled(sealed: &Sealed, fault: &Fault) -> bool
     ensures { IsTrue result ↔ IsBabbled sealed.now fault.now }
 {
@@ -275,7 +275,7 @@ fn is_babbled(sealed: &Sealed, fault: &Fault) -> bool
     }
 }
 
-/// Whether what the line has a node send was sent, if the line takes effect in the window.
+/// Returns whether what the line has a node send was sent, if the line takes effect in the window.
 fn is_babbled_by(cycle: u16, sealed: &Sealed, line: &FaultLine) -> bool
     ensures { IsTrue result ↔ IsBabbledBy cycle sealed.now line.now }
 {
@@ -292,7 +292,7 @@ fn is_babbled_at(lines: &[FaultLine], cycle: u16, sealed: &Sealed, place: usize)
     }
 }
 
-/// Whether all that the lines have nodes send in the window was sent.
+/// Returns whether all that the lines have nodes send in the window was sent.
 fn are_babbled(lines: &[FaultLine], cycle: u16, sealed: &Sealed) -> bool
     ensures { IsTrue result ↔ ((k : ℕ) → IsBabbledAt lines.now cycle sealed.now k) }
 {
@@ -304,15 +304,15 @@ fn are_babbled(lines: &[FaultLine], cycle: u16, sealed: &Sealed) -> bool
     true
 }
 
-/// Whether the bit that is turned on the channel of the window is the one that the lines turn.
+/// Returns whether the bit that is turned on the channel of the window is the one that the lines turn.
 fn is_bit_due(lines: &[FaultLine], cycle: u16, sealed: &Sealed, channel: Channel) -> bool
     ensures { IsTrue result ↔ (corrupt_on sealed.now channel ≡ bit_due lines.now cycle sealed.now.window channel) }
 {
     sealed.corrupt_on(channel) == bit_due(lines, cycle, &sealed.window, channel)
 }
 
-/// Whether the window, which lies in the cycle of this number of the run, has the faults of the lines that take effect
-/// there, and no others.
+/// Returns whether the window, which lies in the cycle of this number of the run, has the faults of the lines that take
+/// effect there, and no others.
 #[tactic(auto, using(crate::proofs::FaultedLemmas::has_faults))]
 fn has_faults(lines: &[FaultLine], cycle: u16, sealed: &Sealed) -> bool
     ensures { IsTrue result → HasFaults lines.now cycle sealed.now }
@@ -323,7 +323,7 @@ fn has_faults(lines: &[FaultLine], cycle: u16, sealed: &Sealed) -> bool
         && are_babbled(lines, cycle, sealed)
 }
 
-/// Whether each window of the record has the faults of the lines that take effect there, and no others
+/// Returns whether each window of the record has the faults of the lines that take effect there, and no others
 /// (project-defined).
 ///
 /// That is found by one walk along the record, in which each line is looked at once for each cycle, and each that names

@@ -13,7 +13,7 @@ use fr_schedule::cluster::Cluster;
 use fr_slots::params::Params;
 use fr_slots::plan::{Buffer, NodePlan};
 
-/// Whether there is a transmit buffer that sends payloads of this length.
+/// Returns whether there is a transmit buffer that sends payloads of this length.
 fn sends(params: &Params, payload: &Payload, buffer: Option<Buffer>) -> bool
     ensures { result ≡ sends params.now payload.now buffer }
 {
@@ -25,7 +25,7 @@ fn sends(params: &Params, payload: &Payload, buffer: Option<Buffer>) -> bool
     }
 }
 
-/// Whether there is a transmit buffer.
+/// Returns whether there is a transmit buffer.
 fn is_transmit(buffer: Option<Buffer>) -> bool
     ensures { result ≡ is_transmit buffer }
 {
@@ -35,7 +35,7 @@ fn is_transmit(buffer: Option<Buffer>) -> bool
     }
 }
 
-/// Whether there is a receive buffer.
+/// Returns whether there is a receive buffer.
 fn receives(buffer: Option<Buffer>) -> bool
     ensures { result ≡ receives buffer }
 {
@@ -45,7 +45,7 @@ fn receives(buffer: Option<Buffer>) -> bool
     }
 }
 
-/// Whether the node has what the action is done on.
+/// Returns whether the node has what the action is done on.
 fn action_suits(params: &Params, plan: &NodePlan, action: &Action) -> bool
     ensures { result ≡ action_suits params.now plan.now action.now }
 {
@@ -57,14 +57,14 @@ fn action_suits(params: &Params, plan: &NodePlan, action: &Action) -> bool
     }
 }
 
-/// Whether the run has the line's cycle, and the node what its action is done on.
+/// Returns whether the run has the line's cycle, and the node what its action is done on.
 fn line_suits(params: &Params, plan: &NodePlan, cycles: u16, line: &Line) -> bool
     ensures { result ≡ line_suits params.now plan.now cycles line.now }
 {
     line.cycle < cycles && action_suits(params, plan, &line.action)
 }
 
-/// Whether all lines suit the node and the run.
+/// Returns whether all lines suit the node and the run.
 fn lines_suit(params: &Params, plan: &NodePlan, cycles: u16, lines: &[Line]) -> bool
     ensures { result ≡ list_all (line_suits params.now plan.now cycles) lines.now }
 {
@@ -73,14 +73,14 @@ fn lines_suit(params: &Params, plan: &NodePlan, cycles: u16, lines: &[Line]) -> 
         .all(|line| line_suits(params, plan, cycles, line))
 }
 
-/// Whether no line's cycle is below that of the line before it.
+/// Returns whether no line's cycle is below that of the line before it.
 fn are_in_order(lines: &[Line]) -> bool
     ensures { IsTrue result ↔ AreInOrder lines.now }
 {
     lines.is_sorted_by_key(|line| line.cycle)
 }
 
-/// Whether the node has the script's task, and the lines suit it.
+/// Returns whether the node has the script's task, and the lines suit it.
 fn suits_plan(params: &Params, cycles: u16, script: &Script, plan: &NodePlan) -> bool
     ensures { IsTrue result ↔ SuitsPlan params.now cycles script.now plan.now }
 {
@@ -90,7 +90,7 @@ fn suits_plan(params: &Params, cycles: u16, script: &Script, plan: &NodePlan) ->
         && are_in_order(lines)
 }
 
-/// Whether the cluster has the script's node, and the script suits it.
+/// Returns whether the cluster has the script's node, and the script suits it.
 fn suits_node(params: &Params, cycles: u16, script: &Script, plan: Option<&NodePlan>) -> bool
     ensures { IsTrue result ↔ SuitsNode params.now cycles script.now (option_map (λ plan. plan.now) plan.entry) }
 {
@@ -100,7 +100,7 @@ fn suits_node(params: &Params, cycles: u16, script: &Script, plan: Option<&NodeP
     }
 }
 
-/// Whether the script suits the cluster, and none before it is for the same task.
+/// Returns whether the script suits the cluster, and none before it is for the same task.
 fn suits_after(cluster: &Cluster, cycles: u16, before: &[Script], script: &Script) -> bool
     ensures { IsTrue result ↔ IsScriptAfter cluster.now cycles before.now script.now }
 {
@@ -108,7 +108,7 @@ fn suits_after(cluster: &Cluster, cycles: u16, before: &[Script], script: &Scrip
         && !has_script(before, script.node, script.task)
 }
 
-/// The first script that doesn't suit.
+/// Returns the first script that doesn't suit.
 pub(crate) fn other_script(cluster: &Cluster, scripts: &[Script], cycles: u16) -> Option<usize>
     ensures { Finds (ScriptSuits cluster.now cycles scripts.now) result }
 {

@@ -31,7 +31,7 @@ pub(crate) struct Progress {
     pub calls: [usize; COUNT],
 }
 
-/// The lines of the task's script, which is the first that is for it, or none.
+/// Returns the lines of the task's script, which is the first that is for it, or none.
 pub fn lines_given(scripts: &[Script], node: NodeId, task: TaskId) -> &[Line]
     ensures { result.now ≡ lines_given scripts.now node task }
 {
@@ -43,14 +43,14 @@ pub fn lines_given(scripts: &[Script], node: NodeId, task: TaskId) -> &[Line]
     &[]
 }
 
-/// Whether the entry fetched a window.
+/// Returns whether the entry fetched a window.
 fn is_fetch(entry: &LentEntry<'_>) -> bool
     ensures { result ≡ is_fetch (whole entry.now) }
 {
     matches!(entry, LentEntry::Fetch { .. })
 }
 
-/// The task that made the call, if a task did.
+/// Returns the task that made the call, if a task did.
 fn task_of(entry: &LentEntry<'_>) -> Option<TaskId>
     ensures { result ≡ task_of (whole entry.now) }
 {
@@ -63,7 +63,7 @@ fn task_of(entry: &LentEntry<'_>) -> Option<TaskId>
     }
 }
 
-/// The number of entries.
+/// Returns the number of entries.
 fn entries_of(interface: &Interface) -> u32
     ensures value { result ≡ length interface.now.entries }
     ensures few { result ≤ most_entries }
@@ -71,28 +71,28 @@ fn entries_of(interface: &Interface) -> u32
     interface.journal().len()
 }
 
-/// The entry of this number.
+/// Returns the entry of this number.
 fn entry_at(interface: &Interface, number: u32) -> Option<LentEntry<'_>>
     ensures { option_map whole result ≡ slice_get interface.now.entries number }
 {
     interface.journal().lent(number)
 }
 
-/// What stands at this place of the record.
+/// Returns what stands at this place of the record.
 fn sealed_at(recorded: &[Sealed], place: usize) -> Option<&Sealed>
     ensures { option_map (λ sealed. sealed.now) result ≡ slice_get recorded.now place }
 {
     recorded.get(place)
 }
 
-/// The line at this place.
+/// Returns the line at this place.
 fn line_at(lines: &[Line], place: usize) -> Option<&Line>
     ensures { option_map (λ line. line.now) result ≡ slice_get lines.now place }
 {
     lines.get(place)
 }
 
-/// Whether a cycle begins at this place of the record.
+/// Returns whether a cycle begins at this place of the record.
 fn is_beginning(recorded: &[Sealed], place: usize) -> bool
     ensures { result ≡ is_beginning (slice_get recorded.now place) }
 {
@@ -102,7 +102,7 @@ fn is_beginning(recorded: &[Sealed], place: usize) -> bool
     }
 }
 
-/// Whether a call that comes now comes in step with the cycle.
+/// Returns whether a call that comes now comes in step with the cycle.
 fn stands(recorded: &[Sealed], cycle: u16, progress: &Progress) -> bool
     ensures { IsTrue result ↔ Stands recorded.now cycle progress.now }
 {
@@ -111,7 +111,7 @@ fn stands(recorded: &[Sealed], cycle: u16, progress: &Progress) -> bool
         && is_beginning(recorded, progress.fetches)
 }
 
-/// Whether that is so of the cycle of the line at this place, if there is one.
+/// Returns whether that is so of the cycle of the line at this place, if there is one.
 fn stands_for(recorded: &[Sealed], lines: &[Line], place: usize, progress: &Progress) -> bool
     ensures { IsTrue result ↔ StandsFor recorded.now lines.now place progress.now }
 {
@@ -121,7 +121,7 @@ fn stands_for(recorded: &[Sealed], lines: &[Line], place: usize, progress: &Prog
     }
 }
 
-/// Whether the entry of this number, if it is a task's, comes in step with the cycle of the task's next line.
+/// Returns whether the entry of this number, if it is a task's, comes in step with the cycle of the task's next line.
 fn is_in_turn(
     interface: &Interface,
     recorded: &[Sealed],
@@ -167,7 +167,7 @@ fn pass(
     }
 }
 
-/// Whether each line was done in its cycle, by the journal of the node, which is walked once.
+/// Returns whether each line was done in its cycle, by the journal of the node, which is walked once.
 fn is_stepped(interface: &Interface, recorded: &[Sealed], scripts: &[Script], node: NodeId) -> bool
     ensures { IsTrue result ↔ IsStepped recorded.now scripts.now node interface.now }
 {
@@ -191,7 +191,7 @@ fn is_stepped(interface: &Interface, recorded: &[Sealed], scripts: &[Script], no
     true
 }
 
-/// The interface at this place.
+/// Returns the interface at this place.
 fn interface_at(interfaces: &[Interface], place: usize) -> Option<&Interface>
     ensures { option_map (λ interface. interface.now) result ≡ slice_get interfaces.now place }
 {
@@ -213,10 +213,10 @@ fn is_stepped_at(
     }
 }
 
-/// Whether each call that a task made came in the cycle of the line that it is taken for (project-defined): once its
-/// node had fetched and observed all windows of the cycles before, and before it fetched the first window of the line's
-/// cycle. A task's lines are those of the first script that is for it, and its calls are taken for them in their order.
-/// A line whose call is missing isn't looked for: `settle` tells that.
+/// Returns whether each call that a task made came in the cycle of the line that it is taken for (project-defined):
+/// once its node had fetched and observed all windows of the cycles before, and before it fetched the first window of
+/// the line's cycle. A task's lines are those of the first script that is for it, and its calls are taken for them in
+/// their order. A line whose call is missing isn't looked for: `settle` tells that.
 ///
 /// Each journal is walked once.
 pub fn are_stepped(interfaces: &[Interface], recorded: &[Sealed], scripts: &[Script]) -> bool

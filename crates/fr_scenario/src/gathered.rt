@@ -37,7 +37,7 @@ impl Model for Gathered {
     ghost invariant = { HasAllTasks };
 }
 
-/// Where the task of the node stands among all.
+/// Returns where the task of the node stands among all.
 fn place_of(node: NodeId, task: TaskId) -> usize
     ensures place { result ≡ place_of node task }
     ensures within { result < task_count }
@@ -45,7 +45,7 @@ fn place_of(node: NodeId, task: TaskId) -> usize
     TASKS_OF_NODE * usize::from(node.number()) + usize::from(task.number())
 }
 
-/// The node of the task at this place.
+/// Returns the node of the task at this place.
 fn node_at(place: usize) -> NodeId
     requires { place < task_count }
     ensures { result ≡ node_at place }
@@ -56,7 +56,7 @@ fn node_at(place: usize) -> NodeId
     }
 }
 
-/// Which task of its node stands at this place.
+/// Returns which task of its node stands at this place.
 fn task_at(place: usize) -> TaskId
     requires { place < task_count }
     ensures { result ≡ task_at place }
@@ -91,7 +91,7 @@ fn add_task_line(tasks: &mut Vec<Vec<Line>>, place: usize, line: Line) -> Result
     Ok(())
 }
 
-/// The scripts of the tasks that have lines.
+/// Returns the scripts of the tasks that have lines.
 fn scripts_of(alloc: Global, tasks: Vec<Vec<Line>>) -> Result<Vec<Script>, AllocError>
     requires { vec_len tasks ≡ task_count }
     ensures { IfOk result (λ scripts. scripts.items ≡ scripts_from 0 (map (λ lines. lines.items) tasks.items)) }
@@ -115,7 +115,7 @@ impl Gathered {
     ghost use Rattle.std.specs.Prelude.{◌≡◌, OnOk, IfOk};
     ghost use Rattle.fr_scenario.specs.Gathering.{none_yet, with_line, scripts_from};
 
-    /// What is kept of no lines.
+    /// Returns what is kept of no lines.
     pub(crate) fn new(alloc: Global) -> Result<Gathered, AllocError>
         ensures { IfOk result (λ gathered. gathered ≡ none_yet) }
     {
@@ -144,7 +144,7 @@ impl Gathered {
         }
     }
 
-    /// The scripts, by node and then task, and the fault lines with their numbers.
+    /// Returns the scripts, by node and then task, and the fault lines with their numbers.
     pub(crate) fn finish(
         self,
         alloc: Global,

@@ -29,7 +29,7 @@ impl<'a> Model for Left<'a> {
     ghost view = { left_of };
 }
 
-/// Where the first line feed stands.
+/// Returns where the first line feed stands.
 fn feed_in(text: &[u8]) -> Option<usize>
     ensures { result ≡ position is_feed text.now }
 {
@@ -41,14 +41,14 @@ impl<'a> Left<'a> {
     ghost use Rattle.fr_scenario.specs.Reading.{lines_in, read_from, whole_line, is_at_end};
     ghost use Rattle.fr_scenario.specs.declared.version.Version.{Version};
 
-    /// The lines of a text.
+    /// Returns the lines of a text.
     pub(crate) fn new(text: &'a [u8]) -> Left<'a>
         ensures { result ≡ lines_in text.entry.now }
     {
         Left { rest: text }
     }
 
-    /// Whether no line is left, and nothing stands after the last line feed.
+    /// Returns whether no line is left, and nothing stands after the last line feed.
     pub(crate) fn is_empty(&self) -> bool
         ensures { result ≡ is_at_end self.now }
     {

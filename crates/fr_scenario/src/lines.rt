@@ -17,7 +17,7 @@ use fr_text::hexes::bytes_of;
 use fr_text::numbers::number_of;
 use fr_text::words::Words;
 
-/// The line of a task, whose answer isn't known.
+/// Returns the line of a task, whose answer isn't known.
 fn host_line(node: NodeId, task: TaskId, cycle: u16, action: Action) -> SpelledLine
     ensures { result ≡ host_line node task cycle action }
 {
@@ -32,7 +32,7 @@ fn host_line(node: NodeId, task: TaskId, cycle: u16, action: Action) -> SpelledL
     }
 }
 
-/// The commit that the words spell.
+/// Returns the commit that the words spell.
 #[tactic(auto, unfolding(crate::specs::LineReading::commit_in))]
 fn commit_of(words: &mut Words<'_>) -> Option<SpelledLine>
     ensures { result ≡ commit_in words.old }
@@ -46,7 +46,7 @@ fn commit_of(words: &mut Words<'_>) -> Option<SpelledLine>
     Some(host_line(node, task, cycle, Action::Commit { buffer, payload }))
 }
 
-/// The withdraw that the words spell, in a version that has such a line.
+/// Returns the withdraw that the words spell, in a version that has such a line.
 #[tactic(auto, unfolding(crate::specs::LineReading::withdraw_in))]
 fn withdraw_of(version: Version, words: &mut Words<'_>) -> Option<SpelledLine>
     ensures { result ≡ withdraw_in version words.old }
@@ -62,7 +62,7 @@ fn withdraw_of(version: Version, words: &mut Words<'_>) -> Option<SpelledLine>
     Some(host_line(node, task, cycle, Action::Withdraw { buffer }))
 }
 
-/// The read that the words spell.
+/// Returns the read that the words spell.
 #[tactic(auto, unfolding(crate::specs::LineReading::read_in))]
 fn read_of(words: &mut Words<'_>) -> Option<SpelledLine>
     ensures { result ≡ read_in words.old }
@@ -75,7 +75,7 @@ fn read_of(words: &mut Words<'_>) -> Option<SpelledLine>
     Some(host_line(node, task, cycle, Action::Read { buffer }))
 }
 
-/// The pop that the words spell.
+/// Returns the pop that the words spell.
 #[tactic(auto, unfolding(crate::specs::LineReading::pop_in))]
 fn pop_of(words: &mut Words<'_>) -> Option<SpelledLine>
     ensures { result ≡ pop_in words.old }
@@ -87,7 +87,7 @@ fn pop_of(words: &mut Words<'_>) -> Option<SpelledLine>
     Some(host_line(node, task, cycle, Action::Pop))
 }
 
-/// The babble that the words spell.
+/// Returns the babble that the words spell.
 #[tactic(auto, unfolding(crate::specs::LineReading::babble_in))]
 fn babble_of(words: &mut Words<'_>) -> Option<SpelledLine>
     ensures { result ≡ babble_in words.old }
@@ -109,7 +109,7 @@ fn babble_of(words: &mut Words<'_>) -> Option<SpelledLine>
     }))
 }
 
-/// The mute that the words spell.
+/// Returns the mute that the words spell.
 #[tactic(auto, unfolding(crate::specs::LineReading::mute_in))]
 fn mute_of(words: &mut Words<'_>) -> Option<SpelledLine>
     ensures { result ≡ mute_in words.old }
@@ -126,7 +126,7 @@ fn mute_of(words: &mut Words<'_>) -> Option<SpelledLine>
     }))
 }
 
-/// The corruption that the words spell.
+/// Returns the corruption that the words spell.
 #[tactic(auto, unfolding(crate::specs::LineReading::corrupt_in))]
 fn corrupt_of(words: &mut Words<'_>) -> Option<SpelledLine>
     ensures { result ≡ corrupt_in words.old }
@@ -146,8 +146,8 @@ fn corrupt_of(words: &mut Words<'_>) -> Option<SpelledLine>
     }))
 }
 
-/// What the line, which is given without its line feed, says. `None` where it has no form of the format's version or a
-/// number out of its range.
+/// Returns what the line, which is given without its line feed, says. `None` where it has no form of the format's
+/// version or a number out of its range.
 #[tactic(auto, unfolding(crate::specs::LineReading::line_in))]
 pub(crate) fn line_of(version: Version, line: &[u8]) -> Option<SpelledLine>
     ensures { result ≡ line_in version (words_of line.now) }
@@ -178,8 +178,8 @@ pub(crate) fn line_of(version: Version, line: &[u8]) -> Option<SpelledLine>
     None
 }
 
-/// The fault line that the line of a scenario of the newest version spells, which is given without its line feed
-/// (project-defined). `None` where it spells none: where it is the line of a task, has no form of a line, or has a
+/// Returns the fault line that the line of a scenario of the newest version spells, which is given without its line
+/// feed (project-defined). `None` where it spells none: where it is the line of a task, has no form of a line, or has a
 /// number out of its range. How long the line is doesn't matter.
 pub fn fault_line_of(line: &[u8]) -> Option<FaultLine>
     ensures { result ≡ fault_line_in (words_of line.now) }

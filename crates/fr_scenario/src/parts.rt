@@ -5,7 +5,7 @@ ghost use Rattle.fr_scenario.specs.PartReading.{run_cycle_in, cycles_in, counted
 use fr_runs::fault_line::{FaultCycles, FaultPlace};
 use fr_text::numbers::number_of;
 
-/// The cycle of a run that the word spells, 0 to 1023.
+/// Returns the cycle of a run that the word spells, 0 to 1023.
 #[tactic(auto, unfolding(crate::specs::PartReading::run_cycle_in))]
 pub(crate) fn run_cycle_of(word: &[u8]) -> Option<u16>
     ensures { result ≡ run_cycle_in word.now }
@@ -14,7 +14,7 @@ pub(crate) fn run_cycle_of(word: &[u8]) -> Option<u16>
     Some(number as u16)
 }
 
-/// The cycles that the word spells: one, or each of the run for `*`.
+/// Returns the cycles that the word spells: one, or each of the run for `*`.
 #[tactic(auto, unfolding(crate::specs::PartReading::cycles_in))]
 pub(crate) fn cycles_of(word: &[u8]) -> Option<FaultCycles>
     ensures { result ≡ cycles_in word.now }
@@ -28,7 +28,7 @@ pub(crate) fn cycles_of(word: &[u8]) -> Option<FaultCycles>
     }
 }
 
-/// The number that the word spells, 1 to 8000.
+/// Returns the number that the word spells, 1 to 8000.
 #[tactic(auto, unfolding(crate::specs::PartReading::counted_in))]
 fn place_number(word: &[u8]) -> Option<u16>
     ensures { result ≡ counted_in word.now }
@@ -40,7 +40,7 @@ fn place_number(word: &[u8]) -> Option<u16>
     Some(number as u16)
 }
 
-/// The static slots that the word spells after their mark: one, or all for `*`.
+/// Returns the static slots that the word spells after their mark: one, or all for `*`.
 #[tactic(auto, unfolding(crate::specs::PartReading::slots_in))]
 fn slots_of(word: &[u8]) -> Option<FaultPlace>
     ensures { result ≡ slots_in word.now }
@@ -54,7 +54,7 @@ fn slots_of(word: &[u8]) -> Option<FaultPlace>
     }
 }
 
-/// The minislot that the word spells after its mark.
+/// Returns the minislot that the word spells after its mark.
 #[tactic(auto, unfolding(crate::specs::PartReading::minislot_in))]
 fn minislot_of(word: &[u8]) -> Option<FaultPlace>
     ensures { result ≡ minislot_in word.now }
@@ -63,7 +63,7 @@ fn minislot_of(word: &[u8]) -> Option<FaultPlace>
     Some(FaultPlace::Minislot(minislot))
 }
 
-/// The place of a fault that the word spells, by its mark.
+/// Returns the place of a fault that the word spells, by its mark.
 #[tactic(auto, unfolding(crate::specs::PartReading::place_in))]
 pub(crate) fn place_of(word: &[u8]) -> Option<FaultPlace>
     ensures { result ≡ place_in word.now }

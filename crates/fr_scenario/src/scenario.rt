@@ -36,7 +36,7 @@ impl Model for Scenario {
     ghost invariant = { HasNoAnswers };
 }
 
-/// The version that the first line names, and what stands after that line.
+/// Returns the version that the first line names, and what stands after that line.
 fn begun(text: &[u8]) -> Option<(Version, &[u8])>
     ensures first { IfSome result (λ begun. text.now ≡ (first_line begun.0 ++ line_feed) ++ begun.1.now) }
     ensures other { result ≡ None → read_text text.now ≡ Err error.BadMagic }
@@ -48,7 +48,7 @@ fn begun(text: &[u8]) -> Option<(Version, &[u8])>
     Some((Version::Two, rest))
 }
 
-/// What the lines after the first one say, in this version.
+/// Returns what the lines after the first one say, in this version.
 fn body_of(alloc: Global, version: Version, text: &[u8]) -> Result<Gathered, ScenarioError>
     ensures found { IfOk result
         (λ gathered. kept_from 2 none_yet (read_from version 2 (lines_in text.now)) ≡ Ok gathered) }
@@ -84,7 +84,7 @@ impl Scenario {
     ghost use Rattle.fr_scenario.specs.Reading.{scenario_in, first_fault};
     ghost use Rattle.fr_scenario.specs.ScenarioText.{IsScenarioText};
 
-    /// The scenario that a text spells.
+    /// Returns the scenario that a text spells.
     fn read(alloc: Global, text: &str) -> Result<Scenario, ScenarioError>
         ensures { ¬ (result ≡ Err error.Memory) → result ≡ scenario_in text.now }
     {
@@ -100,7 +100,7 @@ impl Scenario {
         })
     }
 
-    /// The scenario that a text spells (project-defined).
+    /// Returns the scenario that a text spells (project-defined).
     ///
     /// The first line is `frscenario 1` or `frscenario 2`, and the last one `end`; each line ends with a line feed and
     /// has at most 1200 bytes before it, and there are at most 4096 of them. Between those two stand, in any order:
@@ -139,7 +139,8 @@ impl Scenario {
         Scenario::read(alloc, text)
     }
 
-    /// What each task is to do: one script for each task that has lines, by node and then task. No line has an answer.
+    /// Returns what each task is to do: one script for each task that has lines, by node and then task. No line has an
+    /// answer.
     pub fn scripts(&self) -> &[Script]
         ensures value { result.now ≡ self.now.scripts }
         ensures unanswered { AreUnanswered result.now }
@@ -147,15 +148,15 @@ impl Scenario {
         self.scripts.as_slice()
     }
 
-    /// The fault lines, in the order of the text.
+    /// Returns the fault lines, in the order of the text.
     pub fn faults(&self) -> &[FaultLine]
         ensures { result.now ≡ self.now.faults }
     {
         self.faults.as_slice()
     }
 
-    /// The number of each fault line in the text, in the order of the text (project-defined). A line feed ends each
-    /// line, and the first line, which names the version, is line 1.
+    /// Returns the number of each fault line in the text, in the order of the text (project-defined). A line feed ends
+    /// each line, and the first line, which names the version, is line 1.
     pub fn fault_numbers(&self) -> &[u32]
         ensures { result.now ≡ self.now.numbers }
     {

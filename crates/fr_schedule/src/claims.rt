@@ -26,7 +26,7 @@ pub(crate) enum Lines {
     Transmitting,
 }
 
-/// The filters of these lines, of which a plan has at most 64.
+/// Returns the filters of these lines, of which a plan has at most 64.
 fn filters_by(lines: Lines, plan: &NodePlan) -> ArrayVec<Filter, LINES>
     ensures { result.items ≡ filters_by lines plan.now }
 {
@@ -49,7 +49,7 @@ fn add_claims(claims: &mut Vec<Claim>, node: NodeId, filters: &[Filter]) -> Resu
     Ok(())
 }
 
-/// The claims of all nodes by these lines, in the order of nodes.
+/// Returns the claims of all nodes by these lines, in the order of nodes.
 pub(crate) fn claims_of(
     alloc: Global,
     lines: Lines,

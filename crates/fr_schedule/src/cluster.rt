@@ -44,7 +44,7 @@ impl Model for Cluster {
     ghost invariant = { IsLawful };
 }
 
-/// The table that a cluster file spells.
+/// Returns the table that a cluster file spells.
 fn table_of(alloc: Global, text: &str) -> Result<Table, ConfigError>
     ensures { IsTableOf text.now result }
 {
@@ -55,7 +55,7 @@ fn table_of(alloc: Global, text: &str) -> Result<Table, ConfigError>
     }
 }
 
-/// The cluster that a file's table gives.
+/// Returns the cluster that a file's table gives.
 fn cluster_of(alloc: Global, root: &Table) -> Result<Cluster, ConfigError>
     ensures told { ¬ (result ≡ Err error.Memory) → result ≡ description_of (table_view root.now) }
     ensures lawful { IfOk result IsCluster }
@@ -76,7 +76,7 @@ fn cluster_of(alloc: Global, root: &Table) -> Result<Cluster, ConfigError>
 }
 
 impl Cluster {
-    /// The cluster that a cluster file describes (project-defined).
+    /// Returns the cluster that a cluster file describes (project-defined).
     ///
     /// Refused, in this order:
     ///
@@ -109,8 +109,8 @@ impl Cluster {
         cluster
     }
 
-    /// The node that sends in the slot on the channel in the cycle, or None where there is none: the owner of a static
-    /// slot in that cycle, and in a dynamic slot the node with a transmit buffer that admits it (chapter 5; the
+    /// Returns the node that sends in the slot on the channel in the cycle, or None where there is none: the owner of a
+    /// static slot in that cycle, and in a dynamic slot the node with a transmit buffer that admits it (chapter 5; the
     /// division of a static slot by cycles is project-defined).
     pub fn sender(&self, cycle: Cycle, slot: SlotId, channel: Channel) -> Option<NodeId>
         ensures sender { IfSome result (λ node. IsSender self.now cycle slot channel node) }
@@ -120,7 +120,7 @@ impl Cluster {
         NodeId::new(self.senders[place_of(slot, channel, cycle)])
     }
 
-    /// The parameters of the cluster.
+    /// Returns the parameters of the cluster.
     pub fn params(&self) -> &Params
         ensures value { result.now ≡ self.now.params }
         ensures lawful { IsCluster self.now }
@@ -128,7 +128,7 @@ impl Cluster {
         &self.params
     }
 
-    /// The plans of all nodes, 1 to 16, in the order of their numbers.
+    /// Returns the plans of all nodes, 1 to 16, in the order of their numbers.
     pub fn plans(&self) -> &[NodePlan]
         ensures value { result.now ≡ self.now.plans }
         ensures lawful { IsCluster self.now }
@@ -136,7 +136,7 @@ impl Cluster {
         self.plans.as_slice()
     }
 
-    /// The plan of a node, or None where the cluster doesn't have it.
+    /// Returns the plan of a node, or None where the cluster doesn't have it.
     pub fn node(&self, node: NodeId) -> Option<&NodePlan>
         ensures value { option_map (λ plan. plan.now) result ≡ slice_get self.now.plans node }
         ensures lawful { IsCluster self.now }
@@ -145,7 +145,7 @@ impl Cluster {
         self.plans.get(usize::from(node.number()))
     }
 
-    /// The number of nodes, 1 to 16.
+    /// Returns the number of nodes, 1 to 16.
     pub fn nodes(&self) -> u8
         ensures value { result ≡ length self.now.plans }
         ensures lawful { IsCluster self.now }
@@ -153,7 +153,7 @@ impl Cluster {
         self.plans.len() as u8
     }
 
-    /// Whether the guardians watch over the channel (project-defined).
+    /// Returns whether the guardians watch over the channel (project-defined).
     pub fn guarded(&self, channel: Channel) -> bool
         ensures value { result ≡ is_guarded self.now.guard channel }
         ensures lawful { IsCluster self.now }

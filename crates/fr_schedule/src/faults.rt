@@ -24,8 +24,8 @@ pub(crate) enum Rule {
     EndsInTime,
 }
 
-/// The fault of the first slot, channel and cycle that two ownership lines are for, or that two transmit buffers admit,
-/// which is this one.
+/// Returns the fault of the first slot, channel and cycle that two ownership lines are for, or that two transmit
+/// buffers admit, which is this one.
 fn overlap_fault(overlap: Option<Occasion>) -> Option<ConfigError>
     ensures { result ≡ option_map overlap_fault overlap }
 {
@@ -33,8 +33,8 @@ fn overlap_fault(overlap: Option<Occasion>) -> Option<ConfigError>
     Some(ConfigError::Overlap(shared.slot, shared.channel, shared.cycle))
 }
 
-/// The fault of the first buffer of the node for a static slot that the node lacks on one of the buffer's channels in
-/// one of its cycles.
+/// Returns the fault of the first buffer of the node for a static slot that the node lacks on one of the buffer's
+/// channels in one of its cycles.
 fn not_owned_in(params: &Params, node: NodeId, plan: &NodePlan) -> Option<ConfigError>
     ensures { result ≡ not_owned_in params.now node plan.now }
 {
@@ -42,7 +42,7 @@ fn not_owned_in(params: &Params, node: NodeId, plan: &NodePlan) -> Option<Config
     Some(ConfigError::NotOwned(node, number))
 }
 
-/// The fault of the first dynamic buffer of the node for both channels.
+/// Returns the fault of the first dynamic buffer of the node for both channels.
 fn dynamic_both_in(params: &Params, node: NodeId, plan: &NodePlan) -> Option<ConfigError>
     ensures { result ≡ dynamic_both_in params.now node plan.now }
 {
@@ -50,7 +50,7 @@ fn dynamic_both_in(params: &Params, node: NodeId, plan: &NodePlan) -> Option<Con
     Some(ConfigError::DynamicBoth(node, number))
 }
 
-/// The fault of the first dynamic buffer of the node whose frame would end after the dynamic segment.
+/// Returns the fault of the first dynamic buffer of the node whose frame would end after the dynamic segment.
 fn too_long_in(params: &Params, node: NodeId, plan: &NodePlan) -> Option<ConfigError>
     ensures { result ≡ too_long_in params.now node plan.now }
 {
@@ -58,7 +58,7 @@ fn too_long_in(params: &Params, node: NodeId, plan: &NodePlan) -> Option<ConfigE
     Some(ConfigError::TooLong(node, number))
 }
 
-/// The fault of the node's first buffer that doesn't keep the rule.
+/// Returns the fault of the node's first buffer that doesn't keep the rule.
 fn fault_by(rule: Rule, params: &Params, node: NodeId, plan: &NodePlan) -> Option<ConfigError>
     ensures { result ≡ fault_by rule params.now node plan.now }
 {
@@ -69,7 +69,7 @@ fn fault_by(rule: Rule, params: &Params, node: NodeId, plan: &NodePlan) -> Optio
     }
 }
 
-/// The fault of the first buffer, in the order of nodes, that doesn't keep the rule.
+/// Returns the fault of the first buffer, in the order of nodes, that doesn't keep the rule.
 fn first_by(rule: Rule, params: &Params, plans: &[NodePlan]) -> Option<ConfigError>
     requires { length plans.now ≤ 16 }
     ensures { result ≡ first_by (fault_by rule params.now) plans.now }
@@ -82,8 +82,8 @@ fn first_by(rule: Rule, params: &Params, plans: &[NodePlan]) -> Option<ConfigErr
     None
 }
 
-/// The first fault of the file: each kind is looked for in all nodes before the next, and of a kind the first in
-/// order of its numbers is named, channel A before B. Two ownership lines or two transmit buffers are first for this
+/// Returns the first fault of the file: each kind is looked for in all nodes before the next, and of a kind the first
+/// in order of its numbers is named, channel A before B. Two ownership lines or two transmit buffers are first for this
 /// occasion.
 #[tactic(auto, using(crate::proofs::FilterLemmas::overlap_is), unfolding(crate::specs::FileFaults::file_fault))]
 pub(crate) fn file_fault(

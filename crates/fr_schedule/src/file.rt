@@ -25,7 +25,7 @@ use toml::{Table, Value};
 /// The most nodes of a cluster (project-defined).
 const MOST_NODES: usize = NODES as usize;
 
-/// The table `params`, if there is one.
+/// Returns the table `params`, if there is one.
 fn params_table(root: &Table) -> Option<&Table>
     ensures { option_map (λ table. table_view table.now) result ≡ params_table (table_view root.now) }
 {
@@ -35,7 +35,7 @@ fn params_table(root: &Table) -> Option<&Table>
     }
 }
 
-/// The parameters. Where there is no table `params` no key is there.
+/// Returns the parameters. Where there is no table `params` no key is there.
 #[tactic(auto, unfolding(crate::specs::Files::params_in))]
 pub(crate) fn params_in(alloc: Global, root: &Table) -> Result<Params, ConfigError>
     ensures value { result ≡ params_in (table_view root.now) }
@@ -51,7 +51,7 @@ pub(crate) fn params_in(alloc: Global, root: &Table) -> Result<Params, ConfigErr
     }
 }
 
-/// The guarded channels of this name.
+/// Returns the guarded channels of this name.
 fn guard_named(word: &str) -> Option<Option<Channels>>
     ensures { result ≡ guard_named word.now }
 {
@@ -62,7 +62,7 @@ fn guard_named(word: &str) -> Option<Option<Channels>>
     Some(Some(channels))
 }
 
-/// The guarded channels.
+/// Returns the guarded channels.
 #[tactic(auto, unfolding(crate::specs::Files::guard_in))]
 pub(crate) fn guard_in(root: &Table) -> Result<Option<Channels>, ConfigError>
     ensures { result ≡ guard_in (table_view root.now) }
@@ -76,7 +76,7 @@ pub(crate) fn guard_in(root: &Table) -> Result<Option<Channels>, ConfigError>
     guard_named(word).ok_or(ConfigError::BadGuard)
 }
 
-/// The values of the nodes, of which there are 1 to 16.
+/// Returns the values of the nodes, of which there are 1 to 16.
 #[tactic(auto, unfolding(crate::specs::Files::nodes_in))]
 pub(crate) fn nodes_in(root: &Table) -> Option<&[Value]>
     ensures value { option_map (λ values. map view values.now) result ≡ nodes_in (table_view root.now) }
@@ -92,7 +92,7 @@ pub(crate) fn nodes_in(root: &Table) -> Option<&[Value]>
     }
 }
 
-/// The buffer that the value gives.
+/// Returns the buffer that the value gives.
 fn buffer_read(
     params: &Params,
     node: NodeId,
@@ -108,7 +108,7 @@ fn buffer_read(
     }
 }
 
-/// The plan with the buffers that the values give.
+/// Returns the plan with the buffers that the values give.
 fn with_buffers_of(
     params: &Params,
     node: NodeId,
@@ -129,7 +129,7 @@ fn with_buffers_of(
     Ok(plan)
 }
 
-/// The plan of a node.
+/// Returns the plan of a node.
 #[tactic(auto, unfolding(crate::specs::Files::plan_of))]
 fn plan_of(params: &Params, node: NodeId, value: &Value) -> Result<NodePlan, ConfigError>
     ensures { result ≡ plan_of params.now node (view value.now) }
@@ -146,7 +146,7 @@ fn plan_of(params: &Params, node: NodeId, value: &Value) -> Result<NodePlan, Con
     with_buffers_of(params, node, buffers, plan)
 }
 
-/// The plan of a node, which is lawful as every plan is.
+/// Returns the plan of a node, which is lawful as every plan is.
 fn lawful_plan(params: &Params, node: NodeId, value: &Value) -> Result<NodePlan, ConfigError>
     ensures value { result ≡ plan_of params.now node (view value.now) }
     ensures lawful { IfOk result IsPlan }
@@ -156,7 +156,7 @@ fn lawful_plan(params: &Params, node: NodeId, value: &Value) -> Result<NodePlan,
     Ok(plan)
 }
 
-/// The plans of the nodes.
+/// Returns the plans of the nodes.
 pub(crate) fn plans_of(
     alloc: Global,
     params: &Params,

@@ -36,7 +36,7 @@ pub(crate) const NOBODY: u8 = u8::MAX;
 /// A row in which no node sends.
 const FREE_ROW: [u8; ROW] = [NOBODY; ROW];
 
-/// Where the row of the slot on the channel starts.
+/// Returns where the row of the slot on the channel starts.
 fn start_of(slot: SlotId, channel: Channel) -> usize
     ensures place { result + 2 * cycle_count ≡ place_of slot channel 0 }
     ensures within { result + cycle_count ≤ occasions }
@@ -49,7 +49,7 @@ fn start_of(slot: SlotId, channel: Channel) -> usize
     }
 }
 
-/// The place of the occasion in the table.
+/// Returns the place of the occasion in the table.
 pub(crate) fn place_of(slot: SlotId, channel: Channel, cycle: Cycle) -> usize
     ensures place { result + 2 * cycle_count ≡ place_of slot channel cycle }
     ensures within { result < occasions }
@@ -59,7 +59,7 @@ pub(crate) fn place_of(slot: SlotId, channel: Channel, cycle: Cycle) -> usize
     start_of(slot, channel) + usize::from(cycle.number())
 }
 
-/// Whether a node stands at the place.
+/// Returns whether a node stands at the place.
 fn is_taken_at(nodes: &[u8], place: usize) -> bool
     requires { place < length nodes.now }
     ensures { result ≡ not (at_place nodes.now place == nobody) }
@@ -67,7 +67,7 @@ fn is_taken_at(nodes: &[u8], place: usize) -> bool
     nodes[place] != NOBODY
 }
 
-/// Whether no node stands in the row that starts there.
+/// Returns whether no node stands in the row that starts there.
 fn is_row_free(nodes: &[u8], start: usize) -> bool
     requires { start + cycle_count ≤ length nodes.now }
     ensures { IsTrue result → IsRowFree start nodes.now }
@@ -75,7 +75,7 @@ fn is_row_free(nodes: &[u8], start: usize) -> bool
     &nodes[start..start + ROW] == FREE_ROW.as_slice()
 }
 
-/// The first of the cycles at which a node stands in the row that starts there, looked for cycle by cycle.
+/// Returns the first of the cycles at which a node stands in the row that starts there, looked for cycle by cycle.
 fn search_row(nodes: &[u8], start: usize, cycles: CycleFilter) -> Option<Cycle>
     requires { start + cycle_count ≤ length nodes.now }
     ensures { result ≡ first_taken_in nodes.now start cycles }
@@ -91,8 +91,8 @@ fn search_row(nodes: &[u8], start: usize, cycles: CycleFilter) -> Option<Cycle>
     None
 }
 
-/// The first of the cycles at which a node stands in the row that starts there. Most rows are free, which is seen at
-/// once.
+/// Returns the first of the cycles at which a node stands in the row that starts there. Most rows are free, which is
+/// seen at once.
 fn first_taken_in(nodes: &[u8], start: usize, cycles: CycleFilter) -> Option<Cycle>
     requires { start + cycle_count ≤ length nodes.now }
     ensures { result ≡ first_taken_in nodes.now start cycles }
@@ -189,7 +189,7 @@ pub(crate) fn enter_all(nodes: &mut [u8], claims: &[Claim]) -> Option<Occasion>
     first
 }
 
-/// The table in which nobody sends.
+/// Returns the table in which nobody sends.
 fn free_table(alloc: Global) -> Result<Vec<u8>, AllocError>
     ensures { IfOk result (λ nodes. nodes.items ≡ free) }
 {
@@ -207,7 +207,7 @@ fn enter_anew(nodes: &mut [u8], claims: &[Claim]) -> Option<Occasion>
     enter_all(nodes, claims)
 }
 
-/// The sender table of the plans, or the first of their faults.
+/// Returns the sender table of the plans, or the first of their faults.
 pub(crate) fn senders_of(
     alloc: Global,
     params: &Params,

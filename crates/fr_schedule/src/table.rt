@@ -21,7 +21,7 @@ const MOST_CYCLES: u32 = CYCLES as u32;
 
 const LAST_CYCLE: u32 = MOST_CYCLES - 1;
 
-/// The value as a number, where it is an integer from the least to the greatest number.
+/// Returns the value as a number, where it is an integer from the least to the greatest number.
 #[tactic(auto, unfolding(crate::specs::TableReading::number_in))]
 fn number_in(value: &Value, least: u32, greatest: u32) -> Option<u32>
     ensures value { result ≡ number_in least greatest (view value.now) }
@@ -36,7 +36,7 @@ fn number_in(value: &Value, least: u32, greatest: u32) -> Option<u32>
     }
 }
 
-/// The number under a key that has to be there.
+/// Returns the number under a key that has to be there.
 #[tactic(auto, unfolding(crate::specs::TableReading::number_at))]
 pub(crate) fn number_at(table: &Table, name: &str, least: u32, greatest: u32) -> Option<u32>
     ensures value { result ≡ number_at name.now least greatest (table_view table.now) }
@@ -47,7 +47,7 @@ pub(crate) fn number_at(table: &Table, name: &str, least: u32, greatest: u32) ->
     number_in(value, least, greatest)
 }
 
-/// The number under a key, or the usual one where the key is absent.
+/// Returns the number under a key, or the usual one where the key is absent.
 #[tactic(auto, unfolding(crate::specs::TableReading::number_or))]
 pub(crate) fn number_or(
     table: &Table,
@@ -66,7 +66,7 @@ pub(crate) fn number_or(
     }
 }
 
-/// The slot under a key that has to be there, up to the greatest one.
+/// Returns the slot under a key that has to be there, up to the greatest one.
 pub(crate) fn slot_at(table: &Table, name: &str, greatest: u16) -> Option<SlotId>
     requires { greatest ≤ last_slot }
     ensures { result ≡ number_at name.now 1 greatest (table_view table.now) }
@@ -75,7 +75,7 @@ pub(crate) fn slot_at(table: &Table, name: &str, greatest: u16) -> Option<SlotId
     SlotId::new(number as u16)
 }
 
-/// The flag under a key, which is false where the key is absent.
+/// Returns the flag under a key, which is false where the key is absent.
 #[tactic(auto, unfolding(crate::specs::TableReading::flag_at))]
 pub(crate) fn flag_at(table: &Table, name: &str) -> Option<bool>
     ensures { result ≡ flag_at name.now (table_view table.now) }
@@ -86,7 +86,7 @@ pub(crate) fn flag_at(table: &Table, name: &str) -> Option<bool>
     }
 }
 
-/// The word under a key that has to be there.
+/// Returns the word under a key that has to be there.
 #[tactic(auto, unfolding(crate::specs::TableReading::word_at))]
 fn word_at<'a>(table: &'a Table, name: &str) -> Option<&'a str>
     ensures { option_copied result ≡ word_at name.now (table_view table.now) }
@@ -95,7 +95,7 @@ fn word_at<'a>(table: &'a Table, name: &str) -> Option<&'a str>
     value.as_str()
 }
 
-/// The channels of this name.
+/// Returns the channels of this name.
 #[tactic(auto, unfolding(crate::specs::TableReading::channels_named))]
 pub(crate) fn channels_named(word: &str) -> Option<Channels>
     ensures { result ≡ channels_named word.now }
@@ -108,7 +108,7 @@ pub(crate) fn channels_named(word: &str) -> Option<Channels>
     }
 }
 
-/// The kind of a buffer of this name.
+/// Returns the kind of a buffer of this name.
 #[tactic(auto, unfolding(crate::specs::TableReading::mode_named))]
 fn mode_named(word: &str) -> Option<Mode>
     ensures { result ≡ mode_named word.now }
@@ -124,7 +124,7 @@ fn mode_named(word: &str) -> Option<Mode>
     }
 }
 
-/// The channels under the key `channels`.
+/// Returns the channels under the key `channels`.
 #[tactic(auto, unfolding(crate::specs::TableReading::channels_in))]
 pub(crate) fn channels_in(table: &Table) -> Option<Channels>
     ensures { result ≡ channels_in (table_view table.now) }
@@ -133,7 +133,7 @@ pub(crate) fn channels_in(table: &Table) -> Option<Channels>
     channels_named(word)
 }
 
-/// The kind of a buffer under the key `kind`.
+/// Returns the kind of a buffer under the key `kind`.
 #[tactic(auto, unfolding(crate::specs::TableReading::mode_in))]
 pub(crate) fn mode_in(table: &Table) -> Option<Mode>
     ensures { result ≡ mode_in (table_view table.now) }
@@ -142,7 +142,7 @@ pub(crate) fn mode_in(table: &Table) -> Option<Mode>
     mode_named(word)
 }
 
-/// The cycles under the keys `base` and `repetition`, which are every cycle where both are absent.
+/// Returns the cycles under the keys `base` and `repetition`, which are every cycle where both are absent.
 #[tactic(auto, unfolding(crate::specs::TableReading::cycles_in))]
 pub(crate) fn cycles_in(table: &Table) -> Option<CycleFilter>
     ensures { result ≡ cycles_in (table_view table.now) }
@@ -155,7 +155,7 @@ pub(crate) fn cycles_in(table: &Table) -> Option<CycleFilter>
     }
 }
 
-/// The values of an array.
+/// Returns the values of an array.
 #[tactic(auto, unfolding(crate::specs::TableReading::array_in))]
 pub(crate) fn array_in(value: &Value) -> Option<&[Value]>
     ensures { option_map (λ values. map view values.now) result ≡ array_in (view value.now) }
@@ -164,21 +164,21 @@ pub(crate) fn array_in(value: &Value) -> Option<&[Value]>
     Some(array.as_slice())
 }
 
-/// Whether the value is a table.
+/// Returns whether the value is a table.
 fn is_table(value: &Value) -> bool
     ensures { result ≡ is_table (view value.now) }
 {
     value.is_table()
 }
 
-/// Whether every value is a table.
+/// Returns whether every value is a table.
 fn are_tables(values: &[Value]) -> bool
     ensures { result ≡ list_all (λ value. is_table (view value)) values.now }
 {
     values.iter().all(|value| is_table(value))
 }
 
-/// Whether these are at most 64 tables.
+/// Returns whether these are at most 64 tables.
 fn are_few_tables(values: &[Value]) -> bool
     ensures value { result
         ≡ (nat_le (length values.now) most_lines && list_all (λ value. is_table (view value)) values.now) }
@@ -187,7 +187,7 @@ fn are_few_tables(values: &[Value]) -> bool
     values.len() <= LINES && are_tables(values)
 }
 
-/// The tables of an array of at most 64.
+/// Returns the tables of an array of at most 64.
 #[tactic(auto, using(crate::proofs::TableLemmas::few_tables_seen), unfolding(crate::specs::TableReading::tables_in))]
 fn tables_in(value: &Value) -> Option<&[Value]>
     ensures value { option_map (λ values. map view values.now) result ≡ tables_in (view value.now) }
@@ -201,7 +201,7 @@ fn tables_in(value: &Value) -> Option<&[Value]>
     }
 }
 
-/// The tables of the array of at most 64 under a key, of which there are none where the key is absent.
+/// Returns the tables of the array of at most 64 under a key, of which there are none where the key is absent.
 #[tactic(auto, unfolding(crate::specs::TableReading::tables_at))]
 pub(crate) fn tables_at<'a>(table: &'a Table, name: &str) -> Option<&'a [Value]>
     ensures value { option_map (λ values. map view values.now) result ≡ tables_at name.now (table_view table.now) }

@@ -18,7 +18,7 @@ use fr_slots::numbers::NodeId;
 use fr_slots::window::Window;
 use std::alloc::{AllocError, Global};
 
-/// The first refusal that isn't `WrongTurn`: the one found before, or else this.
+/// Returns the first refusal that isn't `WrongTurn`: the one found before, or else this.
 fn first_refusal(found: Option<StepError>, answer: &Result<Reply, StepError>) -> Option<StepError>
     ensures { result ≡ first_refusal found answer.now }
 {
@@ -30,7 +30,7 @@ fn first_refusal(found: Option<StepError>, answer: &Result<Reply, StepError>) ->
     }
 }
 
-/// What hinders the bus, where its advance has this answer and this refusal was found before.
+/// Returns what hinders the bus, where its advance has this answer and this refusal was found before.
 fn hindrance(found: Option<StepError>, last: &Result<Reply, StepError>) -> Option<StepError>
     ensures { result ≡ hindrance found last.now }
 {
@@ -90,8 +90,9 @@ fn push_whole(events: &mut Vec<Event>, nodes: u8) -> Result<(), AllocError>
     push_sights(events, nodes)
 }
 
-/// What is due in a window of so many nodes, 16 at most, in which nothing has been done, but for the bus's advance:
-/// the look, the fetch and the put of each node, the seal, and the take and the observe of each (project-defined).
+/// Returns what is due in a window of so many nodes, 16 at most, in which nothing has been done, but for the bus's
+/// advance: the look, the fetch and the put of each node, the seal, and the take and the observe of each
+/// (project-defined).
 ///
 /// Refused where memory is.
 pub fn whole_window(alloc: Global, nodes: u8) -> Result<Vec<Event>, AllocError>
@@ -103,7 +104,7 @@ pub fn whole_window(alloc: Global, nodes: u8) -> Result<Vec<Event>, AllocError>
     Ok(events)
 }
 
-/// All that can be due in a window of so many nodes, but for the advance.
+/// Returns all that can be due in a window of so many nodes, but for the advance.
 pub(crate) fn window_events(alloc: Global, nodes: u8) -> Result<Vec<Event>, AllocError>
     requires { nodes ≤ 16 }
     ensures { IfOk result (λ events. events.items ≡ window_events nodes) }
@@ -126,7 +127,7 @@ fn do_all(world: &mut World, events: &[Event]) -> Option<StepError>
     found
 }
 
-/// The number of the run's cycle in which the open window lies, which isn't sealed.
+/// Returns the number of the run's cycle in which the open window lies, which isn't sealed.
 fn run_cycle_of(bus: &Bus, window: &Window) -> u16
     ensures { result ≡ run_cycle_after bus.now.sealed window.now }
 {
@@ -167,7 +168,7 @@ pub(crate) fn finish_window(
     hindrance(found, &last)
 }
 
-/// Whether the open window is the first of its cycle, or the run is over (project-defined).
+/// Returns whether the open window is the first of its cycle, or the run is over (project-defined).
 pub fn is_at_cycle(bus: &Bus) -> bool
     ensures { result ≡ is_at_cycle bus.now.opened }
 {

@@ -21,7 +21,7 @@ use fr_text::hexes::bytes_of;
 use fr_text::numbers::number_of;
 use fr_text::words::Words;
 
-/// The commit that the words spell.
+/// Returns the commit that the words spell.
 #[tactic(auto, unfolding(crate::specs::Reading::commit_in))]
 fn commit_of(words: &mut Words<'_>) -> Option<Event>
     ensures { result ≡ commit_in words.old }
@@ -39,7 +39,7 @@ fn commit_of(words: &mut Words<'_>) -> Option<Event>
     })
 }
 
-/// The withdraw that the words spell.
+/// Returns the withdraw that the words spell.
 #[tactic(auto, unfolding(crate::specs::Reading::withdraw_in))]
 fn withdraw_of(words: &mut Words<'_>) -> Option<Event>
     ensures { result ≡ withdraw_in words.old }
@@ -51,7 +51,7 @@ fn withdraw_of(words: &mut Words<'_>) -> Option<Event>
     Some(Event::Withdraw { node, task, buffer })
 }
 
-/// The read that the words spell.
+/// Returns the read that the words spell.
 #[tactic(auto, unfolding(crate::specs::Reading::read_in))]
 fn read_of(words: &mut Words<'_>) -> Option<Event>
     ensures { result ≡ read_in words.old }
@@ -63,7 +63,7 @@ fn read_of(words: &mut Words<'_>) -> Option<Event>
     Some(Event::Read { node, task, buffer })
 }
 
-/// The pop that the words spell.
+/// Returns the pop that the words spell.
 #[tactic(auto, unfolding(crate::specs::Reading::pop_in))]
 fn pop_of(words: &mut Words<'_>) -> Option<Event>
     ensures { result ≡ pop_in words.old }
@@ -74,7 +74,7 @@ fn pop_of(words: &mut Words<'_>) -> Option<Event>
     Some(Event::Pop { node, task })
 }
 
-/// The babble that the words spell.
+/// Returns the babble that the words spell.
 #[tactic(auto, unfolding(crate::specs::Reading::babble_in))]
 fn babble_of(words: &mut Words<'_>) -> Option<Fault>
     ensures { result ≡ babble_in words.old }
@@ -90,7 +90,7 @@ fn babble_of(words: &mut Words<'_>) -> Option<Fault>
     })
 }
 
-/// The mute that the words spell.
+/// Returns the mute that the words spell.
 #[tactic(auto, unfolding(crate::specs::Reading::mute_in))]
 fn mute_of(words: &mut Words<'_>) -> Option<Fault>
     ensures { result ≡ mute_in words.old }
@@ -101,7 +101,7 @@ fn mute_of(words: &mut Words<'_>) -> Option<Fault>
     Some(Fault::Mute { node, channel })
 }
 
-/// The corruption that the words spell.
+/// Returns the corruption that the words spell.
 #[tactic(auto, unfolding(crate::specs::Reading::corrupt_in))]
 fn corrupt_of(words: &mut Words<'_>) -> Option<Fault>
     ensures { result ≡ corrupt_in words.old }
@@ -115,7 +115,7 @@ fn corrupt_of(words: &mut Words<'_>) -> Option<Fault>
     })
 }
 
-/// The one node that the words spell.
+/// Returns the one node that the words spell.
 #[tactic(auto, unfolding(crate::specs::Reading::node_in))]
 fn node_in(words: &mut Words<'_>) -> Option<NodeId>
     ensures { result ≡ node_in words.old }
@@ -125,7 +125,7 @@ fn node_in(words: &mut Words<'_>) -> Option<NodeId>
     node_of(node)
 }
 
-/// The call of a task that this first word begins.
+/// Returns the call of a task that this first word begins.
 #[tactic(auto, unfolding(crate::specs::Reading::host_request))]
 fn host_request(kind: &[u8], words: &mut Words<'_>) -> Option<Event>
     ensures { result ≡ host_request kind.now words.old }
@@ -145,7 +145,7 @@ fn host_request(kind: &[u8], words: &mut Words<'_>) -> Option<Event>
     None
 }
 
-/// The step of the controller of a node that this word names.
+/// Returns the step of the controller of a node that this word names.
 #[tactic(auto, unfolding(crate::specs::Reading::step_of))]
 fn step_of(kind: &[u8], node: NodeId) -> Option<Event>
     ensures { result ≡ step_of kind.now node }
@@ -168,7 +168,7 @@ fn step_of(kind: &[u8], node: NodeId) -> Option<Event>
     None
 }
 
-/// The step of a controller that this first word begins.
+/// Returns the step of a controller that this first word begins.
 #[tactic(auto, unfolding(crate::specs::Reading::step_request))]
 fn step_request(kind: &[u8], words: &mut Words<'_>) -> Option<Event>
     ensures { result ≡ step_request kind.now words.old }
@@ -177,7 +177,7 @@ fn step_request(kind: &[u8], words: &mut Words<'_>) -> Option<Event>
     step_of(kind, node)
 }
 
-/// The fault that this first word begins.
+/// Returns the fault that this first word begins.
 #[tactic(auto, unfolding(crate::specs::Reading::fault_of))]
 fn fault_of(kind: &[u8], words: &mut Words<'_>) -> Option<Fault>
     ensures { result ≡ fault_of kind.now words.old }
@@ -194,7 +194,7 @@ fn fault_of(kind: &[u8], words: &mut Words<'_>) -> Option<Fault>
     None
 }
 
-/// The fault that this first word begins, as an event.
+/// Returns the fault that this first word begins, as an event.
 #[tactic(auto, unfolding(crate::specs::Reading::fault_request))]
 fn fault_request(kind: &[u8], words: &mut Words<'_>) -> Option<Event>
     ensures { result ≡ fault_request kind.now words.old }
@@ -203,14 +203,14 @@ fn fault_request(kind: &[u8], words: &mut Words<'_>) -> Option<Event>
     Some(Event::Inject(fault))
 }
 
-/// Whether the word begins a fault.
+/// Returns whether the word begins a fault.
 fn is_fault_word(kind: &[u8]) -> bool
     ensures { result ≡ is_fault_word kind.now }
 {
     kind == b"babble".as_slice() || kind == b"mute".as_slice() || kind == b"corrupt".as_slice()
 }
 
-/// Whether the word begins the step of a controller.
+/// Returns whether the word begins the step of a controller.
 fn is_step_word(kind: &[u8]) -> bool
     ensures { result ≡ is_step_word kind.now }
 {
@@ -221,7 +221,7 @@ fn is_step_word(kind: &[u8]) -> bool
         || kind == b"observe".as_slice()
 }
 
-/// Whether the word begins the call of a task.
+/// Returns whether the word begins the call of a task.
 fn is_host_word(kind: &[u8]) -> bool
     ensures { result ≡ is_host_word kind.now }
 {
@@ -231,7 +231,7 @@ fn is_host_word(kind: &[u8]) -> bool
         || kind == b"pop".as_slice()
 }
 
-/// The event that this first word begins.
+/// Returns the event that this first word begins.
 #[tactic(auto, unfolding(crate::specs::Reading::event_request))]
 fn event_request(kind: &[u8], words: &mut Words<'_>) -> Option<Event>
     ensures { result ≡ event_request kind.now words.old }
@@ -245,7 +245,7 @@ fn event_request(kind: &[u8], words: &mut Words<'_>) -> Option<Event>
     host_request(kind, words)
 }
 
-/// The number of cycles that the words spell, up to 1024.
+/// Returns the number of cycles that the words spell, up to 1024.
 #[tactic(auto, unfolding(crate::specs::Reading::run_in))]
 fn run_of(words: &mut Words<'_>) -> Option<Request>
     ensures { result ≡ run_in words.old }
@@ -256,7 +256,7 @@ fn run_of(words: &mut Words<'_>) -> Option<Request>
     Some(Request::Run(cycles as u16))
 }
 
-/// The number of a window that the words spell.
+/// Returns the number of a window that the words spell.
 #[tactic(auto, unfolding(crate::specs::Reading::record_in))]
 fn record_of(words: &mut Words<'_>) -> Option<Request>
     ensures { result ≡ record_in words.old }
@@ -267,7 +267,7 @@ fn record_of(words: &mut Words<'_>) -> Option<Request>
     Some(Request::Record(window as u32))
 }
 
-/// The report that the words ask for.
+/// Returns the report that the words ask for.
 #[tactic(auto, unfolding(crate::specs::Reading::report_in))]
 fn report_of(words: &mut Words<'_>) -> Option<Request>
     ensures { result ≡ report_in words.old }
@@ -276,7 +276,7 @@ fn report_of(words: &mut Words<'_>) -> Option<Request>
     Some(Request::Report(node))
 }
 
-/// The trace that the words ask for.
+/// Returns the trace that the words ask for.
 #[tactic(auto, unfolding(crate::specs::Reading::trace_in))]
 fn trace_of(words: &mut Words<'_>) -> Option<Request>
     ensures { result ≡ trace_in words.old }
@@ -285,7 +285,7 @@ fn trace_of(words: &mut Words<'_>) -> Option<Request>
     Some(Request::Trace(node))
 }
 
-/// The request of a word that stands alone.
+/// Returns the request of a word that stands alone.
 fn alone(words: &Words<'_>, request: Request) -> Option<Request>
     ensures { result ≡ alone words.now request }
 {
@@ -293,7 +293,7 @@ fn alone(words: &Words<'_>, request: Request) -> Option<Request>
     Some(request)
 }
 
-/// The other request that this first word begins.
+/// Returns the other request that this first word begins.
 #[tactic(auto, unfolding(crate::specs::Reading::other_request))]
 fn other_request(kind: &[u8], words: &mut Words<'_>) -> Option<Request>
     ensures { result ≡ other_request kind.now words.old }
@@ -331,14 +331,14 @@ fn other_request(kind: &[u8], words: &mut Words<'_>) -> Option<Request>
     None
 }
 
-/// Whether the word begins an event that has further words.
+/// Returns whether the word begins an event that has further words.
 fn begins_event(kind: &[u8]) -> bool
     ensures { result ≡ begins_event kind.now }
 {
     is_host_word(kind) || is_step_word(kind) || is_fault_word(kind)
 }
 
-/// What the words ask for.
+/// Returns what the words ask for.
 #[tactic(auto, unfolding(crate::specs::Reading::request_in))]
 fn request_in(words: &mut Words<'_>) -> Option<Request>
     ensures { result ≡ request_in words.old }
@@ -351,7 +351,7 @@ fn request_in(words: &mut Words<'_>) -> Option<Request>
     other_request(kind, words)
 }
 
-/// The fault line that the line spells, as a request.
+/// Returns the fault line that the line spells, as a request.
 fn fault_in(line: &[u8]) -> Option<Request>
     ensures { result ≡ with_fault (fault_line_in (words_of line.now)) }
 {
@@ -359,8 +359,8 @@ fn fault_in(line: &[u8]) -> Option<Request>
     Some(Request::Fault(fault))
 }
 
-/// What the line, which is given without its line feed, asks for. `None` where it has more than 1200 bytes, no form of
-/// a request, or a number out of its range.
+/// Returns what the line, which is given without its line feed, asks for. `None` where it has more than 1200 bytes, no
+/// form of a request, or a number out of its range.
 pub(crate) fn request_of(line: &[u8]) -> Option<Request>
     ensures { result ≡ asked_in line.now }
 {

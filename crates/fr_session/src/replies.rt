@@ -24,7 +24,7 @@ pub(crate) fn write_greeting<W: Write>(writer: &mut W) -> io::Result<()>
     writeln!(writer, "frworld 1")
 }
 
-/// The frame, whose payload stays where it is.
+/// Returns the frame, whose payload stays where it is.
 fn lent(frame: &Frame) -> LentFrame<'_>
     ensures { result ≡ frame.now }
 {

@@ -19,7 +19,7 @@ use fr_text::hexes::write_hex;
 use std::io;
 use std::io::Write;
 
-/// Where the frame of a read or a pop came from.
+/// Returns where the frame of a read or a pop came from.
 fn origin_of(entry: &Entry) -> Option<Origin>
     ensures { result ≡ origin_of entry.now }
 {
@@ -29,7 +29,7 @@ fn origin_of(entry: &Entry) -> Option<Origin>
     }
 }
 
-/// The channel from which the frame came that the entry of this number tells of.
+/// Returns the channel from which the frame came that the entry of this number tells of.
 fn channel_of(world: &World, node: NodeId, number: u32) -> Option<Channel>
     ensures { result ≡ channel_in (slice_get world.now.interfaces node) number }
 {
@@ -54,7 +54,7 @@ fn write_action<W: Write>(writer: &mut W, action: &Action) -> io::Result<()>
     }
 }
 
-/// The word of a channel or of none.
+/// Returns the word of a channel or of none.
 fn channel_word(channel: Option<Channel>) -> &'static str
     ensures { result.now ≡ channel_word channel }
 {

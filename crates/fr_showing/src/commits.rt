@@ -43,7 +43,7 @@ struct Commitment<'a> {
     payload: &'a [u8],
 }
 
-/// How the node's offer ended where it was sent.
+/// Returns how the node's offer ended where it was sent.
 fn end_in(world: &World, node: usize, sending: &Sending) -> Option<End>
     ensures { result ≡ end_in world.now node sending.now }
 {
@@ -51,7 +51,7 @@ fn end_in(world: &World, node: usize, sending: &Sending) -> Option<End>
     offer_end(params_of(world), record, window, sending.channel, node)
 }
 
-/// Whether what ended so can be taken.
+/// Returns whether what ended so can be taken.
 fn is_takeable(end: Option<End>) -> bool
     ensures { result ≡ is_takeable end }
 {

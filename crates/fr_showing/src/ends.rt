@@ -27,14 +27,14 @@ pub enum End {
     Blocked,
 }
 
-/// How many passed on the channel.
+/// Returns how many passed on the channel.
 fn count_passed(channel: Channel, sent: &[Sent]) -> usize
     ensures { result ≡ count_by (passed_on channel) sent.now }
 {
     sent.iter().filter(|t| t.passed_on(channel)).count()
 }
 
-/// Whether the bit that is to be turned is one of these bytes.
+/// Returns whether the bit that is to be turned is one of these bytes.
 fn is_turned(corrupt: Option<u16>, bytes: &[u8]) -> bool
     ensures { result ≡ is_turned corrupt bytes.now }
 {
@@ -44,7 +44,7 @@ fn is_turned(corrupt: Option<u16>, bytes: &[u8]) -> bool
     }
 }
 
-/// How the only transmission ended that passed on its channel.
+/// Returns how the only transmission ended that passed on its channel.
 fn end_alone(params: &Params, sealed: &Sealed, sent: &Sent) -> End
     ensures { result ≡ end_alone params.now sealed.now sent.now }
 {
@@ -57,7 +57,7 @@ fn end_alone(params: &Params, sealed: &Sealed, sent: &Sent) -> End
     }
 }
 
-/// How a transmission ended that passed.
+/// Returns how a transmission ended that passed.
 fn end_passed(params: &Params, sealed: &Sealed, sent: &Sent) -> End
     ensures { result ≡ end_passed params.now sealed.now sent.now }
 {
@@ -68,7 +68,7 @@ fn end_passed(params: &Params, sealed: &Sealed, sent: &Sent) -> End
     }
 }
 
-/// How a transmission of the window ended (project-defined).
+/// Returns how a transmission of the window ended (project-defined).
 pub fn end_of(params: &Params, sealed: &Sealed, sent: &Sent) -> End
     ensures { result ≡ end_of params.now sealed.now sent.now }
 {
@@ -79,14 +79,14 @@ pub fn end_of(params: &Params, sealed: &Sealed, sent: &Sent) -> End
     }
 }
 
-/// Whether it is the node's offer on the channel.
+/// Returns whether it is the node's offer on the channel.
 fn is_offer_of(channel: Channel, node: usize, sent: &Sent) -> bool
     ensures { result ≡ is_offer_of channel node sent.now }
 {
     usize::from(sent.node.number()) == node && sent.channel == channel && !sent.babble
 }
 
-/// The node's offer on the channel, if it is among these.
+/// Returns the node's offer on the channel, if it is among these.
 fn offer_of(channel: Channel, node: usize, sent: &[Sent]) -> Option<&Sent>
     ensures { option_map (λ t. t.now) result ≡ find (is_offer_of channel node) sent.now }
 {
@@ -98,21 +98,21 @@ fn offer_of(channel: Channel, node: usize, sent: &[Sent]) -> Option<&Sent>
     None
 }
 
-/// The window at this place of the record.
+/// Returns the window at this place of the record.
 pub(crate) fn sealed_at(record: &[Sealed], place: usize) -> Option<&Sealed>
     ensures { option_map (λ sealed. sealed.now) result ≡ slice_get record.now place }
 {
     record.get(place)
 }
 
-/// The transmissions of the window.
+/// Returns the transmissions of the window.
 pub(crate) fn sent_in(sealed: &Sealed) -> &[Sent]
     ensures { result.now ≡ sealed.now.sent }
 {
     sealed.sent.as_slice()
 }
 
-/// How the node's offer on the channel ended in the window of this number, if there was one.
+/// Returns how the node's offer on the channel ended in the window of this number, if there was one.
 pub(crate) fn offer_end(
     params: &Params,
     record: &[Sealed],
@@ -127,7 +127,7 @@ pub(crate) fn offer_end(
     Some(end_of(params, sealed, sent))
 }
 
-/// The word of how a transmission ended, if there was one.
+/// Returns the word of how a transmission ended, if there was one.
 pub(crate) fn ended_word(end: Option<End>) -> &'static str
     ensures { result.now ≡ ended_word end }
 {
@@ -137,7 +137,7 @@ pub(crate) fn ended_word(end: Option<End>) -> &'static str
     }
 }
 
-/// The word of how a transmission ended.
+/// Returns the word of how a transmission ended.
 pub(crate) fn end_word(end: End) -> &'static str
     ensures { result.now ≡ end_word end }
 {

@@ -37,7 +37,7 @@ pub(crate) struct Sending {
     pub(crate) channel: Channel,
 }
 
-/// How many cycles of the run began up to this entry and with it, where so many began before it.
+/// Returns how many cycles of the run began up to this entry and with it, where so many began before it.
 pub(crate) fn begun_with(begun: u32, entry: &LentEntry<'_>) -> u32
     requires { begun + 1 < 2 ^ 32 }
     ensures { result ≡ begun + (if begins_cycle_at (whole entry.now) then 1 else 0) }
@@ -52,7 +52,7 @@ pub(crate) fn begun_with(begun: u32, entry: &LentEntry<'_>) -> u32
     }
 }
 
-/// Whether this is the data of the commit.
+/// Returns whether this is the data of the commit.
 pub(crate) fn is_data_of(commit: u32, offered: Offered) -> bool
     ensures { result ≡ is_data_of commit offered }
 {
@@ -62,7 +62,7 @@ pub(crate) fn is_data_of(commit: u32, offered: Offered) -> bool
     }
 }
 
-/// Whether the entry is a commit on the buffer.
+/// Returns whether the entry is a commit on the buffer.
 pub(crate) fn is_commit_on(buffer: u8, entry: &LentEntry<'_>) -> bool
     ensures { result ≡ is_commit_on buffer (whole entry.now) }
 {
@@ -72,7 +72,7 @@ pub(crate) fn is_commit_on(buffer: u8, entry: &LentEntry<'_>) -> bool
     }
 }
 
-/// What the entry makes of a commit on the buffer that was pending before it.
+/// Returns what the entry makes of a commit on the buffer that was pending before it.
 fn became_with(commit: u32, buffer: u8, cycle: u32, number: u32, entry: &LentEntry<'_>) -> Became
     ensures { result ≡ became_with buffer commit cycle number (whole entry.now) }
 {
@@ -92,16 +92,16 @@ fn became_with(commit: u32, buffer: u8, cycle: u32, number: u32, entry: &LentEnt
     }
 }
 
-/// Whether nothing was done to it.
+/// Returns whether nothing was done to it.
 fn is_pending(became: Became) -> bool
     ensures { result ≡ is_pending became }
 {
     matches!(became, Became::Pending)
 }
 
-/// What became of the commit of this number on the buffer, where so many cycles began before it. The first later entry
-/// that does something to it decides, since in a legal journal none does anything to it after that but to send it
-/// again.
+/// Returns what became of the commit of this number on the buffer, where so many cycles began before it. The first
+/// later entry that does something to it decides, since in a legal journal none does anything to it after that but to
+/// send it again.
 pub(crate) fn became_of(interface: &Interface, buffer: u8, commit: u32, begun: u32) -> Became
     requires there { IsSomeAnd (slice_get interface.now.entries commit) (λ e. is_commit_on buffer e ≡ true) }
     requires cycle { begun ≡ cycles_of (take commit interface.now.entries) }

@@ -14,14 +14,14 @@ use fr_runs::fault_line::FaultLine;
 use fr_slots::params::Params;
 use std::alloc::{AllocError, Global};
 
-/// Whether it passed alone, with one of its bits turned.
+/// Returns whether it passed alone, with one of its bits turned.
 fn is_turned_end(end: End) -> bool
     ensures { result ≡ is_turned_end end }
 {
     end == End::Turned
 }
 
-/// Whether the transmission of the window shows what the fault did.
+/// Returns whether the transmission of the window shows what the fault did.
 fn shows(params: &Params, sealed: &Sealed, fault: &Fault, sent: &Sent) -> bool
     ensures { result ≡ shows params.now sealed.now fault.now sent.now }
 {
@@ -29,7 +29,7 @@ fn shows(params: &Params, sealed: &Sealed, fault: &Fault, sent: &Sent) -> bool
         || (turns(sent.channel, fault) && is_turned_end(end_of(params, sealed, sent)))
 }
 
-/// Whether a transmission of the window shows what the fault did.
+/// Returns whether a transmission of the window shows what the fault did.
 fn is_shown(params: &Params, sealed: &Sealed, fault: &Fault) -> bool
     ensures { result ≡ list_any (shows params.now sealed.now fault.now) sealed.now.sent }
 {
@@ -37,14 +37,14 @@ fn is_shown(params: &Params, sealed: &Sealed, fault: &Fault) -> bool
     sent.iter().any(|t| shows(params, sealed, fault, t))
 }
 
-/// Whether the line struck something in the window, which lies in the cycle of this number of the run.
+/// Returns whether the line struck something in the window, which lies in the cycle of this number of the run.
 fn has_struck_in(params: &Params, line: &FaultLine, cycle: usize, sealed: &Sealed) -> bool
     ensures { result ≡ has_struck_in params.now line.now cycle sealed.now }
 {
     strikes(line, cycle, &sealed.window) && is_shown(params, sealed, &line.fault)
 }
 
-/// Whether the line struck something in a window of the record.
+/// Returns whether the line struck something in a window of the record.
 fn has_struck(params: &Params, record: &[Sealed], line: &FaultLine) -> bool
     ensures { result ≡ has_struck params.now record.now line.now }
 {
@@ -58,7 +58,7 @@ fn has_struck(params: &Params, record: &[Sealed], line: &FaultLine) -> bool
     false
 }
 
-/// The numbers of the lines that had no effect, where the lines have these numbers.
+/// Returns the numbers of the lines that had no effect, where the lines have these numbers.
 fn idle_numbers(
     alloc: Global,
     params: &Params,
@@ -77,7 +77,7 @@ fn idle_numbers(
     Ok(idle)
 }
 
-/// The numbers of the scenario's fault lines that had no effect in the run, in their order (project-defined).
+/// Returns the numbers of the scenario's fault lines that had no effect in the run, in their order (project-defined).
 ///
 /// A line struck something if in a window in which its fault comes a transmission shows it: of a babble line one that
 /// its node babbled on its channel, of a mute line one of its node on its channel that is muted, of a corrupt line one

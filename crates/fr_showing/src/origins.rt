@@ -12,7 +12,7 @@ use fr_slots::channel::Channel;
 use fr_slots::numbers::NodeId;
 use fr_slots::window::Window;
 
-/// Whether the fault of the line comes in the window, which lies in the cycle of this number of the run.
+/// Returns whether the fault of the line comes in the window, which lies in the cycle of this number of the run.
 pub(crate) fn strikes(line: &FaultLine, cycle: usize, window: &Window) -> bool
     ensures { result ≡ strikes line.now cycle window.now }
 {
@@ -23,14 +23,14 @@ pub(crate) fn strikes(line: &FaultLine, cycle: usize, window: &Window) -> bool
     }
 }
 
-/// Whether the node sent it on the channel.
+/// Returns whether the node sent it on the channel.
 fn is_sent_by(node: NodeId, channel: Channel, sent: &Sent) -> bool
     ensures { result ≡ is_sent_by node channel sent.now }
 {
     sent.node == node && sent.channel == channel
 }
 
-/// Whether the transmission is what the fault has a node babble, or an offer that it lost.
+/// Returns whether the transmission is what the fault has a node babble, or an offer that it lost.
 pub(crate) fn brings(sent: &Sent, fault: &Fault) -> bool
     ensures { result ≡ brings sent.now fault.now }
 {
@@ -43,7 +43,7 @@ pub(crate) fn brings(sent: &Sent, fault: &Fault) -> bool
     }
 }
 
-/// Whether the fault flips a bit on the channel.
+/// Returns whether the fault flips a bit on the channel.
 pub(crate) fn turns(channel: Channel, fault: &Fault) -> bool
     ensures { result ≡ turns channel fault.now }
 {
@@ -53,21 +53,21 @@ pub(crate) fn turns(channel: Channel, fault: &Fault) -> bool
     }
 }
 
-/// Whether the line takes effect in the window, and the transmission comes from it.
+/// Returns whether the line takes effect in the window, and the transmission comes from it.
 fn has_brought(cycle: usize, window: &Window, sent: &Sent, line: &FaultLine) -> bool
     ensures { result ≡ has_brought cycle window.now sent.now line.now }
 {
     strikes(line, cycle, window) && brings(sent, &line.fault)
 }
 
-/// Whether the line takes effect in the window, and flips a bit on the channel.
+/// Returns whether the line takes effect in the window, and flips a bit on the channel.
 fn has_turned(cycle: usize, window: &Window, channel: Channel, line: &FaultLine) -> bool
     ensures { result ≡ has_turned cycle window.now channel line.now }
 {
     strikes(line, cycle, window) && turns(channel, &line.fault)
 }
 
-/// The place of the first line that the transmission comes from.
+/// Returns the place of the first line that the transmission comes from.
 fn first_brought(lines: &[FaultLine], cycle: usize, window: &Window, sent: &Sent) -> Option<usize>
     ensures { result ≡ position (has_brought cycle window.now sent.now) lines.now }
 {
@@ -76,7 +76,7 @@ fn first_brought(lines: &[FaultLine], cycle: usize, window: &Window, sent: &Sent
         .position(|line| has_brought(cycle, window, sent, line))
 }
 
-/// The place of the first line that flips a bit on the channel.
+/// Returns the place of the first line that flips a bit on the channel.
 fn first_turned(
     lines: &[FaultLine],
     cycle: usize,
@@ -90,15 +90,15 @@ fn first_turned(
         .position(|line| has_turned(cycle, window, channel, line))
 }
 
-/// The number of the line at this place.
+/// Returns the number of the line at this place.
 fn number_at(numbers: &[u32], place: Option<usize>) -> Option<u32>
     ensures { result ≡ option_and_then (slice_get numbers.now) place }
 {
     numbers.get(place?).copied()
 }
 
-/// The number of the scenario's line that a transmission of the window comes from: of a babble the line that has the
-/// node babble, of a muted offer the one that lost it. The window lies in the cycle of this number of the run.
+/// Returns the number of the scenario's line that a transmission of the window comes from: of a babble the line that
+/// has the node babble, of a muted offer the one that lost it. The window lies in the cycle of this number of the run.
 pub(crate) fn origin_of_sent(
     scenario: &Scenario,
     cycle: usize,
@@ -111,7 +111,7 @@ pub(crate) fn origin_of_sent(
     number_at(scenario.fault_numbers(), place)
 }
 
-/// The number of the scenario's line that flips a bit on the channel of the window.
+/// Returns the number of the scenario's line that flips a bit on the channel of the window.
 pub(crate) fn origin_of_bit(
     scenario: &Scenario,
     cycle: usize,

@@ -5,7 +5,7 @@ use fr_core::world::World;
 use fr_interface::interface::Interface;
 use fr_slots::params::Params;
 
-/// The interfaces, in the order of the nodes, of which there are at most 16.
+/// Returns the interfaces, in the order of the nodes, of which there are at most 16.
 #[tactic(auto, using(crate::proofs::PartLemmas::few_nodes))]
 pub(crate) fn interfaces_of(world: &World) -> &[Interface]
     ensures value { result.now ≡ world.now.interfaces }
@@ -14,7 +14,7 @@ pub(crate) fn interfaces_of(world: &World) -> &[Interface]
     world.interfaces()
 }
 
-/// The parameters of the cluster.
+/// Returns the parameters of the cluster.
 #[tactic(auto, using(crate::proofs::PartLemmas::some_nodes))]
 pub(crate) fn params_of(world: &World) -> &Params
     ensures { result.now ≡ world.now.bus.cluster.params }

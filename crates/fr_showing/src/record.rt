@@ -82,7 +82,7 @@ fn write_fate<W: Write>(
     write!(writer, "{node} {kind} {fate} {end}")
 }
 
-/// The window of a sealed one.
+/// Returns the window of a sealed one.
 fn window_of(sealed: &Sealed) -> &Window
     ensures { result.now ≡ sealed.now.window }
 {
@@ -198,7 +198,7 @@ fn write_window<W: Write>(
     write_bit(writer, scenario, cycle, sealed, Channel::B)
 }
 
-/// How many cycles of the run began up to this window and with it, where so many began before it.
+/// Returns how many cycles of the run began up to this window and with it, where so many began before it.
 pub(crate) fn begun_with(begun: usize, sealed: &Sealed) -> usize
     requires { begun + 1 < 2 ^ 64 }
     ensures { result ≡ begun + (if begins_cycle sealed.now then 1 else 0) }

@@ -15,7 +15,7 @@ use fr_schedule::cluster::Cluster;
 use std::alloc::Global;
 use std::io::{Read, Write};
 
-/// The numbers of the fault lines that had no effect.
+/// Returns the numbers of the fault lines that had no effect.
 fn idle_in(alloc: Global, file: &PlayedFile) -> Result<Vec<u32>, PlayError>
     ensures numbers { IfOk result (λ idle. idle.items ≡ idle_lines file.now) }
     ensures refused { IfErr result (λ e. e ≡ refusal.Text bench.Memory) }

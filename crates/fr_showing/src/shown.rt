@@ -53,7 +53,7 @@ pub enum Shown {
     Trace(NodeId),
 }
 
-/// The outcome of a run that led to this world.
+/// Returns the outcome of a run that led to this world.
 fn outcome_in(alloc: Global, world: &World) -> Result<Vec<u8>, PlayError>
     ensures text { IfOk result (λ text. text.items
         ≡ outcome_text world.now.interfaces (length world.now.bus.sealed)) }
@@ -68,7 +68,7 @@ fn outcome_in(alloc: Global, world: &World) -> Result<Vec<u8>, PlayError>
     }
 }
 
-/// The answers of a run.
+/// Returns the answers of a run.
 fn answers_in(alloc: Global, played: &Played) -> Result<Vec<u8>, PlayError>
     ensures text { IfOk result (λ text. text.items
         ≡ flat_map (answer_line played.now.world) played.now.calls.items) }
@@ -81,7 +81,7 @@ fn answers_in(alloc: Global, played: &Played) -> Result<Vec<u8>, PlayError>
     }
 }
 
-/// The commits of a run.
+/// Returns the commits of a run.
 fn commits_in(alloc: Global, world: &World) -> Result<Vec<u8>, PlayError>
     ensures text { IfOk result (λ text. text.items ≡ flat_map (commit_line world.now) (commits world.now)) }
     ensures refused { IfErr result (λ e. e ≡ refusal.Text bench.Memory) }
@@ -93,7 +93,7 @@ fn commits_in(alloc: Global, world: &World) -> Result<Vec<u8>, PlayError>
     }
 }
 
-/// The bus's record.
+/// Returns the bus's record.
 fn record_in(alloc: Global, scenario: &Scenario, world: &World) -> Result<Vec<u8>, PlayError>
     ensures text { IfOk result (λ text. text.items
         ≡ record_text scenario.now world.now.bus.cluster.params world.now.bus.sealed) }
@@ -106,7 +106,7 @@ fn record_in(alloc: Global, scenario: &Scenario, world: &World) -> Result<Vec<u8
     }
 }
 
-/// The capture of what a listener hears.
+/// Returns the capture of what a listener hears.
 fn heard_in(alloc: Global, world: &World) -> Result<Vec<u8>, PlayError>
     ensures text { IfOk result (λ text. text.items
         ≡ capture_of world.now.bus.cluster.params world.now.bus.sealed) }
@@ -119,7 +119,7 @@ fn heard_in(alloc: Global, world: &World) -> Result<Vec<u8>, PlayError>
     }
 }
 
-/// The matrix of the record.
+/// Returns the matrix of the record.
 fn drawn_in(alloc: Global, world: &World, view: &View) -> Result<Vec<u8>, PlayError>
     ensures text { IfOk result (λ text.
         IsMatrix world.now.bus.cluster.params view.now world.now.bus.sealed text.items) }
@@ -131,7 +131,7 @@ fn drawn_in(alloc: Global, world: &World, view: &View) -> Result<Vec<u8>, PlayEr
     }
 }
 
-/// The matrix of the record, unless it is to be seen through the eyes of a node that isn't there.
+/// Returns the matrix of the record, unless it is to be seen through the eyes of a node that isn't there.
 fn matrix_in(alloc: Global, world: &World, view: &View) -> Result<Vec<u8>, PlayError>
     ensures viewer { OnOk result (HasViewer view.now.node world.now) }
     ensures text { IfOk result (λ text.
@@ -145,7 +145,7 @@ fn matrix_in(alloc: Global, world: &World, view: &View) -> Result<Vec<u8>, PlayE
     }
 }
 
-/// The trace of an interface.
+/// Returns the trace of an interface.
 fn trace_in(alloc: Global, interface: &Interface) -> Result<Vec<u8>, PlayError>
     ensures text { IfOk result (λ text. text.items ≡ trace_text Three interface.now) }
     ensures refused { IfErr result (λ e. e ≡ refusal.Text bench.Memory) }
@@ -157,7 +157,7 @@ fn trace_in(alloc: Global, interface: &Interface) -> Result<Vec<u8>, PlayError>
     }
 }
 
-/// What is to be shown of the run (project-defined).
+/// Returns what is to be shown of the run (project-defined).
 ///
 /// Refused with `UnknownNode` where the cluster doesn't have the node that is to be shown, and with `Memory` where
 /// memory is refused.

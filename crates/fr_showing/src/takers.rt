@@ -31,7 +31,7 @@ pub(crate) struct Taker {
     pub(crate) buffer: Option<usize>,
 }
 
-/// Whether this is a data frame.
+/// Returns whether this is a data frame.
 fn is_data(frame: Option<LentFrame<'_>>) -> bool
     ensures { result ≡ is_some (option_and_then with_data frame.entry) }
 {
@@ -41,7 +41,7 @@ fn is_data(frame: Option<LentFrame<'_>>) -> bool
     }
 }
 
-/// Whether a valid data frame was seen on the channel.
+/// Returns whether a valid data frame was seen on the channel.
 fn has_frame(params: &Params, window: &Window, channel: Channel, seen: &Seen) -> bool
     ensures { result ≡ is_some (data_frame_seen params.now window.now channel seen.now) }
 {
@@ -51,14 +51,14 @@ fn has_frame(params: &Params, window: &Window, channel: Channel, seen: &Seen) ->
     }
 }
 
-/// The window of a sealed one.
+/// Returns the window of a sealed one.
 fn window_of(sealed: &Sealed) -> &Window
     ensures { result.now ≡ sealed.now.window }
 {
     &sealed.window
 }
 
-/// Whether a valid data frame came to the node on the channel.
+/// Returns whether a valid data frame came to the node on the channel.
 fn came_on(params: &Params, sealed: &Sealed, channel: Channel, node: NodeId) -> bool
     ensures { result ≡ is_some
         (data_frame_seen params.now sealed.now.window channel (seen_by params.now sealed.now channel node)) }
@@ -67,7 +67,7 @@ fn came_on(params: &Params, sealed: &Sealed, channel: Channel, node: NodeId) -> 
     has_frame(params, window_of(sealed), channel, &seen)
 }
 
-/// What a node sees of the window.
+/// Returns what a node sees of the window.
 fn came_to(params: &Params, sealed: &Sealed, node: NodeId) -> Came
     ensures a { result.a ≡ is_some
         (data_frame_seen params.now sealed.now.window on.A (seen_by params.now sealed.now on.A node)) }

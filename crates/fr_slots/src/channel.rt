@@ -36,7 +36,7 @@ pub enum Channels {
 }
 
 impl Channels {
-    /// Whether the channel is among these.
+    /// Returns whether the channel is among these.
     pub fn includes(self, channel: Channel) -> bool
         ensures { result ≡ includes self channel }
     {

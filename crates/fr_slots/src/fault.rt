@@ -43,7 +43,7 @@ pub enum PlanFault {
     OutOfParams,
 }
 
-/// The first fault of the parameters, and of what the buffers need of the ownership lines.
+/// Returns the first fault of the parameters, and of what the buffers need of the ownership lines.
 #[tactic(auto, unfolding(crate::specs::Faults::ownership_fault))]
 pub(crate) fn ownership_fault(params: &Params, plan: &NodePlan) -> Option<PlanFault>
     ensures { result ≡ ownership_fault params.now plan.now }
@@ -51,7 +51,7 @@ pub(crate) fn ownership_fault(params: &Params, plan: &NodePlan) -> Option<PlanFa
     out_of_params(params, plan).or_else(|| plan.first_not_owned(params).map(PlanFault::NotOwned))
 }
 
-/// The first fault of the ownership lines among themselves and of the buffers.
+/// Returns the first fault of the ownership lines among themselves and of the buffers.
 #[tactic(auto, unfolding(crate::specs::Faults::buffer_fault))]
 pub(crate) fn buffer_fault(params: &Params, plan: &NodePlan) -> Option<PlanFault>
     ensures { result ≡ buffer_fault params.now plan.now }
@@ -61,7 +61,7 @@ pub(crate) fn buffer_fault(params: &Params, plan: &NodePlan) -> Option<PlanFault
         .or_else(|| plan.first_too_long(params).map(PlanFault::TooLong))
 }
 
-/// The fault of a plan that isn't one for these parameters.
+/// Returns the fault of a plan that isn't one for these parameters.
 fn out_of_params(params: &Params, plan: &NodePlan) -> Option<PlanFault>
     ensures { result ≡ out_of_params params.now plan.now }
 {
@@ -75,35 +75,35 @@ fn out_of_params(params: &Params, plan: &NodePlan) -> Option<PlanFault>
     }
 }
 
-/// Whether an ownership line is for a slot that isn't static.
+/// Returns whether an ownership line is for a slot that isn't static.
 fn any_owned_beyond(params: &Params, owned: &[Own]) -> bool
     ensures { result ≡ list_any (is_owned_beyond params.now) owned.now }
 {
     owned.iter().any(|own| is_owned_beyond(params, own))
 }
 
-/// Whether the ownership line is for a slot that isn't static.
+/// Returns whether the ownership line is for a slot that isn't static.
 fn is_owned_beyond(params: &Params, own: &Own) -> bool
     ensures { result ≡ is_owned_beyond params.now own.now }
 {
     !params.is_static(own.slot)
 }
 
-/// Whether a channel's latest minislot is after the last one.
+/// Returns whether a channel's latest minislot is after the last one.
 fn has_late_latest(params: &Params, plan: &NodePlan) -> bool
     ensures { result ≡ has_late_latest params.now plan.now }
 {
     params.minislots < plan.latest(Channel::A) || params.minislots < plan.latest(Channel::B)
 }
 
-/// Whether a transmit buffer has the wrong words.
+/// Returns whether a transmit buffer has the wrong words.
 fn any_wrong_words(params: &Params, buffers: &[Buffer]) -> bool
     ensures { result ≡ list_any (has_wrong_words params.now) buffers.now }
 {
     buffers.iter().any(|buffer| has_wrong_words(params, buffer))
 }
 
-/// Whether a transmit buffer has words of its own in a static slot, or none in a dynamic one.
+/// Returns whether a transmit buffer has words of its own in a static slot, or none in a dynamic one.
 fn has_wrong_words(params: &Params, buffer: &Buffer) -> bool
     ensures { result ≡ has_wrong_words params.now buffer.now }
 {
@@ -111,7 +111,7 @@ fn has_wrong_words(params: &Params, buffer: &Buffer) -> bool
         || buffer.transmits_dynamic(params) && buffer.words.is_none()
 }
 
-/// The ownership lines, which are at most 64, as filters.
+/// Returns the ownership lines, which are at most 64, as filters.
 pub fn own_filters(owned: &[Own]) -> ArrayVec<Filter, LINES>
     requires { length owned.now ≤ most_lines }
     ensures { result.items ≡ own_filters owned.now }
@@ -123,7 +123,7 @@ pub fn own_filters(owned: &[Own]) -> ArrayVec<Filter, LINES>
     filters
 }
 
-/// An ownership line as a filter.
+/// Returns an ownership line as a filter.
 fn own_filter(own: &Own) -> Filter
     ensures { result ≡ own_filter own.now }
 {
@@ -134,8 +134,8 @@ fn own_filter(own: &Own) -> Filter
     }
 }
 
-/// The place of the first transmit buffer for a static slot that, on one of the buffer's channels and in a cycle that
-/// the buffer admits, isn't owned.
+/// Returns the place of the first transmit buffer for a static slot that, on one of the buffer's channels and in a
+/// cycle that the buffer admits, isn't owned.
 pub(crate) fn not_owned_place(params: &Params, owned: &[Own], buffers: &[Buffer]) -> Option<usize>
     ensures value { result ≡ position (not_owned params.now owned.now) buffers.now }
     ensures within { IfSome result (λ place. place < length buffers.now) }
@@ -145,7 +145,7 @@ pub(crate) fn not_owned_place(params: &Params, owned: &[Own], buffers: &[Buffer]
         .position(|buffer| not_owned(params, owned, buffer))
 }
 
-/// Whether a static transmit buffer has a channel and a cycle in which its slot isn't owned.
+/// Returns whether a static transmit buffer has a channel and a cycle in which its slot isn't owned.
 fn not_owned(params: &Params, owned: &[Own], buffer: &Buffer) -> bool
     ensures { result ≡ not_owned params.now owned.now buffer.now }
 {
@@ -154,14 +154,14 @@ fn not_owned(params: &Params, owned: &[Own], buffer: &Buffer) -> bool
             || is_unowned_on(owned, &buffer.filter, Channel::B))
 }
 
-/// Whether the channel is among the filter's, and its slot isn't owned there in a cycle that the filter admits.
+/// Returns whether the channel is among the filter's, and its slot isn't owned there in a cycle that the filter admits.
 fn is_unowned_on(owned: &[Own], filter: &Filter, channel: Channel) -> bool
     ensures { result ≡ is_unowned_on owned.now filter.now channel }
 {
     filter.channels.includes(channel) && any_unowned(owned, filter, channel)
 }
 
-/// Whether the filter's slot isn't owned on the channel in a cycle that the filter admits.
+/// Returns whether the filter's slot isn't owned on the channel in a cycle that the filter admits.
 fn any_unowned(owned: &[Own], filter: &Filter, channel: Channel) -> bool
     ensures { result ≡ any_unowned owned.now filter.now channel }
 {
@@ -177,28 +177,28 @@ fn any_unowned(owned: &[Own], filter: &Filter, channel: Channel) -> bool
     false
 }
 
-/// Whether the filter admits the cycle, in which its slot isn't owned on the channel.
+/// Returns whether the filter admits the cycle, in which its slot isn't owned on the channel.
 fn is_unowned_in(owned: &[Own], filter: &Filter, channel: Channel, cycle: Cycle) -> bool
     ensures { result ≡ is_unowned_in owned.now filter.now channel cycle }
 {
     filter.cycles.admits(cycle) && !is_owned(owned, cycle, filter.slot, channel)
 }
 
-/// Whether an ownership line that divides the slot with nobody is for it on the channel.
+/// Returns whether an ownership line that divides the slot with nobody is for it on the channel.
 fn is_owned_always(owned: &[Own], slot: SlotId, channel: Channel) -> bool
     ensures { result ≡ is_owned_always owned.now slot channel }
 {
     owned.iter().any(|own| own.is_undivided(slot, channel))
 }
 
-/// Whether an ownership line is for the slot on the channel in the cycle.
+/// Returns whether an ownership line is for the slot on the channel in the cycle.
 pub fn is_owned(owned: &[Own], cycle: Cycle, slot: SlotId, channel: Channel) -> bool
     ensures { result ≡ is_owned owned.now slot channel cycle }
 {
     owned.iter().any(|own| own.claims(cycle, slot, channel))
 }
 
-/// The place of the first dynamic transmit buffer for both channels.
+/// Returns the place of the first dynamic transmit buffer for both channels.
 pub(crate) fn dynamic_both_place(params: &Params, buffers: &[Buffer]) -> Option<usize>
     ensures value { result ≡ position (dynamic_both params.now) buffers.now }
     ensures within { IfSome result (λ place. place < length buffers.now) }
@@ -208,7 +208,7 @@ pub(crate) fn dynamic_both_place(params: &Params, buffers: &[Buffer]) -> Option<
         .position(|buffer| dynamic_both(params, buffer))
 }
 
-/// Whether a dynamic transmit buffer is for both channels.
+/// Returns whether a dynamic transmit buffer is for both channels.
 fn dynamic_both(params: &Params, buffer: &Buffer) -> bool
     ensures { result ≡ dynamic_both params.now buffer.now }
 {
@@ -218,7 +218,8 @@ fn dynamic_both(params: &Params, buffer: &Buffer) -> bool
         && channels.includes(Channel::B)
 }
 
-/// The fault of the first slot, channel and cycle that two ownership lines are for, or that two transmit buffers admit.
+/// Returns the fault of the first slot, channel and cycle that two ownership lines are for, or that two transmit
+/// buffers admit.
 fn first_overlap(owned: &[Own], buffers: &[Buffer]) -> Option<PlanFault>
     requires few_owned { length owned.now ≤ most_lines }
     requires few_buffers { length buffers.now ≤ most_lines }
@@ -230,7 +231,7 @@ fn first_overlap(owned: &[Own], buffers: &[Buffer]) -> Option<PlanFault>
     Some(PlanFault::Overlap(shared.slot, shared.channel, shared.cycle))
 }
 
-/// The filters of the transmit buffers among these, which are at most 64.
+/// Returns the filters of the transmit buffers among these, which are at most 64.
 pub fn transmit_filters(buffers: &[Buffer]) -> ArrayVec<Filter, LINES>
     requires { length buffers.now ≤ most_lines }
     ensures { result.items ≡ transmit_filters buffers.now }
@@ -244,7 +245,7 @@ pub fn transmit_filters(buffers: &[Buffer]) -> ArrayVec<Filter, LINES>
     filters
 }
 
-/// The place of the first dynamic transmit buffer whose frame would end after the dynamic segment.
+/// Returns the place of the first dynamic transmit buffer whose frame would end after the dynamic segment.
 pub(crate) fn too_long_place(params: &Params, plan: &NodePlan, buffers: &[Buffer]) -> Option<usize>
     ensures value { result ≡ position (too_long params.now plan.now) buffers.now }
     ensures within { IfSome result (λ place. place < length buffers.now) }
@@ -254,7 +255,7 @@ pub(crate) fn too_long_place(params: &Params, plan: &NodePlan, buffers: &[Buffer
         .position(|buffer| too_long(params, plan, buffer))
 }
 
-/// Whether a frame of a dynamic transmit buffer would end after the dynamic segment on one of its channels.
+/// Returns whether a frame of a dynamic transmit buffer would end after the dynamic segment on one of its channels.
 fn too_long(params: &Params, plan: &NodePlan, buffer: &Buffer) -> bool
     ensures { result ≡ too_long params.now plan.now buffer.now }
 {
@@ -263,7 +264,7 @@ fn too_long(params: &Params, plan: &NodePlan, buffer: &Buffer) -> bool
             || ends_late_on(params, plan, buffer, Channel::B))
 }
 
-/// Whether the channel is among the buffer's, and a frame of the buffer that begins at the channel's latest
+/// Returns whether the channel is among the buffer's, and a frame of the buffer that begins at the channel's latest
 /// minislot would end after the dynamic segment.
 fn ends_late_on(params: &Params, plan: &NodePlan, buffer: &Buffer, channel: Channel) -> bool
     ensures { result ≡ ends_late_on params.now plan.now buffer.now channel }
@@ -272,7 +273,7 @@ fn ends_late_on(params: &Params, plan: &NodePlan, buffer: &Buffer, channel: Chan
         && ends_late(params, plan, buffer.words(params), channel)
 }
 
-/// Whether a frame of so many words that begins at the channel's latest minislot would end after the dynamic
+/// Returns whether a frame of so many words that begins at the channel's latest minislot would end after the dynamic
 /// segment.
 fn ends_late(params: &Params, plan: &NodePlan, words: u16, channel: Channel) -> bool
     requires { words < 256 }
@@ -282,7 +283,7 @@ fn ends_late(params: &Params, plan: &NodePlan, words: u16, channel: Channel) -> 
     1 <= latest && params.minislots < latest - 1 + minislots_filled(params, words)
 }
 
-/// The minislots that a frame of so many words fills.
+/// Returns the minislots that a frame of so many words fills.
 fn minislots_filled(params: &Params, words: u16) -> u16
     requires { words < 256 }
     ensures value { result ≡ minislots_filled params.now words }

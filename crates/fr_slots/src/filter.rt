@@ -42,7 +42,7 @@ impl Model for CycleFilter {
 impl Default for CycleFilter {
     ghost is_default = { λ f. f ≡ record { base = 0; repetition = 1 } };
 
-    /// The filter of every cycle.
+    /// Returns the filter of every cycle.
     fn default() -> CycleFilter {
         CycleFilter {
             base: 0,
@@ -55,7 +55,7 @@ impl CycleFilter {
     ghost use Rattle.fr_slots.specs.Admission.{IsCycleClass};
     ghost use Rattle.fr_slots.specs.Faults.{first_common};
 
-    /// The filter of every cycle whose number leaves `base` when divided by `repetition`.
+    /// Returns the filter of every cycle whose number leaves `base` when divided by `repetition`.
     ///
     /// Refused with `RepetitionNotPower` where the repetition isn't 1, 2, 4, 8, 16, 32 or 64, and then
     /// with `BaseTooLarge` where the base isn't below it.
@@ -71,7 +71,7 @@ impl CycleFilter {
         Ok(CycleFilter { base, repetition })
     }
 
-    /// The rest that the admitted cycles leave.
+    /// Returns the rest that the admitted cycles leave.
     pub fn base(self) -> u8
         ensures value { result ≡ self.base }
         ensures lawful { IsCycleClass self }
@@ -87,7 +87,7 @@ impl CycleFilter {
         self.repetition
     }
 
-    /// Whether the cycle is one of these.
+    /// Returns whether the cycle is one of these.
     pub fn admits(self, cycle: Cycle) -> bool
         ensures { result ≡ cycle_admitted self cycle }
     {
@@ -95,14 +95,14 @@ impl CycleFilter {
         cycle.number() & (self.repetition - 1) == self.base
     }
 
-    /// Whether every cycle is one of these.
+    /// Returns whether every cycle is one of these.
     pub fn is_every_cycle(self) -> bool
         ensures { result ≡ is_every_cycle self }
     {
         self.base == 0 && self.repetition == 1
     }
 
-    /// The least cycle that both filters admit, if there is one.
+    /// Returns the least cycle that both filters admit, if there is one.
     pub fn first_common(&self, other: &CycleFilter) -> Option<Cycle>
         ensures { result ≡ first_common self.now other.now }
     {
@@ -116,7 +116,7 @@ impl CycleFilter {
     }
 }
 
-/// Whether the cycle is among those of both filters.
+/// Returns whether the cycle is among those of both filters.
 fn both_admit(one: CycleFilter, other: CycleFilter, cycle: Cycle) -> bool
     ensures { result ≡ (cycle_admitted one cycle && cycle_admitted other cycle) }
 {
@@ -134,14 +134,14 @@ pub struct Filter {
 impl Filter {
     ghost use Rattle.fr_slots.specs.Plans.{filter_admits, admits_window};
 
-    /// Whether slot, channel and cycle are all the filter's.
+    /// Returns whether slot, channel and cycle are all the filter's.
     pub fn admits(self, cycle: Cycle, slot: SlotId, channel: Channel) -> bool
         ensures { result ≡ filter_admits self cycle slot channel }
     {
         self.slot == slot && self.channels.includes(channel) && self.cycles.admits(cycle)
     }
 
-    /// Whether the filter admits the slot that the window has on the channel, and so whether it has one there.
+    /// Returns whether the filter admits the slot that the window has on the channel, and so whether it has one there.
     pub fn admits_window(self, window: &Window, channel: Channel) -> bool
         ensures { result ≡ admits_window self window.now channel }
     {

@@ -38,7 +38,7 @@ impl Model for SlotId {
 impl Default for SlotId {
     ghost is_default = { λ s. s ≡ 1 };
 
-    /// The first slot.
+    /// Returns the first slot.
     fn default() -> SlotId {
         SlotId(1)
     }
@@ -70,7 +70,7 @@ impl SlotId {
         }
     }
 
-    /// The slot as a number, 1 to 2047.
+    /// Returns the slot as a number, 1 to 2047.
     pub fn number(self) -> u16
         ensures value { result ≡ self }
         ensures fits { IsSlot self }
@@ -120,7 +120,7 @@ impl Cycle {
         }
     }
 
-    /// The cycle of six bits, which always name one.
+    /// Returns the cycle of six bits, which always name one.
     pub fn from_bits(bits: u8) -> Cycle
         requires { bits < cycle_count }
         ensures { result ≡ bits }
@@ -128,7 +128,7 @@ impl Cycle {
         Cycle(bits)
     }
 
-    /// The cycle as a number, 0 to 63.
+    /// Returns the cycle as a number, 0 to 63.
     pub fn number(self) -> u8
         ensures value { result ≡ self }
         ensures fits { self < cycle_count }
@@ -136,7 +136,7 @@ impl Cycle {
         self.0
     }
 
-    /// The cycle after this one: after 63 comes 0.
+    /// Returns the cycle after this one: after 63 comes 0.
     pub fn next(self) -> Cycle
         ensures { result ≡ (self + 1) % cycle_count }
     {
@@ -184,7 +184,7 @@ impl NodeId {
         }
     }
 
-    /// The node of a number that is known to name one.
+    /// Returns the node of a number that is known to name one.
     pub fn from_number(number: u8) -> NodeId
         requires { number < 16 }
         ensures { result ≡ number }
@@ -192,7 +192,7 @@ impl NodeId {
         NodeId(number)
     }
 
-    /// The node as a number, 0 to 15.
+    /// Returns the node as a number, 0 to 15.
     pub fn number(self) -> u8
         ensures value { result ≡ self }
         ensures fits { self < 16 }
@@ -241,7 +241,7 @@ impl TaskId {
         }
     }
 
-    /// The task of a number that is known to name one.
+    /// Returns the task of a number that is known to name one.
     pub fn from_number(number: u8) -> TaskId
         requires { number < 8 }
         ensures { result ≡ number }
@@ -249,7 +249,7 @@ impl TaskId {
         TaskId(number)
     }
 
-    /// The task as a number, 0 to 7.
+    /// Returns the task as a number, 0 to 7.
     pub fn number(self) -> u8
         ensures value { result ≡ self }
         ensures fits { self < 8 }

@@ -36,7 +36,7 @@ pub enum Key {
 }
 
 impl Key {
-    /// The key as cluster files spell it.
+    /// Returns the key as cluster files spell it.
     pub fn name(self) -> &'static str
         ensures { result.now ≡ name_of self }
     {
@@ -54,7 +54,7 @@ impl Key {
         }
     }
 
-    /// The least number in the key's range.
+    /// Returns the least number in the key's range.
     pub fn least(self) -> u16
         ensures { result ≡ least_of self }
     {
@@ -66,7 +66,7 @@ impl Key {
         }
     }
 
-    /// The greatest number in the key's range.
+    /// Returns the greatest number in the key's range.
     pub fn greatest(self) -> u16
         ensures { result ≡ greatest_of self }
     {
@@ -81,7 +81,7 @@ impl Key {
         }
     }
 
-    /// Whether the number is in the key's range.
+    /// Returns whether the number is in the key's range.
     pub fn admits(self, number: i64) -> bool
         ensures { result ≡ admits self number }
     {
@@ -153,7 +153,7 @@ impl Model for Params {
 /// The numbers of five keys: of the first five, or of the last five, in the order of `Key`.
 pub type Five = (u16, u16, u16, u16, u16);
 
-/// The number under the key, where the key admits it.
+/// Returns the number under the key, where the key admits it.
 #[tactic(auto, unfolding(crate::specs::Parameters::number_at))]
 fn number_at(key: Key, number: i64) -> Result<u16, RangeError>
     ensures value { result ≡ number_at key number }
@@ -166,7 +166,7 @@ fn number_at(key: Key, number: i64) -> Result<u16, RangeError>
     }
 }
 
-/// The numbers under the first five keys.
+/// Returns the numbers under the first five keys.
 #[tactic(auto, unfolding(crate::specs::Parameters::first_five))]
 fn first_five(numbers: &[i64; 10]) -> Result<Five, RangeError>
     ensures value { result ≡ first_five numbers.now }
@@ -186,7 +186,7 @@ fn first_five(numbers: &[i64; 10]) -> Result<Five, RangeError>
     ))
 }
 
-/// The numbers under the last five keys.
+/// Returns the numbers under the last five keys.
 #[tactic(auto, unfolding(crate::specs::Parameters::last_five))]
 fn last_five(numbers: &[i64; 10]) -> Result<Five, RangeError>
     ensures value { result ≡ last_five numbers.now }
@@ -205,7 +205,7 @@ impl Params {
     ghost use Rattle.fr_slots.specs.Parameters.{AreFirst, AreLast, assembled, summed};
     ghost use Rattle.fr_slots.specs.Windows.{window_fits, static_slot_fits, dynamic_slot_fits};
 
-    /// The parameters that these numbers are, in the order of `Key`.
+    /// Returns the parameters that these numbers are, in the order of `Key`.
     ///
     /// Refused with `OutOfRange` and the first key whose number is out of range, and then as by `assemble`.
     #[tactic(auto, unfolding(crate::specs::Parameters::parameters_of))]
@@ -217,7 +217,7 @@ impl Params {
         Params::assemble(first, last)
     }
 
-    /// The parameters that these numbers are, each of which is in its key's range.
+    /// Returns the parameters that these numbers are, each of which is in its key's range.
     ///
     /// Refused with `CycleSum` where `static_slots * static_mt + minislots * minislot_mt + symbol_mt + nit_mt` isn't
     /// `cycle_mt` (project-defined).
@@ -249,15 +249,15 @@ impl Params {
         })
     }
 
-    /// Whether the slot is a static one (chapter 5).
+    /// Returns whether the slot is a static one (chapter 5).
     pub fn is_static(&self, slot: SlotId) -> bool
         ensures { result ≡ is_static_slot self.now slot }
     {
         slot.number() <= self.static_slots
     }
 
-    /// Whether the window is one of the cluster's (project-defined): in a static window a static slot, and in a dynamic
-    /// one a minislot that there is, and slots after the static ones.
+    /// Returns whether the window is one of the cluster's (project-defined): in a static window a static slot, and in a
+    /// dynamic one a minislot that there is, and slots after the static ones.
     pub fn has_window(&self, window: &Window) -> bool
         ensures { result ≡ window_fits self.now window.now }
     {
@@ -270,14 +270,14 @@ impl Params {
         }
     }
 
-    /// Whether the slot, if there is one, is a static one.
+    /// Returns whether the slot, if there is one, is a static one.
     fn is_static_or_none(&self, slot: Option<SlotId>) -> bool
         ensures { result ≡ static_slot_fits self.now slot }
     {
         slot.is_none_or(|slot| self.is_static(slot))
     }
 
-    /// Whether the slot, if there is one, is a dynamic one.
+    /// Returns whether the slot, if there is one, is a dynamic one.
     fn is_dynamic_or_none(&self, slot: Option<SlotId>) -> bool
         ensures { result ≡ dynamic_slot_fits self.now slot }
     {

@@ -47,7 +47,7 @@ impl Own {
     ghost use Rattle.std.specs.Prelude.{◌≡◌};
     ghost use Rattle.fr_slots.specs.Faults.{claims, is_undivided};
 
-    /// Whether the line is for the slot on the channel in the cycle (chapter 5; the division by cycles is
+    /// Returns whether the line is for the slot on the channel in the cycle (chapter 5; the division by cycles is
     /// project-defined).
     pub fn claims(&self, cycle: Cycle, slot: SlotId, channel: Channel) -> bool
         ensures { result ≡ claims slot channel cycle self.now }
@@ -55,7 +55,7 @@ impl Own {
         self.slot == slot && self.channels.includes(channel) && self.cycles.admits(cycle)
     }
 
-    /// Whether the line is for the slot on the channel, and divides it with nobody.
+    /// Returns whether the line is for the slot on the channel, and divides it with nobody.
     pub(crate) fn is_undivided(&self, slot: SlotId, channel: Channel) -> bool
         ensures { result ≡ is_undivided slot channel self.now }
     {
@@ -79,7 +79,7 @@ impl Mode {
     ghost use Rattle.std.specs.Prelude.{◌≡◌};
     ghost use Rattle.fr_slots.specs.Plans.{is_receive};
 
-    /// Whether a buffer of this mode receives. One of the others transmits.
+    /// Returns whether a buffer of this mode receives. One of the others transmits.
     pub fn is_receive(self) -> bool
         ensures { result ≡ is_receive self }
     {
@@ -106,29 +106,29 @@ impl Buffer {
     ghost use Rattle.std.specs.Prelude.{◌≡◌, ◌<◌};
     ghost use Rattle.fr_slots.specs.Faults.{transmits, transmits_static, transmits_dynamic, words_of};
 
-    /// Whether this is a transmit buffer (chapter 9).
+    /// Returns whether this is a transmit buffer (chapter 9).
     pub fn transmits(&self) -> bool
         ensures { result ≡ transmits self.now }
     {
         !self.mode.is_receive()
     }
 
-    /// Whether this is a transmit buffer in a static slot.
+    /// Returns whether this is a transmit buffer in a static slot.
     pub(crate) fn transmits_static(&self, params: &Params) -> bool
         ensures { result ≡ transmits_static params.now self.now }
     {
         self.transmits() && params.is_static(self.filter.slot)
     }
 
-    /// Whether this is a transmit buffer in a dynamic slot.
+    /// Returns whether this is a transmit buffer in a dynamic slot.
     pub fn transmits_dynamic(&self, params: &Params) -> bool
         ensures { result ≡ transmits_dynamic params.now self.now }
     {
         self.transmits() && !params.is_static(self.filter.slot)
     }
 
-    /// The words of two bytes that a transmit buffer sends: in a static slot those of the cluster's static frames, and
-    /// in a dynamic slot its own, or 0 where it has none (chapter 5). At most 127 for a buffer of a plan.
+    /// Returns the words of two bytes that a transmit buffer sends: in a static slot those of the cluster's static
+    /// frames, and in a dynamic slot its own, or 0 where it has none (chapter 5). At most 127 for a buffer of a plan.
     pub fn words(&self, params: &Params) -> u16
         ensures value { result ≡ words_of params.now self.now }
         ensures fits { result < 256 }
@@ -158,7 +158,7 @@ impl Queue {
     ghost use Rattle.std.specs.Prelude.{◌≡◌};
     ghost use Rattle.fr_slots.specs.Plans.{queue_admits};
 
-    /// Whether the slot is in the queue's range, and channel and cycle are the queue's.
+    /// Returns whether the slot is in the queue's range, and channel and cycle are the queue's.
     pub fn admits(&self, cycle: Cycle, slot: SlotId, channel: Channel) -> bool
         ensures { result ≡ queue_admits self.now cycle slot channel }
     {
@@ -212,7 +212,7 @@ impl NodePlan {
     ghost use Rattle.fr_slots.specs.Plans.{with_queue};
     ghost use Rattle.fr_slots.specs.Faults.{latest_on, plan_fault, IsFaultless, not_owned, dynamic_both, too_long};
 
-    /// A plan with no lines yet.
+    /// Returns a plan with no lines yet.
     ///
     /// `latest` is the last minislot, counted from 1, at which the node begins a dynamic transmission, on
     /// channel A and on B, 0 to 8000, where 0 lets it begin none (chapter 5; a value for each channel is
@@ -320,7 +320,8 @@ impl NodePlan {
         }
     }
 
-    /// Whether the other plan has the same content: the same numbers, lines, buffers and queue, in the same order.
+    /// Returns whether the other plan has the same content: the same numbers, lines, buffers and queue, in the same
+    /// order.
     pub fn is_same(&self, other: &NodePlan) -> bool
         ensures { IsTrue result ↔ (self.now ≡ other.now) }
     {
@@ -341,7 +342,7 @@ impl NodePlan {
         is_same_queue(&self.queue, &other.queue)
     }
 
-    /// The number of host tasks, 0 to 8.
+    /// Returns the number of host tasks, 0 to 8.
     pub fn tasks(&self) -> u8
         ensures value { result ≡ self.now.tasks }
         ensures lawful { IsPlan self.now }
@@ -349,7 +350,7 @@ impl NodePlan {
         self.tasks
     }
 
-    /// The last minislot, counted from 1, at which the node begins a dynamic transmission on the channel,
+    /// Returns the last minislot, counted from 1, at which the node begins a dynamic transmission on the channel,
     /// up to 8000, or 0 where it begins none (chapter 5; a value for each channel is project-defined).
     pub fn latest(&self, channel: Channel) -> u16
         ensures value { result ≡ latest_on self.now channel }
@@ -362,7 +363,7 @@ impl NodePlan {
         }
     }
 
-    /// The host entries that a journal of the node has room for, 1 to 16384.
+    /// Returns the host entries that a journal of the node has room for, 1 to 16384.
     pub fn host_entries(&self) -> u16
         ensures value { result ≡ self.now.host_entries }
         ensures lawful { IsPlan self.now }
@@ -370,7 +371,7 @@ impl NodePlan {
         self.host_entries
     }
 
-    /// The slot entries that a journal of the node has room for, 2 to 65536.
+    /// Returns the slot entries that a journal of the node has room for, 2 to 65536.
     pub fn slot_entries(&self) -> u32
         ensures value { result ≡ self.now.slot_entries }
         ensures lawful { IsPlan self.now }
@@ -378,7 +379,7 @@ impl NodePlan {
         self.slot_entries
     }
 
-    /// The buffers in order of their numbers.
+    /// Returns the buffers in order of their numbers.
     pub fn buffers(&self) -> &[Buffer]
         ensures value { result.now ≡ self.now.buffers }
         ensures lawful { IsPlan self.now }
@@ -386,14 +387,14 @@ impl NodePlan {
         self.buffers.as_slice()
     }
 
-    /// The buffer of this number, where the plan has it.
+    /// Returns the buffer of this number, where the plan has it.
     pub fn buffer(&self, number: u8) -> Option<Buffer>
         ensures { result ≡ buffer_at self.now number }
     {
         self.buffers().get(usize::from(number)).copied()
     }
 
-    /// The ownership lines, in the order in which they were added.
+    /// Returns the ownership lines, in the order in which they were added.
     pub fn owned(&self) -> &[Own]
         ensures value { result.now ≡ self.now.owned }
         ensures lawful { IsPlan self.now }
@@ -401,7 +402,7 @@ impl NodePlan {
         self.owned.as_slice()
     }
 
-    /// The receive queue, where the node has one.
+    /// Returns the receive queue, where the node has one.
     pub fn queue(&self) -> Option<Queue>
         ensures value { result ≡ self.now.queue }
         ensures lawful { IsPlan self.now }
@@ -409,7 +410,7 @@ impl NodePlan {
         self.queue
     }
 
-    /// The first fault of the plan by these parameters, if it has one.
+    /// Returns the first fault of the plan by these parameters, if it has one.
     ///
     /// `OutOfParams` comes first, then the faults in the order in which `PlanFault` has them: each kind is looked
     /// for in the whole plan before the next, and of a kind the first in order of its numbers is named, channel A
@@ -422,8 +423,8 @@ impl NodePlan {
         ownership_fault(params, self).or_else(|| buffer_fault(params, self))
     }
 
-    /// The number of the first transmit buffer for a static slot that, on one of the buffer's channels and in a cycle
-    /// that the buffer admits, isn't the node's.
+    /// Returns the number of the first transmit buffer for a static slot that, on one of the buffer's channels and in a
+    /// cycle that the buffer admits, isn't the node's.
     pub fn first_not_owned(&self, params: &Params) -> Option<u8>
         ensures value { result ≡ position (not_owned params.now self.now.owned) self.now.buffers }
         ensures within { IfSome result (λ number. number < length self.now.buffers) }
@@ -432,7 +433,7 @@ impl NodePlan {
         Some(place as u8)
     }
 
-    /// The number of the first dynamic transmit buffer for both channels.
+    /// Returns the number of the first dynamic transmit buffer for both channels.
     pub fn first_dynamic_both(&self, params: &Params) -> Option<u8>
         ensures value { result ≡ position (dynamic_both params.now) self.now.buffers }
         ensures within { IfSome result (λ number. number < length self.now.buffers) }
@@ -441,8 +442,8 @@ impl NodePlan {
         Some(place as u8)
     }
 
-    /// The number of the first dynamic transmit buffer with a frame that, begun at its channel's latest minislot, would
-    /// end after the dynamic segment.
+    /// Returns the number of the first dynamic transmit buffer with a frame that, begun at its channel's latest
+    /// minislot, would end after the dynamic segment.
     pub fn first_too_long(&self, params: &Params) -> Option<u8>
         ensures value { result ≡ position (too_long params.now self.now) self.now.buffers }
         ensures within { IfSome result (λ number. number < length self.now.buffers) }
@@ -452,28 +453,28 @@ impl NodePlan {
     }
 }
 
-/// Whether these are the same ownership lines.
+/// Returns whether these are the same ownership lines.
 fn is_same_owned(owned: &[Own], other: &[Own]) -> bool
     ensures { IsTrue result ↔ (owned.now ≡ other.now) }
 {
     owned == other
 }
 
-/// Whether these are the same buffers.
+/// Returns whether these are the same buffers.
 fn are_same_buffers(buffers: &[Buffer], other: &[Buffer]) -> bool
     ensures { IsTrue result ↔ (buffers.now ≡ other.now) }
 {
     buffers == other
 }
 
-/// Whether this is the same queue.
+/// Returns whether this is the same queue.
 fn is_same_queue(queue: &Option<Queue>, other: &Option<Queue>) -> bool
     ensures { IsTrue result ↔ (queue.now ≡ other.now) }
 {
     queue == other
 }
 
-/// Whether an ownership line is in range by itself.
+/// Returns whether an ownership line is in range by itself.
 pub fn own_fits(own: &Own) -> bool
     ensures value { result ≡ own_fits own.now }
     ensures ranges { IsOwn own.now }
@@ -482,7 +483,7 @@ pub fn own_fits(own: &Own) -> bool
     own.slot.number() <= LAST_STATIC_SLOT && (!own.startup || own.sync)
 }
 
-/// Whether a buffer is in range by itself.
+/// Returns whether a buffer is in range by itself.
 pub fn buffer_fits(buffer: &Buffer) -> bool
     ensures value { result ≡ buffer_fits buffer.now }
     ensures ranges { IsBuffer buffer.now }
@@ -496,7 +497,7 @@ pub fn buffer_fits(buffer: &Buffer) -> bool
     few_words && (!buffer.mode.is_receive() || !(buffer.words.is_some() || buffer.preamble))
 }
 
-/// Whether a queue is in range by itself.
+/// Returns whether a queue is in range by itself.
 pub fn queue_fits(queue: &Queue) -> bool
     ensures value { result ≡ queue_fits queue.now }
     ensures ranges { IsQueue queue.now }

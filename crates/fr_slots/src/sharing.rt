@@ -16,7 +16,7 @@ pub struct Occasion {
     pub cycle: Cycle,
 }
 
-/// The first occasion that two of the filters admit, if there is one: the least slot, then channel A
+/// Returns the first occasion that two of the filters admit, if there is one: the least slot, then channel A
 /// before B, then the least cycle.
 pub fn first_shared(filters: &[Filter]) -> Option<Occasion>
     ensures { IsFirst (is_shared filters.now) result }
@@ -28,7 +28,7 @@ pub fn first_shared(filters: &[Filter]) -> Option<Occasion>
     first
 }
 
-/// The first occasion that the filter and one of the others admit.
+/// Returns the first occasion that the filter and one of the others admit.
 fn first_shared_with(filter: &Filter, others: &[Filter]) -> Option<Occasion>
     ensures { IsFirst (is_shared_with filter.now others.now) result }
 {
@@ -39,7 +39,7 @@ fn first_shared_with(filter: &Filter, others: &[Filter]) -> Option<Occasion>
     first
 }
 
-/// The first occasion that both filters admit.
+/// Returns the first occasion that both filters admit.
 fn first_shared_by(one: &Filter, other: &Filter) -> Option<Occasion>
     ensures { IsFirst (is_shared_by one.now other.now) result }
 {
@@ -55,7 +55,7 @@ fn first_shared_by(one: &Filter, other: &Filter) -> Option<Occasion>
     })
 }
 
-/// The first channel that is among both.
+/// Returns the first channel that is among both.
 fn common_channel(one: Channels, other: Channels) -> Option<Channel>
     ensures { result ≡ common_channel one other }
 {
@@ -68,14 +68,14 @@ fn common_channel(one: Channels, other: Channels) -> Option<Channel>
     }
 }
 
-/// Whether the channel is among both.
+/// Returns whether the channel is among both.
 fn both_include(one: Channels, other: Channels, channel: Channel) -> bool
     ensures { result ≡ both_include one other channel }
 {
     one.includes(channel) && other.includes(channel)
 }
 
-/// The one of the two that comes first, where they are there.
+/// Returns the one of the two that comes first, where they are there.
 pub fn earlier(one: Option<Occasion>, other: Option<Occasion>) -> Option<Occasion>
     ensures { result ≡ earlier one other }
 {
@@ -86,7 +86,7 @@ pub fn earlier(one: Option<Occasion>, other: Option<Occasion>) -> Option<Occasio
     }
 }
 
-/// Whether one comes before the other: in the order of slots, then of channels, then of cycles.
+/// Returns whether one comes before the other: in the order of slots, then of channels, then of cycles.
 fn is_before(one: Occasion, other: Occasion) -> bool
     ensures { result ≡ is_before one other }
 {

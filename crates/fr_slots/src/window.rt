@@ -39,7 +39,7 @@ impl Window {
     ghost use Rattle.std.specs.Prelude.{◌≡◌, ◌==◌};
     ghost use Rattle.fr_slots.specs.Windows.{static_window, dynamic_window, slot_of, is_static};
 
-    /// The window of a static slot, which both channels open together (chapter 5).
+    /// Returns the window of a static slot, which both channels open together (chapter 5).
     pub fn fixed(number: u32, cycle: Cycle, slot: SlotId) -> Window
         ensures { result ≡ static_window number cycle slot }
     {
@@ -52,7 +52,7 @@ impl Window {
         }
     }
 
-    /// The window of a minislot, counted from 1, at which one channel or both open a slot
+    /// Returns the window of a minislot, counted from 1, at which one channel or both open a slot
     /// (project-defined).
     ///
     /// None for minislot 0 or above 8000, and where neither channel has a slot.
@@ -78,7 +78,7 @@ impl Window {
         }
     }
 
-    /// The slot that the channel opens, if any.
+    /// Returns the slot that the channel opens, if any.
     pub fn slot(&self, channel: Channel) -> Option<SlotId>
         ensures { result ≡ slot_of self.now channel }
     {
@@ -88,7 +88,7 @@ impl Window {
         }
     }
 
-    /// Whether this is the window of a static slot.
+    /// Returns whether this is the window of a static slot.
     pub fn is_static(&self) -> bool
         ensures { result ≡ is_static self.now }
     {

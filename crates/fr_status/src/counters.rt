@@ -37,7 +37,7 @@ impl Counters {
     }
 }
 
-/// The counts of a channel with one slot more.
+/// Returns the counts of a channel with one slot more.
 fn with_bits(counts: [u32; 5], status: &SlotStatus) -> [u32; 5]
     requires { FitsBits counts status.now }
     ensures { result ≡ with_bits counts status.now }

@@ -22,7 +22,7 @@ pub enum Seen {
 }
 
 impl Seen {
-    /// A copy of what was seen.
+    /// Returns a copy of what was seen.
     pub fn duplicate(&self) -> Seen
         ensures { result ≡ self.now }
     {

@@ -61,7 +61,7 @@ const TRANSMISSION_CONFLICT: SlotStatus = SlotStatus {
     ..NO_BIT
 };
 
-/// The status of a slot of a cycle on a channel where this was seen, and the frame, which is given
+/// Returns the status of a slot of a cycle on a channel where this was seen, and the frame, which is given
 /// exactly if the status is valid (chapter 6; which bit a thing seen gives is project-defined).
 ///
 /// Bytes that are no frame on this channel are a syntax error. A frame is a content error unless
@@ -119,7 +119,7 @@ pub fn lent_status_of<'a>(
     }
 }
 
-/// Whether the frame is right for the slot.
+/// Returns whether the frame is right for the slot.
 fn passes(params: &Params, cycle: Cycle, slot: SlotId, frame: &LentFrame<'_>) -> bool
     ensures { result ≡ passes params.now cycle slot frame.now }
 {
@@ -130,7 +130,7 @@ fn passes(params: &Params, cycle: Cycle, slot: SlotId, frame: &LentFrame<'_>) ->
     }
 }
 
-/// Whether the frame is right for a static slot.
+/// Returns whether the frame is right for a static slot.
 fn fits_static_slot(params: &Params, cycle: Cycle, slot: SlotId, frame: &LentFrame<'_>) -> bool
     ensures { result ≡ fits_static_slot params.now cycle slot frame.now }
 {
@@ -140,7 +140,7 @@ fn fits_static_slot(params: &Params, cycle: Cycle, slot: SlotId, frame: &LentFra
         && (frame.sync || !frame.startup)
 }
 
-/// Whether the frame is right for a dynamic slot.
+/// Returns whether the frame is right for a dynamic slot.
 fn fits_dynamic_slot(cycle: Cycle, slot: SlotId, frame: &LentFrame<'_>) -> bool
     ensures { result ≡ fits_dynamic_slot cycle slot frame.now }
 {

@@ -23,7 +23,7 @@ const BLOCK: usize = 32;
 
 const BLOCK_BYTES: usize = 16;
 
-/// The value of a lower-case hexadecimal digit, and 16 or more for any other byte.
+/// Returns the value of a lower-case hexadecimal digit, and 16 or more for any other byte.
 fn digit_value(digit: u8) -> u8
     ensures is { result < 16 → slice_index lower_digits result ≡ digit }
     ensures only { (k : ℕ) → k < 16 → slice_index lower_digits k ≡ digit → result ≡ k }
@@ -33,7 +33,7 @@ fn digit_value(digit: u8) -> u8
     if number < 10 { number } else { letter }
 }
 
-/// The bytes of each two values.
+/// Returns the bytes of each two values.
 fn packed_bytes(values: &[u8; BLOCK]) -> [u8; BLOCK_BYTES]
     ensures { ArePacked BLOCK_BYTES values.now result }
 {
@@ -44,7 +44,7 @@ fn packed_bytes(values: &[u8; BLOCK]) -> [u8; BLOCK_BYTES]
     bytes
 }
 
-/// The values of the digits of a block, and how many digits stand before the first byte that is none.
+/// Returns the values of the digits of a block, and how many digits stand before the first byte that is none.
 ///
 /// Each digit is a value of its own, and none is answered early: so the compiler reads many of them at once.
 fn values_in_front(digits: &[u8; BLOCK]) -> ([u8; BLOCK], u8)
@@ -63,8 +63,8 @@ fn values_in_front(digits: &[u8; BLOCK]) -> ([u8; BLOCK], u8)
     (values, front)
 }
 
-/// The bytes that the digits in front of a block spell, of which there are at most so many, and how many digits these
-/// are.
+/// Returns the bytes that the digits in front of a block spell, of which there are at most so many, and how many digits
+/// these are.
 ///
 /// It is inlined, so that the compiler keeps what it compares digits with from block to block.
 #[inline(always)]
@@ -78,7 +78,7 @@ fn front_of(digits: &[u8; BLOCK], most: usize) -> ([u8; BLOCK_BYTES], usize)
     (packed_bytes(&values), usize::from(front).min(most))
 }
 
-/// The block of these digits and zeros after them.
+/// Returns the block of these digits and zeros after them.
 fn whole_block(digits: &[u8]) -> [u8; BLOCK]
     requires { length digits.now < BLOCK }
     ensures { result ≡ digits.now ++ replicate (BLOCK - length digits.now) 48 }
@@ -110,7 +110,7 @@ fn digits_into<const N: usize>(digits: &[u8], bytes: &mut ArrayVec<u8, N>) -> bo
     front == BLOCK
 }
 
-/// The lesser of two numbers.
+/// Returns the lesser of two numbers.
 fn lesser(first: u8, second: u8) -> u8
     ensures { result ≡ min first second }
 {
@@ -197,8 +197,8 @@ pub fn bytes_into<const N: usize>(word: &[u8], bytes: &mut ArrayVec<u8, N>) -> b
     }
 }
 
-/// The bytes that the word spells: the letter `x`, and two lower-case digits for each byte. `None` where the word,
-/// which may be empty, is no such spelling, or where it has more than `N` bytes. `N` is at most `MOST_BYTES`.
+/// Returns the bytes that the word spells: the letter `x`, and two lower-case digits for each byte. `None` where the
+/// word, which may be empty, is no such spelling, or where it has more than `N` bytes. `N` is at most `MOST_BYTES`.
 pub fn bytes_of<const N: usize>(word: &[u8]) -> Option<ArrayVec<u8, N>>
     requires { N ≤ MOST_BYTES }
     ensures { option_map (λ p. p.items) result ≡ bytes_in N word.now }

@@ -6,7 +6,7 @@ ghost use Rattle.fr_text.specs.Reading.{number_in};
 /// So many digits always write a number that 64 bits hold.
 const FEW_DIGITS: usize = 9;
 
-/// The number that few digits write, leading zeros included. `None` where a byte is no digit.
+/// Returns the number that few digits write, leading zeros included. `None` where a byte is no digit.
 fn few_digits(word: &[u8]) -> Option<u64>
     requires { length word.now ≤ 9 }
     ensures value { IfSome result (λ n. n ≡ digits_value 10 word.now) }
@@ -24,7 +24,7 @@ fn few_digits(word: &[u8]) -> Option<u64>
     Some(number)
 }
 
-/// The number below `bound` that the word of few digits spells.
+/// Returns the number below `bound` that the word of few digits spells.
 fn short_number_of(word: &[u8], bound: u64) -> Option<u64>
     requires { length word.now ≤ 9 }
     ensures number { result ≡ number_in bound word.now }
@@ -43,7 +43,7 @@ fn short_number_of(word: &[u8], bound: u64) -> Option<u64>
     Some(number)
 }
 
-/// The number below `bound` that the word of any length spells.
+/// Returns the number below `bound` that the word of any length spells.
 ///
 /// It isn't inlined, so that a word of few digits doesn't pay for the room of the other one.
 #[inline(never)]
@@ -70,8 +70,8 @@ fn long_number_of(word: &[u8], bound: u64) -> Option<u64>
     Some(number)
 }
 
-/// The number below `bound` that the word spells in decimal, without sign and without leading zeros. `None` where the
-/// word, which may be empty, is no such spelling, or where the number is `bound` or more.
+/// Returns the number below `bound` that the word spells in decimal, without sign and without leading zeros. `None`
+/// where the word, which may be empty, is no such spelling, or where the number is `bound` or more.
 pub fn number_of(word: &[u8], bound: u64) -> Option<u64>
     ensures number { result ≡ number_in bound word.now }
     ensures below { IfSome result (λ n. n < bound) }
@@ -83,7 +83,7 @@ pub fn number_of(word: &[u8], bound: u64) -> Option<u64>
     }
 }
 
-/// How many digits stand in front of the bytes, few at most, and the number that they write.
+/// Returns how many digits stand in front of the bytes, few at most, and the number that they write.
 #[inline(always)]
 fn digits_in_front(bytes: &[u8]) -> (usize, u64)
     ensures few { result.0 ≤ 9 }
@@ -103,7 +103,8 @@ fn digits_in_front(bytes: &[u8]) -> (usize, u64)
     (most, number)
 }
 
-/// How many digits stand in front of the bytes, where these are few and spell a number below `bound`, and the number.
+/// Returns how many digits stand in front of the bytes, where these are few and spell a number below `bound`, and the
+/// number.
 #[inline(always)]
 pub(crate) fn number_in_front(bytes: &[u8], bound: u64) -> Option<(usize, u64)>
     ensures within { IfSome result (λ found. found.0 ≤ length bytes.now) }

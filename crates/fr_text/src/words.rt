@@ -34,7 +34,7 @@ impl<'a> Words<'a> {
     ghost use Rattle.fr_text.specs.Spaces.{words_of};
     ghost use Rattle.fr_text.specs.Words.{ended};
 
-    /// The words of a line, which is given without its line feed.
+    /// Returns the words of a line, which is given without its line feed.
     pub fn new(line: &'a [u8]) -> Words<'a>
         ensures { result ≡ words_of line.entry.now }
     {
@@ -181,7 +181,7 @@ impl<'a> Words<'a> {
         Some((first, second, third, fourth, fifth))
     }
 
-    /// The two words that are left, from left to right. `None` where they are more or fewer.
+    /// Returns the two words that are left, from left to right. `None` where they are more or fewer.
     pub fn two(&mut self) -> Option<(&'a [u8], &'a [u8])>
         ensures found { IfSome result (λ words. self.old ≡ words.0.now ∷ words.1.now ∷ []) }
         ensures left { IfSome result (λ _. self.new ≡ []) }
@@ -193,7 +193,7 @@ impl<'a> Words<'a> {
         Some((first, second))
     }
 
-    /// The three words that are left, from left to right. `None` where they are more or fewer.
+    /// Returns the three words that are left, from left to right. `None` where they are more or fewer.
     pub fn three(&mut self) -> Option<(&'a [u8], &'a [u8], &'a [u8])>
         ensures found { IfSome result (λ words. self.old ≡ words.0.now ∷ words.1.now ∷ words.2.now ∷ []) }
         ensures left { IfSome result (λ _. self.new ≡ []) }
@@ -206,7 +206,7 @@ impl<'a> Words<'a> {
         Some((first, second, third))
     }
 
-    /// The four words that are left, from left to right. `None` where they are more or fewer.
+    /// Returns the four words that are left, from left to right. `None` where they are more or fewer.
     pub fn four(&mut self) -> Option<(&'a [u8], &'a [u8], &'a [u8], &'a [u8])>
         ensures found { IfSome result (λ words. self.old ≡ words.0.now ∷ words.1.now ∷ words.2.now ∷ words.3.now ∷ []) }
         ensures left { IfSome result (λ _. self.new ≡ []) }
@@ -217,7 +217,7 @@ impl<'a> Words<'a> {
         Some(words)
     }
 
-    /// The five words that are left, from left to right. `None` where they are more or fewer.
+    /// Returns the five words that are left, from left to right. `None` where they are more or fewer.
     pub fn five(&mut self) -> Option<(&'a [u8], &'a [u8], &'a [u8], &'a [u8], &'a [u8])>
         ensures found { IfSome result (λ words.
             self.old ≡ words.0.now ∷ words.1.now ∷ words.2.now ∷ words.3.now ∷ words.4.now ∷ []) }
@@ -229,7 +229,7 @@ impl<'a> Words<'a> {
         Some(words)
     }
 
-    /// Whether all words are taken: `None` comes where the line has one more.
+    /// Returns whether all words are taken: `None` comes where the line has one more.
     pub fn end(&self) -> Option<()>
         ensures none { IfSome result (λ _. self.now ≡ []) }
         ensures more { result ≡ ended self.now }
@@ -238,7 +238,7 @@ impl<'a> Words<'a> {
     }
 }
 
-/// Where the first space stands.
+/// Returns where the first space stands.
 fn space_in(line: &[u8]) -> Option<usize>
     ensures { result ≡ position is_space line.now }
 {

@@ -23,7 +23,7 @@ fn duplicate_reply(reply: &Reply) -> Reply
     }
 }
 
-/// The line, with this answer.
+/// Returns the line, with this answer.
 fn answered_line(line: &Line, reply: &Reply) -> Line
     ensures given { bare result ≡ bare line.now }
     ensures answered { result.answer ≡ Some reply.now }
@@ -35,7 +35,7 @@ fn answered_line(line: &Line, reply: &Reply) -> Line
     }
 }
 
-/// The lines, with these answers, one for each.
+/// Returns the lines, with these answers, one for each.
 fn answered_lines(alloc: Global, lines: &[Line], replies: &[Reply]) -> Result<Vec<Line>, Failure>
     ensures given { IfOk result (λ list. map bare list.items ≡ map bare lines.now) }
     ensures answered { IfOk result (λ list. All IsAnswered list.items) }
@@ -51,7 +51,7 @@ fn answered_lines(alloc: Global, lines: &[Line], replies: &[Reply]) -> Result<Ve
     Ok(list)
 }
 
-/// The answers that the script's task got, where these are those of all tasks of all nodes.
+/// Returns the answers that the script's task got, where these are those of all tasks of all nodes.
 fn replies_to<'a>(script: &Script, answers: &'a [Vec<Vec<Reply>>]) -> Option<&'a [Reply]>
     ensures { option_map (λ replies. replies.now) result ≡ replies_at answers.now script.now.node script.now.task }
 {
@@ -60,7 +60,7 @@ fn replies_to<'a>(script: &Script, answers: &'a [Vec<Vec<Reply>>]) -> Option<&'a
     Some(replies.as_slice())
 }
 
-/// The script, with the answers that its task got.
+/// Returns the script, with the answers that its task got.
 fn answered_script(
     alloc: Global,
     script: &Script,
@@ -81,7 +81,7 @@ fn answered_script(
     })
 }
 
-/// The scripts, with the answers that the tasks of each node got.
+/// Returns the scripts, with the answers that the tasks of each node got.
 pub(crate) fn with_answers(
     alloc: Global,
     scripts: &[Script],

@@ -48,7 +48,7 @@ pub enum RunError {
     Memory,
 }
 
-/// The refusal as an error.
+/// Returns the refusal as an error.
 pub(crate) fn error_of_refusal(refusal: RunRefusal) -> RunError
     ensures refusal { refusal_of result ≡ Some refusal }
     ensures memory { IsMemoryTold result }
@@ -61,7 +61,8 @@ pub(crate) fn error_of_refusal(refusal: RunRefusal) -> RunError
     }
 }
 
-/// The failure as an error. A run in which every thread was stopped has none that failed, and didn't come to its end.
+/// Returns the failure as an error. A run in which every thread was stopped has none that failed, and didn't come to
+/// its end.
 pub(crate) fn error_of_failure(failure: Failure) -> RunError
     ensures error { result ≡ error_of failure }
     ensures no_refusal { refusal_of result ≡ None }

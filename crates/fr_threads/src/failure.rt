@@ -31,7 +31,7 @@ pub(crate) enum Failure {
     Stopped,
 }
 
-/// Its rank among several: that of the least number is reported.
+/// Returns its rank among several: that of the least number is reported.
 fn rank(failure: &Failure) -> u8
     ensures { result ≡ rank failure.now }
 {
@@ -73,7 +73,7 @@ pub(crate) fn told_with(earlier: Option<Failure>, answer: Result<(), Failure>) -
     }
 }
 
-/// The failure that a refusal of the bus is.
+/// Returns the failure that a refusal of the bus is.
 fn failure_of_bus(error: BusError) -> Failure
     ensures { result ≡ failure_of_bus error }
 {

@@ -166,8 +166,8 @@ fn keep_answers(
     told
 }
 
-/// What the tasks leave, if neither they nor their controller failed, and else the failure that is to be told. There is
-/// room for their answers.
+/// Returns what the tasks leave, if neither they nor their controller failed, and else the failure that is to be told.
+/// There is room for their answers.
 fn all_answered<L: Ledger>(
     joined: TasksJoined<L>,
     ended: Result<(), Failure>,
@@ -275,7 +275,7 @@ fn run_ledger<R: Threads + Wait + Clock + Sync, G: Gate + Sync>(
     run_desk::<Brand, R, G>(alloc, common, Blank::new(parts), interface, node)
 }
 
-/// The thread of the node of this number. Where it fails the run is stopped.
+/// Returns the thread of the node of this number. Where it fails the run is stopped.
 pub(crate) fn run_node<R: Threads + Wait + Clock + Sync, G: Gate + Sync>(
     rt: &R,
     alloc: Global,

@@ -28,7 +28,7 @@ pub(crate) struct Progress {
     pub stopped: bool,
 }
 
-/// Whether the lines of the cycle came due, where those of this one came due last.
+/// Returns whether the lines of the cycle came due, where those of this one came due last.
 fn is_due(cycle: u16, due: Option<u16>) -> bool
     ensures { result ≡ is_due cycle due }
 {
@@ -42,14 +42,14 @@ impl Progress {
     ghost use Rattle.std.specs.Prelude.{◌≡◌, ◌==◌};
     ghost use Rattle.fr_threads.specs.Pacing.{awaits_due, awaits_done, is_last, arrived, task_done, halted};
 
-    /// Whether a task that has lines in the cycle waits for them to be due.
+    /// Returns whether a task that has lines in the cycle waits for them to be due.
     fn awaits_due(&self, cycle: u16) -> bool
         ensures { result ≡ awaits_due cycle self.now }
     {
         !is_due(cycle, self.due) && !self.stopped
     }
 
-    /// Whether a controller that is to begin the cycle waits for its lines to be done.
+    /// Returns whether a controller that is to begin the cycle waits for its lines to be done.
     fn awaits_done(&self, cycle: u16) -> bool
         ensures { result ≡ awaits_done cycle self.now }
     {
@@ -101,7 +101,7 @@ pub(crate) struct Pace {
     done: Condvar,
 }
 
-/// A turn for each of so many cycles, in which no task has lines.
+/// Returns a turn for each of so many cycles, in which no task has lines.
 fn idle_turns(alloc: Global, cycles: u16) -> Result<Vec<Turn>, AllocError> {
     let mut turns = Vec::new(alloc);
     for _cycle in 0..cycles {
@@ -127,7 +127,7 @@ fn count_task(turns: &mut Vec<Turn>, lines: &[Line]) {
 }
 
 impl Pace {
-    /// The pace of a run of so many nodes and cycles with these scripts, at most one for each task.
+    /// Returns the pace of a run of so many nodes and cycles with these scripts, at most one for each task.
     pub(crate) fn new(
         alloc: Global,
         nodes: u8,

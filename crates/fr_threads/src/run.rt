@@ -160,8 +160,8 @@ fn keep_nodes(answers: Vec<Result<NodeDone, Failure>>, nodes: &mut NodesDone) ->
     told
 }
 
-/// What the nodes leave, if none of them failed, nor the bus, and all were started, and else the failure that is to be
-/// told. There is room for what they leave.
+/// Returns what the nodes leave, if none of them failed, nor the bus, and all were started, and else the failure that
+/// is to be told. There is room for what they leave.
 fn all_done(
     answers: Vec<Result<NodeDone, Failure>>,
     bus: Result<(), Failure>,
@@ -242,7 +242,7 @@ fn run_in_scope<R: Threads + Wait + Clock + Sync, G: Gate + Sync>(
     )
 }
 
-/// The number of cycles that began in these windows.
+/// Returns the number of cycles that began in these windows.
 fn count_cycles(recorded: &[Sealed]) -> usize
     ensures { result ≡ cycles_begun recorded.now }
 {
@@ -255,7 +255,8 @@ fn count_cycles(recorded: &[Sealed]) -> usize
     count
 }
 
-/// Whether the bus came to its end after so many cycles, and each window had the faults of these lines and no others.
+/// Returns whether the bus came to its end after so many cycles, and each window had the faults of these lines and no
+/// others.
 fn is_at_end(alloc: Global, bus: &Bus, faults: &[FaultLine], cycles: u16) -> Result<bool, Failure>
     ensures finished { IfOk result (λ answer. IsTrue answer → bus.now.phase ≡ Finished) }
     ensures cycles { IfOk result (λ answer. IsTrue answer → cycles_begun bus.now.sealed ≡ cycles) }
@@ -267,8 +268,8 @@ fn is_at_end(alloc: Global, bus: &Bus, faults: &[FaultLine], cycles: u16) -> Res
     Ok(bus.phase() == Phase::Finished && has_cycles && is_faulted)
 }
 
-/// The run, if the bus came to its end with these faults, what the nodes left agrees with it and the scripts, and in a
-/// stepped run each line was done in its cycle.
+/// Returns the run, if the bus came to its end with these faults, what the nodes left agrees with it and the scripts,
+/// and in a stepped run each line was done in its cycle.
 fn settled_run<R: Threads + Sync>(
     rt: &R,
     alloc: Global,
@@ -313,7 +314,7 @@ fn settled_run<R: Threads + Sync>(
     })
 }
 
-/// The bus and the pace of a run.
+/// Returns the bus and the pace of a run.
 fn shared_by_all(
     alloc: Global,
     cluster: &Cluster,

@@ -75,7 +75,7 @@ fn do_lines<L: Ledger, R: Wait, G: Gate>(
     Ok(answers)
 }
 
-/// The thread of a task. Where it fails the run is stopped.
+/// Returns the thread of a task. Where it fails the run is stopped.
 pub(crate) fn run_task<L: Ledger, R: Wait, G: Gate>(
     rt: &R,
     alloc: Global,

@@ -11,7 +11,7 @@ use crate::segments::segments_of;
 use fr_slots::numbers::SlotId;
 use fr_slots::params::Params;
 
-/// The place of a macrotick of a cycle, counted from 0 (chapter 5).
+/// Returns the place of a macrotick of a cycle, counted from 0 (chapter 5).
 ///
 /// None from the end of the cycle on.
 pub fn locate(params: &Params, macrotick: u32) -> Option<Place>
@@ -24,7 +24,7 @@ pub fn locate(params: &Params, macrotick: u32) -> Option<Place>
     place_at(params, macrotick)
 }
 
-/// The macrotick of the cycle that a place names, counted from 0 (chapter 5).
+/// Returns the macrotick of the cycle that a place names, counted from 0 (chapter 5).
 ///
 /// None where the cycle has no such place: a static slot or a minislot that it doesn't have, or an
 /// offset that isn't below the length of its part.
@@ -38,7 +38,7 @@ pub fn start_of(params: &Params, place: Place) -> Option<u32>
     start_at(params, place)
 }
 
-/// The place of a macrotick, by division.
+/// Returns the place of a macrotick, by division.
 #[tactic(auto, unfolding(crate::specs::Division::place_at))]
 fn place_at(params: &Params, macrotick: u32) -> Option<Place>
     ensures place { result ≡ place_at params.now macrotick }
@@ -72,7 +72,7 @@ fn place_at(params: &Params, macrotick: u32) -> Option<Place>
     None
 }
 
-/// The macrotick at an offset in one of `count` parts of a length, which are numbered from 1, one
+/// Returns the macrotick at an offset in one of `count` parts of a length, which are numbered from 1, one
 /// after another from `first`.
 fn start_in_row(first: u32, count: u16, length: u16, number: u16, offset: u32) -> Option<u32>
     requires { first + count * length < 2 ^ 32 }
@@ -85,7 +85,7 @@ fn start_in_row(first: u32, count: u16, length: u16, number: u16, offset: u32) -
     }
 }
 
-/// The macrotick of a place, by multiplication.
+/// Returns the macrotick of a place, by multiplication.
 #[tactic(auto, unfolding(crate::specs::Division::start_at))]
 fn start_at(params: &Params, place: Place) -> Option<u32>
     ensures value { result ≡ start_at params.now place }

@@ -19,7 +19,7 @@ pub struct Segments {
     pub end: u32,
 }
 
-/// Where the segments of a cycle with these parameters start.
+/// Returns where the segments of a cycle with these parameters start.
 pub fn segments_of(params: &Params) -> Segments
     ensures dynamic { result.dynamic ≡ dynamic_start params.now }
     ensures symbol { result.symbol ≡ symbol_start params.now }

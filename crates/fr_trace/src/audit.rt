@@ -17,7 +17,7 @@ use std::io::{ErrorKind, Read, Write};
 /// How many bytes are asked for at a time.
 const ROOM: usize = 4096;
 
-/// What the reader's bytes leave. It reads no further once an error stands. An interrupted read is made again.
+/// Returns what the reader's bytes leave. It reads no further once an error stands. An interrupted read is made again.
 fn read_through<R: Read>(alloc: Global, reader: &mut R) -> Result<Interface, TraceError>
     ensures through { ReadsThrough (R.remaining reader.old) (R.remaining reader.new) result }
     ensures legal { IfOk result IsLegalInterface }

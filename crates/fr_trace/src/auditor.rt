@@ -43,7 +43,7 @@ enum Phase {
     Finished(Version, Interface),
 }
 
-/// How many lines a plan has after its first.
+/// Returns how many lines a plan has after its first.
 fn line_count(plan: &NodePlan) -> u32
     ensures value { result ≡ line_count plan.now }
     ensures few { result ≤ 129 }
@@ -52,7 +52,7 @@ fn line_count(plan: &NodePlan) -> u32
     plan.owned().len() as u32 + plan.buffers().len() as u32 + queue
 }
 
-/// How many lines an interface's plan and journal have.
+/// Returns how many lines an interface's plan and journal have.
 pub(crate) fn lines_of(interface: &Interface) -> u32
     ensures value { result ≡ line_count interface.now.plan + length interface.now.entries }
     ensures few { result ≤ 82049 }
@@ -60,7 +60,7 @@ pub(crate) fn lines_of(interface: &Interface) -> u32
     line_count(interface.plan()) + interface.journal().len()
 }
 
-/// The number of the line that comes next.
+/// Returns the number of the line that comes next.
 fn line_number(phase: &Phase) -> u32
     ensures { result ≡ line_number (phase_of phase.now) }
 {
@@ -74,7 +74,7 @@ fn line_number(phase: &Phase) -> u32
     }
 }
 
-/// The first line, which names the version.
+/// Returns the first line, which names the version.
 fn first_line(line: &[u8]) -> Result<Phase, TraceError>
     ensures { GivesPhase phase_of result (take_line magic line.now) }
 {
@@ -84,7 +84,7 @@ fn first_line(line: &[u8]) -> Result<Phase, TraceError>
     }
 }
 
-/// The line of the parameters.
+/// Returns the line of the parameters.
 fn parameters_line(version: Version, line: &[u8]) -> Result<Phase, TraceError>
     ensures { GivesPhase phase_of result (take_line (params version) line.now) }
 {
@@ -97,7 +97,7 @@ fn parameters_line(version: Version, line: &[u8]) -> Result<Phase, TraceError>
     }
 }
 
-/// The line of the plan's numbers.
+/// Returns the line of the plan's numbers.
 fn node_line(version: Version, params: Params, line: &[u8]) -> Result<Phase, TraceError>
     ensures { GivesPhase phase_of result (take_line (node version params) line.now) }
 {
@@ -107,7 +107,7 @@ fn node_line(version: Version, params: Params, line: &[u8]) -> Result<Phase, Tra
     }
 }
 
-/// The line `begin`, of this number, at which alone memory is taken.
+/// Returns the line `begin`, of this number, at which alone memory is taken.
 fn begin(
     alloc: Global,
     version: Version,
@@ -127,14 +127,14 @@ fn begin(
     }
 }
 
-/// Whether a plan has neither a buffer nor a queue.
+/// Returns whether a plan has neither a buffer nor a queue.
 fn has_owned_alone(plan: &NodePlan) -> bool
     ensures { result ≡ has_owned_alone plan.now }
 {
     plan.buffers().is_empty() && plan.queue().is_none()
 }
 
-/// An ownership line of the plan, which stands before its buffers and its queue.
+/// Returns an ownership line of the plan, which stands before its buffers and its queue.
 fn own_line(
     version: Version,
     params: Params,
@@ -154,7 +154,7 @@ fn own_line(
     }
 }
 
-/// A buffer of the plan, which stands before its queue.
+/// Returns a buffer of the plan, which stands before its queue.
 fn buffer_line(
     version: Version,
     params: Params,
@@ -174,7 +174,7 @@ fn buffer_line(
     }
 }
 
-/// The queue of the plan, which stands after all its other lines.
+/// Returns the queue of the plan, which stands after all its other lines.
 fn queue_line(
     version: Version,
     params: Params,
@@ -191,7 +191,7 @@ fn queue_line(
     }
 }
 
-/// A line of the plan, of this number, or `begin`.
+/// Returns a line of the plan, of this number, or `begin`.
 fn plan_line(
     alloc: Global,
     version: Version,
@@ -232,7 +232,7 @@ fn entry_line(
     }
 }
 
-/// What follows a whole line, of this number, that is no line of the journal.
+/// Returns what follows a whole line, of this number, that is no line of the journal.
 fn after(alloc: Global, phase: Phase, number: u32, line: &[u8]) -> Result<Phase, TraceError>
     requires number { number ≡ line_number (phase_of phase) }
     requires ending { IsNoEntry (phase_of phase) line.now }
@@ -288,7 +288,7 @@ fn pass_line(
     move_on(alloc, phase, line)
 }
 
-/// Why a line that is too long is refused.
+/// Returns why a line that is too long is refused.
 fn too_long(phase: &Phase) -> TraceError
     ensures { result ≡ too_long (phase_of phase.now) }
 {
@@ -327,7 +327,7 @@ impl Auditor {
     ghost use Rattle.fr_trace.specs.Feeds.{Reads, EndsLine, held, with_line};
     ghost use Rattle.fr_trace.specs.Refusals.{LineIsNamed, HopelessIfRefused};
 
-    /// An auditor to which nothing has come. It takes memory from `alloc` at the line `begin` alone.
+    /// Returns an auditor to which nothing has come. It takes memory from `alloc` at the line `begin` alone.
     pub fn new(alloc: Global) -> Auditor
         ensures { result ≡ fresh }
     {
@@ -423,7 +423,7 @@ impl Auditor {
         self.answer()
     }
 
-    /// The interface that the whole trace leaves.
+    /// Returns the interface that the whole trace leaves.
     ///
     /// Refused with the error that was answered before; with `BadMagic` where no whole line has come; and
     /// with `Truncated` where the line feed of `end` hasn't. It takes no memory.

@@ -13,7 +13,7 @@ use crate::error::TraceError;
 use fr_interface::interface::Interface;
 use std::alloc::Global;
 
-/// An auditor that has read these pieces.
+/// Returns an auditor that has read these pieces.
 fn fed(alloc: Global, pieces: &[&[u8]]) -> Auditor
     ensures { Reads fresh (flat_map (λ p. p.now) pieces.now) result }
 {
@@ -24,7 +24,7 @@ fn fed(alloc: Global, pieces: &[&[u8]]) -> Auditor
     auditor
 }
 
-/// The interface that a trace in these pieces leaves.
+/// Returns the interface that a trace in these pieces leaves.
 ///
 /// Refused with the error of the first line at fault, and with `Memory` where memory is refused.
 pub fn audit_pieces(alloc: Global, pieces: &[&[u8]]) -> Result<Interface, TraceError>
@@ -45,7 +45,7 @@ pub fn audit_pieces(alloc: Global, pieces: &[&[u8]]) -> Result<Interface, TraceE
     lawful(auditor.finish())
 }
 
-/// What an auditor answered; an interface is legal, and has few lines.
+/// Returns what an auditor answered; an interface is legal, and has few lines.
 pub(crate) fn lawful(outcome: Result<Interface, TraceError>) -> Result<Interface, TraceError>
     ensures same { result ≡ outcome }
     ensures legal { IfOk result IsLegalInterface }

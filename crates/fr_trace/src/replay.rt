@@ -11,7 +11,7 @@ use fr_interface::interface::Interface;
 use fr_journal::entry::{Entry, Origin};
 use fr_lines::bare::{BareEntry, EntryBytes};
 
-/// Where the frame comes from that was answered by the read or the pop of this number.
+/// Returns where the frame comes from that was answered by the read or the pop of this number.
 ///
 /// It isn't inlined, so that a call with another answer doesn't pay for the room of an entry.
 #[inline(never)]

@@ -77,7 +77,7 @@ fr_view --help
     these lines
 ";
 
-/// What is to be shown of a run.
+/// Returns what is to be shown of a run.
 fn shown_of(asked: Asked) -> Option<Shown> {
     match asked {
         Asked::Outcome => Some(Shown::Outcome),

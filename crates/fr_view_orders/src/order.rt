@@ -18,7 +18,7 @@ use fr_words::commands::{cycles_of, of_file, program};
 use fr_words::error::OrderError;
 use std::alloc::{AllocError, Global};
 
-/// The command `schedule`, with its file and the number of a cycle.
+/// Returns the command `schedule`, with its file and the number of a cycle.
 fn schedule_command<'a>(alloc: Global) -> Result<Command<'a>, AllocError>
     ensures app { IfOk result (λ c. app_of c ≡ schedule_command) }
     ensures local { IfOk result (λ c. (out-Command c).has_globals ≡ false) }
@@ -27,7 +27,7 @@ fn schedule_command<'a>(alloc: Global) -> Result<Command<'a>, AllocError>
     of_file(alloc, "schedule")?.arg(cycle)
 }
 
-/// The command, with the two files of a run and the number of its cycles.
+/// Returns the command, with the two files of a run and the number of its cycles.
 fn of_run<'a>(alloc: Global, command: Command<'a>) -> Result<Command<'a>, AllocError>
     requires { (out-Command command).has_globals ≡ false }
     ensures app { IfOk result (λ c. app_of c ≡ with_run (app_of command.entry)) }
@@ -39,7 +39,7 @@ fn of_run<'a>(alloc: Global, command: Command<'a>) -> Result<Command<'a>, AllocE
     command.arg(file)?.arg(scenario)?.arg(cycles)
 }
 
-/// The command `trace`, with its node and the run.
+/// Returns the command `trace`, with its node and the run.
 fn trace_command<'a>(alloc: Global) -> Result<Command<'a>, AllocError>
     ensures app { IfOk result (λ c. app_of c ≡ trace_command) }
     ensures local { IfOk result (λ c. (out-Command c).has_globals ≡ false) }
@@ -48,7 +48,7 @@ fn trace_command<'a>(alloc: Global) -> Result<Command<'a>, AllocError>
     of_run(alloc, Command::new(alloc, "trace").arg(node)?)
 }
 
-/// A flag of this name.
+/// Returns a flag of this name.
 fn flag<'a>(alloc: Global, name: &'a str) -> Arg<'a>
     ensures rule { rule_of result ≡ flag_named name.now }
     ensures local { result.global ≡ false }
@@ -56,7 +56,8 @@ fn flag<'a>(alloc: Global, name: &'a str) -> Arg<'a>
     Arg::new(alloc, name).long(name).action(ArgAction::SetTrue)
 }
 
-/// A command that reads a trace, with the flag that lets it end at the line at fault, and one by which it shows more.
+/// Returns a command that reads a trace, with the flag that lets it end at the line at fault, and one by which it shows
+/// more.
 fn of_trace<'a>(alloc: Global, name: &'a str, more: &'a str) -> Result<Command<'a>, AllocError>
     ensures app { IfOk result (λ c. app_of c ≡ of_trace name.now more.now) }
     ensures local { IfOk result (λ c. (out-Command c).has_globals ≡ false) }
@@ -65,7 +66,7 @@ fn of_trace<'a>(alloc: Global, name: &'a str, more: &'a str) -> Result<Command<'
     Command::new(alloc, name).arg(until_fault)?.arg(more)
 }
 
-/// The command `matrix`, with what is to be drawn of the run.
+/// Returns the command `matrix`, with what is to be drawn of the run.
 fn matrix_command<'a>(alloc: Global) -> Result<Command<'a>, AllocError>
     ensures app { IfOk result (λ c. app_of c ≡ matrix_command) }
     ensures local { IfOk result (λ c. (out-Command c).has_globals ≡ false) }
@@ -80,7 +81,7 @@ fn matrix_command<'a>(alloc: Global) -> Result<Command<'a>, AllocError>
     of_run(alloc, drawn)
 }
 
-/// The commands that read one file, as `clap` reads them.
+/// Returns the commands that read one file, as `clap` reads them.
 fn file_commands<'a>(alloc: Global) -> Result<Command<'a>, AllocError>
     ensures { IfOk result (λ c. app_of c ≡ file_commands) }
 {
@@ -105,7 +106,7 @@ fn line_commands<'a>(alloc: Global, files: Command<'a>) -> Result<Command<'a>, A
     third.subcommand(recorded)
 }
 
-/// The commands, as `clap` reads them.
+/// Returns the commands, as `clap` reads them.
 fn commands<'a>(alloc: Global) -> Result<Command<'a>, AllocError>
     ensures { IfOk result (λ c. app_of c ≡ the_commands) }
 {
@@ -115,7 +116,7 @@ fn commands<'a>(alloc: Global) -> Result<Command<'a>, AllocError>
     drawn.subcommand(trace_command(alloc)?)
 }
 
-/// The cycle that a word is: 0 to 63, without a leading zero.
+/// Returns the cycle that a word is: 0 to 63, without a leading zero.
 fn cycle_of(word: &str) -> Option<u8>
     ensures { result ≡ number_in 64 word.now }
 {
@@ -125,7 +126,7 @@ fn cycle_of(word: &str) -> Option<u8>
     }
 }
 
-/// The picture that the arguments of its command ask for.
+/// Returns the picture that the arguments of its command ask for.
 fn schedule_in<'a>(arguments: &ArgMatches<'a>) -> Option<Order<'a>>
     ensures told { IfSome result (IsScheduleBy (first_value (found_of arguments.now))) }
     ensures nothing { IfNone result (has_schedule_by (first_value (found_of arguments.now)) ≡ false) }
@@ -138,7 +139,7 @@ fn schedule_in<'a>(arguments: &ArgMatches<'a>) -> Option<Order<'a>>
     Some(Order::Schedule { file, cycle })
 }
 
-/// The number of a node that a word is: 0 to 15, without a leading zero.
+/// Returns the number of a node that a word is: 0 to 15, without a leading zero.
 fn node_of(word: &str) -> Option<u8>
     ensures { result ≡ number_in 16 word.now }
 {
@@ -148,7 +149,7 @@ fn node_of(word: &str) -> Option<u8>
     }
 }
 
-/// The channel that is drawn: A, unless another one is named.
+/// Returns the channel that is drawn: A, unless another one is named.
 fn channel_in(arguments: &ArgMatches<'_>) -> Option<Channel>
     ensures { result ≡ channel_asked (first_value (found_of arguments.now) (codes "channel")) }
 {
@@ -159,7 +160,7 @@ fn channel_in(arguments: &ArgMatches<'_>) -> Option<Channel>
     }
 }
 
-/// The node through whose eyes a run is seen, or nobody where none is named.
+/// Returns the node through whose eyes a run is seen, or nobody where none is named.
 fn viewer_in(arguments: &ArgMatches<'_>) -> Option<Option<u8>>
     ensures { result ≡ viewer_asked (first_value (found_of arguments.now) (codes "node")) }
 {
@@ -172,7 +173,7 @@ fn viewer_in(arguments: &ArgMatches<'_>) -> Option<Option<u8>>
     }
 }
 
-/// The cycle of the run that is drawn first: 0 to 1023, without a leading zero, and 0 where none is named.
+/// Returns the cycle of the run that is drawn first: 0 to 1023, without a leading zero, and 0 where none is named.
 fn first_in(arguments: &ArgMatches<'_>) -> Option<u16>
     ensures { result ≡ from_asked (first_value (found_of arguments.now) (codes "from")) }
 {
@@ -185,7 +186,7 @@ fn first_in(arguments: &ArgMatches<'_>) -> Option<u16>
     }
 }
 
-/// What is to be drawn of a run.
+/// Returns what is to be drawn of a run.
 fn drawn_in(arguments: &ArgMatches<'_>) -> Option<Asked>
     ensures { result ≡ drawn_by (first_value (found_of arguments.now)) }
 {
@@ -199,7 +200,7 @@ fn drawn_in(arguments: &ArgMatches<'_>) -> Option<Asked>
     })
 }
 
-/// What a command of this name shows of a run, if it is one of those.
+/// Returns what a command of this name shows of a run, if it is one of those.
 fn asked_in(name: &str, arguments: &ArgMatches<'_>) -> Option<Asked>
     ensures { result ≡ asked_by name.now (first_value (found_of arguments.now)) }
 {
@@ -215,7 +216,7 @@ fn asked_in(name: &str, arguments: &ArgMatches<'_>) -> Option<Asked>
     }
 }
 
-/// What the command of this name shows of the run that its arguments name.
+/// Returns what the command of this name shows of the run that its arguments name.
 fn show_in<'a>(name: &str, arguments: &ArgMatches<'a>) -> Option<Order<'a>>
     ensures told { IfSome result (IsShowBy name.now (first_value (found_of arguments.now))) }
     ensures nothing { IfNone result (has_show_by name.now (first_value (found_of arguments.now)) ≡ false) }
@@ -229,14 +230,14 @@ fn show_in<'a>(name: &str, arguments: &ArgMatches<'a>) -> Option<Order<'a>>
     })
 }
 
-/// Whether the flag of this name is there.
+/// Returns whether the flag of this name is there.
 fn has_flag(arguments: &ArgMatches<'_>, name: &str) -> bool
     ensures { result ≡ is_true (first_value (found_of arguments.now) name.now) }
 {
     arguments.get_str(name) == Some("true")
 }
 
-/// Whether what was seen is asked for up to the line at fault, and whether with more, by the flag of this name.
+/// Returns whether what was seen is asked for up to the line at fault, and whether with more, by the flag of this name.
 fn flags_in(arguments: &ArgMatches<'_>, more: &str) -> (bool, bool)
     ensures until_fault { result.0 ≡ is_true (first_value (found_of arguments.now) (codes "until-fault")) }
     ensures more { result.1 ≡ is_true (first_value (found_of arguments.now) more.now) }
@@ -247,7 +248,7 @@ fn flags_in(arguments: &ArgMatches<'_>, more: &str) -> (bool, bool)
     )
 }
 
-/// The order that the command's name and arguments stand for.
+/// Returns the order that the command's name and arguments stand for.
 fn order_in<'a>(matches: &ArgMatches<'a>) -> Option<Order<'a>>
     ensures told { IfSome result (IsOrder (subcommand_rows_of matches.now)) }
     ensures nothing { IfNone result (asks (subcommand_rows_of matches.now) ≡ false) }
@@ -268,7 +269,7 @@ fn order_in<'a>(matches: &ArgMatches<'a>) -> Option<Order<'a>>
     }
 }
 
-/// Whether the words are the one call for help.
+/// Returns whether the words are the one call for help.
 fn is_help(words: &[&str]) -> bool
     ensures { result ≡ is_help (map (λ word. word.now) words.now) }
 {
@@ -278,7 +279,7 @@ fn is_help(words: &[&str]) -> bool
     }
 }
 
-/// The order that the words after the program's name give (project-defined).
+/// Returns the order that the words after the program's name give (project-defined).
 ///
 /// Refused with `Memory` where memory for the parse was refused, and else with `Usage` for all words that are no
 /// command. A call for help is the word `--help` alone. A cycle of a picture is 0 to 63, the first one of a matrix 0 to

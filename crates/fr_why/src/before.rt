@@ -11,7 +11,7 @@ use fr_trace::error::TraceError;
 use fr_trace::pieces::audit_pieces;
 use std::alloc::Global;
 
-/// The interface that these lines leave, once they have told its plan, whether or not `end` is one of them.
+/// Returns the interface that these lines leave, once they have told its plan, whether or not `end` is one of them.
 ///
 /// Refused with `Memory` where memory for it is refused.
 pub(crate) fn interface_after(

@@ -35,7 +35,7 @@ fn refusal_of(interface: &mut Interface, told: &BareEntry, bytes: &EntryBytes) -
     }
 }
 
-/// What the refusal of a call of a task is.
+/// Returns what the refusal of a call of a task is.
 fn host_reason(error: Option<HostError>) -> Option<Reason>
     ensures { result ≡ option_map Reason.Host error }
 {
@@ -45,7 +45,7 @@ fn host_reason(error: Option<HostError>) -> Option<Reason>
     }
 }
 
-/// What the refusal of a call of the controller is.
+/// Returns what the refusal of a call of the controller is.
 fn slot_reason(error: Option<SlotError>) -> Option<Reason>
     ensures { result ≡ option_map Reason.Slot error }
 {
@@ -55,7 +55,7 @@ fn slot_reason(error: Option<SlotError>) -> Option<Reason>
     }
 }
 
-/// Why the call of the entry is refused, or else the entry that it makes.
+/// Returns why the call of the entry is refused, or else the entry that it makes.
 fn reason_of_entry(interface: &mut Interface, told: &BareEntry, bytes: &EntryBytes) -> Reason
     ensures { result ≡ reason_of_call
         (made_by interface.old (with_bytes bytes.now told.now))
@@ -72,7 +72,7 @@ fn reason_of_entry(interface: &mut Interface, told: &BareEntry, bytes: &EntryByt
     }
 }
 
-/// What the refusal of a line rests on, after the lines that have led to this interface.
+/// Returns what the refusal of a line rests on, after the lines that have led to this interface.
 pub(crate) fn reason_of_line(interface: &mut Interface, version: Version, line: &[u8]) -> Reason
     ensures { result ≡ reason_by_state version (Some interface.old) line.now }
 {

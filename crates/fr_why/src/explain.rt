@@ -21,7 +21,7 @@ use fr_trace::error::TraceError;
 use std::alloc::Global;
 use std::io::{Read, Write};
 
-/// Whether the entry opened a window.
+/// Returns whether the entry opened a window.
 fn is_fetch(entry: &Entry) -> bool
     ensures { result ≡ is_fetch entry.now }
 {
@@ -31,7 +31,7 @@ fn is_fetch(entry: &Entry) -> bool
     }
 }
 
-/// How many windows were fetched.
+/// Returns how many windows were fetched.
 fn window_count(journal: &Journal) -> u32
     ensures { result ≡ window_count journal.now.entries }
 {
@@ -46,7 +46,7 @@ fn window_count(journal: &Journal) -> u32
     count
 }
 
-/// How many windows were fetched, once there is an interface.
+/// Returns how many windows were fetched, once there is an interface.
 fn windows_of(interface: &Option<Interface>) -> u32
     ensures { result ≡ windows_of interface.now }
 {
@@ -56,7 +56,7 @@ fn windows_of(interface: &Option<Interface>) -> u32
     }
 }
 
-/// What tells of the line at fault of the text.
+/// Returns what tells of the line at fault of the text.
 fn fault_words(alloc: Global, text: &[u8], fault: &Fault) -> Result<Vec<u8>, TraceError>
     requires { IsFaultIn text.now fault.now }
     ensures told { IfOk result (λ words. words.items
@@ -82,7 +82,7 @@ fn fault_words(alloc: Global, text: &[u8], fault: &Fault) -> Result<Vec<u8>, Tra
     }
 }
 
-/// What tells that the text is accepted as this interface, with so many lines.
+/// Returns what tells that the text is accepted as this interface, with so many lines.
 fn accepted_words(alloc: Global, interface: &Interface, lines: usize) -> Result<Vec<u8>, TraceError>
     ensures told { IfOk result (λ words. words.items
         ≡ accepted_text lines (window_count interface.now.entries)) }
@@ -96,7 +96,7 @@ fn accepted_words(alloc: Global, interface: &Interface, lines: usize) -> Result<
     }
 }
 
-/// What explains the text.
+/// Returns what explains the text.
 ///
 /// Refused with `Memory` where memory is refused.
 fn explained(alloc: Global, text: &[u8]) -> Result<(Verdict, Vec<u8>), TraceError>

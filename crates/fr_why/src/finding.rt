@@ -36,7 +36,7 @@ pub enum Found {
     Refused(Fault),
 }
 
-/// What is found, where an audit answers this error at the line.
+/// Returns what is found, where an audit answers this error at the line.
 fn refused(fault: Fault) -> Result<Found, TraceError>
     ensures { result ≡ found_of fault.error fault }
 {
@@ -46,7 +46,7 @@ fn refused(fault: Fault) -> Result<Found, TraceError>
     }
 }
 
-/// What is found, where an audit has read this interface.
+/// Returns what is found, where an audit has read this interface.
 #[tactic(auto, using(crate::proofs::FindingLemmas::few_lines))]
 fn accepted(interface: Interface, lines: usize) -> Found
     ensures found { result ≡ Found.Accepted interface lines }
@@ -59,8 +59,8 @@ fn accepted(interface: Interface, lines: usize) -> Found
     Found::Accepted(interface, lines)
 }
 
-/// Whether an audit accepts the text, or at which line it refuses it (project-defined). The lines are fed to an auditor
-/// one after another.
+/// Returns whether an audit accepts the text, or at which line it refuses it (project-defined). The lines are fed to an
+/// auditor one after another.
 ///
 /// Refused with `Memory` where memory for the text's interface is refused.
 pub(crate) fn find(alloc: Global, text: &[u8]) -> Result<Found, TraceError>

@@ -10,7 +10,7 @@ use std::io::{ErrorKind, Read};
 /// with their line feeds, and a further line.
 const MOST_KEPT: u64 = 98_548_055;
 
-/// All bytes that the reader has left, or the first of them, as many as are kept.
+/// Returns all bytes that the reader has left, or the first of them, as many as are kept.
 ///
 /// Refused with `Read` where the reader fails, and with `Memory` where memory is refused.
 pub(crate) fn kept_of<R: Read>(alloc: Global, reader: &mut R) -> Result<Vec<u8>, TraceError>

@@ -12,7 +12,7 @@ use fr_lines::versions::Version;
 use fr_slots::plan::NodePlan;
 use fr_text::words::Words;
 
-/// The first word of a line.
+/// Returns the first word of a line.
 fn first_word(line: &[u8]) -> &[u8]
     ensures { result.now ≡ first_word (words_of line.now) }
 {
@@ -22,7 +22,7 @@ fn first_word(line: &[u8]) -> &[u8]
     }
 }
 
-/// Whether lines of a plan begin with the word, or the one after them.
+/// Returns whether lines of a plan begin with the word, or the one after them.
 fn is_of_plan(word: &[u8]) -> bool
     ensures { result ≡ is_of_plan word.now }
 {
@@ -33,7 +33,7 @@ fn is_of_plan(word: &[u8]) -> bool
         || word == b"begin".as_slice()
 }
 
-/// Whether lines of a journal begin with the word, or the one after them.
+/// Returns whether lines of a journal begin with the word, or the one after them.
 fn is_of_journal(word: &[u8]) -> bool
     ensures { result ≡ is_of_journal word.now }
 {
@@ -46,7 +46,7 @@ fn is_of_journal(word: &[u8]) -> bool
         || word == b"end".as_slice()
 }
 
-/// Why a line isn't read, by whether its first word may stand there.
+/// Returns why a line isn't read, by whether its first word may stand there.
 fn unread(may_stand: bool) -> Misfit
     ensures { result ≡ misfit_of may_stand }
 {
@@ -57,14 +57,14 @@ fn unread(may_stand: bool) -> Misfit
     }
 }
 
-/// Why a line is refused that is read, by whether its kind may still come.
+/// Returns why a line is refused that is read, by whether its kind may still come.
 fn too_many(may_come: bool) -> Misfit
     ensures { result ≡ misplaced may_come }
 {
     if may_come { Misfit::Full } else { Misfit::Late }
 }
 
-/// Why a line can't stand in a plan, after its lines so far.
+/// Returns why a line can't stand in a plan, after its lines so far.
 fn misfit_in_plan(version: Version, plan: &NodePlan, line: &[u8]) -> Misfit
     ensures { result ≡ misfit_in_plan plan.now (first_word (words_of line.now))
         (plan_line_in version (words_of line.now)) }
@@ -77,7 +77,7 @@ fn misfit_in_plan(version: Version, plan: &NodePlan, line: &[u8]) -> Misfit
     }
 }
 
-/// Why a line can't stand after those that have told this.
+/// Returns why a line can't stand after those that have told this.
 pub(crate) fn misfit_of(head: &Head, line: &[u8]) -> Misfit
     ensures { result ≡ misfit_by_head head.now (words_of line.now) }
 {

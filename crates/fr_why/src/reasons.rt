@@ -17,7 +17,7 @@ use fr_slots::params::Params;
 use fr_slots::plan::NodePlan;
 use fr_trace::error::TraceError;
 
-/// What the refusal of a line `params` rests on.
+/// Returns what the refusal of a line `params` rests on.
 fn reason_of_params(line: &[u8]) -> Reason
     ensures { result ≡ reason_of_numbers (params_in (words_of line.now)) }
 {
@@ -30,7 +30,7 @@ fn reason_of_params(line: &[u8]) -> Reason
     }
 }
 
-/// What the refusal of the line `begin` rests on, after this plan.
+/// Returns what the refusal of the line `begin` rests on, after this plan.
 fn reason_of_plan(version: Version, params: &Params, plan: &NodePlan, line: &[u8]) -> Reason
     ensures { result ≡ reason_by_head (Head.Lines version params.now plan.now) None line.now }
 {
@@ -43,7 +43,7 @@ fn reason_of_plan(version: Version, params: &Params, plan: &NodePlan, line: &[u8
     }
 }
 
-/// What the refusal of a line of the journal rests on.
+/// Returns what the refusal of a line of the journal rests on.
 fn reason_of_call(version: Version, interface: &mut Option<Interface>, line: &[u8]) -> Reason
     ensures { result ≡ reason_by_state version interface.old line.now }
 {
@@ -53,7 +53,7 @@ fn reason_of_call(version: Version, interface: &mut Option<Interface>, line: &[u
     }
 }
 
-/// What the refusal of a line rests on, whatever the error is that names it.
+/// Returns what the refusal of a line rests on, whatever the error is that names it.
 fn reason_by(head: &Head, interface: &mut Option<Interface>, line: &[u8]) -> Reason
     ensures { result ≡ reason_by_head head.now interface.old line.now }
 {
@@ -88,7 +88,7 @@ fn place_of(version: Version, misfit: Misfit, line: &[u8]) -> Option<WordPlace>
     }
 }
 
-/// What it rests on that the text breaks off in this line.
+/// Returns what it rests on that the text breaks off in this line.
 fn reason_of_end(head: &Head, line: &[u8]) -> Reason
     ensures { result ≡ feed_by_head head.now line.now }
 {
@@ -104,7 +104,8 @@ fn reason_of_end(head: &Head, line: &[u8]) -> Reason
     }
 }
 
-/// What this error of the line rests on. A line of the journal is tried on the interface that the lines before left.
+/// Returns what this error of the line rests on. A line of the journal is tried on the interface that the lines before
+/// left.
 pub(crate) fn reason_of(
     error: TraceError,
     head: &Head,

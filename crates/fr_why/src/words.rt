@@ -34,7 +34,7 @@ fn write_error<W: Write>(writer: &mut W, error: TraceError) -> io::Result<()>
     }
 }
 
-/// Whether a byte is written as it is.
+/// Returns whether a byte is written as it is.
 fn is_shown(byte: u8) -> bool
     ensures { result ≡ is_shown byte }
 {
@@ -82,7 +82,7 @@ fn write_place<W: Write>(writer: &mut W, number: u64, line: &[u8]) -> io::Result
     writer.write_all(b"\n")
 }
 
-/// The word for why a line can't stand where it does.
+/// Returns the word for why a line can't stand where it does.
 fn misfit_word(misfit: Misfit) -> &'static str
     ensures { result.now ≡ misfit_word misfit }
 {

@@ -8,7 +8,7 @@ use clap::{Arg, Command};
 use fr_text::numbers::number_of;
 use std::alloc::{AllocError, Global};
 
-/// The program of this name, with no command yet.
+/// Returns the program of this name, with no command yet.
 pub fn program<'a>(alloc: Global, name: &'a str) -> Command<'a>
     ensures { app_of result ≡ bare name.now }
 {
@@ -19,7 +19,7 @@ pub fn program<'a>(alloc: Global, name: &'a str) -> Command<'a>
         .disable_help_subcommand(true)
 }
 
-/// A command of this name with a file.
+/// Returns a command of this name with a file.
 pub fn of_file<'a>(alloc: Global, name: &'a str) -> Result<Command<'a>, AllocError>
     ensures app { IfOk result (λ c. app_of c ≡ with_file name.now) }
     ensures local { IfOk result (λ c. (out-Command c).has_globals ≡ false) }
@@ -28,7 +28,7 @@ pub fn of_file<'a>(alloc: Global, name: &'a str) -> Result<Command<'a>, AllocErr
     Command::new(alloc, name).arg(file)
 }
 
-/// The number of cycles that a word is: 1 to 1024, without a leading zero.
+/// Returns the number of cycles that a word is: 1 to 1024, without a leading zero.
 pub fn cycles_of(word: &str) -> Option<u16>
     ensures { result ≡ cycles_in word.now }
 {

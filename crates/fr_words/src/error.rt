@@ -20,7 +20,8 @@ pub enum OrderError {
 }
 
 impl OrderError {
-    /// The exit status of a program that is given such words: 2 where they are no command, 1 where an allocation fails.
+    /// Returns the exit status of a program that is given such words: 2 where they are no command, 1 where an
+    /// allocation fails.
     pub fn status(&self) -> u8
         ensures { result ≡ status_of_words self.now }
     {

@@ -4,7 +4,7 @@ use std::alloc::Global;
 use std::rt::Env;
 use std::{env, io};
 
-/// The words after the program's name, as the system gives them.
+/// Returns the words after the program's name, as the system gives them.
 ///
 /// Refused with `Memory` where memory was refused, and with `Usage` where a word isn't UTF-8, which names no command.
 pub fn words_given<R: Env + AllocGlobal>(rt: &R) -> Result<Vec<String>, OrderError> {
@@ -15,7 +15,7 @@ pub fn words_given<R: Env + AllocGlobal>(rt: &R) -> Result<Vec<String>, OrderErr
     }
 }
 
-/// The words as texts. Refused with `Memory` alone.
+/// Returns the words as texts. Refused with `Memory` alone.
 pub fn texts_of(alloc: Global, words: &Vec<String>) -> Result<Vec<&str>, OrderError> {
     Ok(words.iter().map(|word| word.as_str()).collect(alloc)?)
 }

@@ -31,7 +31,7 @@ use std::process::ExitCode;
 use std::rt::{Env, Files};
 use std::time::Clock;
 
-/// The command's cluster.
+/// Returns the command's cluster.
 fn cluster_in<R: Files + AllocGlobal>(rt: &R, command: Command<'_>) -> Result<Cluster, Failure> {
     let mut file = file_named(rt, command.file)?;
     Ok(cluster_of(rt.alloc(), &mut file)?)
