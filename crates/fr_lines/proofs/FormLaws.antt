@@ -1,5 +1,7 @@
--- The lines that a trace of a version can have have no wrong word, and a word that is wrong is so by the words up to it.
-use Rattle.std.proofs.Common.{◌≡◌, ℕ, suc, ◌+◌, ◌^◌, ℤ, Bool, true, false, List, [], ◌∷◌, take, codes, Option, Some, None, is_some, inl, inr}
+-- The lines that a trace of a version can have have no wrong word, and a word that is wrong is so by the words up to
+-- it.
+use Rattle.std.proofs.Common.{◌≡◌, ℕ, suc, ◌+◌, ◌^◌, ℤ, Bool, true, false, List, [], ◌∷◌, take, codes, Option, Some}
+use Rattle.std.proofs.Common.{None, is_some, inl, inr}
 use Rattle.std.proofs.Common.{option_map, refl, sym, ap, ◌∙◌, arith, if◌then◌else◌, IsSome, IfSome, zero, tt}
 use Rattle.std.proofs.lemmas.Bool.{cases_Bool}
 use Rattle.std.specs.Result.{result_ok}
@@ -11,14 +13,19 @@ use Rattle.fr_lines.specs.declared.forms.WordForm.TheVariants as form
 use Rattle.fr_lines.specs.declared.plan_lines.PlanLine.{PlanLine}
 use Rattle.fr_lines.specs.declared.plan_lines.PlanLine.TheVariants as plan_line
 use Rattle.fr_lines.specs.declared.versions.Version.{Version}
-use Rattle.fr_lines.specs.Forms.{fits, repetition_in, params_forms, node_forms, own_forms, tx_forms, rx_forms, queue_forms}
+use Rattle.fr_lines.specs.Forms.{fits, repetition_in, params_forms, node_forms, own_forms, tx_forms, rx_forms}
+use Rattle.fr_lines.specs.Forms.{queue_forms}
 use Rattle.fr_lines.specs.Forms.{commit_forms, withdraw_forms, read_forms, pop_forms, fetch_forms, see_forms, forms_of}
 use Rattle.fr_lines.specs.Forms.{wrong_at, wrong_after, wrong_in, place_in, IsLine, BeginsNoLine}
-use Rattle.fr_lines.specs.PartReading.{slot_in, optional_slot_in, channels_in, cycles_in, filter_in, flag_in, mode_in, size_in}
+use Rattle.fr_lines.specs.PartReading.{slot_in, optional_slot_in, channels_in, cycles_in, filter_in, flag_in, mode_in}
+use Rattle.fr_lines.specs.PartReading.{size_in}
 use Rattle.fr_lines.specs.PartReading.{payload_in, taken_back_in, from_in, offered_in, seen_in, window_in}
-use Rattle.fr_lines.specs.Reading.{Five, parameter_in, five_in, at_end, ten_in, params_in, limits_in, node_in, last_cycles_in}
-use Rattle.fr_lines.specs.Reading.{own_cycles_in, ownership_in, transmit_in, receive_in, reception_in, plan_line_in, every_cycle}
-use Rattle.fr_lines.specs.Reading.{commit_in, told_withdraw_in, withdraw_in, read_in, pop_in, fetch_in, observe_in, entry_in}
+use Rattle.fr_lines.specs.Reading.{Five, parameter_in, five_in, at_end, ten_in, params_in, limits_in, node_in}
+use Rattle.fr_lines.specs.Reading.{last_cycles_in}
+use Rattle.fr_lines.specs.Reading.{own_cycles_in, ownership_in, transmit_in, receive_in, reception_in, plan_line_in}
+use Rattle.fr_lines.specs.Reading.{every_cycle}
+use Rattle.fr_lines.specs.Reading.{commit_in, told_withdraw_in, withdraw_in, read_in, pop_in, fetch_in, observe_in}
+use Rattle.fr_lines.specs.Reading.{entry_in}
 use Rattle.fr_lines.specs.Spelling.{begin_line, end_line}
 use Rattle.fr_lines.specs.Versions.{has_withdraws, has_own_cycles}
 use Rattle.fr_slots.specs.Admission.{CycleClass, cycle_class, is_repetition}
@@ -74,7 +81,8 @@ filter_right s c p q f h =
 
 abbrev WindowRight : List ℕ → List ℕ → List ℕ → List ℕ → List ℕ → Type 0
 WindowRight n c m a b = (is_some (number_in (2 ^ 32) n) ≡ true) × (is_some (number_in 64 c) ≡ true)
-    × (is_some (number_in 8001 m) ≡ true) × (is_some (optional_slot_in a) ≡ true) × (is_some (optional_slot_in b) ≡ true)
+    × (is_some (number_in 8001 m) ≡ true) × (is_some (optional_slot_in a) ≡ true) ×
+    (is_some (optional_slot_in b) ≡ true)
 
 window_right : (n c m a b : List ℕ) (w : Opportunity) → window_in n c m a b ≡ Some w → WindowRight n c m a b
 unfolding window_in
@@ -106,7 +114,11 @@ node_right (t ∷ a ∷ b ∷ host ∷ slot ∷ []) x h =
     let (x2, k2, h2) = bind_some (number_in 8001 b) _ x h1 in
     let (x3, k3, h3) = bind_some (number_in 16385 host) _ x h2 in
     let (x4, k4, h4) = bind_some (number_in 65537 slot) _ x h3 in
-    right_then (form.Number 9) _ _ _ (known (number_in 9 t) x0 k0) (right_then (form.Number 8001) _ _ _ (known (number_in 8001 a) x1 k1) (right_then (form.Number 8001) _ _ _ (known (number_in 8001 b) x2 k2) (right_then (form.Number 16385) _ _ _ (known (number_in 16385 host) x3 k3) (right_then (form.Number 65537) _ _ _ (known (number_in 65537 slot) x4 k4) refl))))
+    right_then (form.Number 9) _ _ _ (known (number_in 9 t) x0 k0)
+    (right_then (form.Number 8001) _ _ _ (known (number_in 8001 a) x1 k1)
+    (right_then (form.Number 8001) _ _ _ (known (number_in 8001 b) x2 k2)
+    (right_then (form.Number 16385) _ _ _ (known (number_in 16385 host) x3 k3)
+    (right_then (form.Number 65537) _ _ _ (known (number_in 65537 slot) x4 k4) refl))))
 node_right (t ∷ a ∷ b ∷ host ∷ slot ∷ more ∷ words) x h = cc h
 
 commit_right : (words : List (List ℕ)) (x : Entry) → commit_in words ≡ Some x → wrong_at commit_forms words ≡ None
@@ -118,10 +130,13 @@ commit_right (a ∷ b ∷ c ∷ []) x h =
     let (x0, k0, h0) = bind_some (number_in 8 a) _ x h in
     let (x1, k1, h1) = bind_some (number_in 64 b) _ x h0 in
     let (x2, k2, h2) = bind_some (payload_in c) _ x h1 in
-    right_then (form.Number 8) _ _ _ (known (number_in 8 a) x0 k0) (right_then (form.Number 64) _ _ _ (known (number_in 64 b) x1 k1) (right_then (form.Payload) _ _ _ (known (payload_in c) x2 k2) refl))
+    right_then (form.Number 8) _ _ _ (known (number_in 8 a) x0 k0)
+    (right_then (form.Number 64) _ _ _ (known (number_in 64 b) x1 k1)
+    (right_then (form.Payload) _ _ _ (known (payload_in c) x2 k2) refl))
 commit_right (a ∷ b ∷ c ∷ more ∷ words) x h = cc h
 
-told_withdraw_right : (words : List (List ℕ)) (x : Entry) → told_withdraw_in words ≡ Some x → wrong_at withdraw_forms words ≡ None
+told_withdraw_right : (words : List (List ℕ)) (x : Entry) → told_withdraw_in words ≡ Some x
+    → wrong_at withdraw_forms words ≡ None
 unfolding told_withdraw_in
 told_withdraw_right [] x h = cc h
 told_withdraw_right (a ∷ []) x h = cc h
@@ -130,7 +145,9 @@ told_withdraw_right (a ∷ b ∷ c ∷ []) x h =
     let (x0, k0, h0) = bind_some (number_in 8 a) _ x h in
     let (x1, k1, h1) = bind_some (number_in 64 b) _ x h0 in
     let (x2, k2, h2) = bind_some (taken_back_in c) _ x h1 in
-    right_then (form.Number 8) _ _ _ (known (number_in 8 a) x0 k0) (right_then (form.Number 64) _ _ _ (known (number_in 64 b) x1 k1) (right_then (form.Commit) _ _ _ (known (taken_back_in c) x2 k2) refl))
+    right_then (form.Number 8) _ _ _ (known (number_in 8 a) x0 k0)
+    (right_then (form.Number 64) _ _ _ (known (number_in 64 b) x1 k1)
+    (right_then (form.Commit) _ _ _ (known (taken_back_in c) x2 k2) refl))
 told_withdraw_right (a ∷ b ∷ c ∷ more ∷ words) x h = cc h
 
 read_right : (words : List (List ℕ)) (x : Entry) → read_in words ≡ Some x → wrong_at read_forms words ≡ None
@@ -142,7 +159,9 @@ read_right (a ∷ b ∷ c ∷ []) x h =
     let (x0, k0, h0) = bind_some (number_in 8 a) _ x h in
     let (x1, k1, h1) = bind_some (number_in 64 b) _ x h0 in
     let (x2, k2, h2) = bind_some (from_in c) _ x h1 in
-    right_then (form.Number 8) _ _ _ (known (number_in 8 a) x0 k0) (right_then (form.Number 64) _ _ _ (known (number_in 64 b) x1 k1) (right_then (form.Origin) _ _ _ (known (from_in c) x2 k2) refl))
+    right_then (form.Number 8) _ _ _ (known (number_in 8 a) x0 k0)
+    (right_then (form.Number 64) _ _ _ (known (number_in 64 b) x1 k1)
+    (right_then (form.Origin) _ _ _ (known (from_in c) x2 k2) refl))
 read_right (a ∷ b ∷ c ∷ more ∷ words) x h = cc h
 
 pop_right : (words : List (List ℕ)) (x : Entry) → pop_in words ≡ Some x → wrong_at pop_forms words ≡ None
@@ -152,7 +171,8 @@ pop_right (a ∷ []) x h = cc h
 pop_right (a ∷ b ∷ []) x h =
     let (x0, k0, h0) = bind_some (number_in 8 a) _ x h in
     let (x1, k1, h1) = bind_some (from_in b) _ x h0 in
-    right_then (form.Number 8) _ _ _ (known (number_in 8 a) x0 k0) (right_then (form.Origin) _ _ _ (known (from_in b) x1 k1) refl)
+    right_then (form.Number 8) _ _ _ (known (number_in 8 a) x0 k0)
+    (right_then (form.Origin) _ _ _ (known (from_in b) x1 k1) refl)
 pop_right (a ∷ b ∷ more ∷ words) x h = cc h
 
 see_right : (words : List (List ℕ)) (x : Entry) → observe_in words ≡ Some x → wrong_at see_forms words ≡ None
@@ -164,7 +184,9 @@ see_right (w ∷ a ∷ b ∷ []) x h =
     let (x0, k0, h0) = bind_some (number_in (2 ^ 32) w) _ x h in
     let (x1, k1, h1) = bind_some (seen_in a) _ x h0 in
     let (x2, k2, h2) = bind_some (seen_in b) _ x h1 in
-    right_then (form.Number (2 ^ 32)) _ _ _ (known (number_in (2 ^ 32) w) x0 k0) (right_then (form.Observation) _ _ _ (known (seen_in a) x1 k1) (right_then (form.Observation) _ _ _ (known (seen_in b) x2 k2) refl))
+    right_then (form.Number (2 ^ 32)) _ _ _ (known (number_in (2 ^ 32) w) x0 k0)
+    (right_then (form.Observation) _ _ _ (known (seen_in a) x1 k1)
+    (right_then (form.Observation) _ _ _ (known (seen_in b) x2 k2) refl))
 see_right (w ∷ a ∷ b ∷ more ∷ words) x h = cc h
 
 fetch_right : (words : List (List ℕ)) (x : Entry) → fetch_in words ≡ Some x → wrong_at fetch_forms words ≡ None
@@ -181,7 +203,10 @@ fetch_right (n ∷ c ∷ m ∷ sa ∷ sb ∷ oa ∷ ob ∷ []) x h =
     let (x1, k1, h1) = bind_some (offered_in oa) _ x h0 in
     let (x2, k2, h2) = bind_some (offered_in ob) _ x h1 in
     let w = window_right n c m sa sb x0 k0 in
-    right_then (form.Number (2 ^ 32)) _ _ _ w.0 (right_then (form.Number 64) _ _ _ w.1.0 (right_then (form.Number 8001) _ _ _ w.1.1.0 (right_then (form.SlotOrNone) _ _ _ w.1.1.1.0 (right_then (form.SlotOrNone) _ _ _ w.1.1.1.1 (right_then (form.Offer) _ _ _ (known (offered_in oa) x1 k1) (right_then (form.Offer) _ _ _ (known (offered_in ob) x2 k2) refl))))))
+    right_then (form.Number (2 ^ 32)) _ _ _ w.0 (right_then (form.Number 64) _ _ _ w.1.0
+    (right_then (form.Number 8001) _ _ _ w.1.1.0 (right_then (form.SlotOrNone) _ _ _ w.1.1.1.0
+    (right_then (form.SlotOrNone) _ _ _ w.1.1.1.1 (right_then (form.Offer) _ _ _ (known (offered_in oa) x1 k1)
+    (right_then (form.Offer) _ _ _ (known (offered_in ob) x2 k2) refl))))))
 fetch_right (n ∷ c ∷ m ∷ sa ∷ sb ∷ oa ∷ ob ∷ more ∷ words) x h = cc h
 
 tx_right : (words : List (List ℕ)) (x : Buffer) → transmit_in words ≡ Some x → wrong_at tx_forms words ≡ None
@@ -199,7 +224,10 @@ tx_right (m ∷ s ∷ c ∷ p ∷ q ∷ z ∷ r ∷ []) x h =
     let (x2, k2, h2) = bind_some (size_in z) _ x h1 in
     let (x3, k3, h3) = bind_some (flag_in r) _ x h2 in
     let f = filter_right s c p q x1 k1 in
-    right_then (form.Mode) _ _ _ (known (mode_in m) x0 k0) (right_then (form.Slot) _ _ _ f.0 (right_then (form.Channels) _ _ _ f.1.0 (right_then (form.Number 64) _ _ _ f.1.1.0 (right_then (form.Repetition) _ _ _ f.1.1.1 (right_then (form.Size) _ _ _ (known (size_in z) x2 k2) (right_then (form.Flag) _ _ _ (known (flag_in r) x3 k3) refl))))))
+    right_then (form.Mode) _ _ _ (known (mode_in m) x0 k0) (right_then (form.Slot) _ _ _ f.0
+    (right_then (form.Channels) _ _ _ f.1.0 (right_then (form.Number 64) _ _ _ f.1.1.0
+    (right_then (form.Repetition) _ _ _ f.1.1.1 (right_then (form.Size) _ _ _ (known (size_in z) x2 k2)
+    (right_then (form.Flag) _ _ _ (known (flag_in r) x3 k3) refl))))))
 tx_right (m ∷ s ∷ c ∷ p ∷ q ∷ z ∷ r ∷ more ∷ words) x h = cc h
 
 rx_right : (words : List (List ℕ)) (x : Buffer) → receive_in words ≡ Some x → wrong_at rx_forms words ≡ None
@@ -211,7 +239,8 @@ rx_right (s ∷ c ∷ p ∷ []) x h = cc h
 rx_right (s ∷ c ∷ p ∷ q ∷ []) x h =
     let (x0, k0, h0) = bind_some (filter_in s c p q) _ x h in
     let f = filter_right s c p q x0 k0 in
-    right_then (form.Slot) _ _ _ f.0 (right_then (form.Channels) _ _ _ f.1.0 (right_then (form.Number 64) _ _ _ f.1.1.0 (right_then (form.Repetition) _ _ _ f.1.1.1 refl)))
+    right_then (form.Slot) _ _ _ f.0 (right_then (form.Channels) _ _ _ f.1.0
+    (right_then (form.Number 64) _ _ _ f.1.1.0 (right_then (form.Repetition) _ _ _ f.1.1.1 refl)))
 rx_right (s ∷ c ∷ p ∷ q ∷ more ∷ words) x h = cc h
 
 queue_right : (words : List (List ℕ)) (x : Queue) → reception_in words ≡ Some x → wrong_at queue_forms words ≡ None
@@ -229,7 +258,11 @@ queue_right (n ∷ s ∷ t ∷ c ∷ p ∷ q ∷ []) x h =
     let (x3, k3, h3) = bind_some (channels_in c) _ x h2 in
     let (x4, k4, h4) = bind_some (cycles_in p q) _ x h3 in
     let y = cycles_right p q x4 k4 in
-    right_then (form.Number 257) _ _ _ (known (number_in 257 n) x0 k0) (right_then (form.Slot) _ _ _ (known (slot_in s) x1 k1) (right_then (form.Slot) _ _ _ (known (slot_in t) x2 k2) (right_then (form.Channels) _ _ _ (known (channels_in c) x3 k3) (right_then (form.Number 64) _ _ _ y.0 (right_then (form.Repetition) _ _ _ y.1 refl)))))
+    right_then (form.Number 257) _ _ _ (known (number_in 257 n) x0 k0)
+    (right_then (form.Slot) _ _ _ (known (slot_in s) x1 k1)
+    (right_then (form.Slot) _ _ _ (known (slot_in t) x2 k2)
+    (right_then (form.Channels) _ _ _ (known (channels_in c) x3 k3)
+    (right_then (form.Number 64) _ _ _ y.0 (right_then (form.Repetition) _ _ _ y.1 refl)))))
 queue_right (n ∷ s ∷ t ∷ c ∷ p ∷ q ∷ more ∷ words) x h = cc h
 
 end_right : {A : Type 0} (value x : A) (words : List (List ℕ)) → at_end value words ≡ Some x → wrong_at [] words ≡ None
@@ -247,7 +280,8 @@ last_cycles_right (b ∷ r ∷ []) x h =
 last_cycles_right (b ∷ r ∷ more ∷ words) x h = cc h
 
 own_front : (forms : List WordForm) (s c y t : List ℕ) (rest : List (List ℕ)) → is_some (slot_in s) ≡ true
-    → is_some (channels_in c) ≡ true → is_some (flag_in y) ≡ true → is_some (flag_in t) ≡ true → wrong_at forms rest ≡ None
+    → is_some (channels_in c) ≡ true → is_some (flag_in y) ≡ true → is_some (flag_in t) ≡ true
+    → wrong_at forms rest ≡ None
     → wrong_at (form.Slot ∷ form.Channels ∷ form.Flag ∷ form.Flag ∷ forms) (s ∷ c ∷ y ∷ t ∷ rest) ≡ None
 own_front forms s c y t rest ks kc ky kt right =
     right_then form.Slot _ _ _ ks (right_then form.Channels _ _ _ kc (right_then form.Flag _ _ _ ky
@@ -321,20 +355,24 @@ params_right words x h =
 -- a line with this first word
 begun : (v : Version) (kind this : List ℕ) (words : List (List ℕ)) (o : Option (List WordForm)) → kind ≡ this
     → forms_of v this ≡ o → wrong_after o words ≡ None → wrong_in v (kind ∷ words) ≡ None
-begun v kind this words o same forms right = ap (λ k. wrong_after (forms_of v k) words) same ∙ (ap (λ f. wrong_after f words) forms ∙ right)
+begun v kind this words o same forms right = ap (λ k. wrong_after (forms_of v k) words) same ∙
+    (ap (λ f. wrong_after f words) forms ∙ right)
 
-after : (forms : List WordForm) (words : List (List ℕ)) → wrong_at forms words ≡ None → wrong_after (Some forms) words ≡ None
+after : (forms : List WordForm) (words : List (List ℕ)) → wrong_at forms words ≡ None
+    → wrong_after (Some forms) words ≡ None
 after forms words right = ap (option_map (λ n. n + 1)) right
 
 mapped : {A B : Type 0} (f : A → B) (o : Option A) (x : B) → option_map f o ≡ Some x → (y : A) × (o ≡ Some y)
 mapped f None x h = cc h
 mapped f (Some y) x h = (y, refl)
 
-pub params_lines : (v : Version) (words : List (List ℕ)) (x : List ℤ) → params_in words ≡ Some x → wrong_in v words ≡ None
+pub params_lines : (v : Version) (words : List (List ℕ)) (x : List ℤ) → params_in words ≡ Some x
+    → wrong_in v words ≡ None
 unfolding params_in
 params_lines v [] x h = cc h
 params_lines v (kind ∷ words) x h = elim (word_or kind (codes "params") (ten_in words) _ x h) [
-  | inl is ↦ begun v kind (codes "params") words (Some params_forms) is.0 refl (after params_forms words (params_right words x is.1))
+  | inl is ↦ begun v kind (codes "params") words (Some params_forms) is.0 refl
+      (after params_forms words (params_right words x is.1))
   | inr h1 ↦ cc h1
 ]
 
@@ -342,18 +380,21 @@ pub node_lines : (v : Version) (words : List (List ℕ)) (x : Plan) → node_in 
 unfolding node_in
 node_lines v [] x h = cc h
 node_lines v (kind ∷ words) x h = elim (word_or kind (codes "node") (limits_in words) _ x h) [
-  | inl is ↦ begun v kind (codes "node") words (Some node_forms) is.0 refl (after node_forms words (node_right words x is.1))
+  | inl is ↦ begun v kind (codes "node") words (Some node_forms) is.0 refl
+      (after node_forms words (node_right words x is.1))
   | inr h1 ↦ cc h1
 ]
 
-pub plan_lines : (v : Version) (words : List (List ℕ)) (x : PlanLine) → plan_line_in v words ≡ Some x → wrong_in v words ≡ None
+pub plan_lines : (v : Version) (words : List (List ℕ)) (x : PlanLine) → plan_line_in v words ≡ Some x
+    → wrong_in v words ≡ None
 unfolding plan_line_in
 plan_lines v [] x h = cc h
 plan_lines v (kind ∷ words) x h =
     elim (word_or kind (codes "own") (option_map plan_line.Own (ownership_in v words)) _ x h) [
       | inl own ↦
           let (o, is) = mapped plan_line.Own (ownership_in v words) x own.1 in
-          begun v kind (codes "own") words (Some (own_forms v)) own.0 refl (after (own_forms v) words (own_right v words o is))
+          begun v kind (codes "own") words (Some (own_forms v)) own.0 refl
+          (after (own_forms v) words (own_right v words o is))
       | inr h1 ↦ elim (word_or kind (codes "tx") (option_map plan_line.Buffer (transmit_in words)) _ x h1) [
         | inl tx ↦
             let (o, is) = mapped plan_line.Buffer (transmit_in words) x tx.1 in
@@ -388,7 +429,8 @@ slot_lines v kind words x h =
       ]
     ]
 
-pub entry_lines : (v : Version) (words : List (List ℕ)) (x : Entry) → entry_in v words ≡ Some x → wrong_in v words ≡ None
+pub entry_lines : (v : Version) (words : List (List ℕ)) (x : Entry) → entry_in v words ≡ Some x
+    → wrong_in v words ≡ None
 unfolding entry_in
 entry_lines v [] x h = cc h
 entry_lines v (kind ∷ words) x h =
@@ -422,7 +464,8 @@ none_wrong v words (inl is) = let (x, e) = known_here (params_in words) is in pa
 none_wrong v words (inr (inl is)) = let (x, e) = known_here (node_in words) is in node_lines v words x e
 none_wrong v words (inr (inr (inl is))) = let (x, e) = known_here (plan_line_in v words) is in plan_lines v words x e
 none_wrong v words (inr (inr (inr (inl is)))) = ap (wrong_in v) is
-none_wrong v words (inr (inr (inr (inr (inl is))))) = let (x, e) = known_here (entry_in v words) is in entry_lines v words x e
+none_wrong v words (inr (inr (inr (inr (inl is))))) = let (x, e) =
+    known_here (entry_in v words) is in entry_lines v words x e
 none_wrong v words (inr (inr (inr (inr (inr is))))) = ap (wrong_in v) is
 
 one_further : (o : Option ℕ) (n : ℕ) → option_map (λ k. k + 1) o ≡ Some (suc n) → o ≡ Some n
@@ -456,7 +499,8 @@ same_front (f ∷ fs) (w ∷ ws) (o ∷ os) (suc n) is same =
     elim (cases_Bool (fits f w)) [
       | inl fit ↦
           let other : fits f o ≡ true = ap (fits f) word ∙ fit in
-          rw other (further (wrong_at fs os) n (same_front fs ws os n (one_further (wrong_at fs ws) n (rw fit at is)) rest))
+          rw other (further (wrong_at fs os) n (same_front fs ws os n
+          (one_further (wrong_at fs ws) n (rw fit at is)) rest))
       | inr unfit ↦ let none : ◌≡◌ {A = Option ℕ} (Some 0) (Some (suc n)) = rw unfit at is in cc none
     ]
 
@@ -479,7 +523,8 @@ same_begun v (kind ∷ words) (first ∷ others) n is same =
 wrong_so : (v : Version) (words : List (List ℕ)) (n : ℕ) → wrong_in v words ≡ Some n
     → BeginsNoLine v words (place_in words n)
 wrong_so v words n is others same line =
-    let so = same_begun v words others n is (ap (λ k. take k others) (omega arith) ∙ same ∙ ap (λ k. take k words) (omega arith)) in
+    let so = same_begun v words others n is (ap (λ k. take k others) (omega arith) ∙ same ∙ ap (λ k. take k words)
+    (omega arith)) in
     let none = none_wrong v others line in
     cc (sym none ∙ so)
 

@@ -1,5 +1,6 @@
 -- Which word of a line is wrong, word by word, and the columns of words.
-use Rattle.std.proofs.Common.{◌≡◌, ℕ, zero, suc, ◌+◌, ◌<◌, ◌≤◌, Bool, true, false, List, [], ◌∷◌, length, take, drop, Option, Some, None}
+use Rattle.std.proofs.Common.{◌≡◌, ℕ, zero, suc, ◌+◌, ◌<◌, ◌≤◌, Bool, true, false, List, [], ◌∷◌, length, take, drop}
+use Rattle.std.proofs.Common.{Option, Some, None}
 use Rattle.std.proofs.Common.{option_map, refl, sym, ap, ◌∙◌, arith, if◌then◌else◌, slice_index_or}
 use Rattle.fr_lines.specs.declared.forms.WordForm.{WordForm}
 use Rattle.fr_lines.specs.Forms.{fits, wrong_at}
@@ -14,13 +15,15 @@ pub add_none : (o : Option ℕ) → o ≡ option_map (λ n. n + 0) o
 add_none None = refl
 add_none (Some n) = ap Some (omega arith)
 
-add_twice : (o : Option ℕ) (i : ℕ) → option_map (λ n. n + i) (option_map (λ n. n + 1) o) ≡ option_map (λ n. n + (i + 1)) o
+add_twice : (o : Option ℕ) (i : ℕ) → option_map (λ n. n + i) (option_map (λ n. n + 1) o) ≡ option_map
+    (λ n. n + (i + 1)) o
 add_twice None i = refl
 add_twice (Some n) i = ap Some (omega arith)
 
 right_first : (f : WordForm) (forms : List WordForm) (word : List ℕ) (words : List (List ℕ)) (i : ℕ) (b : Bool)
     → fits f word ≡ b → b ≡ true
-    → option_map (λ n. n + i) (wrong_at (f ∷ forms) (word ∷ words)) ≡ option_map (λ n. n + (i + 1)) (wrong_at forms words)
+    → option_map (λ n. n + i) (wrong_at (f ∷ forms) (word ∷ words)) ≡ option_map (λ n. n + (i + 1))
+    (wrong_at forms words)
 right_first f forms word words i true is right = rw is (add_twice (wrong_at forms words) i)
 right_first f forms word words i false is right = absurd (let none : ⊥ = cc in none)
 
@@ -28,7 +31,8 @@ right_first f forms word words i false is right = absurd (let none : ⊥ = cc in
 next_is : (i : ℕ) → suc i ≡ i + 1
 next_is i = omega arith
 
-pub right_more : (forms : List WordForm) (i : ℕ) (d : WordForm) (word : List ℕ) (words : List (List ℕ)) (b : Bool) → i < length forms
+pub right_more : (forms : List WordForm) (i : ℕ) (d : WordForm) (word : List ℕ) (words : List (List ℕ)) (b : Bool)
+    → i < length forms
     → fits (slice_index_or forms i d) word ≡ b → b ≡ true
     → option_map (λ n. n + i) (wrong_at (drop i forms) (word ∷ words))
     ≡ option_map (λ n. n + (i + 1)) (wrong_at (drop (i + 1) forms) words)
@@ -46,7 +50,8 @@ wrong_first f forms word words i false is wrong = rw is (some_at i)
 wrong_first f forms word words i true is wrong = absurd (let none : ⊥ = cc in none)
 
 -- a word that is wrong
-pub wrong_here : (forms : List WordForm) (i : ℕ) (d : WordForm) (word : List ℕ) (words : List (List ℕ)) (b : Bool) → i < length forms
+pub wrong_here : (forms : List WordForm) (i : ℕ) (d : WordForm) (word : List ℕ) (words : List (List ℕ)) (b : Bool)
+    → i < length forms
     → fits (slice_index_or forms i d) word ≡ b → b ≡ false
     → option_map (λ n. n + i) (wrong_at (drop i forms) (word ∷ words)) ≡ Some i
 wrong_here forms i d word words b lt is wrong =
@@ -117,13 +122,15 @@ pub rest_more : (words : List (List ℕ)) (n : ℕ) (word : List ℕ) (rest : Li
     → rest ≡ drop (n + 1) words
 rest_more words n word rest is = rest_suc words n word rest is ∙ ap (λ k. drop k words) (next_is n)
 
-front_suc_over : (words : List (List ℕ)) (n : ℕ) → drop n words ≡ [] → room_of (take (suc n) words) ≡ room_of (take n words)
+front_suc_over : (words : List (List ℕ)) (n : ℕ) → drop n words ≡ []
+    → room_of (take (suc n) words) ≡ room_of (take n words)
 front_suc_over [] zero is = refl
 front_suc_over [] (suc n) is = refl
 front_suc_over (w ∷ words) zero is = absurd (let none : ⊥ = cc in none)
 front_suc_over (w ∷ words) (suc n) is = let more = front_suc_over words n is in omega (arith, more)
 
-pub front_over : (words : List (List ℕ)) (n : ℕ) → drop n words ≡ [] → room_of (take (n + 1) words) ≡ room_of (take n words)
+pub front_over : (words : List (List ℕ)) (n : ℕ) → drop n words ≡ []
+    → room_of (take (n + 1) words) ≡ room_of (take n words)
 front_over words n is = sym (ap (λ k. room_of (take k words)) (next_is n)) ∙ front_suc_over words n is
 
 rest_suc_over : (words : List (List ℕ)) (n : ℕ) → drop n words ≡ [] → [] ≡ drop (suc n) words

@@ -31,8 +31,11 @@ feed_ends (node v p) line is = cc is
 feed_ends (lines v p plan) line is = cc is
 feed_ends (body v s) line is = elim (cases_Bool (bytes_eq line end_line)) [
   | inl end ↦
-      let same : line ≡ end_line = (bytes_eq-Decides line end_line).0 end in
-      (s, ap (λ (l : List ℕ). outcome_of (take_bytes (reading (body v s) []) (l ++ 10 ∷ []))) same ∙ ap outcome_of (ended v s))
+      let same : line ≡ end_line = (bytes_eq-Decides line end_line).0 end in (
+        s,
+        ap (λ (l : List ℕ). outcome_of (take_bytes (reading (body v s) []) (l ++ 10 ∷ []))) same ∙ ap outcome_of
+            (ended v s),
+      )
   | inr other ↦ let none : reason.Plain ≡ reason.Feed = rw other at is in cc none
 ]
 feed_ends (finished v s) line is = cc is

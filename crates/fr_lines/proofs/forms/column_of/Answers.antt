@@ -27,6 +27,7 @@ loop-preserved c = elim c.match-next_word.branch [
   | in_default w ↦
       let over = sym c.loop.invariant.1 ∙ w.in_default.ensures.end in (
         omega (arith, c.loop.invariant.0, front_over (words_of c.args.line.now) c.loop.counter over, w.column-is),
-        sym w.in_default.ensures.words ∙ w.in_default.ensures.end ∙ rest_over (words_of c.args.line.now) c.loop.counter over,
+        sym w.in_default.ensures.words ∙ w.in_default.ensures.end ∙ rest_over
+            (words_of c.args.line.now) c.loop.counter over,
       )
 ]
