@@ -108,6 +108,7 @@ led_request terms old (request.Run cycles) reply new does = led_runs old.faults 
 led_request terms old request.Now reply new does = led_state old new does.0
 led_request terms old (request.Report node) reply new does = led_state old new does.0
 led_request terms old (request.Trace node) reply new does = led_state old new does.0
+led_request terms old (request.Origin node) reply new does = led_state old new does.0
 led_request terms old (request.Record window) reply new does = led_state old new does.0
 
 led_if : (terms : Terms) (old : SessionState) (number : ℕ) (asked : Option Request) (reply : List ℕ)
@@ -154,6 +155,7 @@ module _ (terms : Terms) where
   suit_request old request.Now reply new all does = suit_state old new all does.0
   suit_request old (request.Report node) reply new all does = suit_state old new all does.0
   suit_request old (request.Trace node) reply new all does = suit_state old new all does.0
+  suit_request old (request.Origin node) reply new all does = suit_state old new all does.0
   suit_request old (request.Record window) reply new all does = suit_state old new all does.0
 
   suit_if : (old : SessionState) (number : ℕ) (asked : Option Request) (reply : List ℕ) (new : SessionState)

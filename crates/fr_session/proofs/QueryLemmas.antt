@@ -6,7 +6,7 @@ use Rattle.std.proofs.lemmas.List.{get_or_default}
 use Rattle.std.specs.Io.KnownBytes.{Appends}
 use Rattle.fr_core.specs.Worlds.{WorldState, has_node, interface_at, no_interface}
 use Rattle.fr_interface.specs.State.{State}
-use Rattle.fr_session.specs.Queries.{block_text, IsBlock, IsBlockIf, IsBlockOf, Replies}
+use Rattle.fr_session.specs.Queries.{block_text, IsBlock, IsBlockIf, IsBlockOf, Replies, origin_text, node_origin_text}
 use Rattle.fr_text.specs.Writing.{Writes}
 
 -- a block of these lines
@@ -29,3 +29,12 @@ node_told contents old new result text w n s within is told =
     let at : s ≡ interface_at w n = is ∙ get_or_default w.interfaces n s no_interface within in
     subst (λ b. Replies contents old new result (IsBlockIf b (text (interface_at w n)))) (sym has)
     (subst (λ (t : State). Replies contents old new result (IsBlock (text t))) at told)
+
+-- where a frame came from, of a node that is there
+pub origin_told : {W A E : Type 0} (contents : W → Option (List ℕ)) (old new : W) (result : Result A E)
+    (w : WorldState) (n : ℕ) (s : State) → n < length w.interfaces → s ≡ get_or w.interfaces n s
+    → Writes contents old new result (origin_text s) → Writes contents old new result (node_origin_text w n)
+origin_told contents old new result w n s within is told =
+    let has : has_node w n ≡ true = lt-ltb n (length w.interfaces) within in
+    let at : s ≡ interface_at w n = is ∙ get_or_default w.interfaces n s no_interface within in
+    rw has (subst (λ (t : State). Writes contents old new result (origin_text t)) at told)

@@ -137,6 +137,11 @@ trace_in words = do
   n ← node_in words
   Some (request.Trace n)
 
+unfoldable pub origin_in : List (List ℕ) → Option Request
+origin_in words = do
+  n ← node_in words
+  Some (request.Origin n)
+
 abbrev pub alone : List (List ℕ) → Request → Option Request
 alone [] request = Some request
 alone (word ∷ words) request = None
@@ -153,6 +158,7 @@ other_request kind words =
     else if bytes_eq kind (codes "record") then record_in words
     else if bytes_eq kind (codes "report") then report_in words
     else if bytes_eq kind (codes "trace") then trace_in words
+    else if bytes_eq kind (codes "origin") then origin_in words
     else None
 
 -- ---- a line, by its first word

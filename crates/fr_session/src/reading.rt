@@ -1,7 +1,7 @@
 //! Lines, read as requests.
 ghost use Rattle.std.specs.Prelude.{◌≡◌};
 ghost use Rattle.fr_session.specs.Reading.{commit_in, withdraw_in, read_in, pop_in, babble_in, mute_in, corrupt_in};
-ghost use Rattle.fr_session.specs.Reading.{node_in, alone, run_in, record_in, report_in, trace_in, host_request};
+ghost use Rattle.fr_session.specs.Reading.{node_in, alone, run_in, record_in, report_in, trace_in, origin_in, host_request};
 ghost use Rattle.fr_session.specs.Reading.{step_of};
 ghost use Rattle.fr_session.specs.Reading.{step_request, fault_of, fault_request, event_request, begins_event};
 ghost use Rattle.fr_session.specs.Reading.{is_fault_word, is_step_word, is_host_word, other_request, request_in};
@@ -285,6 +285,15 @@ fn trace_of(words: &mut Words<'_>) -> Option<Request>
     Some(Request::Trace(node))
 }
 
+/// Returns the origin of a frame that the words ask for.
+#[tactic(auto, unfolding(crate::specs::Reading::origin_in))]
+fn origin_of(words: &mut Words<'_>) -> Option<Request>
+    ensures { result ≡ origin_in words.old }
+{
+    let node = node_in(words)?;
+    Some(Request::Origin(node))
+}
+
 /// Returns the request of a word that stands alone.
 fn alone(words: &Words<'_>, request: Request) -> Option<Request>
     ensures { result ≡ alone words.now request }
@@ -327,6 +336,9 @@ fn other_request(kind: &[u8], words: &mut Words<'_>) -> Option<Request>
     }
     if kind == b"trace".as_slice() {
         return trace_of(words);
+    }
+    if kind == b"origin".as_slice() {
+        return origin_of(words);
     }
     None
 }

@@ -23,6 +23,8 @@ pub enum Request {
     Report(NodeId),
     /// The trace of the node's interface.
     Trace(NodeId),
+    /// Where the frame came from that the last call of the node's tasks read or popped.
+    Origin(NodeId),
     /// The window of this number in the bus's record.
     Record(u32),
 }

@@ -13,7 +13,9 @@ use crate::keeping::keep_line;
 use crate::kept::KeptLines;
 use crate::lines::{Line, next_line};
 use crate::moving::{finish_cycles, finish_window, window_events};
-use crate::queries::{write_moved, write_node_report, write_node_trace, write_now, write_recorded};
+use crate::queries::{
+    write_moved, write_node_origin, write_node_report, write_node_trace, write_now, write_recorded,
+};
 use crate::reading::request_of;
 use crate::replies::{write_answer, write_bad_line, write_done, write_greeting};
 use crate::request::Request;
@@ -76,6 +78,7 @@ fn do_request<W: Write>(
         Request::Now => write_now(writer, world.bus()),
         Request::Report(node) => write_node_report(alloc, writer, world, node),
         Request::Trace(node) => write_node_trace(alloc, writer, world, node),
+        Request::Origin(node) => write_node_origin(writer, world, node),
         Request::Record(window) => write_recorded(alloc, writer, world.bus(), window),
     }
 }
