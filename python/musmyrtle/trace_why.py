@@ -39,12 +39,16 @@ REASONS = {
 
 @dataclass(frozen=True)
 class Why:
-    """What the program answers: the refusal, or none where it accepts the trace, the line at fault and the reason."""
+    """The program's answer: the refusal, or none where it accepts the trace, the line at fault, the reason and the column.
+
+    The reason has no numbers of words and columns. The column is that of the word that the program names, if any.
+    """
 
     refusal: str | None
     line: int = 1
     reason: str = ""
     due: str = ""
+    column: int | None = None
 
 
 class NoAnswer(Exception):
@@ -66,7 +70,16 @@ def ask_why(program: str, file: str) -> Why:
     if ran.returncode != 1 or "refused" not in lines or "line" not in lines:
         raise NoAnswer(f"{program} why ended with status {ran.returncode}: {cut(ran.stderr.strip(), 300)}")
     number = lines["line"].split(" ")[0]
-    return Why(lines["refused"], int(number), lines.get("reason", ""), lines.get("due", ""))
+    reason, column = split_place(lines.get("reason", ""))
+    return Why(lines["refused"], int(number), reason, lines.get("due", ""), column)
+
+
+def split_place(reason: str) -> tuple[str, int | None]:
+    """Returns a reason of `fr_view why` without the place of a word, and the column of that word."""
+    words = reason.split(" ")
+    if words[0] == "Line" and len(words) == 4:
+        return " ".join(words[:2]), int(words[3])
+    return reason, None
 
 
 class TraceFile:
@@ -119,7 +132,7 @@ def fault_of(why: Why, trace: TraceFile) -> Fault:
     found = out_of_range(why.reason, trace.text)
     if found:
         return found
-    return f"the line is refused: {why.reason}", "docs/FORMATS.md, Refused traces, has the reasons.", 1
+    return f"the line is refused: {why.reason}", "docs/FORMATS.md, Refused traces, has the reasons.", why.column or 1
 
 
 def bad_magic(trace: TraceFile) -> Fault:
