@@ -23,8 +23,8 @@ WARNINGS = {
     "sync-channels": "a sync slot is on one channel only",
     "startup-nodes": "fewer than 2 nodes have a startup slot",
     "receives-nothing": "nothing comes to a receive buffer or a receive FIFO",
-    "doubled-receivers": "two receive buffers of a node take the same frames",
-    "fifo-behind-buffer": "a receive buffer takes frames that the receive FIFO is for",
+    "doubled-receivers": "two receive buffers of a node receive the same frames",
+    "fifo-behind-buffer": "a receive buffer receives frames that the receive FIFO is for",
     "fifo-overwrites": "the scenario never pops a receive FIFO, and the FIFO overwrites frames",
     "divided-slot": "a static slot is divided among nodes, or owned in some cycles only",
     "standard-range": "a parameter is out of the range of FlexRay 2.1 Rev A",
@@ -33,7 +33,7 @@ WARNINGS = {
     "short-slots": "a slot is too short for its frame",
     "action-point": "a static frame fits only without an action point offset",
     "small-journal": "a journal has too little room for the run",
-    "idle-fault": "a fault of the scenario strikes nothing",
+    "idle-fault": "a fault of the scenario has no effect",
     "unknown-allow": "a comment allows a name that no warning has",
 }
 NOTES = {"fault-tolerance": "2 nodes have a startup slot, and none may fail"}

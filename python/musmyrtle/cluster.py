@@ -78,7 +78,7 @@ class Queue:
     cycles: Cycles
 
     def __str__(self) -> str:
-        return f"the queue of node {self.node}"
+        return f"the receive FIFO of node {self.node}"
 
 
 @dataclass(frozen=True)
@@ -372,7 +372,7 @@ class Reading:
         if not isinstance(table, dict):
             node.wrong("queue", "a table with " + joined([f"`{it}`" for it in QUEUE_KEYS[:4]]))
             return None
-        reader = Reader(table, path, f"the queue of node {number}", f"BadNode {number}", QUEUE_KEYS, self.faults)
+        reader = Reader(table, path, f"the receive FIFO of node {number}", f"BadNode {number}", QUEUE_KEYS, self.faults)
         capacity = reader.number("capacity", 1, 256)
         before = len(self.faults)
         first = reader.number("first", 1, LAST_SLOT)

@@ -118,7 +118,7 @@ class Campaign:
         return differences(self.reference, ended(self.scenario, outcome, played))
 
     def is_played(self, fault: SingleFault) -> bool:
-        """Whether the outcome alone doesn't tell all: windows may have moved, or other frames have come to a queue."""
+        """Whether the outcome alone doesn't tell all: windows may have moved, or other frames have come to a FIFO."""
         return fault.is_dynamic or any(self.may_reach(fault, node.queue) for node in self.cluster.nodes if node.queue)
 
     def may_reach(self, fault: SingleFault, queue: Queue) -> bool:

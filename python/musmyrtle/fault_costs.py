@@ -106,7 +106,7 @@ def ended(scenario: Scenario, outcome: Outcome, played: Played) -> Ended:
 
 
 def differences(without: Ended, having: Ended) -> list[Difference]:
-    """All that differs, by node and number of its buffer, then its queue and its channels."""
+    """All that differs, by node and number of its buffer, then its FIFO and its channels."""
     found: list[Difference] = []
     for number, (before, after) in enumerate(zip(without.outcome.nodes, having.outcome.nodes)):
         for buffer, (one, other) in enumerate(zip(before.buffers, after.buffers)):

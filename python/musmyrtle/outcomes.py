@@ -15,7 +15,7 @@ class BadOutcome(ValueError):
 
 @dataclass(frozen=True)
 class NodeOutcome:
-    """What one node has at the end: its buffers by number, its queue if it has one, and its counters by channel."""
+    """What one node has at the end: buffers by number, the receive FIFO if there is one, and counters by channel."""
 
     buffers: tuple[TransmitBuffer | ReceiveBuffer, ...]
     queue: Queue | None
@@ -89,7 +89,7 @@ def read_node(lines: Lines, node: Node) -> NodeOutcome:
     if node.queue:
         queue = Queue(*lines.numbers("queue ", 2))
         if queue.waiting > node.queue.capacity:
-            raise BadOutcome(f"line {lines.at} has more frames than the queue holds")
+            raise BadOutcome(f"line {lines.at} has more frames than the receive FIFO holds")
     return NodeOutcome(buffers, queue, {channel: Counters(*lines.numbers(f"{channel} ", 5)) for channel in "AB"})
 
 

@@ -1,4 +1,4 @@
-"""Warnings of receive buffers and queues to which nothing comes, or not what they seem to be for."""
+"""Warnings of receive buffers and receive FIFOs to which nothing comes, or not what they seem to be for."""
 from collections.abc import Iterator
 
 from musmyrtle.cluster import CYCLES, Buffer, Cluster, Node, Queue
@@ -28,7 +28,7 @@ class Traffic:
                    for it in self.senders.get(receiver.slot, ()))
 
     def is_queued(self, node: Node, queue: Queue, sender: Buffer) -> bool:
-        """Whether the queue gets anything that the buffer sends, beside what receive buffers of its node take."""
+        """Whether the FIFO gets anything that the buffer sends, beside what receive buffers of its node admit."""
         if sender.node == node.number or not is_common(queue, sender) or not can_send(self.cluster, sender):
             return False
         taking = [it for it in node.buffers if not it.transmits and it.slot == sender.slot]
@@ -47,8 +47,8 @@ def idle_receivers(cluster: Cluster, text: Text) -> Iterator[Finding]:
         if queue and not any(traffic.is_queued(node, queue, it) for slot, senders in traffic.senders.items()
                              if queue.first <= slot <= queue.last for it in senders):
             reason = (f"It is for slots {queue.first} to {queue.last} on {queue.channels} in {queue.cycles}. No "
-                      "transmit buffer of another node sends there what no receive buffer of the node takes. Right "
-                      "would be other slots.")
+                      "transmit buffer of another node sends there what no receive buffer of the node admits. Expected "
+                      "other slots.")
             yield text.finding(f"nothing comes to {queue}", reason, queue.path)
 
 
@@ -60,7 +60,7 @@ def idle_receiver(traffic: Traffic, text: Text, buffer: Buffer) -> Finding:
                  for it in traffic.cluster.owned() if it.slot == buffer.slot][:MOST_NOTES]
     where = f"in slot {buffer.slot} on {buffer.channels}"
     where += "" if buffer.cycles.repetition == 1 else f" in {buffer.cycles}"
-    headline = f"{buffer} receives nothing: nobody sends data {where}"
+    headline = f"{buffer} receives nothing: no node sends data {where}"
     reason = ("Null frames don't count. Expected a slot, channels and cycles in which another node has a "
               "transmit buffer.")
     return text.finding(headline, reason, (*buffer.path, "slot"), notes)
@@ -85,8 +85,8 @@ def doubled_receivers(cluster: Cluster, text: Text) -> Iterator[Finding]:
             if first:
                 channels = joined(sorted(set(first.channels) & set(second.channels)))
                 slot = f"slot {second.slot} on {channels}"
-                headline = f"{second} and buffer {first.number} take the same frames of {slot}"
-                reason = ("Each takes them, and each `read` is of one buffer. Expected one buffer, or other "
+                headline = f"{second} and buffer {first.number} receive the same frames of {slot}"
+                reason = ("Each stores them, and each `read` is of one buffer. Expected one buffer, or other "
                           "channels or cycles.")
                 yield text.finding(headline, reason, second.path, [(str(first), first.path)])
 
@@ -100,7 +100,7 @@ def queues_behind_buffers(cluster: Cluster, text: Text) -> Iterator[Finding]:
             slots = sorted({it.slot for it in taking})
             named = f"slot{'s' if slots[1:] else ''} {joined([str(it) for it in slots])}"
             headline = f"{queue} stands behind {counted(len(taking), 'receive buffer')}"
-            reason = (f"What a receive buffer admits doesn't come to the queue, here frames of {named}. Expected "
-                      "a queue for other slots, or no such buffer, if these frames are meant to be popped.")
-            notes = [(f"{it} takes slot {it.slot} on {it.channels} in {it.cycles}", it.path) for it in taking]
+            reason = (f"The receive FIFO stores no frame that a receive buffer admits, here frames of {named}. "
+                      "Expected a FIFO for other slots, or no such buffer, if these frames are meant to be popped.")
+            notes = [(f"{it} receives slot {it.slot} on {it.channels} in {it.cycles}", it.path) for it in taking]
             yield text.finding(headline, reason, queue.path, notes[:MOST_NOTES])

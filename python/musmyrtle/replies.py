@@ -7,7 +7,11 @@ Channel = Literal["A", "B"]
 
 @dataclass(frozen=True, slots=True)
 class Frame:
-    """A frame that a task read or popped: its payload, the slot of its frame ID, 1 to 2047, and the cycle, 0 to 63."""
+    """A frame that a task read or popped: its payload, the slot of its frame ID, 1 to 2047, and the cycle, 0 to 63.
+
+    The channel isn't part of the replies to `read` and `pop`. `Report` has it for the frame that a receive buffer
+    holds.
+    """
 
     payload: bytes
     slot: int

@@ -64,7 +64,7 @@ class Run:
     def bad_action(self, node: Node, line: Line) -> Finding | None:
         note = self.note(node.path, f"node {node.number}")
         if line.kind == "pop":
-            headline = f"node {node.number} has no queue"
+            headline = f"node {node.number} has no receive FIFO"
             reason = f"Expected a table `queue` of node {node.number}, or another node."
             return None if node.queue else Finding(headline, reason, self.scenario.place_of(line), (note,))
         number = line.value("BUFFER")

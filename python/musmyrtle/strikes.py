@@ -1,4 +1,4 @@
-"""Warnings of lines of a scenario whose faults strike nothing, and of journals that are too small for a run."""
+"""Warnings of lines of a scenario whose faults have no effect, and of journals that are too small for a run."""
 from collections.abc import Iterator
 from functools import cached_property
 
@@ -27,7 +27,7 @@ class Strikes:
             why = self.why_nothing(line)
             if why:
                 name = "HEX" if line.kind == "babble" and line.size == 0 else "PLACE"
-                yield Finding(f"the line `{line.kind}` strikes nothing", why, self.scenario.place_of(line, name))
+                yield Finding(f"the line `{line.kind}` has no effect", why, self.scenario.place_of(line, name))
 
     def why_nothing(self, line: FaultLine) -> str | None:
         if line.kind == "babble" and line.size == 0:
@@ -80,11 +80,11 @@ class Strikes:
             size = BYTES_BESIDE_PAYLOAD + 2 * self.cluster.parameters.static_words
         if line.value("BIT") >= 8 * size:
             what = "A frame of a static slot" if line.is_static else "The longest transmission"
-            return f"{what} has {8 * size} bits, and the first is bit 0. A bit past the end turns nothing."
+            return f"{what} has {8 * size} bits, and the first is bit 0. No bit past the end can be flipped."
         channel = line.word("CHANNEL")
         if (channel, line.is_static) in self.babbles or any(self.offers(line, it.number) for it in self.cluster.nodes):
             return None
-        return f"Nobody sends on {channel} at {line.word('PLACE')} in its cycles, so no bit of anything can be turned."
+        return f"No node sends on {channel} at {line.word('PLACE')} in its cycles, so no bit can be flipped there."
 
 
 def small_journals(cluster: Cluster, text: Text, cycles: int) -> Iterator[Finding]:

@@ -3,7 +3,7 @@ import re
 from collections.abc import Callable
 
 from musmyrtle.cluster import CHANNELS, PARAMETERS, REPETITIONS
-from musmyrtle.findings import joined, nearest
+from musmyrtle.findings import counted, joined, nearest
 from musmyrtle.scenario import columns, odd_spaces
 from musmyrtle.visible import cut
 
@@ -83,7 +83,7 @@ def bad_count(words: tuple[str, ...], version: int, length: int) -> Fault | None
     kind, wanted = words[0], 1 + len(form_of(words[0], version))
     if len(words) == wanted:
         return None
-    headline = f"the line has {len(words)} words, and `{kind}` has {wanted} in version {version}"
+    headline = f"the line has {counted(len(words), 'word')}, and `{kind}` has {wanted} in version {version}"
     right = f"Expected `{spelled(kind, version)}`."
     if kind == "own" and len(words) in (5, 7):
         right += f" A line of {len(words)} words is one of `frtrace {3 if version < 3 else 2}`."

@@ -13,8 +13,9 @@ from musmyrtle.visible import cut
 MAGIC = b"frtrace"
 FIRST_LINES = {f"frtrace {version}": version for version in (1, 2, 3)}
 REASONS = {
-    "Line Late": ("the line comes too late", "Expected ownership lines, then buffers, then the queue."),
-    "Line Full": ("there is no room for the line", "Expected at most 64 ownership lines, 64 buffers and one queue."),
+    "Line Late": ("the line comes too late", "Expected ownership lines, then buffers, then the line `queue`."),
+    "Line Full": ("there is no room for the line", "Expected at most 64 ownership lines, 64 buffers and one receive "
+                  "FIFO."),
     "Line After": ("the trace goes on after `end`", "Expected nothing after `end` and its line feed."),
     "Params CycleSum": ("the parts of the cycle don't fill `cycle_mt`", "Expected static_slots * static_mt + minislots "
                         "* minislot_mt + symbol_mt + nit_mt = cycle_mt."),
@@ -24,7 +25,7 @@ REASONS = {
     "Host NotReceive": ("the buffer is a transmit buffer", "Expected a buffer of a line `rx`."),
     "Host WrongLength": ("the payload hasn't the length of the buffer", "Expected two bytes for each word: "
                          "`static_words` in a static slot, otherwise WORDS of the line `tx`."),
-    "Host NoQueue": ("the plan has no queue", "Expected a line `queue` before `begin`."),
+    "Host NoQueue": ("the plan has no receive FIFO", "Expected a line `queue` before `begin`."),
     "Host HostFull": ("there is no room for another host entry", "Expected a greater HOST in the line `node`."),
     "Slot SlotFull": ("there is no room for another window", "Expected a greater SLOT in the line `node`."),
     "Slot NotObserved": ("the last window hasn't been seen", "Expected a line `see` of it before the next `fetch`."),

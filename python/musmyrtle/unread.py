@@ -29,7 +29,7 @@ def tables_of(document: dict[str, Any]) -> Iterator[tuple[str, dict[str, Any], P
         for place, line in numbered_tables(node.get("own")):
             yield f"ownership line {place} of node {number}", line, (*path, "own", place), OWN_KEYS
         if isinstance(node.get("queue"), dict):
-            yield f"the queue of node {number}", node["queue"], (*path, "queue"), QUEUE_KEYS
+            yield f"the receive FIFO of node {number}", node["queue"], (*path, "queue"), QUEUE_KEYS
         for place, buffer in numbered_tables(node.get("buffer")):
             yield f"buffer {place} of node {number}", buffer, (*path, "buffer", place), BUFFER_KEYS + NAMED
 

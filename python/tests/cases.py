@@ -1,10 +1,13 @@
 """What the tests share: the cluster of three nodes and its scenario, changed, and what is said of them."""
+import contextlib
+import io
 import os
 import re
 import tempfile
 import unittest
 from pathlib import Path
 
+from musmyrtle import command
 from musmyrtle.command import told, words_for
 from musmyrtle.lint import Lint, Task, lint
 from musmyrtle.program import Answer, ask
@@ -28,6 +31,17 @@ class Cases(unittest.TestCase):
         folder = tempfile.TemporaryDirectory()
         self.addCleanup(folder.cleanup)
         self.folder = Path(folder.name)
+
+    def run_with(self, *words: str) -> tuple[str | int | None, str, str]:
+        """The status of the command in this process, what it prints, and what on standard error."""
+        output, error = io.StringIO(), io.StringIO()
+        with contextlib.redirect_stdout(output), contextlib.redirect_stderr(error):
+            status: str | int | None
+            try:
+                status = command.main(list(words))
+            except SystemExit as ended:
+                status = ended.code
+        return status, output.getvalue(), error.getvalue()
 
     def changed(self, text: str, changes: tuple[str, ...]) -> str:
         """The text with each second of the words in the place of the one before it."""

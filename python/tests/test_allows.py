@@ -1,8 +1,4 @@
 """Warnings that are silenced: by a comment of the cluster file, and by `--allow`."""
-import contextlib
-import io
-
-from musmyrtle import command
 from musmyrtle.program import usual_program
 from tests.cases import CLUSTER, EXAMPLES, Cases
 
@@ -46,15 +42,6 @@ class Allowed(Cases):
 
 
 class Option(Cases):
-    def run_with(self, *words: str) -> tuple[object, str, str]:
-        output, error = io.StringIO(), io.StringIO()
-        with contextlib.redirect_stdout(output), contextlib.redirect_stderr(error):
-            try:
-                status: object = command.main([*words])
-            except SystemExit as ended:
-                status = ended.code
-        return status, output.getvalue(), error.getvalue()
-
     def test_allow(self):
         cluster = self.written("cluster.toml", CLUSTER)
         self.assertEqual(self.run_with(cluster, "--strict")[0], 4)

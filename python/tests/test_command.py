@@ -1,6 +1,4 @@
 """The command as a whole: its words, its statuses, what it prints."""
-import contextlib
-import io
 import os
 import signal
 import stat
@@ -29,16 +27,6 @@ class Command(Cases):
         path = self.written("stub", "\n".join(lines) + "\n")
         os.chmod(path, stat.S_IRWXU)
         return path
-
-    def run_with(self, *words: str) -> tuple[str | int | None, str, str]:
-        output, error = io.StringIO(), io.StringIO()
-        with contextlib.redirect_stdout(output), contextlib.redirect_stderr(error):
-            status: str | int | None
-            try:
-                status = command.main(list(words))
-            except SystemExit as ended:
-                status = ended.code
-        return status, output.getvalue(), error.getvalue()
 
     def launch(self, *words: str, **streams: Any) -> tuple[int, str]:
         """The status and standard error of the command as a process of its own."""

@@ -6,21 +6,12 @@ from musmyrtle.fault_list import Selection, SingleFault
 from musmyrtle.frames import data_frame
 from musmyrtle.refusals import Memory, SessionOver
 from tests.campaigns import CampaignCases
+from tests.two_nodes import PARAMETERS
 
-CLUSTER = """guard = "AB"
-
-[params]
-static_slots = 2
-minislots = 12
-static_words = 1
-static_mt = 20
-minislot_mt = 5
-symbol_mt = 0
-nit_mt = 10
-cycle_mt = 110
-idle = 0
-words_per_minislot = 2
-
+DYNAMIC = PARAMETERS.replace("minislots = 0", "minislots = 12").replace("cycle_mt = 50", "cycle_mt = 110") \
+    .replace("words_per_minislot = 5", "words_per_minislot = 2")
+"""Two static slots and twelve minislots of two words."""
+CLUSTER = f'guard = "AB"\n\n{DYNAMIC}' + """
 [[node]]
 latest_a = {latest}
 latest_b = 10

@@ -7,22 +7,9 @@ from musmyrtle.fault_table import Results, has_effect, summary, verdict
 from musmyrtle.fifo_costs import fifo_effects
 from musmyrtle.fifos import Fifo, StoredFrame
 from tests.campaigns import PROGRAM, CampaignCases
+from tests.two_nodes import PARAMETERS
 
-PARAMETERS = """guard = "none"
-
-[params]
-static_slots = 2
-minislots = 0
-static_words = 1
-static_mt = 20
-minislot_mt = 5
-symbol_mt = 0
-nit_mt = 10
-cycle_mt = 50
-idle = 0
-words_per_minislot = 5
-"""
-TWO = PARAMETERS + """
+TWO = 'guard = "none"\n\n' + PARAMETERS + """
 [[node]]
 own = [{{slot = 1, channels = "{sent}"}}]
 buffer = [{{kind = "{kind}", slot = 1, channels = "{sent}"}}]

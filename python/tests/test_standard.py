@@ -121,7 +121,7 @@ class Standard(Cases):
                                               (SCENARIO.replace("pop 0 1 2\n", ""), {0: 0}, 0)):
             found = self.looked(scenario, overwritten)
             self.assertEqual([it.headline for it in found], wanted * [
-                "the queue of node 0 overwrites 3 frames, and the scenario never pops it"])
+                "the receive FIFO of node 0 overwrites 3 frames, and the scenario never pops it"])
 
     def looked(self, scenario, overwritten):
         task = Task(self.written("cluster.toml", CLUSTER), self.written("scenario", scenario), 4)

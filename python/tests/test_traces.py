@@ -1,10 +1,7 @@
 """Traces given to `fr_lint`: the line, the column and the words of the reason, each slip by hand."""
-import contextlib
-import io
 import os
 from threading import Thread
 
-from musmyrtle import command
 from musmyrtle.program import usual_program
 from tests.cases import EXAMPLES, Cases
 
@@ -28,6 +25,7 @@ SLIPS = (
     ("6:1", ("no line begins with `reed`", "Is `read` meant?"), BUFFER, "read", "reed"),
     ("8:1", ("version 1 has no line `withdraw`", "`frtrace 2` as the first line"), WITHDRAWN, "frtrace 2", "frtrace 1"),
     ("4:13", ("the line has 7 words, and `own` has 5", "one of `frtrace 3`"), DIVIDED, "frtrace 3", "frtrace 2"),
+    ("12:5", ("the line has 1 word, and `read` has 4",), BUFFER, "read 0 0 2:A\nend", "read\nend"),
     ("2:12", ("a space too many",), BUFFER, "4 1 20", "4  1 20"),
     ("2:12", ("`static_words` is 200", "a number from 0 to 127"), BUFFER, "4 1 20", "4 200 20"),
     ("7:9", ("CYCLE is `64`", "a number from 0 to 63"), BUFFER, "fetch 0 0", "fetch 0 64"),
@@ -43,15 +41,6 @@ SLIPS = (
 
 
 class Traces(Cases):
-    def run_with(self, *words: str) -> tuple[object, str, str]:
-        output, error = io.StringIO(), io.StringIO()
-        with contextlib.redirect_stdout(output), contextlib.redirect_stderr(error):
-            try:
-                status: object = command.main([*words])
-            except SystemExit as ended:
-                status = ended.code
-        return status, output.getvalue(), error.getvalue()
-
     def test_slips(self):
         for place, words, trace, *changes in SLIPS:
             with self.subTest(words=words):

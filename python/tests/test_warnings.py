@@ -13,7 +13,7 @@ UNREAD = (
      "{repitition = 2, " + RECEIVE[1:]),
     ("cluster.toml:17:36", ("`start_up` of ownership line 0 of node 0", "Is `startup` meant?"), "sync = true",
      "start_up = true"),
-    ("cluster.toml:18:10", ("`size` of the queue of node 0",), "queue = {", "queue = {size = 3, "),
+    ("cluster.toml:18:10", ("`size` of the receive FIFO of node 0",), "queue = {", "queue = {size = 3, "),
     ("cluster.toml:1:1", ("`gaurd` of the top of the file", "Is `guard` meant?"), 'guard = "A"', 'gaurd = "A"'),
     ("cluster.toml:4:1", ("`idel` of `[params]`", "Keys of `[params]` are `static_slots`,"), "static_slots",
      "idel = 4\nstatic_slots"),
@@ -41,7 +41,7 @@ SENDING = (
      'own = [{slot = 1, channels = "A", sync = true}, {slot = 1, channels = "B"}]'),
 )
 RECEIVING = (
-    ("cluster.toml:21:22", ("buffer 1 of node 0 receives nothing", "nobody sends data in slot 3 on A"), RECEIVE,
+    ("cluster.toml:21:22", ("buffer 1 of node 0 receives nothing", "no node sends data in slot 3 on A"), RECEIVE,
      RECEIVE.replace("2", "3")),
     ("cluster.toml:21:22", ("slot 2 on A", "buffer 0 of node 1 sends in it on B"), '"state", slot = 2, channels = "AB"',
      '"state", slot = 2, channels = "B"'),
@@ -49,11 +49,13 @@ RECEIVING = (
      RECEIVE[:-1] + ", base = 1, repetition = 2}",
      '"state", slot = 2, channels = "AB"', '"state", slot = 2, channels = "AB", base = 0, repetition = 2'),
     ("cluster.toml:21:22", ("no node receives its own frames",), RECEIVE, RECEIVE.replace("2", "1")),
-    ("cluster.toml:18:1", ("nothing comes to the queue of node 0", "slots 5 to 7 on AB"), "first = 4", "first = 5"),
-    ("cluster.toml:30:3", ("buffer 2 of node 1 and buffer 1 take the same frames of slot 1 on A",),
+    ("cluster.toml:18:1", ("nothing comes to the receive FIFO of node 0", "slots 5 to 7 on AB"), "first = 4",
+     "first = 5"),
+    ("cluster.toml:30:3", ("buffer 2 of node 1 and buffer 1 receive the same frames of slot 1 on A",),
      '"receive", slot = 1, channels = "B"', '"receive", slot = 1, channels = "AB"'),
     ("cluster.toml:18:1",
-     ("the queue of node 0 stands behind 1 receive buffer", "frames of slot 2.", "buffer 1 of node 0 takes slot 2"),
+     ("the receive FIFO of node 0 stands behind 1 receive buffer", "frames of slot 2.",
+      "buffer 1 of node 0 receives slot 2"),
      "first = 4", "first = 2"),
 )
 PHYSICAL = (
@@ -69,14 +71,14 @@ PHYSICAL = (
      '[physical]\nbit_rate = "10 Mbit"\nmacrotick_us = 1\n[[node]]'),
 )
 STRIKES = (
-    ("scenario:12:17", ("`babble` strikes nothing", "without bytes"), "babble 2 B * s* x00", "babble 2 B * s* x"),
-    ("scenario:12:12", ("`mute` strikes nothing", "Node 1 doesn't own slot 1 on B in any cycle"), "babble 2 B * s* x00",
+    ("scenario:12:17", ("`babble` has no effect", "without bytes"), "babble 2 B * s* x00", "babble 2 B * s* x"),
+    ("scenario:12:12", ("`mute` has no effect", "Node 1 doesn't own slot 1 on B in any cycle"), "babble 2 B * s* x00",
      "mute 1 B * s1"),
     ("scenario:12:12", ("Node 2 doesn't own a static slot on A in cycle 3",), "babble 2 B * s* x00", "mute 2 A 3 s*"),
     ("scenario:12:12", ("Node 0 begins nothing on A at minislot 1",), "babble 2 B * s* x00", "mute 0 A * m1"),
-    ("scenario:12:13", ("A frame of a static slot has 80 bits", "turns nothing"), "babble 2 B * s* x00",
+    ("scenario:12:13", ("A frame of a static slot has 80 bits", "No bit past the end"), "babble 2 B * s* x00",
      "corrupt A * s1 80"),
-    ("scenario:12:13", ("Nobody sends on B at s3",), "babble 2 B * s* x00", "corrupt B * s3 1"),
+    ("scenario:12:13", ("No node sends on B at s3",), "babble 2 B * s* x00", "corrupt B * s3 1"),
 )
 FINE = ("mute 0 A * s1", "mute 1 B 2 s*", "mute 2 A 0 m1", "mute 2 A 0 m4", "corrupt A 0 s1 79", "corrupt A * s* 0",
         "corrupt A 1 m2 2095",
@@ -101,15 +103,15 @@ class Warnings(Cases):
     def test_slots_that_are_too_short(self):
         self.rows(PHYSICAL)
 
-    def test_faults_that_strike_nothing(self):
+    def test_faults_without_effect(self):
         for place, words, *changes in STRIKES:
             with self.subTest(words=words):
                 self.warned(place, words, CLUSTER, self.changed(SCENARIO, changes), 4)
 
-    def test_faults_that_strike(self):
+    def test_faults_with_an_effect(self):
         for line in FINE:
             with self.subTest(line=line):
-                self.quiet("strikes", CLUSTER, SCENARIO.replace("babble 2 B * s* x00", line), 4)
+                self.quiet("has no effect", CLUSTER, SCENARIO.replace("babble 2 B * s* x00", line), 4)
 
     def test_journals_that_are_too_small(self):
         few = CLUSTER.replace("tasks = 2", "tasks = 2\nslot_entries = 13", 1)

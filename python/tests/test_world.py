@@ -241,6 +241,15 @@ class TestWorld(unittest.TestCase):
                 self.world.play_scenario(text, 4)
         self.assertEqual(self.world.transcript(), "")
 
+    def test_the_channel_of_a_frame_is_in_the_report_and_the_trace(self):
+        """Slot 1 is sent on both channels, and the receive buffer, which is for both, keeps the frame of channel A."""
+        self.sender.commit(0, b"\0\7")
+        self.world.cycle()
+        self.assertEqual(self.receiver.read(1).payload, b"\0\7")
+        self.assertEqual(self.receiver.report().buffers[1].channel, "A")
+        read = [line.split(" ") for line in self.receiver.trace().splitlines() if line.startswith("read ")]
+        self.assertEqual([words[3].partition(":")[2] for words in read], ["A"])
+
     def test_a_report_is_told_in_parts(self):
         self.sender.commit(0, words(1))
         self.world.run(2)

@@ -1,8 +1,6 @@
 """A cluster of two nodes and two static slots, for which everything is worked out by hand."""
 
-TWO_NODES = """guard = "A"
-
-[params]
+PARAMETERS = """[params]
 static_slots = 2
 minislots = 0
 static_words = 1
@@ -13,20 +11,24 @@ nit_mt = 10
 cycle_mt = 50
 idle = 0
 words_per_minislot = 5
+"""
+"""Two static slots and no dynamic segment."""
+TWO_NODES = f"""guard = "A"
 
+{PARAMETERS}
 [[node]]
-own = [{slot = 1, channels = "AB"}]
+own = [{{slot = 1, channels = "AB"}}]
 buffer = [
-  {kind = "event", slot = 1, channels = "AB"},
-  {kind = "receive", slot = 2, channels = "A"},
-  {kind = "receive", slot = 2, channels = "B"},
+  {{kind = "event", slot = 1, channels = "AB"}},
+  {{kind = "receive", slot = 2, channels = "A"}},
+  {{kind = "receive", slot = 2, channels = "B"}},
 ]
 
 [[node]]
-own = [{slot = 2, channels = "A"}]
+own = [{{slot = 2, channels = "A"}}]
 buffer = [
-  {kind = "state", slot = 2, channels = "A"},
-  {kind = "receive", slot = 1, channels = "AB"},
+  {{kind = "state", slot = 2, channels = "A"}},
+  {{kind = "receive", slot = 1, channels = "AB"}},
 ]
 """
 SCENE = """frscenario 1

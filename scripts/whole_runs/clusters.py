@@ -1,18 +1,7 @@
 """Checks of cluster files, each with one fault or at the border of one."""
+from .cycles import SMALL_CYCLE
 from .runner import EXAMPLES, refused
 
-SMALL_CYCLE = """[params]
-static_slots = 3
-minislots = 10
-static_words = 1
-static_mt = 20
-minislot_mt = 5
-symbol_mt = 4
-nit_mt = 6
-cycle_mt = 120
-idle = 1
-words_per_minislot = 4
-"""
 SMALL = b"params 3 10 1 20 5 4 6 120 1 4\n", b"", 0
 
 

@@ -2,9 +2,11 @@
 import hashlib
 import os
 import pty
+import shutil
 import signal
 import subprocess
 import time
+from collections.abc import Callable
 from pathlib import Path
 
 from .runner import SECONDS, Runs
@@ -16,6 +18,10 @@ LATER = 4_000_000_000
 """A time in the future, in seconds since 1970."""
 CAUGHT = "#!/bin/sh\ntrap 'echo caught; exit 5' TERM\necho ready\nwhile :; do sleep 0.02; done\n"
 KILLED = "#!/bin/sh\necho ready\nwhile :; do sleep 0.02; done\n"
+READING = "#!/bin/sh\necho $$\nread -r line\necho \"$line\"\nexit 7\n"
+"""A program that names its process, and ends once it has read a line."""
+SHELLS = ["dash"], ["bash", "--posix"]
+"""Shells that systems have as `sh`."""
 NO_KIT = "/usr/bin:/bin"
 """A search path without a kit, so that nothing is built."""
 
@@ -124,6 +130,10 @@ class Launchers:
         self.paths()
         for words, is_terminal in ((["midpoint"], False), (["midpoint"], True), (["no", "command"], False)):
             self.signals(words, is_terminal)
+            self.stops(words, is_terminal)
+        for shell in SHELLS:
+            if shutil.which(shell[0]):
+                self.shell(shell)
 
     def plain(self) -> None:
         made = self.noted()
@@ -193,10 +203,102 @@ class Launchers:
         for program, number, wanted in ((CAUGHT, signal.SIGTERM, ("caught\n", 5)),
                                         (KILLED, signal.SIGTERM, ("", -signal.SIGTERM)),
                                         (KILLED, signal.SIGINT, ("", -signal.SIGINT)),
-                                        (KILLED, signal.SIGHUP, ("", -signal.SIGHUP))):
+                                        (KILLED, signal.SIGHUP, ("", -signal.SIGHUP)),
+                                        (KILLED, signal.SIGALRM, ("", -signal.SIGALRM)),
+                                        (KILLED, signal.SIGXCPU, ("", -signal.SIGXCPU))):
             made = self.checkout(program=program)
             self.runs.compare(f"{number.name} to the launcher {place}", ended_by(made, words, number, is_terminal),
                               wanted)
+
+    def stops(self, words: list[str], is_terminal: bool) -> None:
+        """SIGTSTP and SIGCONT to the launcher, or to all processes as a terminal sends them, reach the program."""
+        place = f"with {words} {'at a terminal' if is_terminal else 'without a terminal'}"
+        made = self.checkout(program=READING)
+        for send, whom in ((os.kill, "the launcher"), (os.killpg, "both")):
+            self.runs.compare(f"SIGTSTP and SIGCONT to {whom} {place}",
+                              stopped_by(made, [made.path / "fr_bench", *words], send, is_terminal),
+                              ("stopped", "going on", "end\n", 7))
+
+    def shell(self, shell: list[str]) -> None:
+        """scripts/told in a shell that isn't `sh` here."""
+        place = f"to scripts/told in {' '.join(shell)}"
+        made = self.checkout(program=READING)
+        told = [*shell, made.path / "scripts/told", "fr_bench", made.path / "dist/fr_bench"]
+        self.runs.compare(f"SIGTSTP and SIGCONT {place}", stopped_by(made, told, os.kill, False),
+                          ("stopped", "going on", "end\n", 7))
+        self.runs.compare(f"SIGINT that is ignored {place}", interrupted(told), ("end\n", 7))
+        self.runs.compare(f"a signal {place} as the program ends", signalled(told), 7)
+
+
+def state_of(process: int) -> str:
+    """The state of a process, as Linux has it: `T` if it is stopped."""
+    return Path(f"/proc/{process}/stat").read_text().rpartition(")")[2].split()[0]
+
+
+def ticks_of(process: int) -> int:
+    """How long a process has had the processor, in hundredths of a second."""
+    return sum(map(int, Path(f"/proc/{process}/stat").read_text().rpartition(")")[2].split()[11:13]))
+
+
+def wait_until(processes: set[int], *states: str) -> bool:
+    end = time.monotonic() + SECONDS
+    while any(state_of(it) not in states for it in processes):
+        if time.monotonic() > end:
+            return False
+        time.sleep(0.005)
+    return True
+
+
+def stopped_by(made: Checkout, words: list[str | Path], send: Callable[[int, int], None],
+               is_terminal: bool) -> tuple[str, str, str, int]:
+    """What SIGTSTP and then SIGCONT do, and how the program ends after that."""
+    ours, theirs = pty.openpty() if is_terminal else os.pipe()
+    # A session of its own is never stopped by SIGTSTP.
+    running = subprocess.Popen(words, stdin=subprocess.PIPE, stdout=subprocess.PIPE, stderr=theirs, text=True,
+                               process_group=0)
+    os.close(theirs)
+    try:
+        assert running.stdout is not None
+        both = {running.pid, int(running.stdout.readline())}
+        send(running.pid, signal.SIGTSTP)
+        stopped = "stopped" if wait_until(both, "T") else f"{[state_of(it) for it in both]}"
+        send(running.pid, signal.SIGCONT)
+        going = "going on" if wait_until(both, "S", "R") else f"{[state_of(it) for it in both]}"
+        before = ticks_of(running.pid)
+        time.sleep(0.3)
+        if ticks_of(running.pid) > before + 10:
+            going = "the launcher waits in a busy loop"
+        return stopped, going, running.communicate("end\n", timeout=SECONDS)[0], running.returncode
+    finally:
+        running.kill()
+        os.close(ours)
+
+
+def interrupted(words: list[str | Path]) -> tuple[str, int]:
+    """What a program does after SIGINT to all processes, if that was ignored before the launcher was started."""
+    with_ignored = ["env", "--ignore-signal=INT", *words]
+    with subprocess.Popen(with_ignored, stdin=subprocess.PIPE, stdout=subprocess.PIPE, stderr=subprocess.DEVNULL,
+                          text=True, process_group=0) as running:
+        assert running.stdout is not None
+        running.stdout.readline()
+        os.killpg(running.pid, signal.SIGINT)
+        return running.communicate("end\n", timeout=SECONDS)[0], running.returncode
+
+
+def signalled(words: list[str | Path]) -> int:
+    """How the launcher ends if a signal for it and the end of the program come at once."""
+    with subprocess.Popen(words, stdin=subprocess.PIPE, stdout=subprocess.PIPE, stderr=subprocess.DEVNULL, text=True,
+                          process_group=0) as running:
+        assert running.stdin is not None and running.stdout is not None
+        program = int(running.stdout.readline())
+        running.send_signal(signal.SIGSTOP)
+        wait_until({running.pid}, "T")
+        running.stdin.write("end\n")
+        running.stdin.flush()
+        wait_until({program}, "Z")
+        running.send_signal(signal.SIGUSR1)
+        running.send_signal(signal.SIGCONT)
+        return running.wait(SECONDS)
 
 
 def ended_by(made: Checkout, words: list[str], number: signal.Signals, is_terminal: bool) -> tuple[str, int]:
@@ -211,6 +313,9 @@ def ended_by(made: Checkout, words: list[str], number: signal.Signals, is_termin
         os.kill(running.pid, number)
         # Standard output ends only once the program has ended.
         return running.communicate(timeout=SECONDS)[0], running.returncode
+    except subprocess.TimeoutExpired:
+        os.killpg(running.pid, signal.SIGKILL)
+        return "the program goes on", running.wait(SECONDS)
     finally:
         running.kill()
         os.close(ours)

@@ -2,23 +2,8 @@
 
 The expected values were worked out by hand from the rules, and stood in tests of single calls before.
 """
+from .cycles import ONE_WORD, SMALL_CYCLE
 from .sessions import DATA_A, DATA_B, Talk
-
-PARAMETERS = """[params]
-static_slots = 3
-minislots = {minislots}
-static_words = 1
-static_mt = 20
-minislot_mt = 5
-symbol_mt = {symbol}
-nit_mt = {idle_time}
-cycle_mt = {cycle}
-idle = {idle}
-words_per_minislot = {words}
-"""
-
-ONE_WORD = PARAMETERS.format(minislots=4, symbol=0, idle_time=10, cycle=90, idle=0, words=5)
-"""Three static slots of one word, and four minislots of five."""
 
 THREE_NODES = f"""guard = "A"
 {ONE_WORD}
@@ -38,11 +23,11 @@ buffer = [{{kind = "event", slot = 4, channels = "A", words = 1}}]
 """Nodes 0 and 1 own one slot each, and channel A is guarded."""
 
 SMALL = f"""guard = "AB"
-{PARAMETERS.format(minislots=10, symbol=4, idle_time=6, cycle=120, idle=1, words=4)}
+{SMALL_CYCLE}
 [[node]]
 [[node]]
 """
-"""Ten minislots of four words, of which one stays idle after a transmission, and two nodes that own nothing."""
+"""Two nodes that own nothing."""
 
 ONE_NODE = """{parameters}
 [[node]]

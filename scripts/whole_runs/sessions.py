@@ -6,6 +6,7 @@ import select
 import socket
 import subprocess
 
+from .cycles import STATIC_ALONE
 from .runner import EXAMPLES, SECONDS, USAGE, Folder, refused, run
 
 GREETING = "frworld 1\n"
@@ -15,27 +16,16 @@ THREE_NODES = "three-nodes/cluster.toml"
 DATA_A, DATA_B = "x200203c1400a0ba32217", "x200203c1400a0b85a2c6"
 """The data frame of slot 2 in cycle 0 with payload `0a0b`, on each channel."""
 
-SMALL = """[params]
-static_slots = 2
-minislots = 0
-static_words = 1
-static_mt = 20
-minislot_mt = 5
-symbol_mt = 0
-nit_mt = 10
-cycle_mt = 50
-idle = 0
-words_per_minislot = 5
-
+SMALL = f"""{STATIC_ALONE}
 [[node]]
 host_entries = 2
 slot_entries = 6
-own = [{slot = 2, channels = "AB"}]
-buffer = [{kind = "event", slot = 2, channels = "AB"}]
+own = [{{slot = 2, channels = "AB"}}]
+buffer = [{{kind = "event", slot = 2, channels = "AB"}}]
 
 [[node]]
 tasks = 2
-buffer = [{kind = "receive", slot = 2, channels = "A"}]
+buffer = [{{kind = "receive", slot = 2, channels = "A"}}]
 """
 """Two static slots and no minislot. The journal of node 0 has room for three windows and two calls of its task."""
 
