@@ -2,7 +2,7 @@
 from typing import TYPE_CHECKING
 
 from musmyrtle.bounds import buffer_number, node_number, payload_hex, task_number
-from musmyrtle.refusals import UnknownNode
+from musmyrtle.refusals import UnknownNode, refusal
 from musmyrtle.replies import Frame, Report, Window, frame_of, number_or_none, report_of, window_of
 
 if TYPE_CHECKING:
@@ -56,14 +56,14 @@ class Node:
 
         Raises `UnknownTask`, `UnknownBuffer`, `NotReceive` and `HostFull`.
         """
-        return frame_of(self._ask(f"read {self.number} {self._task} {buffer_number(buffer)}").split(" "))
+        return self._frame(f"read {self.number} {self._task} {buffer_number(buffer)}")
 
     def pop(self) -> Frame | None:
         """Takes the oldest frame out of the receive FIFO and returns it, or None where the FIFO is empty.
 
         Raises `UnknownTask`, `NoQueue` and `HostFull`.
         """
-        return frame_of(self._ask(f"pop {self.number} {self._task}").split(" "))
+        return self._frame(f"pop {self.number} {self._task}")
 
     def look(self) -> Window:
         """Has the controller ask the bus for the open window, and returns that. Raises `WrongTurn` and `BusRefused`."""
@@ -92,6 +92,13 @@ class Node:
     def trace(self) -> str:
         """Returns the node's trace, which `fr_bench audit` reads. Raises `Memory`."""
         return "".join(f"{line}\n" for line in self.world.block(f"trace {self.number}"))
+
+    def _frame(self, line: str) -> Frame | None:
+        """Returns the frame that a read or a pop is answered with. Asks for its origin with it."""
+        reply, origin = self.world.send([line, f"origin {self.number}"])
+        if reply.startswith("refused "):
+            raise refusal(reply, line)
+        return frame_of(reply.split(" ")[1:], origin)
 
     def _ask(self, line: str) -> str:
         return self.world.ask(line).split(" ", 1)[1]

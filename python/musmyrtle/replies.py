@@ -9,8 +9,7 @@ Channel = Literal["A", "B"]
 class Frame:
     """A frame that a task read or popped: its payload, the slot of its frame ID, 1 to 2047, and the cycle, 0 to 63.
 
-    The channel isn't part of the replies to `read` and `pop`. `Report` has it for the frame that a receive buffer
-    holds.
+    `channel` is the channel on which the node received it.
     """
 
     payload: bytes
@@ -20,6 +19,7 @@ class Frame:
     null: bool = False
     sync: bool = False
     startup: bool = False
+    channel: Channel | None = None
 
 
 @dataclass(frozen=True, slots=True)
@@ -146,13 +146,14 @@ def bytes_of(word: str) -> bytes:
     return bytes.fromhex(word[1:])
 
 
-def frame_of(words: list[str]) -> Frame | None:
-    """Returns the frame of the words after `frame`, or None for `-`."""
+def frame_of(words: list[str], origin: str) -> Frame | None:
+    """Returns the frame of the words after `frame`, or None for `-`, with the channel of its origin `ENTRY:CHANNEL`."""
     if words == ["-"]:
         return None
     cycle, slot, flags, payload = words
     preamble, null, sync, startup = (mark != "-" for mark in flags)
-    return Frame(bytes_of(payload), int(slot), int(cycle), preamble, null, sync, startup)
+    channel = channel_of(origin.split(":")[1])
+    return Frame(bytes_of(payload), int(slot), int(cycle), preamble, null, sync, startup, channel)
 
 
 def record_of(lines: list[str]) -> Record:
