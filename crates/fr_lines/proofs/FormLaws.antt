@@ -2,7 +2,7 @@
 -- it.
 use Rattle.std.proofs.Common.{◌≡◌, ℕ, suc, ◌+◌, ◌^◌, ℤ, Bool, true, false, List, [], ◌∷◌, take, codes, Option, Some}
 use Rattle.std.proofs.Common.{None, is_some, inl, inr}
-use Rattle.std.proofs.Common.{option_map, refl, sym, ap, ◌∙◌, arith, if◌then◌else◌, IsSome, IfSome, zero, tt}
+use Rattle.std.proofs.Common.{option_map, refl, sym, ap, ◌∙◌, arith, if◌then◌else◌, IsSome, IfSome, zero}
 use Rattle.std.proofs.lemmas.Bool.{cases_Bool}
 use Rattle.std.specs.Result.{result_ok}
 use Rattle.std.specs.Str.{bytes_eq}
@@ -13,6 +13,7 @@ use Rattle.fr_lines.specs.declared.forms.WordForm.TheVariants as form
 use Rattle.fr_lines.specs.declared.plan_lines.PlanLine.{PlanLine}
 use Rattle.fr_lines.specs.declared.plan_lines.PlanLine.TheVariants as plan_line
 use Rattle.fr_lines.specs.declared.versions.Version.{Version}
+use Rattle.fr_lines.specs.declared.versions.Version.TheVariants.{One, Two, Three}
 use Rattle.fr_lines.specs.Forms.{fits, repetition_in, params_forms, node_forms, own_forms, tx_forms, rx_forms}
 use Rattle.fr_lines.specs.Forms.{queue_forms}
 use Rattle.fr_lines.specs.Forms.{commit_forms, withdraw_forms, read_forms, pop_forms, fetch_forms, see_forms, forms_of}
@@ -42,10 +43,6 @@ use Rattle.fr_text.specs.Reading.{number_in}
 
 known : {A : Type 0} (o : Option A) (x : A) → o ≡ Some x → is_some o ≡ true
 known o x is = ap is_some is
-
-right_then : (f : WordForm) (forms : List WordForm) (word : List ℕ) (words : List (List ℕ)) → fits f word ≡ true
-    → wrong_at forms words ≡ None → wrong_at (f ∷ forms) (word ∷ words) ≡ None
-right_then f forms word words is rest = rw is (ap (option_map (λ n. n + 1)) rest)
 
 lawful_class : (b n : ℕ) (c : CycleClass) → result_ok (cycle_class b n) ≡ Some c → is_repetition n ≡ true
 lawful_class b n c h = elim (cases_Bool (is_repetition n)) [
@@ -114,11 +111,13 @@ node_right (t ∷ a ∷ b ∷ host ∷ slot ∷ []) x h =
     let (x2, k2, h2) = bind_some (number_in 8001 b) _ x h1 in
     let (x3, k3, h3) = bind_some (number_in 16385 host) _ x h2 in
     let (x4, k4, h4) = bind_some (number_in 65537 slot) _ x h3 in
-    right_then (form.Number 9) _ _ _ (known (number_in 9 t) x0 k0)
-    (right_then (form.Number 8001) _ _ _ (known (number_in 8001 a) x1 k1)
-    (right_then (form.Number 8001) _ _ _ (known (number_in 8001 b) x2 k2)
-    (right_then (form.Number 16385) _ _ _ (known (number_in 16385 host) x3 k3)
-    (right_then (form.Number 65537) _ _ _ (known (number_in 65537 slot) x4 k4) refl))))
+    rw (
+      known (number_in 9 t) x0 k0,
+      known (number_in 8001 a) x1 k1,
+      known (number_in 8001 b) x2 k2,
+      known (number_in 16385 host) x3 k3,
+      known (number_in 65537 slot) x4 k4,
+    ) refl
 node_right (t ∷ a ∷ b ∷ host ∷ slot ∷ more ∷ words) x h = cc h
 
 commit_right : (words : List (List ℕ)) (x : Entry) → commit_in words ≡ Some x → wrong_at commit_forms words ≡ None
@@ -130,9 +129,7 @@ commit_right (a ∷ b ∷ c ∷ []) x h =
     let (x0, k0, h0) = bind_some (number_in 8 a) _ x h in
     let (x1, k1, h1) = bind_some (number_in 64 b) _ x h0 in
     let (x2, k2, h2) = bind_some (payload_in c) _ x h1 in
-    right_then (form.Number 8) _ _ _ (known (number_in 8 a) x0 k0)
-    (right_then (form.Number 64) _ _ _ (known (number_in 64 b) x1 k1)
-    (right_then (form.Payload) _ _ _ (known (payload_in c) x2 k2) refl))
+    rw (known (number_in 8 a) x0 k0, known (number_in 64 b) x1 k1, known (payload_in c) x2 k2) refl
 commit_right (a ∷ b ∷ c ∷ more ∷ words) x h = cc h
 
 told_withdraw_right : (words : List (List ℕ)) (x : Entry) → told_withdraw_in words ≡ Some x
@@ -145,9 +142,7 @@ told_withdraw_right (a ∷ b ∷ c ∷ []) x h =
     let (x0, k0, h0) = bind_some (number_in 8 a) _ x h in
     let (x1, k1, h1) = bind_some (number_in 64 b) _ x h0 in
     let (x2, k2, h2) = bind_some (taken_back_in c) _ x h1 in
-    right_then (form.Number 8) _ _ _ (known (number_in 8 a) x0 k0)
-    (right_then (form.Number 64) _ _ _ (known (number_in 64 b) x1 k1)
-    (right_then (form.Commit) _ _ _ (known (taken_back_in c) x2 k2) refl))
+    rw (known (number_in 8 a) x0 k0, known (number_in 64 b) x1 k1, known (taken_back_in c) x2 k2) refl
 told_withdraw_right (a ∷ b ∷ c ∷ more ∷ words) x h = cc h
 
 read_right : (words : List (List ℕ)) (x : Entry) → read_in words ≡ Some x → wrong_at read_forms words ≡ None
@@ -159,9 +154,7 @@ read_right (a ∷ b ∷ c ∷ []) x h =
     let (x0, k0, h0) = bind_some (number_in 8 a) _ x h in
     let (x1, k1, h1) = bind_some (number_in 64 b) _ x h0 in
     let (x2, k2, h2) = bind_some (from_in c) _ x h1 in
-    right_then (form.Number 8) _ _ _ (known (number_in 8 a) x0 k0)
-    (right_then (form.Number 64) _ _ _ (known (number_in 64 b) x1 k1)
-    (right_then (form.Origin) _ _ _ (known (from_in c) x2 k2) refl))
+    rw (known (number_in 8 a) x0 k0, known (number_in 64 b) x1 k1, known (from_in c) x2 k2) refl
 read_right (a ∷ b ∷ c ∷ more ∷ words) x h = cc h
 
 pop_right : (words : List (List ℕ)) (x : Entry) → pop_in words ≡ Some x → wrong_at pop_forms words ≡ None
@@ -171,8 +164,7 @@ pop_right (a ∷ []) x h = cc h
 pop_right (a ∷ b ∷ []) x h =
     let (x0, k0, h0) = bind_some (number_in 8 a) _ x h in
     let (x1, k1, h1) = bind_some (from_in b) _ x h0 in
-    right_then (form.Number 8) _ _ _ (known (number_in 8 a) x0 k0)
-    (right_then (form.Origin) _ _ _ (known (from_in b) x1 k1) refl)
+    rw (known (number_in 8 a) x0 k0, known (from_in b) x1 k1) refl
 pop_right (a ∷ b ∷ more ∷ words) x h = cc h
 
 see_right : (words : List (List ℕ)) (x : Entry) → observe_in words ≡ Some x → wrong_at see_forms words ≡ None
@@ -184,9 +176,7 @@ see_right (w ∷ a ∷ b ∷ []) x h =
     let (x0, k0, h0) = bind_some (number_in (2 ^ 32) w) _ x h in
     let (x1, k1, h1) = bind_some (seen_in a) _ x h0 in
     let (x2, k2, h2) = bind_some (seen_in b) _ x h1 in
-    right_then (form.Number (2 ^ 32)) _ _ _ (known (number_in (2 ^ 32) w) x0 k0)
-    (right_then (form.Observation) _ _ _ (known (seen_in a) x1 k1)
-    (right_then (form.Observation) _ _ _ (known (seen_in b) x2 k2) refl))
+    rw (known (number_in (2 ^ 32) w) x0 k0, known (seen_in a) x1 k1, known (seen_in b) x2 k2) refl
 see_right (w ∷ a ∷ b ∷ more ∷ words) x h = cc h
 
 fetch_right : (words : List (List ℕ)) (x : Entry) → fetch_in words ≡ Some x → wrong_at fetch_forms words ≡ None
@@ -203,10 +193,7 @@ fetch_right (n ∷ c ∷ m ∷ sa ∷ sb ∷ oa ∷ ob ∷ []) x h =
     let (x1, k1, h1) = bind_some (offered_in oa) _ x h0 in
     let (x2, k2, h2) = bind_some (offered_in ob) _ x h1 in
     let w = window_right n c m sa sb x0 k0 in
-    right_then (form.Number (2 ^ 32)) _ _ _ w.0 (right_then (form.Number 64) _ _ _ w.1.0
-    (right_then (form.Number 8001) _ _ _ w.1.1.0 (right_then (form.SlotOrNone) _ _ _ w.1.1.1.0
-    (right_then (form.SlotOrNone) _ _ _ w.1.1.1.1 (right_then (form.Offer) _ _ _ (known (offered_in oa) x1 k1)
-    (right_then (form.Offer) _ _ _ (known (offered_in ob) x2 k2) refl))))))
+    rw (w.0, w.1, w.2, w.3, w.4, known (offered_in oa) x1 k1, known (offered_in ob) x2 k2) refl
 fetch_right (n ∷ c ∷ m ∷ sa ∷ sb ∷ oa ∷ ob ∷ more ∷ words) x h = cc h
 
 tx_right : (words : List (List ℕ)) (x : Buffer) → transmit_in words ≡ Some x → wrong_at tx_forms words ≡ None
@@ -224,10 +211,7 @@ tx_right (m ∷ s ∷ c ∷ p ∷ q ∷ z ∷ r ∷ []) x h =
     let (x2, k2, h2) = bind_some (size_in z) _ x h1 in
     let (x3, k3, h3) = bind_some (flag_in r) _ x h2 in
     let f = filter_right s c p q x1 k1 in
-    right_then (form.Mode) _ _ _ (known (mode_in m) x0 k0) (right_then (form.Slot) _ _ _ f.0
-    (right_then (form.Channels) _ _ _ f.1.0 (right_then (form.Number 64) _ _ _ f.1.1.0
-    (right_then (form.Repetition) _ _ _ f.1.1.1 (right_then (form.Size) _ _ _ (known (size_in z) x2 k2)
-    (right_then (form.Flag) _ _ _ (known (flag_in r) x3 k3) refl))))))
+    rw (known (mode_in m) x0 k0, f.0, f.1, f.2, f.3, known (size_in z) x2 k2, known (flag_in r) x3 k3) refl
 tx_right (m ∷ s ∷ c ∷ p ∷ q ∷ z ∷ r ∷ more ∷ words) x h = cc h
 
 rx_right : (words : List (List ℕ)) (x : Buffer) → receive_in words ≡ Some x → wrong_at rx_forms words ≡ None
@@ -239,8 +223,7 @@ rx_right (s ∷ c ∷ p ∷ []) x h = cc h
 rx_right (s ∷ c ∷ p ∷ q ∷ []) x h =
     let (x0, k0, h0) = bind_some (filter_in s c p q) _ x h in
     let f = filter_right s c p q x0 k0 in
-    right_then (form.Slot) _ _ _ f.0 (right_then (form.Channels) _ _ _ f.1.0
-    (right_then (form.Number 64) _ _ _ f.1.1.0 (right_then (form.Repetition) _ _ _ f.1.1.1 refl)))
+    rw (f.0, f.1, f.2, f.3) refl
 rx_right (s ∷ c ∷ p ∷ q ∷ more ∷ words) x h = cc h
 
 queue_right : (words : List (List ℕ)) (x : Queue) → reception_in words ≡ Some x → wrong_at queue_forms words ≡ None
@@ -258,11 +241,14 @@ queue_right (n ∷ s ∷ t ∷ c ∷ p ∷ q ∷ []) x h =
     let (x3, k3, h3) = bind_some (channels_in c) _ x h2 in
     let (x4, k4, h4) = bind_some (cycles_in p q) _ x h3 in
     let y = cycles_right p q x4 k4 in
-    right_then (form.Number 257) _ _ _ (known (number_in 257 n) x0 k0)
-    (right_then (form.Slot) _ _ _ (known (slot_in s) x1 k1)
-    (right_then (form.Slot) _ _ _ (known (slot_in t) x2 k2)
-    (right_then (form.Channels) _ _ _ (known (channels_in c) x3 k3)
-    (right_then (form.Number 64) _ _ _ y.0 (right_then (form.Repetition) _ _ _ y.1 refl)))))
+    rw (
+      known (number_in 257 n) x0 k0,
+      known (slot_in s) x1 k1,
+      known (slot_in t) x2 k2,
+      known (channels_in c) x3 k3,
+      y.0,
+      y.1,
+    ) refl
 queue_right (n ∷ s ∷ t ∷ c ∷ p ∷ q ∷ more ∷ words) x h = cc h
 
 end_right : {A : Type 0} (value x : A) (words : List (List ℕ)) → at_end value words ≡ Some x → wrong_at [] words ≡ None
@@ -276,7 +262,7 @@ last_cycles_right [] x h = cc h
 last_cycles_right (b ∷ []) x h = cc h
 last_cycles_right (b ∷ r ∷ []) x h =
     let y = cycles_right b r x h in
-    right_then (form.Number 64) _ _ _ y.0 (right_then form.Repetition _ _ _ y.1 refl)
+    rw (y.0, y.1) refl
 last_cycles_right (b ∷ r ∷ more ∷ words) x h = cc h
 
 own_front : (forms : List WordForm) (s c y t : List ℕ) (rest : List (List ℕ)) → is_some (slot_in s) ≡ true
@@ -284,12 +270,20 @@ own_front : (forms : List WordForm) (s c y t : List ℕ) (rest : List (List ℕ)
     → wrong_at forms rest ≡ None
     → wrong_at (form.Slot ∷ form.Channels ∷ form.Flag ∷ form.Flag ∷ forms) (s ∷ c ∷ y ∷ t ∷ rest) ≡ None
 own_front forms s c y t rest ks kc ky kt right =
-    right_then form.Slot _ _ _ ks (right_then form.Channels _ _ _ kc (right_then form.Flag _ _ _ ky
-    (right_then form.Flag _ _ _ kt right)))
+    rw (ks, kc, ky, kt, right) refl
+
+own_whole : (v : Version) (s c y t : List ℕ) (rest : List (List ℕ)) (x : CycleClass) → is_some (slot_in s) ≡ true
+    → is_some (channels_in c) ≡ true → is_some (flag_in y) ≡ true → is_some (flag_in t) ≡ true
+    → own_cycles_in v rest ≡ Some x → wrong_at (own_forms v) (s ∷ c ∷ y ∷ t ∷ rest) ≡ None
+unfolding own_cycles_in
+own_whole One s c y t rest x ks kc ky kt h = own_front [] s c y t rest ks kc ky kt (end_right every_cycle x rest h)
+own_whole Two s c y t rest x ks kc ky kt h = own_front [] s c y t rest ks kc ky kt (end_right every_cycle x rest h)
+own_whole Three s c y t rest x ks kc ky kt h =
+    own_front (form.Number 64 ∷ form.Repetition ∷ []) s c y t rest ks kc ky kt (last_cycles_right rest x h)
 
 own_right : (v : Version) (words : List (List ℕ)) (x : Own) → ownership_in v words ≡ Some x
     → wrong_at (own_forms v) words ≡ None
-unfolding ownership_in own_cycles_in
+unfolding ownership_in
 own_right v [] x h = cc h
 own_right v (s ∷ []) x h = cc h
 own_right v (s ∷ c ∷ []) x h = cc h
@@ -300,12 +294,8 @@ own_right v (s ∷ c ∷ y ∷ t ∷ rest) x h =
     let (x2, k2, h2) = bind_some (flag_in y) _ x h1 in
     let (x3, k3, h3) = bind_some (flag_in t) _ x h2 in
     let (x4, k4, h4) = bind_some (own_cycles_in v rest) _ x h3 in
-    let front = λ (forms : List WordForm) (right : wrong_at forms rest ≡ None). own_front forms s c y t rest
-    (known (slot_in s) x0 k0) (known (channels_in c) x1 k1) (known (flag_in y) x2 k2) (known (flag_in t) x3 k3) right in
-    elim (cases_Bool (has_own_cycles v)) [
-      | inl long ↦ rw long (front _ (last_cycles_right rest x4 (rw long at k4)))
-      | inr short ↦ rw short (front _ (end_right every_cycle x4 rest (rw short at k4)))
-    ]
+    own_whole v s c y t rest x4 (known (slot_in s) x0 k0) (known (channels_in c) x1 k1) (known (flag_in y) x2 k2)
+    (known (flag_in t) x3 k3) k4
 
 withdraw_right : (v : Version) (words : List (List ℕ)) (x : Entry) → withdraw_in v words ≡ Some x
     → wrong_after (if has_withdraws v then Some withdraw_forms else None) words ≡ None
@@ -338,9 +328,14 @@ five_right forms (a ∷ b ∷ c ∷ d ∷ e ∷ rest) x h right =
     let (x3, k3, h3) = bind_some (parameter_in d) _ x h2 in
     let (x4, k4, h4) = bind_some (parameter_in e) _ x h3 in
     let same : rest ≡ x.1 = cc h4 in
-    right_then wide _ _ _ (parameter_right a x0 k0) (right_then wide _ _ _ (parameter_right b x1 k1)
-    (right_then wide _ _ _ (parameter_right c x2 k2) (right_then wide _ _ _ (parameter_right d x3 k3)
-    (right_then wide _ _ _ (parameter_right e x4 k4) (ap (wrong_at forms) same ∙ right)))))
+    rw (
+      parameter_right a x0 k0,
+      parameter_right b x1 k1,
+      parameter_right c x2 k2,
+      parameter_right d x3 k3,
+      parameter_right e x4 k4,
+      ap (wrong_at forms) same ∙ right,
+    ) refl
 
 params_right : (words : List (List ℕ)) (x : List ℤ) → ten_in words ≡ Some x → wrong_at params_forms words ≡ None
 unfolding ten_in
@@ -366,7 +361,7 @@ mapped : {A B : Type 0} (f : A → B) (o : Option A) (x : B) → option_map f o 
 mapped f None x h = cc h
 mapped f (Some y) x h = (y, refl)
 
-pub params_lines : (v : Version) (words : List (List ℕ)) (x : List ℤ) → params_in words ≡ Some x
+params_lines : (v : Version) (words : List (List ℕ)) (x : List ℤ) → params_in words ≡ Some x
     → wrong_in v words ≡ None
 unfolding params_in
 params_lines v [] x h = cc h
@@ -376,7 +371,7 @@ params_lines v (kind ∷ words) x h = elim (word_or kind (codes "params") (ten_i
   | inr h1 ↦ cc h1
 ]
 
-pub node_lines : (v : Version) (words : List (List ℕ)) (x : Plan) → node_in words ≡ Some x → wrong_in v words ≡ None
+node_lines : (v : Version) (words : List (List ℕ)) (x : Plan) → node_in words ≡ Some x → wrong_in v words ≡ None
 unfolding node_in
 node_lines v [] x h = cc h
 node_lines v (kind ∷ words) x h = elim (word_or kind (codes "node") (limits_in words) _ x h) [
@@ -385,7 +380,7 @@ node_lines v (kind ∷ words) x h = elim (word_or kind (codes "node") (limits_in
   | inr h1 ↦ cc h1
 ]
 
-pub plan_lines : (v : Version) (words : List (List ℕ)) (x : PlanLine) → plan_line_in v words ≡ Some x
+plan_lines : (v : Version) (words : List (List ℕ)) (x : PlanLine) → plan_line_in v words ≡ Some x
     → wrong_in v words ≡ None
 unfolding plan_line_in
 plan_lines v [] x h = cc h
@@ -429,7 +424,7 @@ slot_lines v kind words x h =
       ]
     ]
 
-pub entry_lines : (v : Version) (words : List (List ℕ)) (x : Entry) → entry_in v words ≡ Some x
+entry_lines : (v : Version) (words : List (List ℕ)) (x : Entry) → entry_in v words ≡ Some x
     → wrong_in v words ≡ None
 unfolding entry_in
 entry_lines v [] x h = cc h
@@ -455,11 +450,11 @@ entry_lines v (kind ∷ words) x h =
 -- ---- lines with the same words up to the wrong one
 
 known_here : {A : Type 0} (o : Option A) → IsSome o → (x : A) × (o ≡ Some x)
-known_here None h = absurd h
+known_here None h = cc h
 known_here (Some x) h = (x, refl)
 
--- no line that a trace of the version can have has a wrong word
-pub none_wrong : (v : Version) (words : List (List ℕ)) → IsLine v words → wrong_in v words ≡ None
+-- a line that a trace of the version can have has no wrong word
+none_wrong : (v : Version) (words : List (List ℕ)) → IsLine v words → wrong_in v words ≡ None
 none_wrong v words (inl is) = let (x, e) = known_here (params_in words) is in params_lines v words x e
 none_wrong v words (inr (inl is)) = let (x, e) = known_here (node_in words) is in node_lines v words x e
 none_wrong v words (inr (inr (inl is))) = let (x, e) = known_here (plan_line_in v words) is in plan_lines v words x e
@@ -520,16 +515,13 @@ same_begun v (kind ∷ words) (first ∷ others) n is same =
     let rest : take n others ≡ take n words = cc same in
     ap (λ k. wrong_after (forms_of v k) others) word ∙ same_after (forms_of v kind) words others n is rest
 
-wrong_so : (v : Version) (words : List (List ℕ)) (n : ℕ) → wrong_in v words ≡ Some n
+-- no line begins with the words up to the wrong one
+pub wrong_so : (v : Version) (words : List (List ℕ)) (n : ℕ) → wrong_in v words ≡ Some n
     → BeginsNoLine v words (place_in words n)
 wrong_so v words n is others same line =
-    let so = same_begun v words others n is (ap (λ k. take k others) (omega arith) ∙ same ∙ ap (λ k. take k words)
-    (omega arith)) in
-    let none = none_wrong v others line in
-    cc (sym none ∙ so)
-
--- what is named is wrong
-pub named_wrong : (v : Version) (words : List (List ℕ)) (o : Option ℕ) → wrong_in v words ≡ o
-    → IfSome (option_map (place_in words) o) (BeginsNoLine v words)
-named_wrong v words None is = tt
-named_wrong v words (Some n) is = wrong_so v words n is
+    let up : suc n ≡ n + 1 = omega arith in
+    let front : take (suc n) others ≡ take (suc n) words =
+    ap (λ k. take k others) up ∙ same ∙ sym (ap (λ k. take k words) up) in
+    let clash : ◌≡◌ {A = Option ℕ} None (Some n) =
+    sym (none_wrong v others line) ∙ same_begun v words others n is front in
+    cc clash

@@ -1,5 +1,5 @@
 -- The words that a line of a trace has after its first, and which of its words is wrong (project-defined).
-use Rattle.std.specs.Prelude.{◌≡◌, ⊥, ◌⊎◌, IsSome, ℕ, ◌+◌, ◌^◌, Bool, List, [], ◌∷◌, codes, take, Option, Some, None}
+use Rattle.std.specs.Prelude.{◌≡◌, ◌⊎◌, IsSome, ℕ, ◌+◌, ◌^◌, Bool, List, [], ◌∷◌, codes, take, Option, Some, None}
 use Rattle.std.specs.Prelude.{is_some, option_map}
 use Rattle.std.specs.Prelude.{if◌then◌else◌}
 use Rattle.std.specs.Str.{bytes_eq}

@@ -1,5 +1,5 @@
 //! The words that the lines of a trace have after their first, and which of a line's words is wrong.
-ghost use Rattle.std.specs.Prelude.{◌≡◌, ◌+◌, is_some, option_map, take, IfSome};
+ghost use Rattle.std.specs.Prelude.{◌≡◌, ◌+◌, ◌≤◌, ◌^◌, is_some, length, option_map, take, IfSome};
 ghost use Rattle.fr_lines.specs.Forms.{repetition_in, own_forms, plan_forms_of, journal_forms_of, forms_of};
 ghost use Rattle.fr_lines.specs.Forms.{wrong_at, wrong_in, place_in, BeginsNoLine};
 ghost use Rattle.fr_lines.specs.PartReading.{optional_slot_in, offered_in, seen_in};
@@ -278,7 +278,8 @@ fn forms_of(version: Version, kind: &[u8]) -> Option<&'static [WordForm]>
 /// Returns the number of the first word, from 0, that isn't what it has to be, that is one too many, or that is
 /// missing.
 fn wrong_at(forms: &[WordForm], words: &mut Words<'_>) -> Option<usize>
-    ensures { result ≡ wrong_at forms.now words.old }
+    ensures place { result ≡ wrong_at forms.now words.old }
+    ensures within { IfSome result (λ n. n ≤ length forms.now) }
 {
     for place in 0..forms.len() {
         let Some(word) = words.next_word() else {
@@ -296,7 +297,8 @@ fn wrong_at(forms: &[WordForm], words: &mut Words<'_>) -> Option<usize>
 
 /// Returns the number of the first word of a line that is wrong, from 0.
 fn wrong_in(version: Version, line: &[u8]) -> Option<usize>
-    ensures { result ≡ wrong_in version (words_of line.now) }
+    ensures place { result ≡ wrong_in version (words_of line.now) }
+    ensures few { IfSome result (λ n. n ≤ 2 ^ 63) }
 {
     let mut words = Words::new(line);
     let kind = words.next_word()?;

@@ -7,14 +7,14 @@ use Rattle.fr_lines.proofs.forms.wrong_at.Goals as goal
 pub loop-place-init : goal.loop-place-init
 loop-place-init c = add_none (wrong_at c.args.forms.now c.args.words.now)
 
-pub returns-in_default : goal.returns-in_default
-returns-in_default c =
+pub returns-in_default-clause-place : goal.returns-in_default-clause-place
+returns-in_default-clause-place c =
     sym (c.loop-place.invariant ∙ ap (λ (ws : List (List ℕ)). option_map (λ n. n + c.loop-place.place)
     (wrong_at (drop c.loop-place.place c.args.forms.now) ws)) c.in_default.ensures.end
     ∙ missing_here c.args.forms.now c.loop-place.place (form.Number 0) c.loop-place-test.true)
 
-pub returns-then-not-fits : goal.returns-then-not-fits
-returns-then-not-fits c =
+pub returns-then-not-fits-clause-place : goal.returns-then-not-fits-clause-place
+returns-then-not-fits-clause-place c =
     sym (c.loop-place.invariant ∙ ap (λ (ws : List (List ℕ)). option_map (λ n. n + c.loop-place.place)
     (wrong_at (drop c.loop-place.place c.args.forms.now) ws)) c.in-Some.ensures.words
     ∙ wrong_here c.args.forms.now c.loop-place.place (form.Number 0) c.in-Some.word.now c.next_word.new.self
@@ -27,8 +27,8 @@ loop-place-preserved c =
     ∙ right_more c.args.forms.now c.loop-place.place (form.Number 0) c.in-Some.word.now c.next_word.new.self
     c.fits.result c.loop-place-test.true (sym c.fits.ensures) c.if-not-fits.false
 
-pub returns-in-Some-next_word : goal.returns-in-Some-next_word
-returns-in-Some-next_word c =
+pub returns-in-Some-next_word-clause-place : goal.returns-in-Some-next_word-clause-place
+returns-in-Some-next_word-clause-place c =
     let at : c.loop-place.place ≡ length c.args.forms.now =
     omega (arith, c.loop-place-test.false, c.loop-place.auto.place-end) in
     sym (c.loop-place.invariant ∙ ap (λ (ws : List (List ℕ)). option_map (λ n. n + c.loop-place.place)
@@ -37,8 +37,8 @@ returns-in-Some-next_word c =
     (c.in-Some-next_word.field-0.now ∷ c.next_word-2.new.self))) at
     ∙ one_more c.args.forms.now c.in-Some-next_word.field-0.now c.next_word-2.new.self)
 
-pub returns-in-None : goal.returns-in-None
-returns-in-None c =
+pub returns-in-None-clause-place : goal.returns-in-None-clause-place
+returns-in-None-clause-place c =
     let at : c.loop-place.place ≡ length c.args.forms.now =
     omega (arith, c.loop-place-test.false, c.loop-place.auto.place-end) in
     sym (c.loop-place.invariant ∙ ap (λ (ws : List (List ℕ)). option_map (λ n. n + c.loop-place.place)
