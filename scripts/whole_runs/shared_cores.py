@@ -7,11 +7,11 @@ from pathlib import Path
 from .runner import EXAMPLES, SECONDS, Runs
 
 LOOPS = 2
-MOST_TIMES = 20
-"""The most times that a run may take what it takes alone on the core. Its fair share makes that 3, and a run that looks
-on without sleeping takes 200."""
-LEAST = 0.05
-"""A time in seconds that a run alone is taken to need at least, so that a short one isn't held to too little."""
+MOST_SHARES = 2
+"""The most fair shares that a run may take. With two loops on its core a share is three times what it takes alone. A run
+that looks on without sleeping takes some 70 shares."""
+TRIES = 4
+"""How many runs beside the loops may be too slow, since other work of the machine slows single runs."""
 
 
 def on_core(core: int, words: list[str | Path]) -> "subprocess.Popen[bytes]":
@@ -32,14 +32,25 @@ def seconds_of(core: int, words: list[str | Path]) -> float:
 def beside_loops(runs: Runs) -> None:
     """The car's threads sleep while other processes have the core, and don't look on."""
     core = max(os.sched_getaffinity(0))
-    words = [runs.program, "run", "vehicle/cluster.toml", "vehicle/scenario", "--cycles", "8"]
-    alone = max(LEAST, min(seconds_of(core, words) for _ in range(2)))
+    words = [runs.program, "run", "vehicle/cluster.toml", "vehicle/scenario", "--cycles", "54"]
+    alone = min(seconds_of(core, words) for _ in range(3))
+    most = MOST_SHARES * (LOOPS + 1) * alone
     loops = [on_core(core, ["sh", "-c", "while :; do :; done"]) for _ in range(LOOPS)]
     try:
-        beside = seconds_of(core, words)
+        beside = least_seconds(core, words, most)
     finally:
         for loop in loops:
             loop.kill()
             loop.wait()
-    name = f"a run beside busy loops in {beside:.1f} s, alone in {alone:.2f} s"
-    runs.compare(name, beside < MOST_TIMES * alone, True)
+    name = f"a run beside two busy loops in {beside:.2f} s, at most {most:.2f} s, alone in {alone:.2f} s"
+    runs.compare(name, beside <= most, True)
+
+
+def least_seconds(core: int, words: list[str | Path], most: float) -> float:
+    """Returns the least time of some runs, the first that is short enough if there is one."""
+    least = seconds_of(core, words)
+    for _ in range(TRIES - 1):
+        if least <= most:
+            break
+        least = min(least, seconds_of(core, words))
+    return least
