@@ -1,5 +1,8 @@
-use Rattle.std.proofs.Common.{◌≡◌, ◌≤◌, length, take, sym, ◌∙◌, arith}
-use Rattle.fr_trace.proofs.PieceLemmas.{read_more, read_fault}
+use Rattle.std.proofs.Common.{rules, ◌≡◌, ◌≤◌, length, take, sym, ◌∙◌, arith, subst, Result}
+use Rattle.fr_interface.specs.State.{State}
+use Rattle.fr_trace.specs.Audit.{ReadsThrough}
+use Rattle.fr_trace.specs.declared.error.TraceError.{TraceError}
+use Rattle.fr_trace.proofs.PieceLemmas.{read_more, read_fault, read_end}
 use Rattle.fr_trace.proofs.audit.read_through.Goals as goal
 
 pub returns-in-Err-fed-clause-through : goal.returns-in-Err-fed-clause-through
@@ -17,3 +20,11 @@ pieces-preserved g c = (
       c.feed-fed.ensures.state (sym c.feed-fed.ensures.answer ∙ c.in_default.is),
   c.read.auto.buf ∙ c.pieces.invariant.1,
 )
+
+pub returns-then-count-eq0-clause-through : goal.returns-then-count-eq0-clause-through
+returns-then-count-eq0-clause-through g c =
+    subst
+    (λ (r : Result State TraceError). ReadsThrough (g.R.Read.remaining c.args.reader.now)
+    (g.R.Read.remaining c.read.new.self) r)
+    (sym (c.lawful.ensures.same ∙ c.finish.ensures))
+    (read_end _ (g.R.Read.remaining c.pieces.reader) _ c.pieces.auditor c.pieces.invariant.0 (search rules) (search rules))
