@@ -1,0 +1,76 @@
+"""Writes docs/PROMISES.md: the front page, a table a crate, and what is said of the programs as a whole."""
+import textwrap
+from pathlib import Path
+
+from .reading import Clause, Promise, Section, split_name
+
+MARK = "<!-- Made by scripts/promises --write from docs/promises/ and crates/*/promises.toml: edit those. -->"
+HEAD = "| Promise | Carried by | Mutants |\n|---|---|---|"
+
+
+def code(names: list[str] | tuple[str, ...]) -> str:
+    """Returns the names in code style, with commas between them."""
+    return ", ".join(f"`{name}`" for name in names)
+
+
+def wrapped(text: str, indent: str = "") -> str:
+    """Returns a paragraph in lines of at most 120 columns."""
+    return textwrap.fill(text, 120, subsequent_indent=indent, break_long_words=False, break_on_hyphens=False)
+
+
+def named(name: str, crate: str, mark: str = "") -> str:
+    """Returns a name in code style, with its crate where that is another one."""
+    home, rest = split_name(name, crate)
+    return f"{mark}`{rest}`{mark}" + (f" of `{home}`" if home != crate else "")
+
+
+def clause_text(clause: Clause, crate: str) -> str:
+    """Returns functions and their clauses as the table has them."""
+    text = code(clause.functions) + (f" of `{clause.crate}`" if clause.crate != crate else "")
+    return text + (f": {code(clause.names)}" if clause.names else "")
+
+
+def carried_text(promise: Promise, crate: str) -> str:
+    """Returns the cell of what carries a promise."""
+    parts = [clause_text(clause, crate) for clause in promise.clauses]
+    if promise.list_of("parts"):
+        parts[-1] += f" (part {code(promise.list_of('parts'))})"
+    for key, word in (("invariants", "the invariant of"), ("definitions", "defined in"), ("display", "the display of")):
+        if promise.list_of(key):
+            parts.append(f"{word} " + ", ".join(named(name, crate) for name in promise.list_of(key)))
+    return "; ".join([*parts, *([promise.texts["also"]] if "also" in promise.texts else [])])
+
+
+def mutants_text(promise: Promise, crate: str) -> str:
+    """Returns the cell of the mutants: those of the test command in bold."""
+    names = [named(name, crate, "**") for name in promise.list_of("gate")]
+    names += [named(name, crate) for name in promise.list_of("mutants")]
+    return ", ".join([*names, *([promise.texts["see"]] if "see" in promise.texts else [])])
+
+
+def row_of(promise: Promise, crate: str) -> str:
+    """Returns the row of a promise."""
+    return f"| {promise.text} | {carried_text(promise, crate)} | {mutants_text(promise, crate)} |".replace("|  |", "| |")
+
+
+def tested_text(section: Section) -> list[str]:
+    """Returns the list of what tests show."""
+    lines = []
+    for what, by in section.tested:
+        names = [name.replace("/", "`: `") if name.startswith("fr_") else name for name in by]
+        lines.append(wrapped(f"- Tested by {code(names).replace('``', '`')}: {what}", "  "))
+    return ["\n".join(lines)] if lines else []
+
+
+def section_text(section: Section) -> str:
+    """Returns the section of a crate."""
+    table = "\n".join([HEAD, *(row_of(promise, section.crate) for promise in section.promises)])
+    heading = f"## {section.title} (`{section.crate}`)"
+    about = [wrapped(section.about)] if section.about else []
+    return "\n\n".join([heading, *about, table, *map(wrapped, section.notes), *tested_text(section)])
+
+
+def page_of(top: Path, sections: list[Section]) -> str:
+    """Returns the text of docs/PROMISES.md."""
+    front, back = ((top / "docs/promises" / name).read_text(encoding="utf-8") for name in ("front.md", "back.md"))
+    return "\n\n".join([MARK, front.strip(), *map(section_text, sections), back.strip()]) + "\n"
