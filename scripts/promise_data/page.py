@@ -5,12 +5,12 @@ from pathlib import Path
 from .reading import Clause, Promise, Section, split_name
 
 MARK = "<!-- Made by scripts/promises --write from docs/promises/ and crates/*/promises.toml: edit those. -->"
-HEAD = "| Promise | Carried by | Mutants |\n|---|---|---|"
+HEAD = "| Promise | Carried by | Mutants |\n|-|-|-|"
 
 
 def code(names: list[str] | tuple[str, ...]) -> str:
-    """Returns the names in code style, with commas between them."""
-    return ", ".join(f"`{name}`" for name in names)
+    """Returns the names as one piece of code, with commas between them."""
+    return f"`{', '.join(names)}`"
 
 
 def wrapped(text: str, indent: str = "") -> str:
@@ -35,7 +35,7 @@ def carried_text(promise: Promise, crate: str) -> str:
     parts = [clause_text(clause, crate) for clause in promise.clauses]
     if promise.list_of("parts"):
         parts[-1] += f" (part {code(promise.list_of('parts'))})"
-    for key, word in (("invariants", "the invariant of"), ("definitions", "defined in"), ("display", "the display of")):
+    for key, word in (("invariants", "invariant of"), ("definitions", "defined in"), ("display", "display of")):
         if promise.list_of(key):
             parts.append(f"{word} " + ", ".join(named(name, crate) for name in promise.list_of(key)))
     return "; ".join([*parts, *([promise.texts["also"]] if "also" in promise.texts else [])])
@@ -50,16 +50,26 @@ def mutants_text(promise: Promise, crate: str) -> str:
 
 def row_of(promise: Promise, crate: str) -> str:
     """Returns the row of a promise."""
-    return f"| {promise.text} | {carried_text(promise, crate)} | {mutants_text(promise, crate)} |".replace("|  |", "| |")
+    cells = (promise.text, carried_text(promise, crate), mutants_text(promise, crate))
+    return f"| {' | '.join(cells)} |".replace("|  |", "| |")
+
+
+def tests_text(names: list[str]) -> str:
+    """Returns the names of tests, those of one crate behind its name."""
+    crates: dict[str, list[str]] = {}
+    for name in names:
+        home, _, test = name.partition("/") if name.startswith("fr_") else (name, "", "")
+        crates.setdefault(home, []).extend([test] if test else [])
+    return ", ".join(f"`{home}`" + (f" ({code(tests)})" if tests else "") for home, tests in crates.items())
 
 
 def tested_text(section: Section) -> list[str]:
     """Returns the list of what tests show."""
-    lines = []
-    for what, by in section.tested:
-        names = [name.replace("/", "`: `") if name.startswith("fr_") else name for name in by]
-        lines.append(wrapped(f"- Tested by {code(names).replace('``', '`')}: {what}", "  "))
-    return ["\n".join(lines)] if lines else []
+    if len(section.tested) == 1:
+        what, by = section.tested[0]
+        return [wrapped(f"Tested by {tests_text(by)}: {what}")]
+    lines = [wrapped(f"- {tests_text(by)}: {what}", "  ") for what, by in section.tested]
+    return ["Tested:\n\n" + "\n".join(lines)] if lines else []
 
 
 def section_text(section: Section) -> str:

@@ -1,4 +1,4 @@
-"""The names that the sources of a crate have: functions with their clauses, types, modules, words, mutants and tests."""
+"""The names in the sources of a crate: functions with their clauses, types, modules, words, mutants and tests."""
 import re
 from pathlib import Path
 
