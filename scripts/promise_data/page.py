@@ -33,8 +33,8 @@ def clause_text(clause: Clause, crate: str) -> str:
 def carried_text(promise: Promise, crate: str) -> str:
     """Returns the cell of what carries a promise."""
     parts = [clause_text(clause, crate) for clause in promise.clauses]
-    if promise.list_of("parts"):
-        parts[-1] += f" (part {code(promise.list_of('parts'))})"
+    if inner := promise.list_of("parts"):
+        parts[-1] += f" (part{'s' if len(inner) > 1 else ''} {code(inner)})"
     for key, word in (("invariants", "invariant of"), ("definitions", "defined in"), ("display", "display of")):
         if promise.list_of(key):
             parts.append(f"{word} " + ", ".join(named(name, crate) for name in promise.list_of(key)))
