@@ -5,7 +5,7 @@ from pathlib import Path
 from .reading import Clause, Promise, Section, split_name
 
 MARK = "<!-- Made by scripts/promises --write from docs/promises/ and crates/*/promises.toml: edit those. -->"
-HEAD = "| Promise | Carried by | Mutants |\n|-|-|-|"
+HEAD = "| Promise | Clauses | Mutants |\n|-|-|-|"
 
 
 def code(names: list[str] | tuple[str, ...]) -> str:
