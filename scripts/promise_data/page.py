@@ -80,7 +80,12 @@ def section_text(section: Section) -> str:
     return "\n\n".join([heading, *about, table, *map(wrapped, section.notes), *tested_text(section)])
 
 
+def part_of(path: Path) -> str:
+    """Returns a part that is written by hand, with its links as docs/ has them."""
+    return path.read_text(encoding="utf-8").strip().replace("](../", "](")
+
+
 def page_of(top: Path, sections: list[Section]) -> str:
     """Returns the text of docs/PROMISES.md."""
-    front, back = ((top / "docs/promises" / name).read_text(encoding="utf-8") for name in ("front.md", "back.md"))
-    return "\n\n".join([MARK, front.strip(), *map(section_text, sections), back.strip()]) + "\n"
+    front, back = (part_of(top / "docs/promises" / name) for name in ("front.md", "back.md"))
+    return "\n\n".join([MARK, front, *map(section_text, sections), back]) + "\n"
