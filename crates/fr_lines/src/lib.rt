@@ -15,6 +15,15 @@
 //!
 //! A chapter in parentheses is one of the FlexRay Protocol Specification 2.1, revision A, whose rule it is.
 //! *(project-defined)* marks a rule of this project's own, which says nothing of the standard.
+//!
+//! # Definitions
+//!
+//! - `Spelling`, `Reading`, `Parts`, `PartReading`, `Spelled`, `Versions`: the lines of a trace and their parts; texts
+//!   that lines can spell; the lines of each version.
+//!
+//! Modules that go the way of the code, for private functions, with the module that has the meaning:
+//!
+//! - `Bare`: entries without their bytes, and the bytes beside them. Meaning: `fr_journal`: `Entry`, with its bytes.
 #![tactic(auto)]
 
 pub mod bare;

@@ -8,6 +8,10 @@
 //! ```
 //!
 //! *(project-defined)* marks a rule of this project's own, which says nothing of the standard.
+//!
+//! # Definitions
+//!
+//! - `Orders`: the words that are an order of `fr_bench`.
 #![tactic(auto)]
 
 pub mod command;
