@@ -65,6 +65,10 @@
 //! all nodes. It walks each journal once beside the record (`walk`) and hands each entry to the fetches, the observes
 //! and the tasks (`tasks`). The same answer comes from `settle_in_threads`, which uses as many threads as run side by
 //! side. One of them is the caller's.
+//!
+//! An owner is defined by ownership lines (`IsOwner`), which in static slots is the owner of the sender table.
+//! `Receivers` names the recorded window and says that it is there. As a condition on some window of the record it
+//! would also hold of a frame from none.
 #![tactic(auto)]
 
 pub mod controller;

@@ -24,6 +24,10 @@
 //! Modules that go the way of the code, for private functions, with the module that has the meaning:
 //!
 //! - `Bare`: entries without their bytes, and the bytes beside them. Meaning: `fr_journal`: `Entry`, with its bytes.
+//!
+//! # Inner workings
+//!
+//! The crate knows no reader, so a changed line is proved without the auditor.
 #![tactic(auto)]
 
 pub mod bare;

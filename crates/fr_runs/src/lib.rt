@@ -21,6 +21,10 @@
 //! Modules that go the way of the code, for private functions, with the module that has the meaning:
 //!
 //! - `Steps`: progress of a walk along a journal, as counts. Meaning: `Stepping`.
+//!
+//! # Inner workings
+//!
+//! The crate stands below the texts of scenarios and the threads, so each is proved by itself.
 #![tactic(auto)]
 
 pub mod check;

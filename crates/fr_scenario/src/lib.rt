@@ -19,6 +19,10 @@
 //! Modules that go the way of the code, for private functions, with the module that has the meaning:
 //!
 //! - `Gathering`: the contents of the lines so far. Meaning: `Contents`, `ScenarioText`.
+//!
+//! # Inner workings
+//!
+//! The crate isn't part of `fr_trace`, which would have to wait for the bus and the world.
 #![tactic(auto)]
 
 pub mod error;
