@@ -46,8 +46,8 @@ const MOST_SLEEPS: u32 = 65_536;
 /// A pause that isn't long takes off one part in so many of the calls that sleep at once after the next long one.
 const RELIEF: u32 = 8;
 
-/// Of so many takes one reads the clock while no pause was long: where each wait does, a run of sixteen nodes takes 3 to
-/// 5 % longer.
+/// Of so many takes one reads the clock while no pause was long. Where each wait reads it, a run of sixteen nodes takes
+/// 3 to 5 % longer.
 const TIMED_TAKES: u32 = 8;
 
 /// Why a call of a wire is refused (project-defined).
