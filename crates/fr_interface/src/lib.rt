@@ -17,6 +17,7 @@
 //! - `State`, `Commits`: the state of an interface, its refusals, the invariant; its commits and their fates.
 //! - `Handing`: the bytes that a fetch handed to the bus, by its entry.
 //! - `ErrorNames`: the printed names of refusals.
+//! - `Standing`: what an interface has at hand to go on, in place of the calls that led there.
 //!
 //! Modules that go the way of the code, for private functions, with the module that has the meaning:
 //!
@@ -27,10 +28,10 @@
 //!
 //! # Inner workings
 //!
-//! Beside its journal an interface keeps for each buffer of the plan a transmit buffer, with tally and last commit, or
-//! a receive buffer with its last frame. It also keeps the open window (`opening`), the receive FIFO as a ring, and the
-//! status counters. The type says that all these are what the journal gives (`InterfaceFields`, `IsLawful`). So no call
-//! scans the journal, and an old entry is reached by its number. A withdrawn commit isn't kept.
+//! Beside its journal an interface keeps (`state`) for each buffer of the plan a transmit buffer, with tally and last
+//! commit, or a receive buffer with its last frame. It also keeps the open window (`opening`), the receive FIFO as a
+//! ring, and the status counters. The type says that all these are what the journal gives (`InterfaceFields`,
+//! `IsLawful`). So no call scans the journal, and an old entry is reached by its number. A withdrawn commit isn't kept.
 //!
 //! - `sending` has the frames that leave transmit buffers, and `offers` spells them.
 //! - `observed` has the effects of an observed window, each frame of which is decoded once.

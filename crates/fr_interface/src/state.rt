@@ -30,8 +30,8 @@ use fr_status::seen::Seen;
 use std::alloc::Global;
 use std::marker::Model;
 
-// No call scans the journal: the results stand here, and the invariant of the type says that they are those. With scans
-// an audit of 44 MB took 21.5 s, or 276 s.
+// No call scans the journal: the results stand here, and the invariant of `Interface` says that they are those. With
+// scans an audit of 44 MB took 21.5 s, or 276 s.
 /// What is at hand after some calls of a host and of a controller.
 #[derive(Drop)]
 pub struct InterfaceState {

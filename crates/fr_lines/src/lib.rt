@@ -20,6 +20,7 @@
 //!
 //! - `Spelling`, `Reading`, `Parts`, `PartReading`, `Spelled`, `Versions`: the lines of a trace and their parts; texts
 //!   that lines can spell; the lines of each version.
+//! - `Forms`: the words that a line has after its first, and which of them is wrong.
 //!
 //! Modules that go the way of the code, for private functions, with the module that has the meaning:
 //!

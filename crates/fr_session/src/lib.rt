@@ -19,6 +19,7 @@
 //!   line; replies; the words of a record; the answers to queries.
 //! - `Striking`, `Keeping`, `Moving`: the faults of a window; kept fault lines; the steps that are due in a window, and
 //!   windows one after another.
+//! - `Marks`: marks of the windows that fault lines name, by which a line is compared with all others at once.
 //! - `Sessions`, `Laws`: a session; laws of all sessions.
 //!
 //! Modules that go the way of the code, for private functions, with the module that has the meaning:
