@@ -1,6 +1,7 @@
 # For scripts/launch, scripts/build, scripts/ship and the test command: what a program was made from, and which it is.
 
 # The digest of all sources below a folder: of a line for each file, its digest and its name, in the order of names.
+# It is one for all programs. Per program the launcher would walk crates.txt at each call, and a renewal takes a minute.
 digest_of_sources() {
     (
         CDPATH='' cd -- "$1" && set -o pipefail &&

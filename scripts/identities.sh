@@ -1,5 +1,9 @@
 # For scripts/launch and scripts/launch_anew: what tells whether the program $name in $folder of the repository in $top
 # is still the right one. The note is $found. This is for a plain shell.
+#
+# Identities and the digest of the program take 5 ms more than a comparison of times. Times alone miss a folder that is
+# moved to dist/ and a note from the future. A change within one clock tick that keeps the size can be missed; ./test
+# reads all sources.
 
 # Tells whether the program is the one that `digests` beside it names.
 is_named() {

@@ -212,6 +212,7 @@ def linted(given: argparse.Namespace) -> int:
             return traced(given, task)
         try:
             overwritten = Overwritten()
+            # `run` itself decides whether a scenario suits, and its outcome is dropped.
             answer = ask(given.program, words_for(task), listen=overwritten.read if given.scenario else None)
         except OSError as error:
             raise Stop(USAGE, f"{given.program} can't be run: {error.strerror}") from None

@@ -20,6 +20,7 @@ PROGRAM_FILE = "program"
 SENT = (PROGRAM_FILE, CLUSTER_FILE, SCENARIO_FILE, "lines", "jobs", "script")
 """The files that a machine gets."""
 RUNS_IN_A_JOB = 16
+"""A login takes longer than a run, so a job has several."""
 SCRIPT = """#!/bin/sh
 # Does the runs of the lines $1 to $2 of `jobs`, and prints the answer of each that has one. $3 is the digest of all
 # that was sent. A line of `jobs` has the number of a run, the first and the last of its lines in `lines`, and the

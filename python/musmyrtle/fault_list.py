@@ -207,6 +207,7 @@ class Listing:
             yield ALL, []
 
     def lost_by(self, node: int, channels: str) -> list[Begun]:
+        # In the run with the loss later frames move up, so the run without a fault would leave some of them sent.
         if (node, channels) not in self.lost:
             self.lost[node, channels] = self.plays.lose(node, channels, self.each_cycle())
         return self.lost[node, channels]

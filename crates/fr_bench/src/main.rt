@@ -17,6 +17,10 @@
 //!
 //! A chapter in parentheses is one of the FlexRay Protocol Specification 2.1, revision A, whose rule it is.
 //! *(project-defined)* marks a rule of this project's own, which says nothing of the standard.
+//!
+//! # Definitions
+//!
+//! - `Audits`, `Failures`: how far the program's `audit` reads; the exit status of each failure.
 #![tactic(auto)]
 
 mod audit;

@@ -15,6 +15,13 @@
 //!
 //! A chapter in parentheses is one of the FlexRay Protocol Specification 2.1, revision A, whose rule it is.
 //! *(project-defined)* marks a rule of this project's own, which says nothing of the standard.
+//!
+//! # Definitions
+//!
+//! Modules that go the way of the code, for private functions, with the module that has the meaning:
+//!
+//! - `Transmitting`, `Waiting`: a buffer or a FIFO after one call. Meaning: `fr_journal`: `Fate`, `Offers`, `Held`,
+//!   `Arrivals`.
 #![tactic(auto)]
 
 pub mod queue;

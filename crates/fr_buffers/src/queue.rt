@@ -12,6 +12,7 @@ use std::marker::Model;
 /// Frames that wait to be popped, the oldest first, in a ring (project-defined).
 #[derive(Drop)]
 pub struct ReceiveQueue {
+    // It takes its memory once, and a push into a full ring returns the frame that made room.
     ring: HeapCircularBuffer<Arrival>,
     lost: u32,
 }

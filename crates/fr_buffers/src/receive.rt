@@ -58,6 +58,7 @@ impl RxBuffer {
         }
     }
 
+    // It lends an `Arrival`, as the definitions of the journal have it, not a tuple.
     /// Returns the frame that it holds, and where that comes from.
     pub fn held(&self) -> Option<&Arrival>
         ensures { option_copied result ≡ self.now }

@@ -19,6 +19,8 @@ pub struct HeldCommit {
     pub payload: Payload,
 }
 
+// The tally is kept as numbers, since a walk for each commit is quadratic. The definition (`Fate`) still asks each
+// commit for its fate by the entries after it.
 /// What a node keeps of a buffer that transmits: its mode, its last commit unless that was withdrawn, and what became
 /// of all of them (chapter 9; the modes, withdraws and the tally are project-defined).
 #[derive(Drop)]

@@ -42,6 +42,8 @@ pub struct Bus {
     course: Course,
     /// One for each node.
     stations: Stations,
+    // Up to 16 stations of a kilobyte were read for that under the lock. The invariant says that both numbers count the
+    // stations.
     /// How many stations have put in the open window, so that none is read to know whether all have.
     put_count: usize,
     /// How many stations have taken in it.
@@ -176,6 +178,8 @@ impl Bus {
         self.phase
     }
 
+    // With `nodes`, `all_put` and `all_taken` it lets a waiting caller decide without a second look. A bus that is over
+    // answers `NotCollecting` or `NotSealed`.
     /// Returns the open window, while nodes put their offers. None once it is sealed, and once the run is over.
     pub fn collecting(&self) -> Option<Window>
         ensures { result ≡ collecting_of self.now }
@@ -440,6 +444,7 @@ impl Bus {
         ensures refused_a { OnErr result (a.new ≡ a.old) }
         ensures refused_b { OnErr result (b.new ≡ b.old) }
     {
+        // It writes in place, as `put` and `fetch_into` of the interface do, so no room for frames is moved.
         if !self.is_node(node) {
             return Err(BusError::UnknownNode);
         }

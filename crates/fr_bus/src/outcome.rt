@@ -225,6 +225,7 @@ pub(crate) fn all_sent(
 ) -> Result<Vec<Sent>, AllocError>
     ensures { IfOk result (λ list. list.items ≡ sent_from guardian.now window.now 0 stations.now) }
 {
+    // So a frame is copied only into its station, into the record, and for each node that takes it.
     let mut list = Vec::with_capacity(alloc, stations.count_offered())?;
     for number in 0..stations.len() {
         let node = NodeId::from_number(number as u8);

@@ -87,6 +87,7 @@ impl Sides {
     }
 }
 
+// In one place the run of the car took 6 % longer.
 /// What all nodes do in the open window, 16 at the most.
 ///
 /// Who has put and taken stands beside the bus's counts, since each call of a node writes it, and apart from what is

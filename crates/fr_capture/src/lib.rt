@@ -7,6 +7,30 @@
 //!
 //! A chapter in parentheses is one of the FlexRay Protocol Specification 2.1, revision A, whose rule it is.
 //! *(project-defined)* marks a rule of this project's own, which says nothing of the standard.
+//!
+//! # Definitions
+//!
+//! - `Moments`, `Sightings`, `Taking`, `Takers`, `Pcap`, `Table`, `Shows`: the times of a journal's windows; the
+//!   observations in them; the receivers of a frame; a record of a capture; a line of a table; the output for a trace.
+//!
+//! Modules that go the way of the code, for private functions, with the module that has the meaning:
+//!
+//! - `Clocks`; `TakingSteps`, `TakerSteps`, `LineSteps`: the last fetched window and the completed rounds; receivers
+//!   and lines for a known frame. Meaning: `Moments`, `Sightings`: by the entries before; `Taking`, `Takers`, `Table`.
+//!
+//! # Inner workings
+//!
+//! 1. `interface_of` (`fr_trace::audit`) reads the trace as `audit` does.
+//! 2. `write_form` (`show`) goes along the journal once. It keeps the last fetched window, by its entry, with the
+//!    completed rounds (`moment`), and writes the observations of A and B (`captured` and `pcap`, `lines` and `table`).
+//! 3. A controller's own frame is the one that the fetch handed to the bus, which the interface spells again.
+//! 4. For a table line both channels are looked at first, since a buffer for both stores one frame alone (`taking`,
+//!    `takers`).
+//! 5. The output gathers in a piece of 64 KiB that is reserved before anything is written, and each full piece goes to
+//!    the writer. So nothing is written of a refused trace, and no second copy of a capture is made.
+//!
+//! The definition speaks of whole lists: the output of an entry follows from the entries before it (`each_after`), and
+//! the number of rounds is a count of them.
 #![tactic(auto)]
 
 mod captured;

@@ -1,4 +1,7 @@
 //! A trace, read and shown.
+//!
+//! A capture is an audit and one walk. Each entry is made anew and each frame is decoded again, since a journal keeps
+//! neither.
 
 ghost use Rattle.std.specs.Prelude.{◌≡◌, ◌≤◌, ◌⊎◌, ◌++◌, [], IfErr, IfSome, IsSomeAnd, OnOk};
 ghost use Rattle.std.specs.Io.KnownBytes.{Appends, Keeps};

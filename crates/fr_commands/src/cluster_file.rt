@@ -30,6 +30,8 @@ fn cluster_in(alloc: Global, bytes: &[u8]) -> Result<Cluster, BenchError>
 pub fn cluster_of<R: Read>(alloc: Global, reader: &mut R) -> Result<Cluster, BenchError>
     ensures { IfSome (R.remaining reader.old) (λ text. IsClusterOf text result) }
 {
+    // The limit is met while reading, so a file that is too long and no TOML is `TooLong`. Alone `TooLong` means the
+    // file; with two numbers it means the frame of a buffer.
     let bytes = read_up_to(alloc, reader, MOST_BYTES)?;
     cluster_in(alloc, bytes.as_slice())
 }

@@ -9,6 +9,22 @@
 //!
 //! A chapter in parentheses is one of the FlexRay Protocol Specification 2.1, revision A, whose rule it is.
 //! *(project-defined)* marks a rule of this project's own, which says nothing of the standard.
+//!
+//! # Definitions
+//!
+//! - `Checks`, `Inputs`, `ClusterFiles`, `Midpoints`, `PlanText`, `Numbers`: `check`, `plan` and `midpoint` on a whole
+//!   text; the reading of an input and of a cluster file; the text of a plan; the numbers of a text.
+//!
+//! # Inner workings
+//!
+//! 1. `cluster_file` reads the whole file, or one byte more than it may have. The parser's failed allocations are
+//!    reported as `Memory`, other texts that are no TOML as `Toml`.
+//! 2. `plan` computes open intervals for as many cycles as differ.
+//! 3. `output` hands the whole text to the writer.
+//!
+//! The function `midpoint_text` reads standard input, or one byte more than it may have. A number that 32 bits can't
+//! hold is brought to the nearest one that they can, so it is refused as too large in its turn. Then `midpoint` sorts
+//! the values in an array and takes the middle.
 #![tactic(auto)]
 
 pub mod check;

@@ -41,6 +41,7 @@ fn magnitude_of(digits: &[u8]) -> Option<u64>
 fn number_of(word: &[u8]) -> Option<i32>
     ensures { result ≡ number_in word.now }
 {
+    // `-0` and `007` are numbers, and `+7` isn't. Eleven digits are no number either, and so `BadNumber`.
     match word.strip_prefix(b"-".as_slice()) {
         Some(digits) => {
             let magnitude = magnitude_of(digits)?;
@@ -62,6 +63,7 @@ fn with_spaces(alloc: Global, text: &[u8]) -> Result<Vec<u8>, AllocError>
         .collect(alloc)
 }
 
+// Separators alone spell no number, and their midpoint is `none`.
 /// Returns the numbers that a text spells, separated by spaces and line feeds (project-defined).
 ///
 /// A number is an optional `-` and 1 to 10 digits. One that doesn't fit 32 bits is brought to the

@@ -20,6 +20,8 @@ pub enum Due {
     Observe(Window),
 }
 
+// Moving the offer and the observations took three fifths of a single-threaded run. `Carried` is a definition that
+// contracts cite, since events are specified by it.
 /// A controller: which of its steps is due, and room for what it carries to that step. The offer counts where a put is
 /// due, and the sights where an observe is. They stay in place, so that no room for frames is moved.
 #[derive(Drop)]

@@ -189,6 +189,8 @@ impl Machine {
     fn look(&mut self, node: NodeId) -> Result<Window, StepError>
         ensures { Steps self.old (event.Look node) (with_window result) self.new }
     {
+        // The node is tested first, then the turn, then the call. So a busy controller that looks is `WrongTurn` in
+        // every phase, and an idle one gets `NotCollecting` from the bus.
         let place = self.place(node)?;
         let controller = &mut self.controllers[place];
         let Due::Look = &controller.due else {
@@ -266,6 +268,7 @@ impl Machine {
     fn inject(&mut self, fault: &Fault) -> Result<(), StepError>
         ensures { Steps self.old (event.Inject fault.now) (answered Done result) self.new }
     {
+        // A fault names a node of the bus, so the bus refuses an unknown one.
         self.bus.inject(fault.duplicate())?;
         Ok(())
     }

@@ -15,6 +15,7 @@ pub fn run_events(world: &mut World, events: &[Event]) -> u64
     ensures run { IsRunOf world.old events.now result world.new }
     ensures headline { Headline world.new }
 {
+    // The clause counts the commits that were added, not all of them. For an opening world both are the same.
     let mut accepted = 0;
     for event in events {
         accepted += u64::from(world.step(event).is_ok());

@@ -255,6 +255,7 @@ fn or_task(
     }
 }
 
+// All numbers that a node can have are looked at, since a record may have a transmission of a node outside the cluster.
 /// Returns what differs first of each kind. Each journal is walked once: those of the first nodes were, which found
 /// these, and all others are walked here.
 fn find_differences(
@@ -367,6 +368,7 @@ fn settle_beside(
     ensures receivers { OnOk result (Receivers cluster.now interfaces.now bus.now.sealed) }
     ensures between { IsBetweenWindows cluster.now interfaces.now bus.now → DiffersInScriptsAlone result }
 {
+    // The clauses on senders and receivers hold for any bus, since a lock can't give back which bus lay under it.
     let recorded = bus.record();
     let answer = judge(alloc, cluster, interfaces, recorded, scripts, first);
     let _params = cluster.params();
@@ -430,6 +432,7 @@ pub fn settle_in_threads<R: Threads + Sync>(
     ensures receivers { OnOk result (Receivers cluster.now interfaces.now bus.now.sealed) }
     ensures between { IsBetweenWindows cluster.now interfaces.now bus.now → DiffersInScriptsAlone result }
 {
+    // A thread for each node took longer than a short walk, so there are as many threads as cores.
     let first = find_in_threads(
         rt,
         alloc,

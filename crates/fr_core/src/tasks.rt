@@ -101,6 +101,7 @@ fn is_answer(told: &Option<Reply>, answer: &Reply) -> bool
     }
 }
 
+// A line without an answer takes any. Cycles of lines aren't compared: a world has no steps.
 /// Returns whether the line is what was done.
 fn is_line(line: &Line, deed: &Deed) -> bool
     ensures { IsTrue result ↔ IsLine line.now deed.now }
@@ -151,6 +152,8 @@ fn has_line_at(
     }
 }
 
+// A walk along the journal goes through all scripts that are given for the task of a host entry, so each journal is
+// walked once.
 /// Returns whether each script of the task has what was done as its line at this place.
 fn have_lines(scripts: &[Script], node: NodeId, task: TaskId, place: usize, deed: &Deed) -> bool
     ensures { IsTrue result ↔ HaveLines scripts.now node task place deed.now }
@@ -229,6 +232,7 @@ fn are_as_long(scripts: &[Script], node: NodeId, task: TaskId, deeds: usize) -> 
 fn suits(scripts: &[Script], node: NodeId, task: TaskId, course: Course) -> bool
     ensures { IsTrue result ↔ Suits scripts.now node task course }
 {
+    // Each script for a task has to be all that the task did. Without a script it has to have done nothing.
     course.agrees
         && are_as_long(scripts, node, task, course.deeds)
         && (has_script(scripts, node, task) || course.deeds == 0)

@@ -122,6 +122,7 @@ impl World {
     pub fn known(&self)
         ensures headline { Headline self.now }
     {
+        // This, `interfaces`, `bus` and `run_events` all state `Headline` whole, so one call is enough.
         legal::known(self.machine.interfaces());
         self.machine.bus().known();
     }

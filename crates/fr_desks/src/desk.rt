@@ -73,6 +73,8 @@ struct Counted<L: Ledger> {
     ghost unused: { own ≡ 0 },
 }
 
+// A lock gives back a value of which only the type is known. So the clauses about the value stand in these private
+// functions.
 impl<L: Ledger> Counted<L> {
     /// Returns the interface's commit. One that is accepted is posted with the share.
     fn commit(

@@ -50,6 +50,7 @@ impl Stage {
     }
 }
 
+// Calls look here up to 400 times before they go for the lock, so that early calls don't take it from due ones.
 /// The stage that was told last. It may be told late, so it decides nothing: each call asks again under the lock.
 #[derive(Drop)]
 pub(crate) struct Hint {

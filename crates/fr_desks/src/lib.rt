@@ -12,6 +12,14 @@
 //!
 //! A chapter in parentheses is one of the FlexRay Protocol Specification 2.1, revision A, whose rule it is.
 //! *(project-defined)* marks a rule of this project's own, which says nothing of the standard.
+//!
+//! # Definitions
+//!
+//! - `Passes`: the state of a task's handle (`Pass`).
+//!
+//! # Inner workings
+//!
+//! A `Wire` has one lock and two condition variables, for the nodes and for the bus.
 #![tactic(auto)]
 
 pub mod desk;

@@ -25,10 +25,13 @@ use thiserror::Error;
 /// some ten microseconds, and to be woken takes as long.
 const LOOKS: u32 = 400;
 
+// Nodes yield after each look: with 100 looks in a row runs took 5 to 7 % longer, and with 20,000 for the bus up to
+// twice as long.
 /// How often the calls that move the bus on look in a row before they let other threads run, which takes a microsecond
 /// or two: all nodes wait for them.
 const LOOKS_IN_A_ROW: u32 = 2_000;
 
+// With 0.1 ms the run of the car took 1.5 times as long on one core.
 /// The most time, in microseconds, that other threads of the run take before a call looks again. Another process that
 /// is let run keeps the core for a slice of some milliseconds, so a longer pause shows that the cores are shared.
 const LONG_PAUSE: u128 = 500;
@@ -43,8 +46,8 @@ const MOST_SLEEPS: u32 = 65_536;
 /// A pause that isn't long takes off one part in so many of the calls that sleep at once after the next long one.
 const RELIEF: u32 = 8;
 
-/// Of so many takes one reads the clock while no pause was long: where each wait does, a run of sixteen nodes takes 3 to
-/// 5 % longer.
+/// Of so many takes one reads the clock while no pause was long. Where each wait reads it, a run of sixteen nodes takes
+/// 3 to 5 % longer.
 const TIMED_TAKES: u32 = 8;
 
 /// Why a call of a wire is refused (project-defined).
@@ -244,6 +247,7 @@ fn microseconds<R: Clock>(rt: &R) -> u128 {
 pub struct Wire {
     nodes: u8,
     lock: Mutex<Wired>,
+    // Two condition variables wake no thread for the event of another.
     /// A window opened or was sealed, or the wire was stopped.
     for_nodes: Signal,
     /// All have put or taken, or the wire was stopped.
@@ -284,6 +288,8 @@ impl Wire {
         node.number() < self.nodes
     }
 
+    // It is given a function and is compiled for each call. An enum of calls went through a jump table and cost a tenth
+    // more instructions.
     /// Returns the bus under its lock, once the call is due at the stage that the window has come to. A call that is
     /// timed tells whether other processes take the cores.
     fn ready<R: Wait + Clock, F: Fn(Stage) -> bool>(
@@ -361,6 +367,7 @@ impl Wire {
 
     /// The bus's inject, once the open window collects. Refused with `Stopped`, and as the bus's is.
     pub fn inject<R: Wait + Clock>(&self, rt: &R, fault: Fault) -> Result<(), WireError> {
+        // A fault of an unknown node waits for its phase, too.
         let mut wired = self.ready(rt, &self.for_nodes, false, |stage| stage.lets_offer())?;
         let answer = wired.bus.inject(fault);
         answer.map_err(|error| WireError::Bus(error))

@@ -27,6 +27,7 @@ pub fn crc11(bits: &[bool]) -> u16
     ensures value { result ≡ number_of (header_check bits.now) }
     ensures fits { result < 2 ^ 11 }
 {
+    // The tables are for bytes, and bits are given here, so it goes bit by bit.
     let mut register = HEADER_INITIAL;
     for bit in bits {
         register = step_header(register, *bit);
@@ -44,6 +45,7 @@ pub fn crc24(bytes: &[u8], channel: Channel) -> u32
         Channel::A => FRAME_INITIAL_A,
         Channel::B => FRAME_INITIAL_B,
     };
+    // Sixteen bytes go in by sixteen entries at a time, and `step_rest` takes what is left by eight.
     let (sixteens, rest) = bytes.as_chunks::<16>();
     for sixteen in sixteens {
         register = step_sixteen(register, *sixteen);

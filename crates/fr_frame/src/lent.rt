@@ -3,6 +3,8 @@
 use fr_slots::numbers::Cycle;
 use std::marker::Model;
 
+// By value a frame was copied ten times from the decoder to the interface. `decode` stays for callers that keep a
+// frame.
 /// A frame as it is read from its bytes, among which its payload stays. So no payload is moved where a frame is looked
 /// at and let go.
 #[derive(Drop)]

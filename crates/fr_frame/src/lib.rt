@@ -10,6 +10,17 @@
 //!
 //! A chapter in parentheses is one of the FlexRay Protocol Specification 2.1, revision A, whose rule it is.
 //! *(project-defined)* marks a rule of this project's own, which says nothing of the standard.
+//!
+//! # Definitions
+//!
+//! - `Spelling`, `Bits`, `Header`, `Payload`, `Crc`: the spelling of a frame, its bits, header and payload; CRC by long
+//!   division.
+//! - `Decoding`, `Refusal`, `Encoding`: the frame that bytes spell; refused bytes; the canonical spelling.
+//!
+//! Modules that go the way of the code, for private functions, with the module that has the meaning:
+//!
+//! - `Register`, `Tables`: a register that shifts one bit after another, and tables for whole bytes. Meaning: `Crc`:
+//!   long division of a list of bits.
 #![tactic(auto)]
 
 pub mod crc;

@@ -3,6 +3,8 @@
 ghost use Rattle.std.specs.Prelude.{ℕ, Bool, true, ◌≡◌, ◌<◌};
 ghost use Rattle.fr_frame.specs.Tables.{are_all};
 
+// The tables are written out, since no constant is computed. The prover computes each of the 4,864 entries by long
+// division.
 /// The header CRC, from an empty register, of each byte with as many bytes of zeros after it as the table's place says.
 pub(crate) const HEADER_TABLES: [[u32; 256]; 3] = [
     [

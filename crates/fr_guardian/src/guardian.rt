@@ -106,6 +106,7 @@ impl Guardian {
         let (Some(_), Some(slot)) = (post, window.slot(channel)) else {
             return false;
         };
+        // The open intervals of the node in that cycle are halved for the first macrotick of the slot.
         !is_watched(self.guard, window, channel)
             || is_slot_within(
                 &self.params,
@@ -248,6 +249,7 @@ fn rows_of(
         (λ rows. AreRows cluster.now.params (is_guarded cluster.now.guard channel) owned.now channel rows.items) }
 {
     let mut rows = Vec::new(alloc);
+    // Only as many cycles are kept as differ: one where each line is for every cycle.
     for number in 0..period_of(owned) {
         let cycle = Cycle::from_bits(number);
         rows.push(intervals_in(alloc, cluster, owned, cycle, channel)?)?;

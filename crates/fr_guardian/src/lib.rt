@@ -11,6 +11,11 @@
 //!
 //! A chapter in parentheses is one of the FlexRay Protocol Specification 2.1, revision A, whose rule it is.
 //! *(project-defined)* marks a rule of this project's own, which says nothing of the standard.
+//!
+//! # Definitions
+//!
+//! - `Guarding`, `Intervals`, `Periods`: what a guardian passes, and the macroticks of a cycle in which it is open; the
+//!   maximal intervals of a set; the number of cycles after which ownership repeats.
 #![tactic(auto)]
 
 pub mod guardian;

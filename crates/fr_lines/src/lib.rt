@@ -15,6 +15,20 @@
 //!
 //! A chapter in parentheses is one of the FlexRay Protocol Specification 2.1, revision A, whose rule it is.
 //! *(project-defined)* marks a rule of this project's own, which says nothing of the standard.
+//!
+//! # Definitions
+//!
+//! - `Spelling`, `Reading`, `Parts`, `PartReading`, `Spelled`, `Versions`: the lines of a trace and their parts; texts
+//!   that lines can spell; the lines of each version.
+//! - `Forms`: the words that a line has after its first, and which of them is wrong.
+//!
+//! Modules that go the way of the code, for private functions, with the module that has the meaning:
+//!
+//! - `Bare`: entries without their bytes, and the bytes beside them. Meaning: `fr_journal`: `Entry`, with its bytes.
+//!
+//! # Inner workings
+//!
+//! The crate knows no reader, so a changed line is proved without the auditor.
 #![tactic(auto)]
 
 pub mod bare;

@@ -84,6 +84,7 @@ pub(crate) fn channels_of(word: &[u8]) -> Option<Channels>
 pub(crate) fn cycles_of(base: &[u8], repetition: &[u8]) -> Option<CycleFilter>
     ensures { result ≡ cycles_in base.now repetition.now }
 {
+    // An unlawful filter is `BadLine`, as a number out of range is.
     let base = number_of(base, 64)?;
     let repetition = number_of(repetition, 65)?;
     match CycleFilter::new(base as u8, repetition as u8) {
@@ -290,6 +291,8 @@ pub(crate) fn window_at(
 ) -> Option<Window>
     ensures { result ≡ window_of number cycle minislot a b }
 {
+    // At minislot 0 both channels have the same slot, and later at least one has a slot. Anything else is no window, so
+    // `BadLine`; a window that the parameters don't have is `Refused`.
     if minislot != 0 {
         return Window::dynamic(number, cycle, minislot, a, b);
     }

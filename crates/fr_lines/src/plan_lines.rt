@@ -29,6 +29,7 @@ pub enum PlanLine {
 pub fn plan_line_of(version: Version, line: &[u8]) -> Option<PlanLine>
     ensures { result ≡ plan_line_in version (words_of line.now) }
 {
+    // The line is read once, and the auditor asks its kind whether it stands in its place.
     let mut words = Words::new(line);
     match words.next_word()? {
         b"own" => ownership_of(version, &mut words).map(PlanLine::Own),

@@ -5,6 +5,10 @@
 //! ```
 //!
 //! *(project-defined)* marks a rule of this project's own, which says nothing of the standard.
+//!
+//! # Definitions
+//!
+//! - `Listening`: the records of a listener on the bus.
 #![tactic(auto)]
 
 pub mod capture;

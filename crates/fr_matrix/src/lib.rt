@@ -7,6 +7,16 @@
 //! ```
 //!
 //! *(project-defined)* marks a rule of this project's own, which says nothing of the standard.
+//!
+//! # Definitions
+//!
+//! - `Looks`, `Cells`: the content of a cell; the cells of a record.
+//!
+//! # Inner workings
+//!
+//! A matrix is three texts, which `matrix_of` gathers: the part before the cells, the cells (`cells`) and the legend.
+//! The place of a cell follows from the windows before it, so the walk along the record counts cycles and the windows
+//! of the last one. The observation (`look`) is asked of the record. The clause speaks of the cells.
 #![tactic(auto)]
 
 pub mod cell;

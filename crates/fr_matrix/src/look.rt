@@ -77,6 +77,7 @@ fn look_of(channel: Channel, seen: &Seen) -> Look
 pub fn look_in(params: &Params, view: &View, sealed: &Sealed) -> Look
     ensures { result ≡ look_in params.now view.now sealed.now }
 {
+    // Without a node the cell shows what a node hears that sends nothing, since the record has what was sent.
     let sight = match view.node {
         Some(viewer) => sealed.seen(params, view.channel, viewer),
         None => sealed.heard(params, view.channel),

@@ -8,6 +8,7 @@ use fr_slots::params::Params;
 use std::io;
 use std::io::Write;
 
+// Node 7 is wine red, since a number can't be read on the eighth colour of Okabe and Ito, black.
 /// The style of all matrices. The colours are those of `schedule`, paler where a frame has no data.
 const STYLE: &str = "<style>
 text{font-family:sans-serif;font-size:9px;text-anchor:middle;fill:#000;stroke:#fff;stroke-width:2px;paint-order:stroke;stroke-linejoin:round}

@@ -9,6 +9,14 @@
 //!
 //! A chapter in parentheses is one of the FlexRay Protocol Specification 2.1, revision A, whose rule it is.
 //! *(project-defined)* marks a rule of this project's own, which says nothing of the standard.
+//!
+//! # Definitions
+//!
+//! - `Midpoint`, `Refusals`: the midpoint by ranks.
+//!
+//! Modules that go the way of the code, for private functions, with the module that has the meaning:
+//!
+//! - `Selection`: places in ascending values. Meaning: `Midpoint`: ranks.
 #![tactic(auto)]
 
 pub mod midpoint;

@@ -29,6 +29,7 @@ pub fn midpoint(values: &[i32]) -> Result<Option<Midpoint>, MidpointError>
     ensures only { (m : Midpoint) → IsMidpoint values.now m
         → IfOk result (λ answer. answer ≡ Some m) }
 {
+    // Values are counted before they are judged, since `TooLarge` comes after `TooMany`.
     let Some(ascending) = ascending(values) else {
         return Err(MidpointError::TooMany);
     };

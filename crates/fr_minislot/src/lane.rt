@@ -141,6 +141,8 @@ impl Lane {
             → self.new ≡ standing_after self.old.params (counts ++ bytes ∷ [])) }
         ensures refused { OnErr result (self.new ≡ self.old) }
     {
+        // The call ends the slot that is next, whenever it comes. So `NothingOpen` says that the channel opens no
+        // further slot in the cycle, and it comes before `TooLong`.
         if !is_row(&self.params, self.slot, self.begins) {
             return Err(LaneError::NothingOpen);
         }

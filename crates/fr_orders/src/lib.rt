@@ -8,6 +8,14 @@
 //! ```
 //!
 //! *(project-defined)* marks a rule of this project's own, which says nothing of the standard.
+//!
+//! # Definitions
+//!
+//! - `Orders`: the words that are an order of `fr_bench`.
+//!
+//! # Inner workings
+//!
+//! Words are read in a crate of their own, so that proofs over `clap` run beside the others and not after the threads.
 #![tactic(auto)]
 
 pub mod command;

@@ -7,6 +7,11 @@
 //! ```
 //!
 //! *(project-defined)* marks a rule of this project's own, which says nothing of the standard.
+//!
+//! # Definitions
+//!
+//! - `ScenarioFiles`, `OutcomeText`: the reading of a scenario file, and whether the cluster accepts a run with it; the
+//!   text of an outcome.
 #![tactic(auto)]
 
 pub mod file_error;

@@ -32,6 +32,7 @@ fn write_nodes<W: Write>(writer: &mut W, interfaces: &[Interface]) -> io::Result
 fn write_settled<W: Write>(writer: &mut W, windows: usize) -> io::Result<()>
     ensures { OnOk result (Appends (W.contents writer.old) (W.contents writer.new) (settled_text windows)) }
 {
+    // A single-threaded run has `settled` without a walk: agreement is the headline promise.
     writeln!(writer, "windows {windows}")?;
     writeln!(writer, "settled")
 }

@@ -27,6 +27,7 @@ fn scenario_in(alloc: Global, bytes: &[u8]) -> Result<Scenario, FileError>
     }
 }
 
+// Callers read the cluster first. Where that is refused, the scenario isn't opened.
 /// Reads a scenario file to its end (project-defined).
 ///
 /// Refused with `TooLong` for more than 1,048,576 bytes, then as a text that is no scenario: with `BadMagic` also where

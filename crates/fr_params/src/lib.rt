@@ -10,6 +10,10 @@
 //!
 //! A chapter in parentheses is one of the FlexRay Protocol Specification 2.1, revision A, whose rule it is.
 //! *(project-defined)* marks a rule of this project's own, which says nothing of the standard.
+//!
+//! # Definitions
+//!
+//! - `Table`: the parameters under the keys of a table.
 #![tactic(auto)]
 
 pub mod error;

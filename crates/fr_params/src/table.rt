@@ -21,6 +21,7 @@ pub fn from_table(table: &Table) -> Result<Params, ParamError>
     ensures value { result ≡ parameters_in (table_view table.now) }
     ensures lawful { IfOk result IsParameters }
 {
+    // Each key is tested whole before the next, so a missing key comes before a later one out of range.
     let first = first_five(table)?;
     let last = last_five(table)?;
     params_of(first, last)

@@ -9,6 +9,15 @@
 //!
 //! A chapter in parentheses is one of the FlexRay Protocol Specification 2.1, revision A, whose rule it is.
 //! *(project-defined)* marks a rule of this project's own, which says nothing of the standard.
+//!
+//! # Definitions
+//!
+//! - `Places`, `Owners`, `Schedules`: places in a picture; the elements of the static slots; the picture.
+//!
+//! # Inner workings
+//!
+//! A picture is three texts, which `picture_of` gathers: the part before the static slots, their elements by the sender
+//! table (`owners`), and the part after them, with the guardians' intervals. The clause speaks of the elements.
 #![tactic(auto)]
 
 mod dynamics;

@@ -21,6 +21,7 @@ pub struct Call {
     pub cycle: u16,
     /// What the task did.
     pub action: Action,
+    // The number is kept, since the channel of a frame stands in the entry and not in the reply.
     /// The entry of the node's journal that tells of it, from 0.
     pub entry: u32,
     /// How it was answered.

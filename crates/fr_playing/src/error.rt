@@ -24,6 +24,7 @@ pub enum PlayError {
     /// The run can't be had.
     #[error("{0}")]
     Run(RunRefusal),
+    // It can't be proved away without the place of stations, controllers and journals at each step of a window.
     /// The world refused an event of the run, for another cause than a failed allocation.
     #[error("{0}")]
     Step(StepError),

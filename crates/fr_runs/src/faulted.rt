@@ -173,6 +173,7 @@ fn babble_in(channel: Channel, node: NodeId, sent: &[Sent]) -> Option<&Bytes>
 fn recordable(slot: Option<SlotId>, bytes: Option<&Bytes>) -> Option<&Bytes>
     ensures { option_copied result ≡ recordable slot (option_copied bytes.entry) }
 {
+    // A babble without bytes, or on a channel without a slot, leaves nothing to look for.
     match (slot, bytes) {
         (Some(_), Some(bytes)) => if bytes.len() == 0 { None } else { Some(bytes) },
         _ => None,
@@ -209,6 +210,7 @@ fn is_loss_right(lines: &[FaultLine], cycle: u16, window: &Window, sent: &Sent) 
         ↔ (is_muted sent.now.fate
         ≡ (not sent.now.babble && is_loss_due lines.now cycle window.now sent.now.node sent.now.channel)) }
 {
+    // A mute is looked for only where the node offered something: a mute of a silent node leaves nothing.
     let is_lost = !sent.babble && is_loss_due(lines, cycle, window, sent.node, sent.channel);
     is_muted(sent.fate) == is_lost
 }
@@ -304,6 +306,7 @@ fn are_babbled(lines: &[FaultLine], cycle: u16, sealed: &Sealed) -> bool
     true
 }
 
+// A bit to be flipped is always recorded, also where it flips nothing.
 /// Returns whether the bit that is turned on the channel of the window is the one that the lines turn.
 fn is_bit_due(lines: &[FaultLine], cycle: u16, sealed: &Sealed, channel: Channel) -> bool
     ensures { IsTrue result ↔ (corrupt_on sealed.now channel ≡ bit_due lines.now cycle sealed.now.window channel) }

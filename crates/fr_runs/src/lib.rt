@@ -11,6 +11,20 @@
 //!
 //! A chapter in parentheses is one of the FlexRay Protocol Specification 2.1, revision A, whose rule it is.
 //! *(project-defined)* marks a rule of this project's own, which says nothing of the standard.
+//!
+//! # Definitions
+//!
+//! - `Striking`, `Suiting`, `Refusing`, `Apart`: the windows of a fault line; what suits a cluster; refusals of a run;
+//!   at most one fault of a kind, node and channel in a window.
+//! - `Faulted`, `Stepping`: the faults of a record; execution of each line in its cycle.
+//!
+//! Modules that go the way of the code, for private functions, with the module that has the meaning:
+//!
+//! - `Steps`: progress of a walk along a journal, as counts. Meaning: `Stepping`.
+//!
+//! # Inner workings
+//!
+//! The crate stands below the texts of scenarios and the threads, so each is proved by itself.
 #![tactic(auto)]
 
 pub mod check;

@@ -1,4 +1,6 @@
 //! Whether tasks did the lines of their scripts in the cycles of these.
+//!
+//! This walk is one of its own, so that a cross-check of a world needs none of it.
 
 ghost use Rattle.std.specs.Prelude.{◌≡◌, ◌<◌, ◌≤◌, ◌+◌, ◌↔◌, IsTrue, Some, IfSome, length, take, slice_get, option_map};
 ghost use Rattle.std.specs.Prelude.{ℕ};

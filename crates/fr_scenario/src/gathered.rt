@@ -17,6 +17,7 @@ const TASKS_OF_NODE: usize = TASKS as usize;
 /// How many tasks all nodes can have.
 const TASK_COUNT: usize = NODES as usize * TASKS_OF_NODE;
 
+// Lines of different tasks may come in any order, which isn't kept.
 /// The lines of each task, by node and then task, and the fault lines with their numbers.
 #[derive(Drop)]
 pub(crate) struct Gathered {

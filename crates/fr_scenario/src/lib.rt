@@ -10,6 +10,19 @@
 //!
 //! A chapter in parentheses is one of the FlexRay Protocol Specification 2.1, revision A, whose rule it is.
 //! *(project-defined)* marks a rule of this project's own, which says nothing of the standard.
+//!
+//! # Definitions
+//!
+//! - `Contents`, `ScenarioText`, `Spelling`, `Parts`, `Spelled`, `LineReading`, `PartReading`, `Reading`: the contents
+//!   of a scenario, with the number of each fault line; its text, lines and first fault.
+//!
+//! Modules that go the way of the code, for private functions, with the module that has the meaning:
+//!
+//! - `Gathering`: the contents of the lines so far. Meaning: `Contents`, `ScenarioText`.
+//!
+//! # Inner workings
+//!
+//! The crate isn't part of `fr_trace`, which would have to wait for the bus and the world.
 #![tactic(auto)]
 
 pub mod error;

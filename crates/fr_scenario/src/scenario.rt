@@ -70,6 +70,7 @@ fn body_of(alloc: Global, version: Version, text: &[u8]) -> Result<Gathered, Sce
         };
         gathered.add(number, line)?;
     }
+    // Line 4097 is `TooManyLines` whatever it says, unless line 4096 was `end`: then it is `BadLine 4097`.
     if left.is_empty() {
         Err(ScenarioError::Truncated)
     } else {

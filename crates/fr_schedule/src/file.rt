@@ -140,6 +140,8 @@ fn plan_of(params: &Params, node: NodeId, value: &Value) -> Result<NodePlan, Con
     let Some(plan) = head_in(params, table) else {
         return Err(ConfigError::BadNode(node));
     };
+    // An element that is no table is the fault of its node before any buffer is read, since `buffer` is then no array
+    // of tables.
     let Some(buffers) = tables_at(table, "buffer") else {
         return Err(ConfigError::BadNode(node));
     };
@@ -168,6 +170,7 @@ pub(crate) fn plans_of(
     ensures refused { IfErr result (λ e. ¬ (e ≡ error.Memory)
         → each_of (plan_of params.now) 0 (map view values.now) ≡ Err e) }
 {
+    // Nodes are read whole in turn, and held against each other only after that.
     let mut plans = Vec::new(alloc);
     for (number, value) in values.iter().enumerate() {
         let plan = lawful_plan(params, NodeId::from_number(number as u8), value)?;

@@ -10,6 +10,27 @@
 //!
 //! A chapter in parentheses is one of the FlexRay Protocol Specification 2.1, revision A, whose rule it is.
 //! *(project-defined)* marks a rule of this project's own, which says nothing of the standard.
+//!
+//! # Definitions
+//!
+//! - `Descriptions`, `SenderTable`, `Clusters`: the description of a cluster; its sender table; the invariant of a
+//!   cluster.
+//! - `TableReading`, `NodeTables`, `Files`, `FileFaults`: the value under a key of a cluster file; the tables of a
+//!   node; the file; the faults among its nodes.
+//!
+//! Modules that go the way of the code, for private functions, with the module that has the meaning:
+//!
+//! - `RuleFaults`; `Claims`, `DenseTable`: the rules as the code numbers them; the lines of all nodes, and the table in
+//!   which they are entered. Meaning: `FileFaults`; `SenderTable`.
+//!
+//! # Inner workings
+//!
+//! 1. `from_table` (`fr_params`) reads the table `params`. Then come the guarded channels and the nodes: values
+//!    (`table`), the tables of a node (`node`), the file (`file`).
+//! 2. `claims` has the lines of all nodes. They are entered in tables by slot, channel and cycle (`senders`), which
+//!    give the first conflict of two lines, and so the faults among the nodes (`faults`).
+//! 3. `sender` reads from that table. The type of a cluster keeps that each slot, channel and cycle has at most one
+//!    sender.
 #![tactic(auto)]
 
 mod claims;

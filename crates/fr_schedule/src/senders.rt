@@ -27,6 +27,8 @@ use std::alloc::{AllocError, Global};
 /// How many cycles a row of the table has, which is for a slot on a channel.
 const ROW: usize = CYCLES as usize;
 
+// The lines of all nodes go into a table of 262,016 bytes, one for each occasion: the number of the node, or 255. The
+// first place that is taken already is the fault.
 /// How many occasions there are: 2,047 slots on two channels in 64 cycles.
 pub(crate) const OCCASIONS: usize = LAST_SLOT as usize * 2 * ROW;
 
@@ -207,6 +209,7 @@ fn enter_anew(nodes: &mut [u8], claims: &[Claim]) -> Option<Occasion>
     enter_all(nodes, claims)
 }
 
+// The table of buffers, with what is owned over it, is the one that `Cluster::sender` reads.
 /// Returns the sender table of the plans, or the first of their faults.
 pub(crate) fn senders_of(
     alloc: Global,

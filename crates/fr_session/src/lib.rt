@@ -12,6 +12,34 @@
 //! ```
 //!
 //! *(project-defined)* marks a rule of this project's own, which says nothing of the standard.
+//!
+//! # Definitions
+//!
+//! - `Lines`, `Reading`, `Replies`, `RecordWords`, `Queries`: the lines of a text and of a reader; the request of a
+//!   line; replies; the words of a record; the answers to queries.
+//! - `Striking`, `Keeping`, `Moving`: the faults of a window; kept fault lines; the steps that are due in a window, and
+//!   windows one after another.
+//! - `Marks`: marks of the windows that fault lines name, by which a line is compared with all others at once.
+//! - `Sessions`, `Laws`: a session; laws of all sessions.
+//!
+//! Modules that go the way of the code, for private functions, with the module that has the meaning:
+//!
+//! - `line_front`, `TakesPiece`, `ComesFront` in `Lines`: a line piece by piece, of which the front is kept. Meaning:
+//!   `Comes`: a whole line.
+//!
+//! # Inner workings
+//!
+//! 1. `serve` (`session`) writes the first line. Then it reads a line, answers it and flushes, until the reader ends.
+//! 2. `next_line` (`lines`) takes the bytes that the reader has up to the line feed, and keeps at most 1,201.
+//! 3. `request_of` (`reading`) uses the readers of traces and scenarios (`fr_lines::parts`). A line that is no other
+//!    request is read as a fault line (`fr_scenario::lines`).
+//! 4. An event is one `World::step`. A fault line is checked against the kept ones (`suits_after` of `fr_runs`) and
+//!    kept (`keeping`). A query writes what the world lends (`queries`).
+//! 5. `window` is the injections of the kept lines (`striking`, which single-threaded runs use too), then a prepared
+//!    list of events (`moving`), and an advance. The requests `cycle` and `run` are windows.
+//!
+//! The time of a request doesn't grow with the session, with two exceptions. The requests `trace` and `report` grow
+//! with the journal, and windows and fault lines with the number of kept fault lines.
 #![tactic(auto)]
 
 pub mod error;

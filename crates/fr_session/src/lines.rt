@@ -70,6 +70,7 @@ fn take_piece<R: BufRead>(reader: &mut R, line: &mut Line) -> io::Result<Piece>
 pub(crate) fn next_line<R: BufRead>(reader: &mut R, line: &mut Line) -> io::Result<bool>
     ensures { IfOk result (λ more. ComesFront more (R.remaining reader.old) (R.remaining reader.new) line.new.items) }
 {
+    // A longer line is read to its end and not kept, so the session goes on with the next.
     line.clear();
     for _ in 0..u64::MAX {
         match take_piece(reader, line) {

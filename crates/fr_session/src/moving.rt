@@ -80,6 +80,8 @@ fn push_sights(events: &mut Vec<Event>, nodes: u8) -> Result<(), AllocError>
     Ok(())
 }
 
+// This is the one list of what is due in a window. A session does it after what is left over, a single-threaded run
+// from an untouched window.
 /// Appends what is due in a window of so many nodes in which nothing has been done, but for the advance.
 fn push_whole(events: &mut Vec<Event>, nodes: u8) -> Result<(), AllocError>
     requires { nodes ≤ 16 }

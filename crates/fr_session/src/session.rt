@@ -236,6 +236,7 @@ pub fn serve<R: BufRead, W: Write>(
         world.known();
         return Err(SessionError::Memory);
     };
+    // A world has its cluster and cycles, but doesn't return them, so they are given.
     let terms = Terms {
         events: events.as_slice(),
         cluster,

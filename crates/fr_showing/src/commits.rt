@@ -314,6 +314,8 @@ fn write_node<W: Write>(
     Ok(())
 }
 
+// Commits come from journals, not from scripts, so each has its line by construction. Receivers come from the record
+// and the plans: by the headline promise each node observed that.
 /// Writes a line for each commit of each node's journal, in the order of the nodes and of the entries
 /// (project-defined): the node, the buffer, the task, the cycle of the run, the entry, the payload, `=`, and what
 /// became of it. That is

@@ -109,6 +109,7 @@ pub(crate) fn became_of(interface: &Interface, buffer: u8, commit: u32, begun: u
 {
     let journal = interface.journal();
     let end = journal.len();
+    // A whole walk for each commit would be quadratic.
     let mut begun = begun;
     for number in commit + 1..end {
         let Some(entry) = journal.lent(number) else {

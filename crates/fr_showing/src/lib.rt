@@ -9,6 +9,27 @@
 //! ```
 //!
 //! *(project-defined)* marks a rule of this project's own, which says nothing of the standard.
+//!
+//! # Definitions
+//!
+//! - `AnswerText`, `CommitText`, `Fates`, `Ends`, `Takers`, `RecordText`, `Origins`, `Idle`, `Shows`: a line with its
+//!   answer; a commit with its fate; the end of a transmission and its receivers; the lines of a record, and the
+//!   scenario line of each; fault lines without effect; the output for a run.
+//!
+//! Modules that go the way of the code, for private functions, with the module that has the meaning:
+//!
+//! - `CommitSteps`, `FateSteps`, `TakerSteps`: journals and plans, entry by entry. Meaning: `CommitText`, `Fates`,
+//!   `Takers`.
+//!
+//! # Inner workings
+//!
+//! 1. `show_run` (`show`) makes the text in memory (`shown`) and hands it to the writer at once. The texts come from
+//!    `write_outcome`, `write_answers`, `write_commits`, `write_record`, `write_capture` of `fr_listener`, `matrix_of`
+//!    of `fr_matrix` or `write_trace` of `fr_trace`.
+//! 2. `idle_lines` gives the numbers of the fault lines without effect, by one walk along the record for each.
+//!
+//! To show something new of a run, call `play_file` or `play`. Both give the world with all journals, the record and
+//! the calls. The first also gives the scenario with the number of each fault line.
 #![tactic(auto)]
 
 pub mod answers;

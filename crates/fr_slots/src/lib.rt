@@ -11,6 +11,19 @@
 //!
 //! A chapter in parentheses is one of the FlexRay Protocol Specification 2.1, revision A, whose rule it is.
 //! *(project-defined)* marks a rule of this project's own, which says nothing of the standard.
+//!
+//! # Definitions
+//!
+//! - `Numbers`, `Parameters`, `Plans`, `Windows`: limits and ranges of numbers; parameters; plans; windows, and the
+//!   windows of a cluster.
+//! - `Admission`, `Plans`: admission by filters, FIFOs and plans; equality of two channels.
+//! - `Faults`, `Sharing`: the faults of a plan, and the properties of a plan without fault; slots that filters share.
+//! - `History`: words on a list of calls, each with the calls before it.
+//!
+//! Modules that go the way of the code, for private functions, with the module that has the meaning:
+//!
+//! - `is_undivided`, `is_owned_always` in `Faults`: ownership lines that leave no cycle out, asked first. Meaning:
+//!   `is_owned`, cycle by cycle.
 #![tactic(auto)]
 
 pub mod channel;

@@ -257,6 +257,7 @@ impl NodePlan {
         ensures accepted { OnOk result (self.new ≡ with_own self.old own) }
         ensures refused { OnErr result (self.new ≡ self.old) }
     {
+        // Only the line by itself is looked at, at any time: faults between lines are for `fault`.
         if !own_fits(&own) {
             return Err(PlanError::OutOfRange);
         }
@@ -309,6 +310,7 @@ impl NodePlan {
     pub fn duplicate(&self) -> NodePlan
         ensures { result ≡ self.now }
     {
+        // It stands in place of `Clone`, which may run out of memory.
         NodePlan {
             tasks: self.tasks,
             latest: self.latest,

@@ -21,6 +21,8 @@ pub struct Occasion {
 pub fn first_shared(filters: &[Filter]) -> Option<Occasion>
     ensures { IsFirst (is_shared filters.now) result }
 {
+    // At most 64 lines and 64 buffers give some four thousand pairs, so pairs need no table. `fr_schedule` has up to
+    // 1,024 of each, about a million pairs, and a table.
     let mut first = None;
     for (number, filter) in filters.iter().enumerate() {
         first = earlier(first, first_shared_with(filter, &filters[..number]));

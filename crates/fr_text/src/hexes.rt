@@ -219,6 +219,7 @@ pub fn write_hex<W: Write>(writer: &mut W, bytes: &[u8]) -> io::Result<()>
     let mut room = [0u8; MOST_DIGITS + 1];
     room[0] = b'x';
     let digits = &mut room[1..2 * bytes.len() + 1];
+    // The library `hex` reads upper case too, so it is used for writing alone.
     let _ = hex::encode_to_slice(bytes, digits);
     writer.write_all(&room[..2 * bytes.len() + 1])
 }

@@ -11,6 +11,15 @@
 //!
 //! A chapter in parentheses is one of the FlexRay Protocol Specification 2.1, revision A, whose rule it is.
 //! *(project-defined)* marks a rule of this project's own, which says nothing of the standard.
+//!
+//! # Definitions
+//!
+//! - `Spaces`, `Words`, `Plain`, `Reading`, `Spelling`, `Writing`: the words of a line and the words that are left;
+//!   words that end nothing; the one spelling of numbers and bytes; the effect of a function that writes.
+//!
+//! Modules that go the way of the code, for private functions, with the module that has the meaning:
+//!
+//! - `Digits`: the values of a block of digits. Meaning: `Reading`, `Spelling`.
 #![tactic(auto)]
 
 pub mod hexes;

@@ -83,6 +83,8 @@ impl<'a> Words<'a> {
             return None;
         }
         let rest = self.rest;
+        // Numbers that are read as their digits come save 3 % of an audit. Any other word goes the common way, so no
+        // second reading is proved.
         if let Some((len, number)) = number_in_front(rest, bound) {
             if len == rest.len() {
                 self.done = true;
@@ -118,6 +120,8 @@ impl<'a> Words<'a> {
         }
     }
 
+    // Bytes that are read as their digits come save 2 to 4 % of an audit. A payload of a commit read so took 1 % more,
+    // so the word of a payload is found by `memchr` first.
     /// Takes the next word, from left to right, and reads the bytes that it spells, at most `N`, in place of what the
     /// bytes were, as `bytes_into` does, or else gives the word, and then what the bytes are isn't told. `None` comes
     /// when all words are taken, and from then on.

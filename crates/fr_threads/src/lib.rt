@@ -11,6 +11,29 @@
 //!
 //! A chapter in parentheses is one of the FlexRay Protocol Specification 2.1, revision A, whose rule it is.
 //! *(project-defined)* marks a rule of this project's own, which says nothing of the standard.
+//!
+//! # Definitions
+//!
+//! - `Running`, `Failures`, `Pacing`, `Outcomes`: a run that completes; the reported failure; the cycle barrier of a
+//!   lockstep run; the effect of `run` on the text of a scenario.
+//!
+//! # Inner workings
+//!
+//! A node's thread takes the ledger of its node, opens a `Desk` over a new interface, and starts a thread for each task
+//! with a handle of its own. Then it is the node's controller until the bus has no further window.
+//!
+//! The lock of the cycle barrier (`pace`) has the cycle whose lines came due last, the number of controllers and tasks
+//! that are still to come, and whether the run was stopped. Each change of these is a step with an exact clause, and no
+//! thread holds another lock with it. The barrier knows beforehand how many tasks have lines in a cycle, so it wakes
+//! only these.
+//!
+//! The first failure stops the bus and the barrier, and every thread ends. Each node joins its tasks, closes its `Desk`
+//! and gathers the shares. Then the bus and the nodes are joined, and the failure of the least rank is reported. The
+//! bus comes back in any case.
+//!
+//! A lock gives back a value of which only the type is known: a legal interface, a bus whose record is that of some
+//! run. The cross-check tests that all of them are of one run. Its answer gives the receivers' clause and the promise
+//! of one sender. Two more tests, `have_faults` and `are_stepped`, show that it is the run of the scenario.
 #![tactic(auto)]
 
 mod answers;

@@ -10,6 +10,7 @@ use fr_outcome::file_error::FileError;
 use fr_scenario::error::ScenarioError;
 use thiserror::Error;
 
+// `BenchError` would have to stand above the threads to hold these errors.
 /// Why `run` hasn't printed the outcome of a run (project-defined). Printed, it is the error's name, and for an error
 /// of a crate below the names and values of that error.
 #[derive(Clone, Copy, Debug, Drop, PartialEq, Eq, Error)]

@@ -183,6 +183,8 @@ fn all_done(
     }
 }
 
+// The threads of the bus and the nodes take their arguments one by one, since a struct in the closure of a thread scope
+// fails to check.
 /// Runs the bus and the nodes, and joins them. Where one of them fails the run is stopped.
 fn serve<'s, E, R: Threads + Wait + Clock + Sync, G: Gate + Sync>(
     scope: &'s Scope<'s, E>,

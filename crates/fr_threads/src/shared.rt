@@ -14,6 +14,7 @@ pub(crate) struct Shared {
     pub pace: Option<Pace>,
 }
 
+// It keeps the arguments of `start_tasks` in `node` at seven.
 /// What the threads of a node are given.
 #[derive(Drop)]
 pub(crate) struct Common<'a, R, G> {

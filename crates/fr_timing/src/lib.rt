@@ -11,6 +11,14 @@
 //!
 //! A chapter in parentheses is one of the FlexRay Protocol Specification 2.1, revision A, whose rule it is.
 //! *(project-defined)* marks a rule of this project's own, which says nothing of the standard.
+//!
+//! # Definitions
+//!
+//! - `Layout`, `Segments`: the layout of the cycle as a list of intervals; the starts of its segments.
+//!
+//! Modules that go the way of the code, for private functions, with the module that has the meaning:
+//!
+//! - `Division`: multiplying and dividing. Meaning: `Layout`: a list of intervals.
 #![tactic(auto)]
 
 pub mod cycle;

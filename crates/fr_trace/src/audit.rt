@@ -25,6 +25,7 @@ fn read_through<R: Read>(alloc: Global, reader: &mut R) -> Result<Interface, Tra
 {
     let mut auditor = Auditor::new(alloc);
     let mut room = [0u8; ROOM];
+    // The loop ends with `Read` after 2^64 - 1 reads, so that it returns by proof.
     'pieces: for _ in 0..u64::MAX {
         let count = match reader.read(&mut room) {
             Ok(count) => count,

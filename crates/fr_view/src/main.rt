@@ -22,6 +22,10 @@
 //!
 //! A chapter in parentheses is one of the FlexRay Protocol Specification 2.1, revision A, whose rule it is.
 //! *(project-defined)* marks a rule of this project's own, which says nothing of the standard.
+//!
+//! # Definitions
+//!
+//! - `Failures`: the exit status of each failure of `fr_view`.
 #![tactic(auto)]
 
 mod failure;

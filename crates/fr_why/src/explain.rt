@@ -66,6 +66,8 @@ fn fault_words(alloc: Global, text: &[u8], fault: &Fault) -> Result<Vec<u8>, Tra
         (take_bytes fresh (take fault.now.start text.now)) (between fault.now.start fault.now.end text.now))) }
     ensures refused { IfErr result (λ e. IsOfText e → ⊥) }
 {
+    // The lines before the fault are audited a second time. An auditor that remembers reasons would pay at each line,
+    // and six crates stand on it.
     let (front, line) = (&text[..fault.start], &text[fault.start..fault.end]);
     let mut interface = match interface_after(alloc, &fault.head, front) {
         Ok(interface) => interface,

@@ -34,6 +34,7 @@ fn write_error<W: Write>(writer: &mut W, error: TraceError) -> io::Result<()>
     }
 }
 
+// A terminal would obey some bytes of a line at fault, so those print as hexadecimal digits.
 /// Returns whether a byte is written as it is.
 fn is_shown(byte: u8) -> bool
     ensures { result ≡ is_shown byte }

@@ -9,6 +9,10 @@
 //! ```
 //!
 //! *(project-defined)* marks a project-defined rule, which the standard doesn't have.
+//!
+//! # Definitions
+//!
+//! - `Commands`: the parts of commands that programs share; the exit status of words that are no command.
 #![tactic(auto)]
 
 pub mod commands;

@@ -6,6 +6,7 @@ use std::marker::Model;
 use std::time::{Clock, Duration};
 use std::{io, thread};
 
+// A non-blocking stream is tried again after a pause, for lack of `poll`.
 /// The pause before a call is repeated, in milliseconds.
 const PAUSE: u64 = 1;
 

@@ -11,6 +11,15 @@
 //! reply.
 //!
 //! *(project-defined)* marks a rule of this project's own, which says nothing of the standard.
+//!
+//! # Definitions
+//!
+//! - `Commands`, `Failures`: the words that are a command of `fr_world`; the exit status of each failure.
+//!
+//! # Inner workings
+//!
+//! `main` reads the words, makes the cluster, opens its world, and takes the room for reading and writing. Then `serve`
+//! (`fr_session`) answers until the reader ends.
 #![tactic(auto)]
 
 mod command;

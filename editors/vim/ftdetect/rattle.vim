@@ -1,0 +1,2 @@
+autocmd BufRead,BufNewFile *.rt setfiletype rattle
+autocmd BufRead,BufNewFile *.antt setfiletype antt
