@@ -1,7 +1,8 @@
 //! Lines, read as requests.
 ghost use Rattle.std.specs.Prelude.{◌≡◌};
 ghost use Rattle.fr_session.specs.Reading.{commit_in, withdraw_in, read_in, pop_in, babble_in, mute_in, corrupt_in};
-ghost use Rattle.fr_session.specs.Reading.{node_in, alone, run_in, record_in, report_in, trace_in, origin_in, host_request};
+ghost use Rattle.fr_session.specs.Reading.{node_in, alone, run_in, record_in, report_in, trace_in, origin_in};
+ghost use Rattle.fr_session.specs.Reading.{host_request};
 ghost use Rattle.fr_session.specs.Reading.{step_of};
 ghost use Rattle.fr_session.specs.Reading.{step_request, fault_of, fault_request, event_request, begins_event};
 ghost use Rattle.fr_session.specs.Reading.{is_fault_word, is_step_word, is_host_word, other_request, request_in};

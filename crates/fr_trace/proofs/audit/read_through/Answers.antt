@@ -27,4 +27,5 @@ returns-then-count-eq0-clause-through g c =
     (λ (r : Result State TraceError). ReadsThrough (g.R.Read.remaining c.args.reader.now)
     (g.R.Read.remaining c.read.new.self) r)
     (sym (c.lawful.ensures.same ∙ c.finish.ensures))
-    (read_end _ (g.R.Read.remaining c.pieces.reader) _ c.pieces.auditor c.pieces.invariant.0 (search rules) (search rules))
+    (read_end _ (g.R.Read.remaining c.pieces.reader) _ c.pieces.auditor c.pieces.invariant.0 (search rules)
+    (search rules))
