@@ -130,7 +130,8 @@ fn explained(alloc: Global, text: &[u8]) -> Result<(Verdict, Vec<u8>), TraceErro
 ///
 /// Of a refused one the refusal as an audit prints it, the number and the text of the line at fault, what the refusal
 /// rests on (`reason`, with whose it is: `Params`, `Plan`, `Host`, `Slot` or `Line`), or for a wrong answer the line as
-/// it would be right (`due`), and how many lines and fetched windows stand before:
+/// it would be right (`due`), and how many lines and fetched windows stand before. After `Line` stands the number of
+/// the word that is wrong and its column, where one alone is; `Feed` says that the last line feed alone is missing:
 ///
 /// ```text
 /// refused Refused 13
