@@ -38,6 +38,7 @@ class TestWorld(unittest.TestCase):
             self.world.cycle()
             frame = self.receiver.read(1)
             self.assertEqual((frame.payload, frame.slot, frame.cycle, frame.sync), (words(number), 1, number, True))
+            self.assertEqual((frame.channel, self.receiver.read(2).channel), ("A", "B"))
 
     def test_steps_of_a_window(self):
         window = self.receiver.look()

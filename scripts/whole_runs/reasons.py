@@ -28,18 +28,25 @@ RECEIVED = [
     (2, "params 1 4 1 20 5 0 10 50 0 5", "Refused 2", "params 1 4 1 20 5 0 10 50 0 5",
      "reason Params OutOfRange static_slots", 0),
     (2, "params 3 4 1 20 5 0 10 91 0 5", "Refused 2", "params 3 4 1 20 5 0 10 91 0 5", "reason Params CycleSum", 0),
-    (2, "node 1 0 0 8 8", "BadLine 2", "node 1 0 0 8 8", "reason Line Word", 0),
-    (2, "params 3 4 1 20 5 0 10 90 0", "BadLine 2", "params 3 4 1 20 5 0 10 90 0", "reason Line Form", 0),
-    (3, "node 9 0 0 8 8", "BadLine 3", "node 9 0 0 8 8", "reason Line Form", 0),
-    (4, "rx 2 AB 0 3", "BadLine 4", "rx 2 AB 0 3", "reason Line Form", 0),
-    (4, "read 0 0 -", "BadLine 4", "read 0 0 -", "reason Line Word", 0),
-    (9, "own 1 A 0 0", "BadLine 9", "own 1 A 0 0", "reason Line Word", 1),
-    (9, "withdraw 0 0 -", "BadLine 9", "withdraw 0 0 -", "reason Line Form", 1),
-    (9, "read 0  0 -", "BadLine 9", "read 0  0 -", "reason Line Form", 1),
-    (9, "", "BadLine 9", "", "reason Line Word", 1),
-    (9, "read\t0\\ \x7f\r", "BadLine 9", r"read\x090\x5c \x7f\x0d", "reason Line Word", 1),
+    (2, "node 1 0 0 8 8", "BadLine 2", "node 1 0 0 8 8", "reason Line Word 1 1", 0),
+    (2, "params 3 4 1 20 5 0 10 90 0", "BadLine 2", "params 3 4 1 20 5 0 10 90 0", "reason Line Form 11 29", 0),
+    (3, "node 9 0 0 8 8", "BadLine 3", "node 9 0 0 8 8", "reason Line Form 2 6", 0),
+    (4, "rx 2 AB 0 3", "BadLine 4", "rx 2 AB 0 3", "reason Line Form 5 11", 0),
+    (4, "read 0 0 -", "BadLine 4", "read 0 0 -", "reason Line Word 1 1", 0),
+    (9, "own 1 A 0 0", "BadLine 9", "own 1 A 0 0", "reason Line Word 1 1", 1),
+    (9, "withdraw 0 0 -", "BadLine 9", "withdraw 0 0 -", "reason Line Form 1 1", 1),
+    (9, "read 0  0 -", "BadLine 9", "read 0  0 -", "reason Line Form 3 8", 1),
+    (9, "", "BadLine 9", "", "reason Line Word 1 1", 1),
+    (9, "read\t0\\ \x7f\r", "BadLine 9", r"read\x090\x5c \x7f\x0d", "reason Line Word 1 1", 1),
     (9, "0" * 1201, "LineTooLong 9", "0" * 1200, "", 1),
     (1, "frtrace 4", "BadMagic", "frtrace 4", "", 0),
+    # An upper-case digit, an odd number of digits, a word too many, an end that goes on, and words that don't go together.
+    (8, "see 0 x0A noise", "BadLine 8", "see 0 x0A noise", "reason Line Form 3 7", 1),
+    (8, "see 0 x0a1 noise", "BadLine 8", "see 0 x0a1 noise", "reason Line Form 3 7", 1),
+    (8, "see 0 - - -", "BadLine 8", "see 0 - - -", "reason Line Form 5 11", 1),
+    (13, "end x", "BadLine 13", "end x", "reason Line Form 2 5", 2),
+    (4, "rx 2 AB 1 1", "BadLine 4", "rx 2 AB 1 1", "reason Line Form", 0),
+    (7, "fetch 0 0 0 2 3 - -", "BadLine 7", "fetch 0 0 0 2 3 - -", "reason Line Form", 0),
     (13, "end\nend", "BadLine 14", "end", "reason Line After", 2),
 ]
 """A line in place of one of the receive-buffer trace: the refusal, the line at fault, its reason, the windows
@@ -107,6 +114,8 @@ class Reasons:
         self.runs.check("why of a trace that breaks off in a line", ["why"], wanted, given=given[:start + 13])
         wanted_after = told("Truncated", 10, "", "", 1)
         self.runs.check("why of a trace that breaks off after a line", ["why"], wanted_after, given=given[:start])
+        wanted_end = told("Truncated", 13, "end", "reason Feed", 2)
+        self.runs.check("why of a trace whose last line feed is missing", ["why"], wanted_end, given=given[:-1])
         self.runs.check("why of nothing", ["why"], told("BadMagic", 1, "", "", 0))
         self.runs.check_once(f"why of a refused trace, {WRITTEN}", ["why"], wanted, given[:start + 13])
 

@@ -40,8 +40,10 @@ A_WINDOW = [
 
 TWO_CYCLES = [
     ("commit 0 0 0 x0a0b", "committed 0"), ("commit 0 0 0 x0c0d", "committed 1"),
-    ("withdraw 0 0 0", "refused Host HostFull"), ("read 1 1 0", "frame -"), ("window", "open 1 0 0 2 2"),
+    ("withdraw 0 0 0", "refused Host HostFull"), ("origin 1", "origin -"),
+    ("read 1 1 0", "frame -"), ("origin 1", "origin -"), ("window", "open 1 0 0 2 2"),
     ("babble 1 B x00", "done"), ("window", "open 2 1 0 1 1"), ("read 1 0 0", "frame 0 2 ---- x0c0d"),
+    ("origin 1", "origin 4:A"), ("origin 0", "origin -"),
     ("record 0", "lines 1\nwindow 0 0 0 1 1"), ("record 2", "refused NoWindow"),
     ("report 0", "lines 3\ntx 0 2 1 1 0 0\nA 0 0 0 0 0\nB 0 0 0 0 0"), ("cycle", "refused Slot SlotFull"),
     ("now", "open 3 1 0 2 2"),
@@ -50,7 +52,7 @@ TWO_CYCLES = [
 
 REFUSALS = [
     ("commit 3 0 0 x0000", "refused UnknownNode"), ("look 15", "refused UnknownNode"),
-    ("report 3", "refused UnknownNode"), ("trace 15", "refused UnknownNode"),
+    ("report 3", "refused UnknownNode"), ("trace 15", "refused UnknownNode"), ("origin 3", "refused UnknownNode"),
     ("babble 3 A x00", "refused Bus UnknownNode"), ("mute 4 B", "refused Bus UnknownNode"),
     ("commit 0 2 0 x0000", "refused Host UnknownTask"), ("commit 0 0 2 x0000", "refused Host UnknownBuffer"),
     ("commit 0 0 1 x0000", "refused Host NotTransmit"), ("commit 0 0 0 x00000000", "refused Host WrongLength"),
@@ -113,7 +115,8 @@ NO_REQUESTS = [
     "babble 0 A * s* x0", "babble 0 A 1024 s* x00", "babble 0 A * s0 x00", "babble 0 A * 1 x00", "mute 0 A * m*",
     "mute 0 A * s01", "mute 0 A ** s*", "mute 0 A * s* 1", "mute 0 A  * s*", "corrupt A * s*", "corrupt A * s* 65536",
     "corrupt 0 A * s* 1", "commit 0 0 0 0 x0a0b", "read 0 0 0 1 ", "mute 0 A * m8001", "end", "frscenario 2", "record",
-    "record 4294967296", "report", "report 16", "trace", "trace 0 0", "quit", "frworld 1", "now\r", "now\t", "now\0",
+    "record 4294967296", "report", "report 16", "trace", "trace 0 0", "origin", "origin 16", "origin 0 0",
+    "quit", "frworld 1", "now\r", "now\t", "now\0",
     "commit 0 0 0 x" + "00" * 255, "babble 0 A x" + "00" * 263, "x" * 1200, "x" * 1201, "now " * 300,
     "now" + " " * 1198, "now" + " " * 5_000_000, "x" * 4095, "x" * 4096, "x" * 8191, "x" * 8192, "x" * 8193,
     "x" * 16384, "\N{EURO SIGN}",
