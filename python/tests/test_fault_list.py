@@ -92,6 +92,12 @@ class TestList(unittest.TestCase):
         self.assertEqual([it.split(" ")[3:5] for it in lines["forged 0 A * s*"]],
                          [["0", "s1"], ["0", "s2"], ["1", "s1"], ["1", "s2"]])
 
+    def test_a_forged_static_frame_has_the_length_of_the_others(self):
+        """Two words are the length byte 04, beside the first bit of the header CRC. The payload follows five bytes."""
+        cluster = TWO_NODES.replace("static_words = 1", "static_words = 2")
+        frame = {str(it): it.lines for it in faults_of(cluster, 2)[0]}["forged 0 A * s2"][1].split(" ")[-1]
+        self.assertEqual((frame[:7], frame[11:19], len(frame)), ("x200204", "a55aa55a", 1 + 2 * 12))
+
     def test_narrowed(self):
         self.assertEqual(self.names(TWO_NODES, 2, only("mute", nodes=frozenset([1]))),
                          ["mute 1 A * s2", "mute 1 A * s*"])
@@ -170,7 +176,7 @@ class TestList(unittest.TestCase):
             self.assertEqual(found, wanted)
 
     def test_frames(self):
-        """The frames of docs/FORMATS.md, which the papers have as well."""
+        """The frames of docs/FORMATS.md."""
         self.assertEqual(data_frame(2, 0, b"\x0a\x0b", "A").hex(), "200203c1400a0ba32217")
         self.assertEqual(data_frame(2, 0, b"\x0a\x0b", "B").hex(), "200203c1400a0b85a2c6")
         for slot, cycle, payload in ((0, 0, b""), (2048, 0, b""), (1, 64, b""), (1, 0, b"\0"), (1, 0, bytes(256))):
