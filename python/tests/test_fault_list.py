@@ -6,7 +6,7 @@ from musmyrtle.fault_list import LeftOut, Listing, Selection, SingleFault, is_st
 from musmyrtle.fault_options import numbers_of, places_of
 from musmyrtle.fault_table import listed
 from musmyrtle.frames import data_frame
-from musmyrtle.played import Begun
+from musmyrtle.played import Begun, forged_babble
 from musmyrtle.scenario import Reading as ScenarioReading
 from tests.campaigns import cluster_of
 from tests.cases import CLUSTER
@@ -97,6 +97,13 @@ class TestList(unittest.TestCase):
         cluster = TWO_NODES.replace("static_words = 1", "static_words = 2")
         frame = {str(it): it.lines for it in faults_of(cluster, 2)[0]}["forged 0 A * s2"][1].split(" ")[-1]
         self.assertEqual((frame[:7], frame[11:19], len(frame)), ("x200204", "a55aa55a", 1 + 2 * 12))
+
+    def test_forged_frames_of_a_long_run(self):
+        """The cycle count of a frame wraps at 64, and the cycle of a run doesn't."""
+        lines = {str(it): it.lines for it in faults_of(TWO_NODES, 66)[0]}["forged 0 A * s2"]
+        self.assertEqual(lines[64].split(" ")[3], "64")
+        self.assertEqual([lines[it].split(" ")[-1] for it in (64, 65)], [lines[it].split(" ")[-1] for it in (0, 1)])
+        self.assertEqual(forged_babble(0, "A", 3, 64), forged_babble(0, "A", 3, 0))
 
     def test_narrowed(self):
         self.assertEqual(self.names(TWO_NODES, 2, only("mute", nodes=frozenset([1]))),
