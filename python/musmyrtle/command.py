@@ -22,13 +22,13 @@ from musmyrtle.visible import cut, visible
 
 FINE, REFUSED, USAGE, WARNED, BROKEN_OFF = 0, 1, 2, 4, 130
 MOST_WARNINGS, MOST_REPEATED = 40, 200
-ABOUT = """Says what is wrong with a cluster file, and with a scenario for it: where, why, and what is expected.
+ABOUT = """Explains what is wrong with a cluster file, and with a scenario for it: where, why, and what is expected.
 
-What is refused is refused by fr_bench, which is run first: `check CLUSTER`, or `run CLUSTER SCENARIO --cycles N`. What
-is taken and still can't work, or breaks a rule of the standard that the bench doesn't ask for, is a warning."""
-STATUSES = """status: 0 where there is nothing to say but warnings, 1 where something is refused, 2 where the words are
-no command, fr_bench can't be run or fails, or the output can't be written, 4 where there are warnings and --strict is
-given, 130 where SIGINT broke it off"""
+fr_bench runs first, by `check CLUSTER` or by `run CLUSTER SCENARIO --cycles N`, and decides what is refused. What it
+accepts and what still can't work, or breaks a rule of the standard that the bench doesn't check, is a warning."""
+STATUSES = """status: 0 where fr_bench accepts the input, with warnings or without, 1 where it refuses it, 2 where the
+words are no command, fr_bench can't be run or fails, or the output can't be written, 4 where there are warnings and
+--strict is given, 130 where SIGINT broke it off"""
 SILENCED = """warnings: each ends with its name, as `[sync-nodes]`. `--allow NAME` silences it, and so does a comment
 `# lint: allow NAME: why` at the end of the line of its place in the cluster file, or alone in the line before. Names:
 

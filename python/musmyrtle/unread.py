@@ -65,8 +65,8 @@ def idle_keys(text: Text, static_slots: int) -> Iterator[Finding]:
 def idle_of(buffer: dict[str, Any], static_slots: int) -> Iterator[tuple[str, str]]:
     is_receive = buffer.get("kind") == "receive"
     if is_receive and "preamble" in buffer:
-        yield "preamble", "A receive buffer takes frames with any preamble indicator."
+        yield "preamble", "A receive buffer receives frames with any payload preamble indicator."
     if "words" in buffer and is_receive:
-        yield "words", "A receive buffer takes frames of any length that the slot allows."
+        yield "words", "A receive buffer receives frames of any length that the slot allows."
     elif "words" in buffer and type(buffer.get("slot")) is int and buffer["slot"] <= static_slots:
         yield "words", "In a static slot each frame has the `static_words` of `[params]`."

@@ -162,6 +162,12 @@ class TestRuns(CampaignCases):
             got = [(it.node, it.thing, it.effect, it.amount, it.without, it.having) for it in found[name]]
             self.assertEqual(got, wanted, name)
 
+    def test_nodes_without_commits(self):
+        """Node 1 alone has a transmit buffer and no commit."""
+        scene = SCENE.replace("commit 1 0 0 0 x1111\n", "")
+        self.assertEqual(self.campaign(TWO_NODES, scene, 2).quiet(), (1,))
+        self.assertEqual(self.campaign(TWO_NODES, SCENE, 2).quiet(), ())
+
     def test_one_cycle_alone(self):
         """Lost in the second cycle, the frame of the first one stays."""
         campaign = self.campaign(TWO_NODES, SCENE, 2)

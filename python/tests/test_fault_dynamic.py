@@ -105,6 +105,13 @@ class TestForged(CampaignCases):
             "lost 0 AB * all": ("mute 0 A 0 m1", "mute 0 A 0 m2", "mute 0 B 0 m3"),
             "lost 0 A * all": ("mute 0 A 0 m1", "mute 0 A 0 m2"), "lost 0 B * all": ("mute 0 B 0 m3",)})
 
+    def test_all_that_a_node_sends_on_both_channels(self):
+        """Slots 4 and 5 are sent on B. With slot 4 lost at minislot 2 slot 5 opens at minislot 3, and not at 5."""
+        cluster = CLUSTER.format(latest=10).replace('slot = 4, channels = "A"', 'slot = 4, channels = "B"')
+        campaign = self.campaign(cluster, SCENE.replace("end\n", "commit 0 0 0 2 x0005\nend\n"), 2)
+        lines = {name: it.lines for name, it in self.at(campaign, "all", "lost").items()}
+        self.assertEqual(lines["lost 0 AB * all"], ("mute 0 A 0 m1", "mute 0 B 0 m2", "mute 0 B 0 m3"))
+
     def test_all_that_a_node_sends_in_one_cycle(self):
         """Slot 4 opens at minislot 4 in cycle 0, too late, and is sent in cycle 1. There it is lost, though it would be
         sent in cycle 0 if slot 3 were lost then."""

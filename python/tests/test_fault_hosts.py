@@ -172,3 +172,12 @@ class TestParallel(Machines):
             self.assertEqual((here, campaign.folder.cluster.read_text()), (0, TWO_NODES))
             self.assertFalse((campaign.folder.path / "sent").exists())
         self.assertEqual([it for it in noted.read_text().splitlines() if not it.startswith(SSH_OPTIONS)], [])
+
+    def test_machines_that_fail_leave_their_jobs_to_another_one(self):
+        """A job goes to a machine by chance, so that one that is tried once is lost in most rounds."""
+        self.script("ssh", "#!/bin/sh\nexit 1\n")
+        failing = [word for port in (1, 2, 3) for word in ("--sshlogin", f"1/ssh -p {port} far")]
+        for _ in range(2):
+            self.again()
+            here, _campaign = self.done(hosts=Hosts((*failing, "--sshlogin", "1/:")))
+            self.assertEqual(here, 0)

@@ -6,7 +6,7 @@ from musmyrtle.fault_list import LeftOut, Listing, Selection, SingleFault, is_st
 from musmyrtle.fault_options import numbers_of, places_of
 from musmyrtle.fault_table import listed
 from musmyrtle.frames import data_frame
-from musmyrtle.played import Begun
+from musmyrtle.played import Begun, forged_babble
 from musmyrtle.scenario import Reading as ScenarioReading
 from tests.campaigns import cluster_of
 from tests.cases import CLUSTER
@@ -92,6 +92,19 @@ class TestList(unittest.TestCase):
         self.assertEqual([it.split(" ")[3:5] for it in lines["forged 0 A * s*"]],
                          [["0", "s1"], ["0", "s2"], ["1", "s1"], ["1", "s2"]])
 
+    def test_a_forged_static_frame_has_the_length_of_the_others(self):
+        """Two words are the length byte 04, beside the first bit of the header CRC. The payload follows five bytes."""
+        cluster = TWO_NODES.replace("static_words = 1", "static_words = 2")
+        frame = {str(it): it.lines for it in faults_of(cluster, 2)[0]}["forged 0 A * s2"][1].split(" ")[-1]
+        self.assertEqual((frame[:7], frame[11:19], len(frame)), ("x200204", "a55aa55a", 1 + 2 * 12))
+
+    def test_forged_frames_of_a_long_run(self):
+        """The cycle count of a frame wraps at 64, and the cycle of a run doesn't."""
+        lines = {str(it): it.lines for it in faults_of(TWO_NODES, 66)[0]}["forged 0 A * s2"]
+        self.assertEqual(lines[64].split(" ")[3], "64")
+        self.assertEqual([lines[it].split(" ")[-1] for it in (64, 65)], [lines[it].split(" ")[-1] for it in (0, 1)])
+        self.assertEqual(forged_babble(0, "A", 3, 64), forged_babble(0, "A", 3, 0))
+
     def test_narrowed(self):
         self.assertEqual(self.names(TWO_NODES, 2, only("mute", nodes=frozenset([1]))),
                          ["mute 1 A * s2", "mute 1 A * s*"])
@@ -170,7 +183,7 @@ class TestList(unittest.TestCase):
             self.assertEqual(found, wanted)
 
     def test_frames(self):
-        """The frames of docs/FORMATS.md, which the papers have as well."""
+        """The frames of docs/FORMATS.md."""
         self.assertEqual(data_frame(2, 0, b"\x0a\x0b", "A").hex(), "200203c1400a0ba32217")
         self.assertEqual(data_frame(2, 0, b"\x0a\x0b", "B").hex(), "200203c1400a0b85a2c6")
         for slot, cycle, payload in ((0, 0, b""), (2048, 0, b""), (1, 64, b""), (1, 0, b"\0"), (1, 0, bytes(256))):

@@ -1,4 +1,5 @@
 """How the table, the summary and the page tell what faults cost."""
+import re
 import unittest
 
 from musmyrtle.fault_campaign import failed
@@ -80,7 +81,8 @@ class TestSummary(unittest.TestCase):
             self.assertIn(f"({effect})", told)
 
     def test_notes(self):
-        lines = self.lines(left_out=LeftOut(2, 1), overwritten={1: 561})
+        lines = self.lines(left_out=LeftOut(2, 1), overwritten={1: 561}, quiet=(0, 1))
+        self.assertIn("the scenario has no commit for node 0, node 1: nothing of these can be lost here", lines)
         self.assertIn("node 1: FIFO not emptied by the scenario: 561 frames overwritten without any fault", lines)
         self.assertIn("1 fault idle, without a run, since the node sends nothing there: node 1 on B", lines)
         self.assertIn("2 faults left out: the scenario has one of the kind in each of their windows", lines)
@@ -139,6 +141,20 @@ class TestPage(unittest.TestCase):
         self.assertIn("<td>noise 1 A * s1 (one channel)</td>", one)
         self.assertIn("Harmless: mute on A (one channel) s1.", one)
         self.assertIn("sends nothing on B", one)
+
+    def test_each_cell_opens_a_section(self):
+        text = self.page()
+        links, names = (re.findall(form, text) for form in (r'href="#([^"]*)"', r' id="([^"]*)"'))
+        self.assertEqual((len(links) > 3, sorted(links)), (True, sorted(names)))
+
+    def test_no_text_becomes_a_mark(self):
+        """Names of files and nodes, what a run said, and the states of a buffer."""
+        mark = "<i>&"
+        labels = Labels({0: mark, 1: mark}, {(0, 1): mark})
+        done = [(fault("lost", 1, BOTH, "all"), [Difference(0, "rx 1", "lost", 1, mark, mark)]),
+                (fault("mute", 0, "A", "s1"), [killed(mark)])]
+        text = page(Subject(mark, mark), results(done, labels=labels, overwritten={0: 1}, quiet=(1,)))
+        self.assertEqual((text.count("&lt;i&gt;&amp;") > 8, text.count("<i>")), (True, 0))
 
     def test_a_sort_that_is_not_listed(self):
         """A table without faults doesn't look as if nothing came of them."""

@@ -2,11 +2,19 @@
 import os
 import socket
 import subprocess
+import sys
 from pathlib import Path
 
 EXAMPLES = Path(__file__).resolve().parent.parent.parent / "examples"
 SECONDS = 60
 WRITTEN = "written at once"
+
+
+def need(*programs):
+    """Ends the script where one of the programs isn't there."""
+    for program in programs:
+        if not os.access(program, os.X_OK):
+            sys.exit(f"{program} isn't there: scripts/build builds it, and --shipped takes the one of dist/")
 
 
 def run(words, given=b"", output=subprocess.PIPE, closed=()):
