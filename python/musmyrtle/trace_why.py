@@ -119,7 +119,7 @@ def fault_of(why: Why, trace: TraceFile) -> Fault:
     found = out_of_range(why.reason, trace.text)
     if found:
         return found
-    return f"the line is refused: {why.reason}", "docs/FORMATS.md, Refused traces, has the reasons.", 1
+    return f"the line is refused: {why.reason}", "docs/formats/views.md has the reasons.", 1
 
 
 def bad_magic(trace: TraceFile) -> Fault:
