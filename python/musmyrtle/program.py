@@ -33,7 +33,7 @@ class Answer:
 
     @property
     def is_one(self) -> bool:
-        """Whether the program answered: a program that was killed, or ends otherwise than FORMATS says, didn't."""
+        """Whether the program answered: a signal, and an end that docs/formats/commands.md hasn't, are no answer."""
         is_usage = self.status == 2 and self.refusal == "usage"
         return self.status == 0 or self.status == 1 and self.is_named or is_usage
 

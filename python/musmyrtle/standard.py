@@ -1,6 +1,6 @@
 """The parameters of FlexRay 2.1 Rev A, appendix B, that a cluster file can break, with their ranges.
 
-The ranges are from memory of the standard. docs/FORMATS.md, section 10, has the same table.
+The ranges are from memory of the standard. docs/formats/cluster.md has the same table.
 """
 from dataclasses import dataclass
 
@@ -34,7 +34,7 @@ class Rule:
 
     @property
     def row(self) -> str:
-        """The line of the table in docs/FORMATS.md."""
+        """The line of the table in docs/formats/cluster.md."""
         check = "by `fr_bench`, which refuses it" if self.check == "refused" else f"warning `{self.check}`"
         name = self.name if " " in self.name else f"`{self.name}`"
         return f"| {name} | {self.key} | {self.range} | {check} |"

@@ -1,4 +1,4 @@
-"""The lines of a trace (docs/FORMATS.md, section 3): which word of a line is at fault, and what is expected."""
+"""The lines of a trace (docs/formats/trace.md): which word of a line is at fault, and what is expected."""
 import re
 from collections.abc import Callable
 
@@ -52,7 +52,7 @@ def form_of(kind: str, version: int) -> tuple[str, ...]:
 
 
 def spelled(kind: str, version: int) -> str:
-    """Returns the form of a line as FORMATS spells it."""
+    """Returns the form of a line as docs/formats/trace.md spells it."""
     return " ".join([kind, *(SHOWN.get(name, name) for name in form_of(kind, version))])
 
 

@@ -133,7 +133,7 @@ def fault_of(why: Why, trace: TraceFile) -> Fault:
     found = out_of_range(why.reason, trace.text)
     if found:
         return found
-    return f"the line is refused: {why.reason}", "docs/FORMATS.md, Refused traces, has the reasons.", why.column or 1
+    return f"the line is refused: {why.reason}", "docs/formats/views.md has the reasons.", why.column or 1
 
 
 def bad_magic(trace: TraceFile) -> Fault:

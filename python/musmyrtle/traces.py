@@ -1,4 +1,4 @@
-"""The trace of a node, read for the windows that its controller fetched (docs/FORMATS.md, section 3)."""
+"""The trace of a node, read for the windows that its controller fetched (docs/formats/trace.md)."""
 from collections.abc import Iterable, Iterator
 from dataclasses import dataclass
 

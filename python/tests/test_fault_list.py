@@ -183,7 +183,7 @@ class TestList(unittest.TestCase):
             self.assertEqual(found, wanted)
 
     def test_frames(self):
-        """The frames of docs/FORMATS.md."""
+        """The frames of docs/formats/frame.md."""
         self.assertEqual(data_frame(2, 0, b"\x0a\x0b", "A").hex(), "200203c1400a0ba32217")
         self.assertEqual(data_frame(2, 0, b"\x0a\x0b", "B").hex(), "200203c1400a0b85a2c6")
         for slot, cycle, payload in ((0, 0, b""), (2048, 0, b""), (1, 64, b""), (1, 0, b"\0"), (1, 0, bytes(256))):

@@ -77,9 +77,9 @@ class TestText(unittest.TestCase):
 
     def test_the_example_of_the_page(self) -> None:
         page = (TOP / "docs/WORLD.md").read_text()
-        found = re.search(r"(?:^    .*\n|\n)*^    print\(scenario.*\n", page, re.MULTILINE)
+        found = re.search(r"^```brakes_scenario\.py\n(.*?)^```$", page, re.MULTILINE | re.DOTALL)
         assert found is not None
-        example = re.sub("^    ", "", found[0], flags=re.MULTILINE)
+        example = found[1]
         self.assertIn("Scenario(\"examples/host-programs/brakes.toml\", cycles=16)", example)
         with self.file.open("wb") as output:
             subprocess.run([sys.executable, "-B", "-c", example], stdout=output, check=True, cwd=TOP,

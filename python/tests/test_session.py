@@ -394,7 +394,7 @@ class TestRefusals(unittest.TestCase):
             self.assertEqual(pool.submit(commit_too_much, bytes(2)).result(), 0)
 
     def test_each_refusal_of_the_protocol_has_its_name(self):
-        """The names are those of the table of refusals in docs/WORLD.md, and of FORMATS.md for a controller's calls."""
+        """The names are those of docs/WORLD.md, and for a controller's calls of docs/formats/views.md."""
         groups = {
             "": "BadFault BadLine Memory NoWindow UnknownNode WrongTurn",
             "Host": "UnknownTask UnknownBuffer NotTransmit WrongLength HostFull NotReceive NoQueue",

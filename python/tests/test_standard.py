@@ -5,7 +5,7 @@ from musmyrtle.overwriting import Overwritten
 from musmyrtle.standard import RULES
 from tests.cases import CLUSTER, EXAMPLES, SCENARIO, Cases
 
-FORMATS = (EXAMPLES.parent / "docs/FORMATS.md").read_text()
+FORMATS = EXAMPLES.parent / "docs/formats"
 PHYSICAL = "[physical]\nbit_rate = 10_000_000\nmacrotick_us = {}\n\n[[node]]"
 OWN = 'own = [{slot = 2, channels = "AB"}]'
 SYNC = ", sync = true"
@@ -135,14 +135,17 @@ class Standard(Cases):
 
 
 class Table(Cases):
+    def rows_of(self, page, heading):
+        """Returns the rows of the table of a page that has this heading."""
+        text = (FORMATS / page).read_text()
+        return text[text.index(heading):].split("\n\n")[0].split("\n")[2:]
+
     def test_the_table_of_rules_is_that_of_the_formats(self):
         rows = [rule.row for rule in RULES]
-        begin = FORMATS.index("| Parameter | In a cluster file | Range | Checked |")
-        self.assertEqual(FORMATS[begin:].split("\n\n")[0].split("\n")[2:], rows)
+        self.assertEqual(self.rows_of("cluster.md", "| Parameter | In a cluster file | Range | Checked |"), rows)
 
     def test_the_names_are_those_of_the_formats(self):
-        begin = FORMATS.index("| Name | When |")
-        rows = FORMATS[begin:].split("\n\n")[0].split("\n")[2:]
+        rows = self.rows_of("lint.md", "| Name | When |")
         self.assertEqual([row.split("`")[1] for row in rows], list(NAMES))
 
     def test_each_check_is_a_warning(self):
