@@ -1,11 +1,14 @@
-"""Writes docs/PROMISES.md: the front page, a table a crate, and what is said of the programs as a whole."""
+"""Makes the pages of promises: one for each crate, and the table of crates in docs/PROMISES.md."""
 import textwrap
-from pathlib import Path
 
 from .reading import Clause, Promise, Section, split_name
 
-MARK = "<!-- Made by scripts/promises --write from docs/promises/ and crates/*/promises.toml: edit those. -->"
+MARK = "<!-- Made by scripts/promises --write from promises.toml: edit that. -->"
+START = "<!-- Made by scripts/promises --write -->"
+END = "<!-- The end of what it makes -->"
 HEAD = "| Promise | Clauses | Mutants |\n|-|-|-|"
+LEAD = "[PROMISES](../../docs/PROMISES.md) says how to read this page."
+TABLE_HEAD = "| Crate | Promises about | Promises | Named in bold | Other mutants |\n|-|-|-|-|-|"
 
 
 def code(names: list[str] | tuple[str, ...]) -> str:
@@ -72,20 +75,30 @@ def tested_text(section: Section) -> list[str]:
     return ["Tested:\n\n" + "\n".join(lines)] if lines else []
 
 
-def section_text(section: Section) -> str:
-    """Returns the section of a crate."""
+def page_of(section: Section) -> str:
+    """Returns the text of crates/NAME/PROMISES.md."""
     table = "\n".join([HEAD, *(row_of(promise, section.crate) for promise in section.promises)])
-    heading = f"## {section.title} (`{section.crate}`)"
     about = [wrapped(section.about)] if section.about else []
-    return "\n\n".join([heading, *about, table, *map(wrapped, section.notes), *tested_text(section)])
+    parts = [MARK, f"# {section.title} (`{section.crate}`)", LEAD, *about, table, *map(wrapped, section.notes)]
+    return "\n\n".join([*parts, *tested_text(section)]) + "\n"
 
 
-def part_of(path: Path) -> str:
-    """Returns a part that is written by hand, with its links as docs/ has them."""
-    return path.read_text(encoding="utf-8").strip().replace("](../", "](")
+def line_of(section: Section) -> str:
+    """Returns the row of a crate in docs/PROMISES.md."""
+    gate, others = (sum(len(promise.list_of(key)) for promise in section.promises) for key in ("gate", "mutants"))
+    link = f"[`{section.crate}`](../crates/{section.crate}/PROMISES.md)"
+    return f"| {link} | {section.title} | {len(section.promises)} | {gate} | {others} |"
 
 
-def page_of(top: Path, sections: list[Section]) -> str:
-    """Returns the text of docs/PROMISES.md."""
-    front, back = (part_of(top / "docs/promises" / name) for name in ("front.md", "back.md"))
-    return "\n\n".join([MARK, front, *map(section_text, sections), back]) + "\n"
+def with_table(page: str, sections: list[Section]) -> str:
+    """Returns the text of docs/PROMISES.md with the table of these crates. Raises `ValueError` without its marks."""
+    before, start, rest = page.partition(START)
+    _, end, after = rest.partition(END)
+    if not start or not end:
+        raise ValueError("the marks of the table are missing")
+    return "\n".join([before + START, TABLE_HEAD, *map(line_of, sections), END + after])
+
+
+def outside_table(page: str) -> str:
+    """Returns what is written by hand in docs/PROMISES.md."""
+    return page.partition(START)[0] + page.partition(END)[2]
