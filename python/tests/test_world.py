@@ -242,11 +242,12 @@ class TestWorld(unittest.TestCase):
                 self.world.play_scenario(text, 4)
         self.assertEqual(self.world.transcript(), "")
 
-    def test_the_channel_of_a_frame_is_in_the_report_and_the_trace(self):
-        """Slot 1 is sent on both channels, and the receive buffer, which is for both, keeps the frame of channel A."""
+    def test_the_channel_of_a_frame_is_that_of_the_report_and_the_trace(self):
+        """Slot 1 is sent on both channels, and the receive buffer is for channel A alone."""
         self.sender.commit(0, b"\0\7")
         self.world.cycle()
-        self.assertEqual(self.receiver.read(1).payload, b"\0\7")
+        frame = self.receiver.read(1)
+        self.assertEqual((frame.payload, frame.channel), (b"\0\7", "A"))
         self.assertEqual(self.receiver.report().buffers[1].channel, "A")
         read = [line.split(" ") for line in self.receiver.trace().splitlines() if line.startswith("read ")]
         self.assertEqual([words[3].partition(":")[2] for words in read], ["A"])
