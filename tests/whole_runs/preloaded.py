@@ -1,0 +1,126 @@
+"""The built program with a library in front of the C library, which the machine's C compiler makes."""
+import os
+import shutil
+import subprocess
+from pathlib import Path
+
+from .runner import EXAMPLES
+
+SECONDS = 60
+
+MARK = r"""
+#define _GNU_SOURCE
+#include <errno.h>
+#include <fcntl.h>
+#include <stdatomic.h>
+#include <stdlib.h>
+#include <sys/syscall.h>
+#include <unistd.h>
+
+/* Whether this is the N-th call of a kind, of which the environment names one; that it was met is told by a file. */
+static int is_met(atomic_long *made, const char *kind) {
+    const char *wanted = getenv(kind);
+    if (!wanted || atomic_fetch_add(made, 1) + 1 != atol(wanted))
+        return 0;
+    syscall(SYS_close, syscall(SYS_openat, AT_FDCWD, getenv("MARK_OF_THE_CALL"), O_CREAT | O_WRONLY, 0600));
+    return 1;
+}
+"""
+
+
+class NoRun(Exception):
+    pass
+
+
+class Preloaded:
+    """The program, and the library: what SOURCE puts in the place of functions of the C library."""
+
+    def __init__(self, program, source, folder, built_by="tools/build"):
+        self.program, self.source, self.folder, self.built_by = program, source, Path(folder), built_by
+        self.library = self.folder / "preloaded.so"
+
+    def make(self):
+        """Whether there is a compiler, with which the library is made."""
+        compiler = shutil.which("cc") or shutil.which("clang") or shutil.which("gcc")
+        if compiler is None:
+            return False
+        words = [compiler, "-shared", "-fPIC", "-O1", "-xc", "-", "-o", str(self.library), "-ldl"]
+        made = subprocess.run(words, input=MARK + self.source, capture_output=True, text=True)
+        if made.returncode != 0 or not self.program.exists():
+            raise NoRun(made.stderr or f"{self.program} isn't there: build it by {self.built_by}")
+        return True
+
+    def run(self, command, kind=None, number=0, **more):
+        """What the command answers where its N-th call of this kind is met, and whether it came so far."""
+        words, given = command
+        mark = self.folder / "-".join([kind or "whole", str(number), Path(words[0]).name, *more])
+        added = {"LD_PRELOAD": str(self.library), "MARK_OF_THE_CALL": str(mark), **more}
+        added |= {kind: str(number)} if kind else {}
+        try:
+            ran = subprocess.run([self.program, *words], input=given, capture_output=True, timeout=SECONDS,
+                                 env=os.environ | added)
+        except subprocess.TimeoutExpired:
+            return "it doesn't end", True
+        met = mark.exists()
+        mark.unlink(missing_ok=True)
+        return (ran.returncode, ran.stdout, ran.stderr), met
+
+
+FOLDER = EXAMPLES / "three-nodes"
+CLUSTER = str(FOLDER / "cluster.toml")
+
+
+def trace():
+    return (EXAMPLES / "receive-buffer" / "trace").read_bytes()
+
+
+def commands():
+    """Each command of fr_bench with an example, as its words and what it is given."""
+    return {
+        "audit": (["audit"], trace()),
+        "check": (["check", CLUSTER], b""),
+        "plan": (["plan", CLUSTER], b""),
+        "midpoint": (["midpoint"], b"3 -1 4 1 -5 9 2 -6\n"),
+        "run": (["run", CLUSTER, str(FOLDER / "scenario"), "--cycles", "4"], b""),
+    }
+
+
+def views():
+    """The same of fr_view."""
+    run = [CLUSTER, str(FOLDER / "scenario"), "--cycles", "4"]
+    return {
+        "schedule": (["schedule", CLUSTER], b""),
+        "capture": (["capture"], trace()),
+        "frames": (["frames"], trace()),
+        "frames until the fault": (["frames", "--until-fault"], trace()[:-4]),
+        "why": (["why"], trace().replace(b"2:A", b"2:B")),
+        "outcome": (["outcome", *run], b""),
+        "answers": (["answers", *run], b""),
+        "commits": (["commits", *run], b""),
+        "record": (["record", *run], b""),
+        "bus": (["bus", *run], b""),
+        "matrix": (["matrix", *run], b""),
+        "trace": (["trace", "0", *run], b""),
+    }
+
+
+def sessions():
+    """The same of fr_world: a request of each kind that takes memory."""
+    asked = ["commit 0 0 0 x0a0b", "window", "window", "babble 2 A x00", "mute 1 A * s*", "window", "run 2", "now",
+             "report 1", "trace 0", "record 1"]
+    return {"session": ([CLUSTER, "--cycles", "4"], "".join(f"{line}\n" for line in asked).encode())}
+
+
+def replies(output):
+    """The replies of a session, each with the lines of its block. None where the first line or a reply isn't whole."""
+    lines = output.decode().split("\n")
+    if lines[:1] != ["frworld 1"] or lines.pop() != "":
+        return None
+    found, at = [], 1
+    while at < len(lines):
+        count = int(lines[at].split(" ")[1]) if lines[at].startswith("lines ") else 0
+        if at + count >= len(lines):
+            return None
+        found.append(lines[at : at + 1 + count])
+        at += 1 + count
+    return found

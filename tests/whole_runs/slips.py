@@ -1,0 +1,237 @@
+"""Slips on command lines, each with a text that the launcher's further lines must have, and calls for help."""
+import os
+import pty
+import random
+import re
+import subprocess
+from pathlib import Path
+from typing import Any
+
+from .launchers import Checkout
+from .runner import EXAMPLES, SECONDS, Runs
+
+TOP = Path(__file__).resolve().parent.parent.parent
+CLUSTER, SCENARIO = "examples/three-nodes/cluster.toml", "examples/three-nodes/scenario"
+RUN = (CLUSTER, SCENARIO, "--cycles", "4")
+Words = tuple[str | bytes, ...]
+NOBODY = 65534
+
+SLIPS: list[tuple[str, Words, str]] = [
+    ("fr_bench", ("chek", CLUSTER), "unknown command chek; did you mean check?"),
+    ("fr_bench", ("Audit",), "did you mean audit?"),
+    ("fr_bench", ("rnu", *RUN), "unknown command rnu"),
+    ("fr_bench", ("simulate", *RUN), "unknown command simulate"),
+    ("fr_bench", (CLUSTER,), f"the first word must be a command, not the file {CLUSTER}"),
+    ("fr_bench", ("--cycles", "4", "run", CLUSTER, SCENARIO), "must be a command, not the option --cycles"),
+    ("fr_bench", ("",), "must be a command, not an empty word"),
+    ("fr_bench", ("matrix", *RUN), "./fr_view matrix"),
+    ("fr_bench", ("help", "chek"), "did you mean check?"),
+    ("fr_bench", ("check",), "missing: FILE"),
+    ("fr_bench", ("plan", CLUSTER, SCENARIO), f"one word too many: {SCENARIO}"),
+    ("fr_bench", ("check", b"\xff"), "a word isn't UTF-8"),
+    ("fr_bench", ("check", CLUSTER, "--free"), "check has no option --free"),
+    ("fr_bench", ("run",), "missing: FILE, SCENARIO, --cycles N"),
+    ("fr_bench", ("run", CLUSTER, "--cycles", "4"), "missing: SCENARIO"),
+    ("fr_bench", ("run", CLUSTER, SCENARIO), "missing: --cycles N"),
+    ("fr_bench", ("run", CLUSTER, SCENARIO, "4"), "--cycles is missing in front of 4"),
+    ("fr_bench", ("run", CLUSTER, SCENARIO, "--cycles"), "--cycles has no value"),
+    ("fr_bench", ("run", CLUSTER, SCENARIO, "--cycles", "--free"), "--cycles has no value"),
+    ("fr_bench", ("run", CLUSTER, SCENARIO, "--cycles", "0"), "from 1 to 1024, not 0"),
+    ("fr_bench", ("run", CLUSTER, SCENARIO, "--cycles=1025"), "from 1 to 1024, not 1025"),
+    ("fr_bench", ("run", CLUSTER, SCENARIO, "--cycles", "04"), "without leading zeros, not 04"),
+    ("fr_bench", ("run", CLUSTER, SCENARIO, "--cycles", "four"), "a whole number from 1 to 1024, not four"),
+    ("fr_bench", ("run", CLUSTER, SCENARIO, "--cycles="), "from 1 to 1024, not an empty word"),
+    ("fr_bench", ("run", CLUSTER, SCENARIO, "--cycle", "4"), "run has no option --cycle; did you mean --cycles?"),
+    ("fr_bench", ("run", *RUN, "--cycles", "8"), "--cycles stands twice"),
+    ("fr_bench", ("run", *RUN, "--free=1"), "--free takes no value"),
+    ("fr_bench", ("run", *RUN, "-f"), "run has no option -f"),
+    ("fr_bench", ("audit", "trace"), "audit reads TRACE on standard input: < trace"),
+    ("fr_bench", ("midpoint", "1", "2"), "midpoint reads NUMBERS on standard input"),
+    ("fr_view", ("matrix", *RUN, "--channel", "C"), "--channel must be A or B, not C"),
+    ("fr_view", ("matrix", *RUN, "--node", "16"), "--node must be a whole number from 0 to 15, not 16"),
+    ("fr_view", ("matrix", *RUN, "--from=1024"), "--from must be a whole number from 0 to 1023, not 1024"),
+    ("fr_view", ("matrix", *RUN, "--chanel", "A"), "did you mean --channel?"),
+    ("fr_view", ("schedule", CLUSTER, "--cycle", "64"), "--cycle must be a whole number from 0 to 63, not 64"),
+    ("fr_view", ("schedule", CLUSTER, "1"), "--cycle is missing in front of 1"),
+    ("fr_view", ("trace", *RUN), "NODE is missing in front of FILE"),
+    ("fr_view", ("trace", CLUSTER, SCENARIO, "1", "--cycles", "4"), "NODE must be a whole number from 0 to 15, not"),
+    ("fr_view", ("frames", "--al"), "frames has no option --al; did you mean --all?"),
+    ("fr_view", ("run", *RUN), "./fr_bench run"),
+    ("fr_view", ("why", "node.trace"), "why reads TRACE on standard input: < node.trace"),
+    ("fr_world", (CLUSTER,), "missing: --cycles N"),
+    ("fr_world", (CLUSTER, "4"), "--cycles is missing in front of 4"),
+    ("fr_world", (CLUSTER, "--cycles"), "--cycles has no value"),
+    ("fr_world", (CLUSTER, "--cycles=1025"), "from 1 to 1024, not 1025"),
+    ("fr_world", ("--cycles=4", CLUSTER, "--cycles", "4"), "--cycles stands twice"),
+    ("fr_world", (CLUSTER, "--cycle", "4"), "fr_world has no option --cycle; did you mean --cycles?"),
+    ("fr_world", ("--cycles", "4"), "missing: FILE"),
+    ("fr_world", (CLUSTER, SCENARIO, "--cycles", "4"), f"one word too many: {SCENARIO}"),
+    ("fr_world", (CLUSTER, "-cycles", "4"), "did you mean --cycles?"),
+    ("fr_world", (CLUSTER, "--cycles", "0"), "from 1 to 1024, not 0"),
+]
+"""A program, words that it answers with `usage`, and what names the slip. Under these, the usage of the command must
+stand."""
+
+UNREAD: list[tuple[str, Words, str]] = [
+    ("fr_bench", ("check", "missing.toml"), "no such file: missing.toml"),
+    ("fr_bench", ("plan", "examples"), "is a folder: examples"),
+    ("fr_bench", ("check", ""), "FILE is an empty word"),
+    ("fr_bench", ("check", f"{CLUSTER}/more"), f"no such file: {CLUSTER}/more ({CLUSTER} isn't a folder)"),
+    ("fr_bench", ("check", "dangling"), "no such file: dangling (a link to nothing)"),
+    ("fr_bench", ("check", "closed"), "permission denied: closed"),
+    ("fr_bench", ("check", "\x1b[1m\n"), "no such file: ?[1m?"),
+    ("fr_bench", ("run", CLUSTER, "missing", "--cycles", "4"), "no such file: missing"),
+    ("fr_bench", ("run", "lost", "missing", "--cycles", "4"), "no such file: lost"),
+    ("fr_view", ("trace", "1", CLUSTER, "closed", "--cycles", "4"), "permission denied: closed"),
+    ("fr_view", ("schedule", "missing.toml"), "no such file: missing.toml"),
+    ("fr_world", ("missing.toml", "--cycles", "4"), "no such file: missing.toml"),
+]
+"""The same of words that are right, with a file that can't be read: the whole second line."""
+
+ALONE: list[tuple[str, Words, str]] = [
+    ("fr_bench", ("check", SCENARIO), "refused Toml"),
+    # The cluster file is refused first, so that the scenario isn't the cause.
+    ("fr_bench", ("run", SCENARIO, "missing", "--cycles", "4"), "refused Toml"),
+    ("fr_view", ("trace", "9", *RUN), "refused UnknownNode"),
+    ("fr_bench", ("audit",), "refused BadMagic"),
+]
+"""Refusals that the words don't explain: the program's line stands alone."""
+
+POOL = ["a", "4", "0", "1024", "1025", "04", "--cycles", "--cycles=4", "--cycles=", "--free", "--free=1", "--channel",
+        "A", "--channel=B", "C", "--node=3", "--node", "16", "--from", "--cycle=5", "--cycle", "--own", "--all",
+        "--until-fault", "--", "-", "-x", "--x", "", " ", "\u00e9", "--=", "*", "--cycles --channel", "-4"]
+SHAPES = {
+    "fr_bench": [["audit"], ["check", "a"], ["midpoint"], ["run", "a", "b", "--cycles", "4"]],
+    "fr_view": [["schedule", "a"], ["frames"], ["matrix", "a", "b", "--cycles", "4"],
+                ["trace", "1", "a", "b", "--cycles", "4"]],
+    "fr_world": [["a", "--cycles", "4"]],
+}
+READ = '. "$1"; name=$2; shift 2; read_words "$@"; [ -z "$slip" ]'
+
+
+class Slips:
+    """Calls of the launchers of a small repository with the real programs."""
+
+    def __init__(self, runs: Runs, folder: Path, programs: dict[str, Path]) -> None:
+        self.runs, self.programs = runs, programs
+        folder.chmod(0o755)
+        self.made = Checkout.of(folder / "checkout", {name: file.read_bytes() for name, file in programs.items()})
+        self.top = self.made.path
+        (self.top / "examples").symlink_to(EXAMPLES)
+        (self.top / "dangling").symlink_to("nowhere")
+        (self.top / "closed").write_text("")
+        (self.top / "closed").chmod(0)
+
+    def all(self) -> None:
+        for program in self.programs:
+            self.call(program, ("--help",))
+        self.words()
+        self.files()
+        self.streams()
+        self.helps()
+        self.versions()
+        self.agreement()
+
+    def call(self, program: str, words: Words, **how: Any) -> tuple[str, str, int]:
+        # The superuser may read everything.
+        if os.geteuid() == 0 and b"closed" in map(os.fsencode, words):
+            how["user"] = NOBODY
+        streams: dict[str, Any] = {"stdin": subprocess.DEVNULL, "stdout": subprocess.PIPE, "stderr": subprocess.PIPE}
+        ran = subprocess.run([self.top / program, *words], cwd=self.top, timeout=SECONDS, text=True, errors="replace",
+                             **streams, **how)
+        return ran.stdout, ran.stderr, ran.returncode
+
+    def words(self) -> None:
+        for program, words, wanted in SLIPS:
+            output, errors, status = self.call(program, words)
+            lines = errors.splitlines()
+            is_said = len(lines) == 3 and lines[1].startswith(f"{program}: ") and wanted in lines[1]
+            is_whole = lines[:1] == ["usage"] and lines[-1].startswith(f"{program}: usage: {program} ")
+            self.runs.compare(f"the slip {program} {words}: {errors!r}", (output, is_said, is_whole, status),
+                              ("", True, True, 2))
+
+    def files(self) -> None:
+        for program, words, wanted in UNREAD:
+            self.runs.compare(f"the unread file of {program} {words}", self.call(program, words),
+                              ("", f"refused Read\n{program}: {wanted}\n", 1))
+        for program, words, wanted in ALONE:
+            self.runs.compare(f"the refusal of {program} {words}", self.call(program, words), ("", f"{wanted}\n", 1))
+
+    def streams(self) -> None:
+        """The status and standard input, whatever reads standard error."""
+        for words, status in ((("check", "missing"), 1), (("chek",), 2)):
+            reading, writing = os.pipe()
+            os.close(reading)
+            ran = subprocess.run([self.top / "fr_bench", *words], cwd=self.top, stderr=writing, timeout=SECONDS)
+            os.close(writing)
+            self.runs.compare(f"{words} with a reader that has left", ran.returncode, status)
+        trace, report = (EXAMPLES / "receive-buffer" / name for name in ("trace", "report"))
+        ours, theirs = pty.openpty()
+        for shell in ("sh", "bash"):
+            with open(trace, "rb") as given:
+                told = [shell, self.top / "tools/told", "fr_bench", self.programs["fr_bench"], "audit"]
+                ran = subprocess.run(told, stdin=given, stdout=subprocess.PIPE, stderr=theirs, timeout=SECONDS)
+            self.runs.compare(f"standard input by {shell} at a terminal", (ran.stdout, ran.returncode),
+                              (report.read_bytes(), 0))
+        os.close(theirs)
+        os.close(ours)
+        closing = ["sh", "-c", 'exec "$@" <&-', "sh", self.top / "tools/told", "fr_bench", self.programs["fr_bench"]]
+        ran = subprocess.run([*closing, "audit"], capture_output=True, timeout=SECONDS)
+        self.runs.compare("standard input that is closed", (ran.stderr, ran.returncode), (b"refused Read\n", 1))
+
+    def helps(self) -> None:
+        for program in self.programs:
+            overview = self.call(program, ("--help",))[0]
+            for command in commands_of(program):
+                words = () if command == program else (command,)
+                text, errors, status = self.call(program, (*words, "--help"))
+                shown = [line for line in text.splitlines() if line.startswith(("usage: ", "example: "))]
+                usage, example = (line.partition(": ")[2] for line in shown)
+                self.runs.compare(f"the help of {program} {command}", (errors, status), ("", 0))
+                self.runs.compare(f"the overview of {program} has {command}", usage in overview, True)
+                given = re.findall(r"--[a-z-]+|\b[A-Z]{2,}\b", usage.partition(" > ")[0])
+                described = [re.search(rf"^  (--[a-z]+ )?{word}\b", text, re.MULTILINE) is not None for word in given]
+                self.runs.compare(f"the arguments of {program} {command}: {given}", all(described), True)
+                ran = subprocess.run(["bash", "-c", f"cd '{self.top}' && {example.partition(' > ')[0]}"],
+                                     capture_output=True, timeout=SECONDS)
+                self.runs.compare(f"the example of {program} {command}",
+                                  (ran.stdout != b"", ran.stderr, ran.returncode), (True, b"", 0))
+                others = ((*words, "-h"), (*words, CLUSTER, "--help")) + ((("help", *words),) if words else ())
+                for other in others:
+                    self.runs.compare(f"help by {program} {other}", self.call(program, other), (text, "", 0))
+            with open("/dev/full", "w") as full:
+                ran = subprocess.run([self.top / program, "--help"], stdout=full, stderr=subprocess.PIPE, text=True)
+            self.runs.compare(f"the help of {program} to a full device", (ran.stderr, ran.returncode),
+                              (f"{program}: the help can't be written\n", 1))
+
+    def versions(self) -> None:
+        version = (TOP / "python/musmyrtle/VERSION").read_text()
+        for program in self.programs:
+            self.runs.compare(f"the version of {program}", self.call(program, ("--version",)),
+                              (f"{program} {version}", "", 0))
+        for tool in ("fr_lint", "fr_faults"):
+            ran = subprocess.run([TOP / tool, "--version"], capture_output=True, text=True, timeout=SECONDS)
+            self.runs.compare(f"the version of {tool}", (ran.stdout, ran.stderr, ran.returncode),
+                              (f"{tool} {version}", "", 0))
+
+    def agreement(self) -> None:
+        """Words have a slip exactly if the program ends with status 2."""
+        drawn = random.Random(1)
+        for _ in range(150):
+            program = drawn.choice(sorted(self.programs))
+            words = list(drawn.choice(SHAPES[program]))
+            for _ in range(drawn.randint(0, 2)):
+                words.insert(drawn.randint(program != "fr_world", len(words)), drawn.choice(POOL))
+            if drawn.random() < 0.4:
+                words.pop(drawn.randrange(len(words)))
+            ran = subprocess.run([self.programs[program], *words], cwd=self.top, capture_output=True,
+                                 stdin=subprocess.DEVNULL, timeout=SECONDS)
+            read = subprocess.run(["sh", "-uc", READ, "sh", TOP / "tools/words.sh", program, *words], cwd=self.top,
+                                  capture_output=True, timeout=SECONDS)
+            self.runs.compare(f"whether {program} {words} has a slip", (read.returncode == 0, read.stderr),
+                              (ran.returncode != 2, b""))
+
+
+def commands_of(program: str) -> list[str]:
+    text = (TOP / "tools/help" / program).read_text()
+    return [name for name in re.findall(r"^== (.*)$", text, re.MULTILINE) if name != "after"]
