@@ -10,7 +10,7 @@
 import sys
 
 if sys.version_info < (3, 11):
-    # It stands before all imports, of which older versions can't do some, and in words that they know.
+    # This stands before all imports, some of which fail in older versions, and in words that older versions know.
     raise ImportError("musmyrtle needs Python 3.11, and this is Python {}.{}.{}".format(*sys.version_info[:3]))
 
 from musmyrtle.builder import NotInAScenario, Scenario, ScenarioText

@@ -39,13 +39,13 @@ WARNINGS = {
 NOTES = {"fault-tolerance": "2 nodes have a startup slot, and none may fail"}
 NAMES = {**WARNINGS, **NOTES}
 MOST_UNKNOWN = 20
-"""Of so many unknown names a warning is made; the others are counted."""
+"""The number of unknown names that have a warning each; the others are counted."""
 COMMENT = re.compile(r"""(?:[^"'#]|"(?:[^"\\]|\\.)*+"|'[^']*+')*+\#(.*)""")
 ALLOW = re.compile(r"\s*lint:\s*allow\b(.*)")
 
 
 class Allows:
-    """What the comments of a text allow, found where it is asked for."""
+    """The allowing comments of a text, found when they are asked for."""
 
     def __init__(self, text: Text):
         self.text = text
@@ -87,7 +87,7 @@ class Allows:
         return first, sum(1 for _ in found)
 
     def unknown_names(self) -> Iterator[tuple[str, int, str]]:
-        """Returns each unknown name, with the number and the text of its line."""
+        """Yields each unknown name, with the number and the text of its line."""
         lines = self.text.places.text.split("\n") if self.has_any else []
         for number, line in enumerate(lines, 1):
             for name in self.names_in(line):

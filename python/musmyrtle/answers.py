@@ -7,10 +7,10 @@ from musmyrtle.breaking import SIGNALLED
 
 REFUSED = 1
 NO_REFUSALS = ("Read", "Write", "Memory", "Truncated", "Thread")
-"""Refusals by which a program tells of its machine. The scenario of a run is whole, so none of them is of the run."""
+"""Refusals that report a fault of the machine. The scenario of a run is whole, so none of them is about the run."""
 REFUSAL = re.compile(r"refused ([A-Z][A-Za-z]*)( .*)?")
 UNANSWERED = ("killed", "unreadable")
-"""The effects of a run without an answer. Such a run is neither harmless nor harmful, and has to be done again."""
+"""The effects of a run without an answer. Such a run is neither harmless nor harmful, and has to be repeated."""
 
 
 @dataclass(frozen=True)
@@ -23,8 +23,10 @@ class Answer:
 
     @property
     def failure(self) -> tuple[str, str] | None:
-        """The effect and the reason, if there is no outcome: `refused` is an answer, `killed` and `unreadable` are
-        none. With status 0 the output still has to be read."""
+        """Returns the effect and the reason, if there is no outcome.
+
+        `refused` is an answer, `killed` and `unreadable` are none. With status 0 the output still has to be read.
+        """
         if self.status == 0:
             return None
         killer = signal_of(self.status)
@@ -39,7 +41,10 @@ class Answer:
 
 
 def signal_of(status: int) -> int | None:
-    """Returns the signal that ended a program: its status is below 0 by Python, and above 128 by a shell."""
+    """Returns the signal that ended a program.
+
+    Python gives a status below 0 for it, and a shell one above 128.
+    """
     number = -status if status < 0 else status - SIGNALLED
     return number if 0 < number < signal.NSIG else None
 

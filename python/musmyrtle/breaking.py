@@ -1,4 +1,4 @@
-"""The signals that break a command off, and the folder that is gone even then."""
+"""The signals that break a command off, and a folder that is removed even then."""
 import signal
 import threading
 from collections.abc import Iterator
@@ -9,7 +9,7 @@ from types import FrameType
 
 SIGNALS = (signal.SIGINT, signal.SIGTERM, signal.SIGHUP)
 SIGNALLED = 128
-"""What a shell adds to the number of a signal."""
+"""The number that a shell adds to a signal for its status."""
 
 
 class BrokenOff(BaseException):
@@ -22,8 +22,10 @@ class BrokenOff(BaseException):
 
 @contextmanager
 def breaking_off() -> Iterator[None]:
-    """Raises `BrokenOff` at the first of the signals, and ignores those after it. A signal that was ignored before, as
-    `nohup` has it, stays so."""
+    """Raises `BrokenOff` at the first of the signals, and ignores those after it.
+
+    A signal that was ignored before, as below `nohup`, stays ignored.
+    """
     if threading.current_thread() is not threading.main_thread():
         yield
         return
@@ -32,7 +34,7 @@ def breaking_off() -> Iterator[None]:
 
     def break_off(number: int, _: FrameType | None) -> None:
         for it in handled:
-            # No SIG_IGN, which programs that are started to clean up would inherit.
+            # SIG_IGN would be inherited by the programs that are started to clean up.
             signal.signal(it, lambda *_: None)
         raise BrokenOff(number)
 
@@ -47,7 +49,7 @@ def breaking_off() -> Iterator[None]:
 
 @contextmanager
 def held() -> Iterator[None]:
-    """Holds the signals back. It does so only while this thread is the only one."""
+    """Holds the signals back, but only while this thread is the only one."""
     before = signal.pthread_sigmask(signal.SIG_BLOCK, SIGNALS)
     try:
         yield

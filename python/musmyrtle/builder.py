@@ -25,7 +25,7 @@ MOST_PLACE = 8000
 
 
 class NotInAScenario(ValueError):
-    """A scenario has no lines for this. The message says why."""
+    """A request that no lines of a scenario can express. The message has the reason."""
 
 
 class ScenarioText(str):
@@ -41,7 +41,7 @@ class ScenarioText(str):
 
 @dataclass(frozen=True)
 class Task:
-    """A task of a node, whose calls become lines in these cycles of the run.
+    """A task of a node, whose calls become lines in the chosen cycles of the run.
 
     Buffers are given by number, 0 to 63, or by name. Raises `ValueError` for others, and `UnknownName`.
     """

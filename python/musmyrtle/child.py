@@ -15,17 +15,17 @@ CHUNK = 65536
 SAID = 8192
 """Bytes kept of the end of standard error."""
 LONGEST = 65536
-"""Bytes of the longest line of a reply. A program that goes on without a line feed isn't read to its end."""
+"""The bytes of the longest line of a reply. A longer line isn't read to its end."""
 LOOK_MILLISECONDS = 500.0
-"""A wait looks this often whether the program still runs: a process that it started may hold its pipes open."""
+"""The seconds between two looks whether the program still runs: a process that it started may hold its pipes open."""
 QUICK_MILLISECONDS = 20
-"""How long a reply is waited for without a look at standard error."""
+"""The seconds that a reply is waited for without a look at standard error."""
 LAST_SECONDS = 1.0
-"""How long the last words of a program that closed its output are waited for."""
+"""The seconds that the last words of a program that closed its output are waited for."""
 
 
 class Gone(Exception):
-    """No further reply can come. The message says why, where it isn't for the program to say."""
+    """No further reply can come. The message has the reason, unless the program gives it."""
 
 
 class Late(Exception):
@@ -59,7 +59,7 @@ class Child:
 
     @property
     def number(self) -> int:
-        """The process ID."""
+        """Returns the process ID."""
         return self._process.pid
 
     # ---- lines
@@ -80,7 +80,7 @@ class Child:
 
         DEADLINE is a time of `time.monotonic`. Raises `Gone` and `Late`.
         """
-        # Most replies come at once. To wait for one pipe takes less time than for two.
+        # Most replies come at once, and waiting for one pipe takes less time than for two.
         if not self._lines and not self._unwritten and deadline is None and self._replies.poll(QUICK_MILLISECONDS):
             self._pull()
         while not self._lines:
@@ -103,8 +103,8 @@ class Child:
             self._look(deadline)
 
     def _look(self, deadline: float | None) -> None:
-        """Looks whether a reply can still come. Raises `Gone` and `Late`."""
-        # What the program wrote before it ended is read first.
+        """Raises `Gone` or `Late` if no reply can come any more."""
+        # Output that the program wrote before it ended is read first.
         if self._process.poll() is not None and not self._pull():
             raise Gone
         if deadline is not None and not self._lines and time.monotonic() >= deadline:
@@ -115,7 +115,7 @@ class Child:
         self.write(rest)
 
     def _pull(self) -> bool:
-        """Reads what there is of the output. Tells whether there was anything. Raises `Gone` at its end."""
+        """Reads the available output and returns whether there was any. Raises `Gone` at its end."""
         try:
             chunk = os.read(self._output, CHUNK)
         except BlockingIOError:
@@ -138,7 +138,7 @@ class Child:
     # ---- standard error
 
     def last_words(self) -> str:
-        """Returns the end of what the program said on standard error, or how it ended where it said nothing.
+        """Returns the end of standard error, or how the program ended if that is empty.
 
         Waits for at most `LAST_SECONDS`, and not for other processes that hold the pipe.
         """
@@ -149,7 +149,7 @@ class Child:
         while not self._is_mute and self._process.poll() is None and time.monotonic() < until:
             if poller.poll(50):
                 self._listen()
-        # What it wrote before it ended: a pipe holds no more than this.
+        # A pipe holds no more than this of what the program wrote before it ended.
         for _ in range(16):
             if self._is_mute or not self._listen():
                 break
@@ -164,7 +164,7 @@ class Child:
         return f"the program was ended by {signal_name(-status)}"
 
     def _listen(self) -> bool:
-        """Reads what there is of standard error. Tells whether there was anything."""
+        """Reads the available standard error and returns whether there was any."""
         try:
             chunk = os.read(self._errors, CHUNK)
         except OSError:
@@ -179,7 +179,7 @@ class Child:
     # ---- the end
 
     def hang_up(self) -> None:
-        """Closes the pipes, upon which the program ends by itself. Waits for nothing."""
+        """Closes the pipes, which makes the program end, and returns at once."""
         self._input = self._output = self._errors = -1
         self._unwritten = memoryview(b"")
         for file in self._files:
@@ -211,7 +211,7 @@ class Child:
                 break
 
     def _ends_within(self, seconds: float) -> bool:
-        """Waits for the end of the program, and not for that of other processes. Tells whether it came."""
+        """Waits for the end of the program alone, without other processes, and returns whether it came."""
         try:
             file = os.pidfd_open(self._process.pid)
         except OSError:

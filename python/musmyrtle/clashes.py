@@ -1,4 +1,4 @@
-"""What is wrong between the lines of a cluster file each of which is right by itself, in the program's order."""
+"""Faults between lines of a cluster file that are right each by itself, in the program's order."""
 from collections import defaultdict
 
 from musmyrtle.cluster import CYCLES, Buffer, Cluster, Fault, Ownership
@@ -34,7 +34,7 @@ def fault_of_unowned(cluster: Cluster, buffer: Buffer, channel: str, cycle: int)
               f"channels and in each of its cycles. Expected a line in `own` with slot = {buffer.slot} that has "
               f"channel {channel} and cycle {cycle}, or another slot, or fewer channels or cycles of the buffer.")
     lines = [it for it in cluster.owned() if it.slot == buffer.slot]
-    # A node without any line for the slot may have meant another one of its own.
+    # A node without any line for the slot may have meant another slot of its own.
     lines += [it for it in cluster.nodes[buffer.node].owned if it.slot != buffer.slot]
     notes = tuple((f"{it} has slot {it.slot} on {it.channels} in {it.cycles}", it.path) for it in lines[:MOST_NOTES])
     return Fault(f"NotOwned {buffer.node} {buffer.number}", headline, reason, (*buffer.path, "slot"), notes)
@@ -63,7 +63,7 @@ def overlaps(cluster: Cluster) -> list[Fault]:
     for (slot, channel), sorts in sorted(claims.items(), key=lambda claim: claim[0]):
         both = [it for it in map(first_clash, sorts) if it]
         clash = min(both, key=lambda it: it[0]) if both else None
-        # Lines that clash on A and on B alike are told once.
+        # Lines that clash on A and on B alike are reported once.
         if clash and clash not in told:
             told.append(clash)
             found.append(fault_of_overlap(slot, channel, *clash))
@@ -71,7 +71,7 @@ def overlaps(cluster: Cluster) -> list[Fault]:
 
 
 def first_clash(claims: list[Claim]) -> tuple[int, list[Claim]] | None:
-    """The least cycle that two of them admit, and those that do."""
+    """Returns the least cycle that two of them admit, and these two."""
     if len(claims) < 2:
         return None
     for cycle in CYCLES:

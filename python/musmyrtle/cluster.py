@@ -1,4 +1,4 @@
-"""A cluster file: its parameters, its nodes, and the first fault and the further ones of what it says.
+"""A cluster file: its parameters and nodes, its first fault and the further ones.
 
 The faults are looked for in the order in which `fr_bench` looks for them, so that the first one is the program's.
 """
@@ -41,11 +41,11 @@ class Cycles:
 
     @cached_property
     def bits(self) -> int:
-        """The cycles of `CYCLES` as bits of a number."""
+        """Returns the cycles of `CYCLES` as bits of a number."""
         return sum(1 << cycle for cycle in CYCLES if self.admit(cycle))
 
     def meet(self, other: "Cycles") -> bool:
-        """Whether both admit some cycle."""
+        """Returns whether both admit some cycle."""
         return (self.base - other.base) % min(self.repetition, other.repetition) == 0
 
     def __str__(self) -> str:
@@ -91,7 +91,7 @@ class Buffer:
     channels: str
     cycles: Cycles
     words: int
-    """Of a transmit buffer the words of its frames; of a receive buffer 0."""
+    """The words of a transmit buffer's frames; 0 for a receive buffer."""
 
     @property
     def transmits(self) -> bool:
@@ -131,12 +131,12 @@ class Parameters:
     words_per_minislot: int
 
     def minislots_of(self, words: int) -> int:
-        """The minislots that the bytes of a frame of so many words fill, without those that stay idle after it."""
+        """Returns the minislots that a frame of so many words fills, without the idle ones after it."""
         return -(-(words + 4) // self.words_per_minislot)
 
     @property
     def windows(self) -> int:
-        """The most windows of a cycle."""
+        """Returns the largest number of windows in a cycle."""
         return self.static_slots + self.minislots
 
 
@@ -158,7 +158,7 @@ class Cluster:
 
 @dataclass(frozen=True)
 class Fault:
-    """Something for which a file is refused: the words of the refusal, where, and why."""
+    """A reason to refuse a file: the words of the refusal, the place, and the reason."""
 
     refusal: str
     headline: str
@@ -168,7 +168,7 @@ class Fault:
 
 
 class Reader:
-    """Reads the keys of one table, and notes what is wrong with them."""
+    """Reads the keys of one table, and notes their faults."""
 
     def __init__(self, table: dict[str, Any], path: Path, who: str, refusal: str, known: tuple[str, ...],
                  faults: list[Fault]):
@@ -180,7 +180,7 @@ class Reader:
         self.faults.append(Fault(self.refusal, headline, reason, self.path if path is None else path, tuple(notes)))
 
     def missing(self, key: str, right: str) -> None:
-        # What is meant is looked for only where it is told.
+        # The nearest known word is looked for only if it is printed.
         meant = alike(self.table, self.known, key) if len(self.faults) < MOST_REASONS else []
         notes = [(f"`{it}` is read by nothing: is `{key}` meant?", (*self.path, it)) for it in meant]
         self.note(f"{self.who} has no `{key}`", f"Expected `{key}` with {right}.", notes=notes)
@@ -234,7 +234,7 @@ class Reader:
         return Cycles()
 
     def tables(self, key: str) -> list[dict[str, Any]] | None:
-        """The tables of an array, or nothing where that is none of at most 64 tables."""
+        """Returns the tables of an array of at most 64 tables, or nothing for any other value."""
         value = self.table.get(key, [])
         if not isinstance(value, list):
             self.wrong(key, "an array of tables")
@@ -251,7 +251,7 @@ class Reader:
 
 
 class Reading:
-    """The reading of a document: the cluster, as far as there is one, and what is wrong, in the program's order."""
+    """The reading of a document: the cluster, as far as there is one, and the faults in the program's order."""
 
     def __init__(self, document: dict[str, Any]):
         self.document = document

@@ -1,4 +1,4 @@
-"""What host programs and scenarios need of a cluster file, which the program has read before."""
+"""The parts of a cluster file that host programs and scenarios need. The program has read the file before."""
 from musmyrtle.texts import NoText, read_text
 from musmyrtle.toml_tables import Table
 
@@ -14,8 +14,11 @@ def document_of(data: bytes) -> Table:
 
 
 def payload_length(data: bytes, node: int, buffer: int) -> int | None:
-    """Returns the bytes of a transmit buffer's payload, or None where the file has no such buffer or is refused."""
-    # It is needed only where a length is wrong, and each program that opens a world would wait for the import.
+    """Returns the bytes of a transmit buffer's payload.
+
+    Returns None if the file has no such buffer or is refused.
+    """
+    # Only a wrong length needs this import, and each program that opens a world would wait for it.
     from musmyrtle.cluster import Reading
     try:
         cluster = Reading(document_of(data)).cluster

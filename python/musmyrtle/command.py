@@ -54,7 +54,7 @@ class Parser(argparse.ArgumentParser):
         write(file or sys.stdout, [self.format_help()])
 
     def error(self, message: str) -> NoReturn:
-        """Repeats words of the command, which may be anything."""
+        """Writes the error with the words of the command escaped, since they may be anything."""
         super().error(visible(message))
 
 
@@ -97,7 +97,7 @@ def parsed(words: list[str] | None) -> argparse.Namespace:
 
 
 def words_for(task: Task) -> list[str]:
-    """The words by which the program is asked."""
+    """Returns the words by which the program is asked."""
     if task.scenario is None:
         return ["check", "--", task.file(task.cluster)]
     return ["run", "--cycles", str(task.cycles), "--", task.file(task.cluster), task.file(task.scenario)]
@@ -105,14 +105,18 @@ def words_for(task: Task) -> list[str]:
 
 @contextmanager
 def lasting(task: Task) -> Iterator[Task]:
-    """The task with files that can be read again, and by another process, while this lasts."""
+    """Yields the task with files that can be read again, also by another process."""
     with ExitStack() as copies:
         names = dict.fromkeys(it for it in (task.cluster, task.scenario) if it is not None)
         yield replace(task, files={name: lasting_file(name, copies) for name in names})
 
 
 def lasting_file(name: str, copies: ExitStack) -> str:
-    """The file behind a name as `/dev/stdin`, which is another one for the program, or a copy of what a pipe has."""
+    """Returns a name under which a file can be read again.
+
+    That is the file behind a name such as `/dev/stdin`, which is another one for the program, or a copy of a pipe's
+    content.
+    """
     behind = os.path.realpath(name)
     if os.path.isfile(behind):
         return behind
@@ -131,7 +135,7 @@ def lasting_file(name: str, copies: ExitStack) -> str:
 
 
 def told(answer: Answer, found: Lint, is_bold: bool = False) -> Iterator[str]:
-    """What is printed: the answer, the reasons and the warnings."""
+    """Yields the text to print: the answer, the reasons and the warnings."""
     refusal = visible(cut(answer.refusal or "", MOST_REPEATED))
     if answer.status == USAGE:
         yield f"fr_bench: {refusal}\n"
@@ -163,7 +167,7 @@ def told_reasons(answer: Answer, found: Lint, is_bold: bool) -> Iterator[str]:
 
 
 def is_explained(answer: Answer, found: Lint) -> bool:
-    """Whether the first refusal that is told is the program's, or neither has any."""
+    """Returns whether the first refusal printed is the program's, or neither has any."""
     return answer.refusal == (found.refusals[0][0] if found.refusals else None)
 
 
@@ -180,7 +184,7 @@ def is_trace_file(file: str) -> bool:
 
 
 def traced(given: argparse.Namespace, task: Task) -> int:
-    """Asks `fr_view why` of a trace, and prints the reason in words. Answers the status."""
+    """Asks `fr_view why` about a trace, prints the reason in words, and returns the status."""
     if given.scenario is not None or given.cycles is not None:
         raise Stop(USAGE, f"{task.cluster} is a trace, and takes no scenario and no cycles")
     program, file = given.named or usual_program("fr_view"), task.file(task.cluster)
@@ -205,14 +209,14 @@ def traced(given: argparse.Namespace, task: Task) -> int:
 
 
 def linted(given: argparse.Namespace) -> int:
-    """Asks the program, and prints what is to be said. Answers the status."""
+    """Asks the program, prints the findings, and returns the status."""
     whole = Task(given.cluster, given.scenario, given.cycles, allowed=frozenset(given.allow))
     with lasting(whole) as task:
         if is_trace_file(task.file(task.cluster)):
             return traced(given, task)
         try:
             overwritten = Overwritten()
-            # `run` itself decides whether a scenario suits, and its outcome is dropped.
+            # `run` itself decides whether a scenario fits the cluster. Its outcome is dropped.
             answer = ask(given.program, words_for(task), listen=overwritten.read if given.scenario else None)
         except OSError as error:
             raise Stop(USAGE, f"{given.program} can't be run: {error.strerror}") from None
@@ -220,7 +224,7 @@ def linted(given: argparse.Namespace) -> int:
             raise Stop(USAGE, no_answer(given.program, words_for(task), answer))
         found = lint(task, overwritten)
     if isinstance(sys.stdout, io.TextIOWrapper):
-        # A file may have a name, or a line, that the terminal can't spell.
+        # The terminal may be unable to spell a file's name or a line.
         sys.stdout.reconfigure(errors="backslashreplace")
     with suppress(BrokenPipeError):
         write(sys.stdout, ["\n".join(told(answer, found, is_bold_on(sys.stdout)))])

@@ -22,7 +22,7 @@ Measured = Generator[tuple[SingleFault, list[Difference]], None, None]
 
 @dataclass(frozen=True)
 class Means:
-    """By what the runs are done: the program, the one for sessions, the cores of this machine, and other machines."""
+    """The means for the runs: `fr_view`, `fr_world`, the cores of this machine, and other machines."""
 
     program: str
     world: str
@@ -31,7 +31,7 @@ class Means:
 
 
 class NoReference(Exception):
-    """The run without a fault has no outcome. The message says why."""
+    """The run without a fault has no outcome. The message has the reason."""
 
 
 def no_outcome(answer: Answer) -> str:
@@ -46,7 +46,10 @@ def failed(effect: str, why: str) -> list[Difference]:
 
 
 def unplayed(error: SessionOver | Refused) -> list[Difference]:
-    """Returns the failure of a session. As of a run, some refusals are of the machine, and no answer."""
+    """Returns the failure of a session.
+
+    As with a run, some refusals come from the machine and are no answer.
+    """
     effect = "killed"
     if isinstance(error, Refused):
         effect = "unreadable" if error.names[-1] in NO_REFUSALS else "refused"
@@ -54,7 +57,7 @@ def unplayed(error: SessionOver | Refused) -> list[Difference]:
 
 
 class Campaign:
-    """A cluster and a scenario with the run without a fault, with which the others are compared.
+    """A cluster and a scenario with the run without a fault, which is the reference for the others.
 
     Raises `NotStarted` where there is no `fr_world`, and `NoReference` where that run has no outcome.
     """
@@ -70,7 +73,7 @@ class Campaign:
             raise NoReference(f"{means.world}: {error}") from None
         self.known: Known = {}
         self.done_here = 0
-        """The runs that no machine answered, and that were done here."""
+        """The runs that no machine answered and that were done here."""
         self.reference = self.read_reference()
 
     def read_reference(self) -> Ended:
@@ -87,7 +90,7 @@ class Campaign:
         return Listing(self.cluster, self.scenario, self.folder.cycles, selection, plays)
 
     def overwritten(self) -> dict[int, int]:
-        """Returns for each node whose FIFO overwrites frames without any fault how many it overwrites."""
+        """Returns the number of frames that each overwriting FIFO overwrites without any fault, by node."""
         counts = ((number, node.queue) for number, node in enumerate(self.reference.outcome.nodes))
         return {number: it.lost for number, it in counts if it and it.lost}
 
@@ -99,7 +102,7 @@ class Campaign:
                      if it.number not in committing and any(buffer.transmits for buffer in it.buffers))
 
     def measure(self, fault: SingleFault, answer: Answer) -> list[Difference]:
-        """Returns what differs by the fault, or how its run failed."""
+        """Returns the differences that the fault makes, or how its run failed."""
         if answer.failure:
             return failed(*answer.failure)
         try:
@@ -118,7 +121,10 @@ class Campaign:
         return differences(self.reference, ended(self.scenario, outcome, played))
 
     def is_played(self, fault: SingleFault) -> bool:
-        """Whether the outcome alone doesn't tell all: windows may have moved, or other frames have come to a FIFO."""
+        """Returns whether the outcome alone isn't enough.
+
+        Windows may have moved, or other frames have come to a FIFO.
+        """
         return fault.is_dynamic or any(self.may_reach(fault, node.queue) for node in self.cluster.nodes if node.queue)
 
     def may_reach(self, fault: SingleFault, queue: Queue) -> bool:
@@ -127,7 +133,10 @@ class Campaign:
         return is_in_range and any(it in queue.channels for it in fault.channels)
 
     def run(self, faults: list[SingleFault], log: Log, tell: Callable[[int, int], None]) -> Done:
-        """Does all faults that have a run. Returns all in the order of the list, and tells TELL how many are done."""
+        """Runs all faults that have a run.
+
+        Returns all in the order of the list, and reports the number done to TELL.
+        """
         runs = [it for it in faults if not it.is_idle]
         todo = [it for it in runs if str(it) not in log.done]
         with closing(self.measured(todo)) as measured:
@@ -138,7 +147,7 @@ class Campaign:
         return [(it, idle if it.is_idle else log.done[str(it)]) for it in faults]
 
     def measured(self, faults: list[SingleFault]) -> Measured:
-        """Yields each fault with its differences, as they come."""
+        """Yields each fault with its differences, in the order in which runs end."""
         rest = faults
         if self.means.hosts is not None:
             answered = set[str]()
@@ -152,7 +161,7 @@ class Campaign:
             yield from done
 
     def by_hosts(self, faults: list[SingleFault], hosts: Hosts) -> Measured:
-        """Yields the same of the faults whose runs a machine has answered."""
+        """Yields the same for the faults whose runs a machine has answered."""
         with closing(answers(self.folder, self.means.program, faults, hosts)) as told, closing(
                 pooled(lambda it: self.measure(*it), told, self.means.cores, self.folder.children)) as done:
             for (fault, _), found in done:
@@ -169,7 +178,10 @@ def is_answered(found: list[Difference]) -> bool:
 
 @dataclass(frozen=True)
 class ListPlays:
-    """The runs that a list follows from, played in sessions. Raises `NoReference` where one of them can't be had."""
+    """The runs that a list depends on, played in sessions.
+
+    Raises `NoReference` where one of them has no outcome.
+    """
 
     base: Played
     player: Player
@@ -188,7 +200,7 @@ class ListPlays:
 
 @contextmanager
 def for_a_list() -> Iterator[None]:
-    """Turns what ends a session into the one line that says that there is no list."""
+    """Turns the end of a session into the one line that reports a missing list."""
     try:
         yield
     except (SessionOver, Refused) as error:
@@ -196,7 +208,10 @@ def for_a_list() -> Iterator[None]:
 
 
 def misplaced(fault: SingleFault, played: Played) -> str | None:
-    """What is wrong with a frame that is forged in a minislot: it has to carry the slot that is open in its own run."""
+    """Returns the fault of a frame forged in a minislot.
+
+    It has to carry the slot that is open in its own run.
+    """
     if fault.kind != "forged" or fault.minislot is None:
         return None
     for line in (it.split(" ") for it in fault.lines):

@@ -51,7 +51,10 @@ def ranks_before(file: str | None) -> Ranks | None:
 
 
 def try_outputs(given: argparse.Namespace) -> None:
-    """Stops where an output can't be written, or would overwrite an input, before the runs, which may take long."""
+    """Stops if an output can't be written or would overwrite an input.
+
+    It does so before the runs, which may take long.
+    """
     outputs = {"--joblog": given.joblog, "--html": given.html}
     inputs = [("the cluster file", given.cluster), ("the scenario", given.scenario),
               ("the table of --against", given.against), ("the program", given.program),
@@ -66,7 +69,7 @@ def try_outputs(given: argparse.Namespace) -> None:
 
 
 def try_page(file: str) -> None:
-    """Stops where the page can't be written. Nothing is left of the trial."""
+    """Stops if the page can't be written. The trial leaves no file."""
     path = Path(file)
     try:
         if not path.exists():
@@ -79,7 +82,7 @@ def try_page(file: str) -> None:
 
 
 class Progress:
-    """A line on a terminal that says how far the runs are."""
+    """A line on a terminal that shows the progress of the runs."""
 
     def __init__(self) -> None:
         self.is_shown = sys.stderr is not None and sys.stderr.isatty()
@@ -110,7 +113,7 @@ def means_of(given: argparse.Namespace) -> Means:
 
 
 def measured(given: argparse.Namespace, folder: Path) -> Results | None:
-    """Returns all faults with what they cost, or nothing where they were only to be listed."""
+    """Returns all faults with their costs, or nothing if they were only to be listed."""
     children = Children()
     inputs = accepted(given, folder, children)
     selection = Selection(given.kinds, given.nodes, given.slots, given.in_cycle)
@@ -167,7 +170,7 @@ def worse_line(fault: SingleFault, found: Difference, labels: Labels) -> str:
 
 
 def ran(given: argparse.Namespace) -> int:
-    """Does all that is asked for, and returns the status."""
+    """Runs the whole command and returns the status."""
     try:
         before = ranks_before(given.against)
         try_outputs(given)
@@ -181,7 +184,7 @@ def ran(given: argparse.Namespace) -> int:
     except BrokenPipeError:
         raise
     except OSError as error:
-        # A file or a folder that is gone meanwhile, or no folder for temporary files.
+        # A file or folder vanished meanwhile, or there is no folder for temporary files.
         raise Stop(USAGE, ": ".join(str(it) for it in (error.filename, error.strerror or error) if it)) from None
     except BrokenOff as signal:
         how = f"; --joblog {given.joblog} --resume goes on" if given.joblog else ""

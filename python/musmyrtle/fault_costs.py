@@ -1,4 +1,4 @@
-"""What a fault costs: the end of a run that has it, compared with the end of the run without it."""
+"""The costs of a fault: the end of a run that has it, compared with the end of the run without it."""
 from bisect import bisect_right
 from collections.abc import Iterator
 from dataclasses import dataclass
@@ -37,14 +37,15 @@ RANKS = {name: rank for rank, name in enumerate(reversed(EFFECTS))}
 
 @dataclass(frozen=True)
 class Difference:
-    """One thing that a node has otherwise with a fault: what it is, the effect with how much, and both states."""
+    """One difference that a fault makes to a node: the thing, the effect with its amount, and both states."""
 
     node: int | None
     thing: str
     """`rx B`, `tx B`, `queue` for the receive FIFO, the channel of the counters, or `-` where there is no outcome."""
     effect: str
     amount: int
-    """Cycles for `older` and `newer`, frames of a FIFO, commits of a transmit buffer, counts of a channel, else 1."""
+    """Cycles for `older` and `newer`, frames of a FIFO, commits of a transmit buffer, counts of a channel, otherwise 1.
+    """
     without: str
     having: str
 
@@ -54,7 +55,7 @@ class Difference:
 
     @property
     def rank(self) -> tuple[int, int]:
-        """Greater is worse."""
+        """Returns the rank of an effect; a greater one is worse."""
         return RANKS[self.effect], self.amount
 
 
@@ -63,11 +64,11 @@ def worst(differences: list[Difference]) -> Difference | None:
 
 
 class Calendar:
-    """The cycle of each entry of a journal: of a run with its windows, and the lines of its tasks before them."""
+    """The cycle of each entry of a journal, from its windows and the task lines before them."""
 
     def __init__(self, scenario: Scenario, starts: list[int]):
         self.begins: dict[int, list[int]] = {}
-        """For each node the entry with which the windows of each cycle begin."""
+        """The entry with which the windows of each cycle begin, by node."""
         calls: dict[int, list[int]] = {}
         for (node, _), lines in scenario.numbered():
             for line in lines:
@@ -81,20 +82,20 @@ class Calendar:
                 self.begins[node].append(2 * start + before)
 
     def cycle(self, node: int, entry: int) -> int:
-        """The cycle of the run in which the entry of a window was made."""
+        """Returns the cycle of the run in which the entry of a window was made."""
         return bisect_right(self.begins.get(node, self.usual), entry) - 1
 
 
 @dataclass(frozen=True)
 class Ended:
-    """How a run ended: its outcome, the cycles of its entries, and the frames of its FIFOs."""
+    """The end of a run: its outcome, the cycles of its entries, and the frames of its FIFOs."""
 
     outcome: Outcome
     calendar: Calendar
     fifos: Fifos
 
     def fifo(self, node: int) -> Fifo | str:
-        """What became of the frames of a node's FIFO, or why that isn't known."""
+        """Returns the frames of a node's FIFO, or why they aren't known."""
         found, counts = self.fifos.get(node, "it wasn't read"), self.outcome.nodes[node].queue
         if isinstance(found, str) or counts == Queue(len(found.waiting), len(found.overwritten)):
             return found
@@ -106,7 +107,7 @@ def ended(scenario: Scenario, outcome: Outcome, played: Played) -> Ended:
 
 
 def differences(without: Ended, having: Ended) -> list[Difference]:
-    """All that differs, by node and number of its buffer, then its FIFO and its channels."""
+    """Returns all differences, by node and number of its buffer, then its FIFO and its channels."""
     found: list[Difference] = []
     for number, (before, after) in enumerate(zip(without.outcome.nodes, having.outcome.nodes)):
         for buffer, (one, other) in enumerate(zip(before.buffers, after.buffers)):
@@ -121,7 +122,7 @@ def differences(without: Ended, having: Ended) -> list[Difference]:
 
 @dataclass(frozen=True)
 class Held:
-    """What a receive buffer holds at the end of a run."""
+    """The content of a receive buffer at the end of a run."""
 
     ended: Ended
     node: int
@@ -129,7 +130,7 @@ class Held:
 
     @property
     def cycle(self) -> int | None:
-        """The cycle that its frame is from, or none where it holds nothing."""
+        """Returns the cycle of its frame, or None if it holds nothing."""
         entry = self.buffer.entry
         return None if entry is None else self.ended.calendar.cycle(self.node, entry)
 
@@ -175,13 +176,13 @@ def spelled_sent(it: TransmitBuffer) -> str:
 
 
 def queued_otherwise(node: int, without: Ended, having: Ended) -> Iterator[Difference]:
-    """What the tasks popped or can still pop, compared frame by frame."""
+    """Yields the differences between the frames that the tasks popped or can still pop."""
     one, other = without.outcome.nodes[node].queue, having.outcome.nodes[node].queue
     if one is None or other is None:
         return
     texts = f"{one.waiting} {one.lost}", f"{other.waiting} {other.lost}"
     if without.fifos is having.fifos and one == other:
-        # No frame of a FIFO can have changed: the fault can't reach one.
+        # The fault can't reach a FIFO, so no frame of one can have changed.
         return
     before, after = without.fifo(node), having.fifo(node)
     for why in (before, after):

@@ -21,9 +21,9 @@ from musmyrtle.fault_runs import Folder
 from musmyrtle.whole_files import write_file
 
 TRIES = 4
-"""How many machines are given a job at most, as long as it fails."""
+"""The number of machines that are given a job at most, as long as it fails."""
 SSH_OPTIONS = "-o BatchMode=yes -o ConnectTimeout=10 -o ServerAliveInterval=5 -o ServerAliveCountMax=3"
-"""The options by which a machine that died is given up after some 15 seconds."""
+"""The options that give up a dead machine after some 15 seconds."""
 THIS_MACHINE = re.compile(r"--sshlogin|([0-9]+/)?:")
 TIDY_SECONDS = 15
 """The seconds for the removal of the files from all machines."""
@@ -31,7 +31,7 @@ TIDY_SECONDS = 15
 
 @dataclass(frozen=True)
 class Hosts:
-    """Words for `parallel`, as `--sshlogin 4/host` and `--sshloginfile FILE`, and a number of jobs at once on each
+    """Options of `parallel` such as `--sshlogin 4/host` and `--sshloginfile FILE`, and the jobs at once on each
     machine."""
 
     words: tuple[str, ...] = ()
@@ -39,7 +39,7 @@ class Hosts:
 
     @property
     def is_far(self) -> bool:
-        """Whether one of the words may name another machine, so that files have to be sent."""
+        """Returns whether one of the words may name another machine, so that files have to be sent."""
         return any(not THIS_MACHINE.fullmatch(it) for it in self.words)
 
 
@@ -57,7 +57,10 @@ def command(sent: Sent, hosts: Hosts) -> list[str]:
 
 def answers(folder: Folder, program: str, faults: list[SingleFault],
             hosts: Hosts) -> Generator[tuple[SingleFault, Answer], None, None]:
-    """Yields each fault with the answer of its run, as they come. A fault whose run has no answer isn't among them."""
+    """Yields each fault with the answer of its run, in the order of answers.
+
+    A fault whose run has no answer is left out.
+    """
     sent = prepare(folder, program, faults)
     arguments = folder.path / "arguments"
     write_file(arguments, "".join(f"{it}\n" for it in sent.arguments).encode())
@@ -74,8 +77,11 @@ def answers(folder: Folder, program: str, faults: list[SingleFault],
 
 
 def surroundings(folder: Path) -> dict[str, str]:
-    """Returns the environment of `parallel`. In it the command `ssh` has the options above, also where it stands in the
-    name of a machine; and the shell of the jobs is the usual one, whatever shell the user has."""
+    """Returns the environment of `parallel`.
+
+    The command `ssh` has the options above in it, also where it stands in the name of a machine. The shell of the jobs
+    is `sh`, whatever shell the user has.
+    """
     tools = folder / "tools"
     tools.mkdir()
     ssh = shutil.which("ssh")

@@ -31,8 +31,10 @@ class Inputs:
 
 
 def accepted(given: argparse.Namespace, folder: Path, children: Children) -> Inputs:
-    """Reads the inputs, and does the run without a fault. Tells a refusal as `fr_lint` does. Raises `Stop` for that,
-    and `NoReference` where the program failed."""
+    """Reads the inputs, and does the run without a fault.
+
+    Reports a refusal as `fr_lint` does. Raises `Stop` for that, and `NoReference` where the program failed.
+    """
     task, data = copied(given, folder)
     files = task.file(given.cluster), task.file(given.scenario)
     try:
@@ -54,7 +56,10 @@ def accepted(given: argparse.Namespace, folder: Path, children: Children) -> Inp
 
 
 def copied(given: argparse.Namespace, folder: Path) -> tuple[Task, dict[str, bytes]]:
-    """Copies both files, which may be pipes or change meanwhile. One that can't be read is left to the program."""
+    """Copies both files, which may be pipes or change meanwhile.
+
+    A file that can't be read is left to the program.
+    """
     files: dict[str, str] = {}
     found: dict[str, bytes] = {}
     for name, copy in ((given.cluster, CLUSTER_FILE), (given.scenario, SCENARIO_FILE)):
@@ -66,8 +71,10 @@ def copied(given: argparse.Namespace, folder: Path) -> tuple[Task, dict[str, byt
 
 
 def is_of_inputs(answer: Asked, found: Lint) -> bool:
-    """Returns whether the inputs are refused, by the program or by what reads them here. Where the program says that
-    it can't read them, or that they are cut, this counts if the same is found here."""
+    """Returns whether the inputs are refused, by the program or by the readers here.
+
+    Where the program reports unreadable or truncated inputs, this counts only if the same is found here.
+    """
     if answer.status == 0:
         return bool(found.refusals)
     first = found.refusals[0][0] if found.refusals else None

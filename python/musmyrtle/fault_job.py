@@ -92,8 +92,8 @@ def script(cycles: int) -> str:
 
 @dataclass(frozen=True)
 class Sent:
-    """What is sent: its folder, its digest, the arguments of the jobs, and for each run the number of its lines and
-    the digest of its scenario."""
+    """The files sent to a machine: their folder and digest, the arguments of the jobs, and for each run the number of
+    its lines and the digest of its scenario."""
 
     folder: Path
     digest: str
@@ -102,13 +102,16 @@ class Sent:
 
     @property
     def command(self) -> str:
-        """The command of a job, after whose second word `parallel` sets the first and the last line of `jobs`. The
-        digest comes last, so that a command that is cut has none."""
+        """Returns the command of a job.
+
+        `parallel` adds the first and the last line of `jobs` after its second word. The digest comes last, so that a
+        truncated command has none.
+        """
         return f"sh script {{1}} {{2}} {self.digest}"
 
 
 def prepare(folder: Folder, program: str, faults: list[SingleFault]) -> Sent:
-    """Writes the files that are sent, in a folder in that of the campaign. Raises `Unusable`."""
+    """Writes the files to be sent, in a folder in that of the campaign. Raises `Unusable`."""
     sent, numbers, lines, runs = folder.path / "sent", list[str](), list[str](), list[tuple[int, str]]()
     for number, fault in enumerate(faults):
         digest = digest_of(folder.with_lines(fault.lines).encode())
@@ -126,7 +129,7 @@ def prepare(folder: Folder, program: str, faults: list[SingleFault]) -> Sent:
     for name, data in files.items():
         write_file(sent / name, data)
     (sent / PROGRAM_FILE).chmod(0o755)
-    # As `sha256sum` lists them.
+    # In the form of `sha256sum`.
     listed = "".join(f"{digest_of(files[name])}  {name}\n" for name in SENT)
     firsts = range(1, len(faults) + 1, RUNS_IN_A_JOB)
     arguments = [f"{first} {min(first + RUNS_IN_A_JOB - 1, len(faults))}" for first in firsts]
@@ -134,7 +137,7 @@ def prepare(folder: Folder, program: str, faults: list[SingleFault]) -> Sent:
 
 
 def read_answers(lines: Iterable[bytes], sent: Sent) -> Iterator[tuple[int, Answer]]:
-    """Yields the number of each run that is told whole, with its answer, and each run once."""
+    """Yields the number of each run that is reported whole, with its answer, and each run once."""
     front: re.Match[bytes] | None = None
     output, told, seen = list[bytes](), list[bytes](), set[int]()
     for line in lines:
@@ -154,7 +157,7 @@ def read_answers(lines: Iterable[bytes], sent: Sent) -> Iterator[tuple[int, Answ
 
 
 def is_right(front: re.Match[bytes], printed: tuple[bytes, bytes], sent: Sent) -> bool:
-    """Returns whether an answer is of the run that was asked for, and whole."""
+    """Returns whether an answer is whole and belongs to the requested run."""
     number, _, given, made, added, *sums = (it.decode() for it in front.groups())
     if int(number) >= len(sent.runs):
         return False

@@ -1,4 +1,4 @@
-"""How faults, nodes and buffers are named on a page, in a summary and on a terminal."""
+"""The names of faults, nodes and buffers on a page, in a summary and on a terminal."""
 from collections.abc import Iterable
 from dataclasses import dataclass, field
 
@@ -13,7 +13,10 @@ ONE_CHANNEL = "one channel"
 
 @dataclass(frozen=True)
 class Labels:
-    """The names of nodes and buffers by their keys `name`, made safe to show. What has none is shown by its number."""
+    """The names of nodes and buffers by their keys `name`, made safe to show.
+
+    A thing without a name is shown by its number.
+    """
 
     nodes: dict[int, str] = field(default_factory=dict)
     buffers: dict[tuple[int, int], str] = field(default_factory=dict)
@@ -36,18 +39,18 @@ class Labels:
         return found
 
     def node(self, number: int) -> str:
-        """`node 7 pedal`."""
+        """Returns `node 7 pedal`."""
         return " ".join(filter(None, (f"node {number}", self.nodes.get(number))))
 
     def thing(self, node: int, thing: str) -> str:
-        """`rx 12 (angle)`, `FIFO`, or the thing as the table has it."""
+        """Returns `rx 12 (angle)`, `FIFO`, or the thing as the table has it."""
         kind, _, number = thing.partition(" ")
         name = self.buffers.get((node, int(number))) if number else None
         return f"{thing} ({name})" if name else "FIFO" if kind == "queue" else thing
 
 
 def fault_label(fault: SingleFault) -> str:
-    """The words of a fault, and whether it is on one channel only."""
+    """Returns the words of a fault, and whether it is on one channel only."""
     return str(fault) if fault.is_of_both else f"{fault} ({ONE_CHANNEL})"
 
 
@@ -56,7 +59,7 @@ def channels_label(channels: str) -> str:
 
 
 def grouped(faults: Iterable[SingleFault]) -> str:
-    """`mute on A (one channel) s1-s3 s5; noise on A and B s2`, each kind and channel once."""
+    """Returns `mute on A (one channel) s1-s3 s5; noise on A and B s2`, each kind and channel once."""
     places: dict[tuple[str, str], list[str]] = {}
     for fault in faults:
         places.setdefault((fault.kind, fault.channels), []).append(fault.place)
@@ -65,7 +68,7 @@ def grouped(faults: Iterable[SingleFault]) -> str:
 
 
 def ranges(places: list[str]) -> list[str]:
-    """`s1-s3` for s1, s2, s3, in the order of the first of each range."""
+    """Returns `s1-s3` for s1, s2, s3, in the order of the first of each range."""
     found: list[list[str]] = []
     for place in places:
         last = found[-1][-1] if found else ""

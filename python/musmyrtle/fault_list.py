@@ -24,7 +24,7 @@ KINDS = {
 CHANNELS = ("AB", "A", "B")
 BOTH = "AB"
 OF_BOTH = ("lost", "noise", "forged")
-"""The kinds of which a fault can be on both channels at once."""
+"""The kinds of faults that can be on both channels at once."""
 OF_FRAMES = ("header", "payload", "trailer")
 NOISE = b"\xff"
 HEADER_BIT = 15
@@ -35,8 +35,10 @@ ALL_STATIC, ALL = "s*", "all"
 
 @dataclass(frozen=True)
 class SingleFault:
-    """One fault: its kind, the node that has it or none for a disturbed frame, its channel or both, `*` or its cycle,
-    and its place: `sN` for a static slot, `s*` for all of them, `mN` for a minislot, `all` for all that a node sends.
+    """One fault: its kind, node, channel, cycle and place.
+
+    Its node is none for a disturbed frame. Its cycle is `*` for all. Its place is `sN` for a static slot, `s*` for all
+    of them, `mN` for a minislot, and `all` for all that a node sends.
     """
 
     kind: str
@@ -45,7 +47,7 @@ class SingleFault:
     cycles: str
     place: str
     lines: tuple[str, ...] = field(compare=False)
-    """What stands of it in a scenario: nothing where the node is idle."""
+    """Its lines in a scenario: none where the node is idle."""
 
     @property
     def words(self) -> tuple[str, ...]:
@@ -56,22 +58,22 @@ class SingleFault:
 
     @property
     def is_of_both(self) -> bool:
-        """Whether it is on both channels at once."""
+        """Returns whether it is on both channels at once."""
         return self.channels == BOTH
 
     @property
     def is_idle(self) -> bool:
-        """Whether its node sends nothing there, so that nothing can be lost and there is no run."""
+        """Returns whether its node sends nothing there, so that nothing can be lost and there is no run."""
         return not self.lines
 
     @property
     def slot(self) -> int | None:
-        """The static slot, if it is for one."""
+        """Returns the static slot, if it is for one."""
         return int(self.place[1:]) if self.place[0] == "s" and self.place != ALL_STATIC else None
 
     @property
     def minislot(self) -> int | None:
-        """The minislot, if it is for one."""
+        """Returns the minislot, if it is for one."""
         return int(self.place[1:]) if self.place[0] == "m" else None
 
     @property
@@ -80,18 +82,18 @@ class SingleFault:
 
     @property
     def is_dynamic(self) -> bool:
-        """Whether it comes in the dynamic segment too, so that slots may open at other minislots there."""
+        """Returns whether it comes in the dynamic segment too, so that slots may open at other minislots there."""
         return any(FaultLine(0, tuple(it.split(" "))).is_static is False for it in self.lines)
 
 
 @dataclass(frozen=True)
 class Selection:
-    """Which faults are wanted. None stands for all."""
+    """The faults that are wanted. None stands for all."""
 
     kinds: frozenset[str] = frozenset(KINDS)
     nodes: frozenset[int] | None = None
     places: frozenset[str] | None = None
-    """Places, spelled as those of a fault."""
+    """Places, in the spelling of those of a fault."""
     cycle: int | None = None
 
     def wants(self, kind: str, nodes: Iterable[int], place: str) -> bool:
@@ -99,7 +101,8 @@ class Selection:
         return kind in self.kinds and is_node and (self.places is None or place in self.places)
 
     def missing(self, cluster: Cluster) -> str | None:
-        """The first node, static slot or minislot that is named and that the cluster doesn't have, and which it has."""
+        """Returns the first named node, static slot or minislot that the cluster doesn't have, and those that it has.
+        """
         parameters = cluster.parameters
         for what, named, known in (("node", self.nodes or (), range(len(cluster.nodes))),
                                    ("static slot", self.numbers("s"), range(1, parameters.static_slots + 1)),
@@ -111,31 +114,31 @@ class Selection:
         return None
 
     def numbers(self, front: str) -> list[int]:
-        """The numbers of the places that are spelled so."""
+        """Returns the numbers of the places that are spelled so."""
         return [int(it[1:]) for it in self.places or () if it[0] == front and it != ALL_STATIC]
 
 
 class Plays(Protocol):
-    """The runs that a list follows from. Each is asked for only where the list needs it."""
+    """The runs that a list depends on. Each is asked for only where the list needs it."""
 
     def recorded(self) -> list[Begun]:
-        """What begins in the dynamic segment in the run without a fault."""
+        """Returns the transmissions that begin in the dynamic segment in the run without the fault."""
 
     def lose(self, node: int, channels: str, cycles: range) -> list[Begun]:
-        """What the node offers in the dynamic segment where all of that is lost."""
+        """Returns the node's offers in the dynamic segment in a run that loses all of them."""
 
     def forge(self, node: int, minislot: int, occasions: Collection[Occasion]) -> dict[Occasion, int]:
-        """The slots that are open at the minislot where the node forges a frame of the open slot there."""
+        """Returns the slots that are open at the minislot where the node forges a frame of the open slot."""
 
 
 @dataclass
 class LeftOut:
-    """How many faults aren't listed, and why."""
+    """The number of faults that aren't listed, by reason."""
 
     taken: int = 0
-    """The scenario has one of their kind in each of their windows."""
+    """Faults of whose kind the scenario has one in each of their windows."""
     unopened: int = 0
-    """No slot opens at their minislot."""
+    """Faults at whose minislot no slot opens."""
 
 
 class Listing:
@@ -161,7 +164,7 @@ class Listing:
         return EVERY if self.is_all_cycles else str(self.selection.cycle)
 
     def each_cycle(self) -> range:
-        """The cycles of the run that the faults are in."""
+        """Returns the cycles of the run that the faults are in."""
         cycle = self.selection.cycle
         return range(self.cycles) if cycle is None else range(cycle, cycle + 1)
 
@@ -179,7 +182,7 @@ class Listing:
     # ---- what is lost
 
     def slots_of(self, node: Node, channels: str) -> list[int]:
-        """The static slots that the node owns on one of the channels in one of the cycles."""
+        """Returns the static slots that the node owns on one of the channels in one of the cycles."""
         return sorted({it.slot for it in node.owned if set(channels) & set(it.channels)
                        and any(it.cycles.admit(cycle % len(CYCLES)) for cycle in self.each_cycle())})
 
@@ -190,7 +193,10 @@ class Listing:
                 yield from self.listed(place, self.spread(f"mute {node.number} {channel}", place))
 
     def losses(self, kind: str, node: Node, channels: str) -> Iterator[tuple[str, list[str]]]:
-        """All that the node sends on the channels, or no line at all where it sends nothing there: then it is idle."""
+        """Yields all that the node sends on the channels.
+
+        Where it sends nothing there, it is idle and there is no line.
+        """
         if not self.selection.wants(kind, [node.number], ALL):
             return
         lines: list[str] = []
@@ -217,7 +223,7 @@ class Listing:
                    and (node.number, it.number) in self.has_calls for it in node.buffers)
 
     def listed(self, place: str, lines: list[str]) -> Iterator[tuple[str, list[str]]]:
-        """The fault, or none where the scenario has left no window to it."""
+        """Yields the fault, or nothing where the scenario has left no window to it."""
         if lines:
             yield place, lines
         else:
@@ -240,8 +246,11 @@ class Listing:
                     yield from self.listed(f"m{minislot}", lines)
 
     def minislots(self, channels: str) -> list[int]:
-        """The first minislot, those at which something begins in the run without the fault on one of the channels, or
-        those asked for."""
+        """Returns the minislots to disturb.
+
+        These are the first one and those at which something begins in the run without the fault on one of the channels,
+        or the requested ones.
+        """
         most = self.cluster.parameters.minislots
         if most == 0:
             return []
@@ -255,7 +264,7 @@ class Listing:
         return self.spread(f"babble {node.number} {channel}", place, NOISE)
 
     def forged(self, node: Node, channel: str, place: str) -> list[str]:
-        """A line for each static window, since a frame names its slot and its cycle."""
+        """Returns a line for each static window, since a frame names its slot and its cycle."""
         lines = []
         front, payload = f"babble {node.number} {channel}", FORGED_WORD * self.cluster.parameters.static_words
         slots = range(1, self.cluster.parameters.static_slots + 1) if place == ALL_STATIC else [int(place[1:])]
@@ -266,7 +275,8 @@ class Listing:
         return lines
 
     def forged_at(self, node: Node, channels: str, minislot: int) -> Iterator[tuple[str, list[str]]]:
-        """A line for each cycle and channel in which a slot is open at the minislot in the run with the fault."""
+        """Yields a line for each cycle and channel in which a slot is open at the minislot in the run with the fault.
+        """
         place = f"m{minislot}"
         free = frozenset((cycle, channel) for cycle in self.each_cycle() for channel in channels
                          if self.free(f"babble {node.number} {channel}", cycle, place, NOISE))
@@ -283,8 +293,11 @@ class Listing:
             self.left_out.unopened += 1
 
     def opened_at(self, node: Node, minislot: int, free: frozenset[Occasion]) -> dict[Occasion, int]:
-        """The slots that are open in the run with the fault. The dynamic segment isn't guarded and no task acts on what
-        it receives, so they are the same whichever node forges the frames, and one run tells them for all nodes."""
+        """Returns the slots that are open in the run with the fault.
+
+        The dynamic segment isn't guarded and no task acts on what it receives. So the slots are the same whichever node
+        forges the frames, and one run gives them for all nodes.
+        """
         key = minislot, free
         if key not in self.opened:
             self.opened[key] = self.plays.forge(node.number, minislot, free)
@@ -310,7 +323,7 @@ class Listing:
     # ---- lines
 
     def spread(self, front: str, place: str, last: bytes | int | None = None) -> list[str]:
-        """The fewest lines for a place, or all static slots, in the windows that the scenario leaves."""
+        """Returns the fewest lines for a place, or for all static slots, in the windows that the scenario leaves."""
         whole = worded(front, self.word, place, last)
         if self.taken.meeting(whole) is None:
             return [" ".join(whole.words)]
@@ -324,7 +337,7 @@ class Listing:
         return lines
 
     def free(self, front: str, cycle: int, place: str, last: bytes | int | None = None) -> list[str]:
-        """The line for a place in a cycle, if the scenario has none that meets it."""
+        """Returns the line for a place in a cycle, if the scenario has none that meets it."""
         line = worded(front, str(cycle), place, last)
         return [] if self.taken.meeting(line) else [" ".join(line.words)]
 
@@ -335,8 +348,11 @@ def worded(front: str, cycles: str, place: str, last: bytes | int | None) -> Fau
 
 
 def is_stopped(fault: SingleFault, cluster: Cluster, cycles: int) -> bool:
-    """Whether it is a babble in a static slot that is guarded on all its channels, and that its node doesn't own on any
-    of them in any of the fault's cycles."""
+    """Returns whether guardians stop it.
+
+    It is a babble in a static slot that is guarded on all its channels, and that its node owns on none of them in any
+    of the fault's cycles.
+    """
     slot = fault.slot
     if not fault.is_babble or fault.node is None or slot is None or not set(fault.channels) <= set(cluster.guard):
         return False

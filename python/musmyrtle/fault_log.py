@@ -1,4 +1,4 @@
-"""The job log: a line for each fault that is done, by which a campaign that was broken off goes on."""
+"""The job log: a line for each fault that is done, by which an interrupted campaign goes on."""
 import hashlib
 import json
 import os
@@ -15,15 +15,21 @@ from musmyrtle.whole_files import Unusable, unusable
 
 LOG_VERSION = 2
 UNNOTED = (*UNANSWERED, NOT_COMPARABLE)
-"""The effects of a run that is done again."""
+"""The effects of a run that is repeated."""
 
 
 class Log:
-    """A job log, or none without a name. Its first line has the digest of its inputs. Each line is appended at once,
-    so that a failure cuts no line but the last one."""
+    """A job log, or none without a name.
+
+    Its first line has the digest of its inputs. Each line is appended at once, so that a failure cuts no line but the
+    last one.
+    """
 
     def __init__(self, file: str | None, inputs: Iterable[bytes], is_resumed: bool) -> None:
-        """Raises `Unusable`: a log that is there goes on with IS_RESUMED, and then has to be of the same inputs."""
+        """Opens the log.
+
+        An existing log goes on with IS_RESUMED, and then has to be of the same inputs. Raises `Unusable` otherwise.
+        """
         self.name = file
         self.file: FileIO | None = None
         digest = hashlib.sha256()
@@ -48,7 +54,7 @@ class Log:
             self.write(self.head)
 
     def read(self, data: bytes) -> int:
-        """Takes over what is done. Returns the bytes of the whole lines: the last line may be cut."""
+        """Reads the results of a log and returns the bytes of its whole lines: the last line may be cut."""
         whole = data[:data.rfind(b"\n") + 1]
         if not whole:
             if not spelled(self.head).startswith(data):
@@ -92,7 +98,10 @@ class Log:
             raise unusable(f"--joblog {self.name}", error) from None
 
     def add(self, fault: SingleFault, found: list[Difference]) -> None:
-        """Notes a fault. A run that has no answer or isn't comparable isn't noted, so that it is done again."""
+        """Notes a fault.
+
+        A run that has no answer or isn't comparable isn't noted, so that it is repeated.
+        """
         self.done[str(fault)] = found
         if not any(it.effect in UNNOTED for it in found):
             self.write({"fault": str(fault), "differences": [asdict(it) for it in found]})
@@ -103,7 +112,7 @@ class Log:
 
 
 def is_begun(file: str) -> bool:
-    """Returns whether a log is there. A device or a pipe is none."""
+    """Returns whether a log exists. A device or a pipe is none."""
     return os.path.isfile(file) and os.path.getsize(file) > 0
 
 

@@ -1,4 +1,4 @@
-"""The matrices of the page: for each sort of faults who has the fault, and who is hurt."""
+"""The matrices of the page: for each sort of faults the nodes that have it and the nodes that it hurts."""
 from collections.abc import Iterator
 from dataclasses import dataclass, field
 from html import escape
@@ -18,7 +18,7 @@ SORTS = (
                               "babbles there, or a frame is disturbed. What is sent on both channels can still arrive "
                               "by the other one."),
 )
-"""The sorts of faults in the order of the page, with what they are."""
+"""The sorts of faults in the order of the page, with their descriptions."""
 
 
 def sort_of(fault: SingleFault) -> int:
@@ -42,7 +42,7 @@ class Row:
         return [(fault, found) for fault, found in self.runs if not is_failed(found)]
 
     def of_receiver(self, receiver: int) -> Done:
-        """The faults that make a difference to a node, with what differs there."""
+        """Returns the faults that make a difference to a node, with the differences there."""
         of_each = ((fault, [it for it in found if it.node == receiver]) for fault, found in self.completed)
         return [(fault, found) for fault, found in of_each if found]
 
@@ -132,7 +132,7 @@ def matrices(results: Results) -> list[Matrix]:
 
 
 def remark(row: Row) -> str:
-    """What a row's runs don't say: of failed runs and idle faults."""
+    """Returns a remark on failed runs and idle faults, which a row's runs don't show."""
     failures, idle = len(row.runs) - len(row.completed), [fault for fault, _ in row.faults if fault.is_idle]
     found = [f"{counted(failures, 'run')} failed"] if failures else []
     found += [f"sends nothing on {' and '.join(it.channels)}" for it in idle]

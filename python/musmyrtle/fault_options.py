@@ -26,7 +26,7 @@ SSHLOGIN = f"""a machine, as parallel names it: 8/bench1, or 8/ssh -p 2222 bench
 
 
 def numbers_of(word: str) -> frozenset[int]:
-    """`1,3-5` as numbers."""
+    """Returns the numbers of a text such as `1,3-5`."""
     found: set[int] = set()
     for part in word.split(","):
         first, _, last = part.partition("-")
@@ -37,7 +37,7 @@ def numbers_of(word: str) -> frozenset[int]:
 
 
 def places_of(word: str) -> frozenset[str]:
-    """`1,3-5,m7,s*,all` as places of faults."""
+    """Returns the places of a text such as `1,3-5,m7,s*,all`."""
     found: set[str] = set()
     for part in word.split(","):
         if part in (ALL_STATIC, ALL):

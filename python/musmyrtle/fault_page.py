@@ -1,4 +1,4 @@
-"""A page of what faults cost, that stands by itself: without a script, a font or anything else from outside."""
+"""A page of the costs of faults, which is self-contained: without a script, a font or anything from outside."""
 from collections.abc import Iterator
 from dataclasses import dataclass
 from html import escape
@@ -40,7 +40,7 @@ KEY = {
 
 @dataclass(frozen=True)
 class Subject:
-    """The files that a page is of, by name."""
+    """The files that a page describes, by name."""
 
     cluster_file: str
     scenario_file: str

@@ -24,8 +24,10 @@ def outcome_words(cluster: str, scenario: str, cycles: int) -> list[str]:
 
 
 class Folder:
-    """The files of all runs, in a folder of their own: the cluster file and the scenario as they were read, and a
-    scenario for each run while that lasts."""
+    """The files of all runs, in a folder of their own.
+
+    These are the cluster file and the scenario as they were read, and a scenario for each run while that lasts.
+    """
 
     def __init__(self, path: Path, cluster: bytes, scenario: bytes, cycles: int,
                  children: Children | None = None) -> None:
@@ -66,8 +68,10 @@ class Folder:
 
 def pooled(work: Callable[[Item], Result], items: Iterable[Item], cores: int,
            children: Children) -> Generator[tuple[Item, Result], None, None]:
-    """Yields each item with the result of its work, as they come, with so many of them at once. Where this ends early,
-    the programs of the work end as well."""
+    """Yields each item with the result of its work, in the order of their ends, with so many at once.
+
+    If this ends early, the programs of the work end as well.
+    """
     todo = iter(items)
     running: dict[Future[Result], Item] = {}
     with ThreadPoolExecutor(cores) as pool:

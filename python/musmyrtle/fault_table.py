@@ -1,4 +1,4 @@
-"""The table of what faults cost, as a text, its summary, and what is worse than in an earlier one."""
+"""The table of the costs of faults, as a text, its summary, and the increases over an earlier table."""
 from collections.abc import Iterable, Iterator
 from dataclasses import dataclass, field
 
@@ -11,34 +11,34 @@ from musmyrtle.findings import counted
 COLUMNS = ("kind", "node", "channels", "cycles", "place", "receiver", "thing", "effect", "amount", "without", "with")
 HEADING = "\t".join(COLUMNS) + "\n"
 HEADING_OF_ONE_CHANNEL = HEADING.replace("channels", "channel")
-"""The heading of earlier versions, whose faults are all of one channel."""
+"""The heading of earlier versions, in which each fault is of one channel."""
 Done = list[tuple[SingleFault, list[Difference]]]
-"""Faults in the order of their list, each with what differs in its run."""
+"""Faults in the order of their list, each with the differences of its run."""
 HARMLESS_WORDS = ("harmless: counters alone (counted), the frame by the other channel (channel), a newer frame "
                   "(newer), more sent (sent)")
 
 
 class BadTable(ValueError):
-    """A text that is no table of this form."""
+    """A text that isn't a table of this form."""
 
 
 @dataclass(frozen=True)
 class Results:
-    """All faults with what they cost, and what is told beside them."""
+    """All faults with their costs, and the facts printed beside them."""
 
     done: Done
     cluster: Cluster
     cycles: int
     left_out: LeftOut = field(default_factory=LeftOut)
     overwritten: dict[int, int] = field(default_factory=dict)
-    """For each node whose FIFO overwrites frames without any fault how many."""
+    """The number of frames that each overwriting FIFO overwrites without any fault, by node."""
     quiet: tuple[int, ...] = ()
     """The nodes that could send data and for which the scenario has no commit."""
     labels: Labels = field(default_factory=Labels)
 
     @property
     def runs(self) -> Done:
-        """The faults that have a run: all but those of idle nodes."""
+        """Returns the faults that have a run: all but those of idle nodes."""
         return [(fault, found) for fault, found in self.done if not fault.is_idle]
 
     @property
@@ -57,21 +57,21 @@ def table(done: Done) -> Iterator[str]:
 
 
 def listed(faults: Iterable[SingleFault]) -> Iterator[str]:
-    """A line for each fault: its words, and `idle` where its node sends nothing there."""
+    """Yields a line for each fault: its words, and `idle` where its node sends nothing there."""
     for fault in faults:
         yield "\t".join((*fault.words, IDLE) if fault.is_idle else fault.words) + "\n"
 
 
 @dataclass(frozen=True)
 class Ranks:
-    """How bad each thing is in a table that was printed: by the words of the fault, the receiver and the thing."""
+    """The rank of each thing in a printed table: by the words of the fault, the receiver and the thing."""
 
     ranks: dict[tuple[str, ...], tuple[int, int]]
     is_of_one_channel: bool
-    """Whether it is of an earlier version, which had no faults of both channels."""
+    """True for a table of an earlier version, which had no faults of both channels."""
 
     def has(self, fault: SingleFault) -> bool:
-        """Whether the list of the table can have had the fault."""
+        """Returns whether the list of the table can have had the fault."""
         return not (self.is_of_one_channel and fault.is_of_both)
 
 
@@ -90,8 +90,10 @@ def read_ranks(text: str) -> Ranks:
 
 
 def worse(done: Done, before: Ranks) -> list[tuple[SingleFault, Difference]]:
-    """What costs more than in an earlier table, or did not cost anything in it. A fault that its list can't have had
-    isn't compared."""
+    """Returns the differences that cost more than in an earlier table, or cost nothing in it.
+
+    A fault that its list can't have had isn't compared.
+    """
     found = []
     for fault, differences in done:
         for it in differences if before.has(fault) else ():
@@ -102,7 +104,7 @@ def worse(done: Done, before: Ranks) -> list[tuple[SingleFault, Difference]]:
 
 
 def not_compared(done: Done, before: Ranks) -> Iterator[str]:
-    """The lines that say what isn't held against an earlier table."""
+    """Yields the lines that aren't compared with an earlier table."""
     new = sum(not before.has(fault) for fault, _ in done)
     if new:
         yield (f"not compared: {counted(new, 'fault')} on both channels, since the table is of an earlier version, "
@@ -115,7 +117,7 @@ def not_compared(done: Done, before: Ranks) -> Iterator[str]:
 # ---- in words
 
 def told(it: Difference, labels: Labels = Labels()) -> str:
-    """What a difference means, as `node 3 rx 2: lost`."""
+    """Returns a difference in words, as `node 3 rx 2: lost`."""
     if it.node is None:
         return f"{it.effect}: {it.having}" if it.effect in FAILED else it.effect
     more = {
@@ -138,7 +140,11 @@ def kind_label(kind: str, is_of_both: bool) -> str:
 
 
 def rows(results: Results) -> Iterator[tuple[str, str, list[int]]]:
-    """For each kind, on both channels and on one, its label, what it is, and the counts of its runs; at last of all."""
+    """Yields the rows of the summary.
+
+    A row is a kind, on both channels or on one, with its label, its description, and the counts of its runs. The last
+    row is for all kinds.
+    """
     runs = results.runs
     for kind, what in KINDS.items():
         for is_of_both in (True, False):
@@ -149,7 +155,7 @@ def rows(results: Results) -> Iterator[tuple[str, str, list[int]]]:
 
 
 COUNTED = ("runs", "harmless", *COSTS, "failed")
-"""What the counts of runs are of. Each run is counted once after the first, by its worst effect."""
+"""The headings of the counts of runs. Each run is counted once after the first, by its worst effect."""
 
 
 def counts(runs: list[list[Difference]]) -> list[int]:
@@ -158,7 +164,7 @@ def counts(runs: list[list[Difference]]) -> list[int]:
 
 
 def verdict(found: list[Difference]) -> str:
-    """The worst that a run showed: a cost, `failed` where it has no outcome, or `harmless`."""
+    """Returns the worst result of a run: a cost, `failed` where it has no outcome, or `harmless`."""
     bad = worst(found)
     if bad is None:
         return "harmless"
@@ -170,7 +176,7 @@ def is_failed(found: list[Difference]) -> bool:
 
 
 def summary(results: Results) -> Iterator[str]:
-    """For each kind how many runs there were, how many of them cost nothing, and what the others cost at worst."""
+    """Yields a line for each kind: the number of runs, of those without a cost, and the worst costs of the others."""
     lines = [("kind", *COUNTED), *((label, *map(str, numbers)) for label, _, numbers in rows(results))]
     widths = [max(len(line[column]) for line in lines) for column in range(len(lines[0]))]
     for line in lines:
@@ -183,7 +189,7 @@ def summary(results: Results) -> Iterator[str]:
 
 
 def notes(results: Results) -> Iterator[str]:
-    """Sentences on the runs as a whole."""
+    """Yields sentences on the runs as a whole."""
     yield from stopped(results)
     for node, count in sorted(results.overwritten.items()):
         yield (f"{results.labels.node(node)}: FIFO not emptied by the scenario: {counted(count, 'frame')} overwritten "
@@ -202,7 +208,7 @@ def notes(results: Results) -> Iterator[str]:
 
 
 def stopped(results: Results) -> Iterator[str]:
-    """What the guardians stop, and that nothing comes of it. Only runs with an outcome count."""
+    """Yields the sentence on the faults that guardians stop without any effect. Only runs with an outcome count."""
     of_others = [found for fault, found in results.runs if is_stopped(fault, results.cluster, results.cycles)]
     completed = [found for found in of_others if not is_failed(found)]
     if not of_others:
@@ -214,8 +220,11 @@ def stopped(results: Results) -> Iterator[str]:
 
 
 def hurting(done: Done) -> list[tuple[list[SingleFault], list[Difference]]]:
-    """The faults that cost something, together where they cost the same, and those first that cost the most: by how
-    many things aren't comparable, then lost, older, changed, and of each by how much."""
+    """Returns the faults that cost something, those with equal costs together and the costliest first.
+
+    They are ordered by the number of things that aren't comparable, then lost, older, changed, and of each by its
+    amount.
+    """
     alike: dict[tuple[object, ...], tuple[list[SingleFault], list[Difference]]] = {}
     for fault, found in done:
         costs = [it for it in found if it.is_cost]
@@ -231,7 +240,7 @@ def weight(found: list[Difference]) -> tuple[tuple[int, int], ...]:
 
 
 def has_effect(done: Done, effects: Iterable[str]) -> bool:
-    """Whether a fault has one of the effects. What isn't comparable counts as lost."""
+    """Returns whether a fault has one of the effects. A fault that isn't comparable counts as lost."""
     wanted = set(effects)
     wanted |= set(LOSSES) if "lost" in wanted else set()
     return any(it.effect in wanted for _, found in done for it in found)

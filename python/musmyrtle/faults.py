@@ -8,7 +8,7 @@ from musmyrtle.scenario import bad_words
 
 @dataclass(frozen=True, slots=True)
 class Babble:
-    """A node that sends these bytes too, at most 262 of them, on top of what its controller offers.
+    """A node that sends these bytes, at most 262 of them, beside its controller's offers.
 
     NODE is 0 to 15 and CHANNEL `A` or `B`. Raises `ValueError` for others and for more bytes.
     """
@@ -66,15 +66,15 @@ Fault = Babble | Mute | Corrupt
 
 
 def is_fault_line(text: str) -> bool:
-    """Tells whether the text is meant as a fault line, which has more words than the fault of one window."""
+    """Returns whether the text is meant as a fault line, which has more words than the fault of one window."""
     kind, *words = text.split(" ")
     return kind in ("babble", "mute", "corrupt") and len(words) > 3
 
 
 def fault_line(text: str) -> str:
-    """Returns a fault line of a scenario, without the line feed that it may end with.
+    """Returns a fault line of a scenario, without the line feed at its end.
 
-    Raises `ValueError`, which says what would be right, for any other text.
+    Raises `ValueError`, with the expected form, for any other text.
     """
     line = text.removesuffix("\n")
     found = bad_words(tuple(line.split(" ")), line, version=2)

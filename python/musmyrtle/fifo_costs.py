@@ -1,4 +1,4 @@
-"""What a fault costs a receive FIFO: the frames of two runs, compared one by one."""
+"""The costs of a fault to a receive FIFO: the frames of two runs, compared one by one."""
 from collections.abc import Iterator
 
 from musmyrtle.fifos import Fifo, StoredFrame
@@ -7,7 +7,7 @@ Frame = tuple[int, int, str, str]
 
 
 def fifo_effects(before: Fifo, after: Fifo) -> Iterator[tuple[str, int]]:
-    """Returns each effect with how many frames it is of, the costs first. BEFORE is the FIFO without the fault.
+    """Yields each effect with its number of frames, the costs first. BEFORE is the FIFO without the fault.
 
     What counts is which frames the host got or can still get, whichever channel they came by. Where the FIFO overwrites
     frames without any fault, a frame that nobody popped there is lost only if it never came with the fault, and a frame
@@ -33,7 +33,7 @@ def fifo_effects(before: Fifo, after: Fifo) -> Iterator[tuple[str, int]]:
 
 
 def by_frame(frames: list[StoredFrame]) -> dict[Frame, str]:
-    """Returns the channels that each frame came by, the frames in the order in which they came first."""
+    """Returns the channels of each frame, the frames in the order in which they came first."""
     found: dict[Frame, str] = {}
     for it in frames:
         found[it.frame] = found.get(it.frame, "") + it.channel
@@ -41,7 +41,7 @@ def by_frame(frames: list[StoredFrame]) -> dict[Frame, str]:
 
 
 def is_reordered(one: list[Frame], other: list[Frame]) -> bool:
-    """Whether the frames of both lists stand in another order in the other one."""
+    """Returns whether the common frames of both lists are in different orders."""
     common = set(one) & set(other)
     return [it for it in one if it in common] != [it for it in other if it in common]
 

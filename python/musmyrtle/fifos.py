@@ -16,16 +16,16 @@ from musmyrtle.visible import visible
 TABLE = ("time", "cycle", "slot", "channel", "status", "error", "id", "flags", "taker", "bytes")
 """The columns of `fr_view frames`."""
 FIFO_TAKER = "queue"
-"""The word of the column `taker` for the receive FIFO."""
+"""The word for the receive FIFO in the column `taker`."""
 
 
 class Unread(Exception):
-    """The content of a FIFO can't be read. The message says why."""
+    """The content of a FIFO can't be read. The message has the reason."""
 
 
 @dataclass(frozen=True, slots=True)
 class StoredFrame:
-    """A frame that a FIFO stored: its cycle of the run, its slot, its flags as in a table, its payload, its channel."""
+    """A frame that a FIFO stored: its cycle of the run, slot, flags as in a table, payload and channel."""
 
     cycle: int
     slot: int
@@ -35,13 +35,13 @@ class StoredFrame:
 
     @property
     def frame(self) -> tuple[int, int, str, str]:
-        """All but the channel: what makes it the same frame as one that came by the other channel."""
+        """Returns all but the channel: two frames with the same value are the same frame on both channels."""
         return self.cycle, self.slot, self.flags, self.payload
 
 
 @dataclass
 class Fifo:
-    """What became of the frames that a FIFO stored in a run, each list in the order of the frames."""
+    """The frames that a FIFO stored in a run, by their fates, each list in the order of the frames."""
 
     popped: list[StoredFrame] = field(default_factory=list)
     """The frames that tasks popped."""
@@ -52,7 +52,7 @@ class Fifo:
 
     @property
     def kept(self) -> list[StoredFrame]:
-        """The frames that the host got or can still get."""
+        """Returns the frames that the host got or can still get."""
         return self.popped + self.waiting
 
     @property
@@ -90,7 +90,7 @@ class Trace:
 
 
 def read_fifo(table: list[str], lines: list[str], starts: list[int], capacity: int, parameters: Parameters) -> Fifo:
-    """Returns what became of the frames of a node's FIFO.
+    """Returns the frames of a node's FIFO, by their fates.
 
     LINES are the node's trace, TABLE has the frames of it, and STARTS the number of the first window of each cycle.
     Raises `Unread` where the content can't be told.
@@ -118,7 +118,7 @@ def read_fifo(table: list[str], lines: list[str], starts: list[int], capacity: i
 
 
 def is_oldest(trace: Trace, source: str, waiting: deque[tuple[int, StoredFrame]]) -> bool:
-    """Whether the frame that a `pop` entry took, as `12:A`, is the oldest one, or there is none where it is `-`."""
+    """Returns whether a `pop` entry took the oldest frame, as `12:A`, or reports with `-` that there is none."""
     if source == "-" or not waiting:
         return source == "-" and not waiting
     entry, channel = source.split(":")
@@ -127,7 +127,7 @@ def is_oldest(trace: Trace, source: str, waiting: deque[tuple[int, StoredFrame]]
 
 
 def stored_frames(table: Iterable[str], parameters: Parameters) -> Iterator[tuple[int, StoredFrame]]:
-    """Returns the frames that the FIFO stored, each with the macrotick of the run at which its window begins."""
+    """Yields the frames that the FIFO stored, each with the macrotick of the run at which its window begins."""
     for line in table:
         words = line.split(" ")
         if len(words) != len(TABLE):

@@ -1,4 +1,4 @@
-"""What is found in a file: a headline, where, the reason, and what else has to do with it."""
+"""The findings in a file: a headline, the place, the reason, and related places."""
 from collections.abc import Iterable
 from dataclasses import dataclass
 from itertools import islice
@@ -9,17 +9,17 @@ from musmyrtle.visible import cut, visible
 
 WIDTH = 100
 MOST_REASONS = 20
-"""So many refusals are told with their reasons. Of the others nothing is looked for that takes long."""
+"""The number of refusals that are printed with their reasons. For the others slow searches are left out."""
 MOST_NOTES = 4
 MOST_ALIKE = 64
-"""Among so many words one that is meant is looked for."""
+"""The number of words among which the nearest one is searched."""
 LONGEST_MEANT = 42
-"""A longer word is like none of the keys and words of the formats, which have 18 letters at most."""
+"""The length up to which a word can resemble the keys and words of the formats, which have 18 letters at most."""
 
 
 @dataclass(frozen=True)
 class Note:
-    """Another place that has to do with a finding, and what stands there."""
+    """A related place of a finding, and its content."""
 
     text: str
     place: Place | None = None
@@ -34,23 +34,23 @@ class Finding:
     place: Place | None = None
     notes: tuple[Note, ...] = ()
     name: str = ""
-    """Of a warning or a note the name by which it is silenced."""
+    """The name by which a warning or a note is silenced."""
 
 
 def joined(parts: list[str], last: str = "and") -> str:
-    """`a, b and c`."""
+    """Returns `a, b and c`."""
     if len(parts) < 2:
         return "".join(parts)
     return f"{', '.join(parts[:-1])} {last} {parts[-1]}"
 
 
 def counted(number: int, name: str) -> str:
-    """`1 cycle`, `2 cycles`."""
+    """Returns `1 cycle`, `2 cycles`."""
     return f"{number} {name}" if number == 1 else f"{number or 'no'} {name}s"
 
 
 def shown(value: object) -> str:
-    """A value of a TOML document in words that fit into a line."""
+    """Returns a value of a TOML document in words that fit into a line."""
     if isinstance(value, bool):
         return "true" if value else "false"
     if isinstance(value, str):
@@ -67,7 +67,7 @@ def plain(word: str) -> str:
 
 
 def nearest(word: str, known: tuple[str, ...] | list[str]) -> str | None:
-    """The known word that this one is most like, if one is near enough to be meant."""
+    """Returns the known word that this one resembles most, if one is near enough to be meant."""
     if len(word) > LONGEST_MEANT:
         return None
     # Few files have such words, and each call of a command would wait for the import.
@@ -78,24 +78,24 @@ def nearest(word: str, known: tuple[str, ...] | list[str]) -> str | None:
 
 
 def alike(words: Iterable[str], known: tuple[str, ...], meant: str) -> list[str]:
-    """Returns those of the unknown words, of the first of them, that are most like a known one."""
+    """Returns the first unknown words that resemble a known word most."""
     unknown = islice((it for it in words if it not in known), MOST_ALIKE)
     return list(islice((it for it in unknown if nearest(it, known) == meant), MOST_NOTES))
 
 
 def printable(place: Place, begin: int, end: int) -> str:
-    """Returns a part of the line of a place. A tab is one space wide here, so that the mark below stands right."""
+    """Returns a part of the line of a place. A tab is one space wide here, so that the mark below is in its column."""
     return visible(place.source[begin:end].replace("\t", " "))
 
 
 def excerpt(place: Place) -> list[str]:
-    """The line of a place with a mark below it, of a long line the part round the mark."""
+    """Returns the line of a place with a mark below it, and only the part round the mark if the line is long."""
     begin = place.column - 1 if place.column else 0
     first = max(0, begin + 1 - WIDTH // 2) if len(place.source) > WIDTH else 0
     number = f"{place.line:>7} | "
     before, after = printable(place, first, begin), printable(place, begin, first + WIDTH)
     if len(before) > WIDTH // 2:
-        # Escapes are wider than what they stand for.
+        # Escapes are wider than the characters that they replace.
         before = before[-(WIDTH // 2):]
     lines = [f"{number}{before}{after[:WIDTH - len(before)]}".rstrip()]
     if place.column is not None:
@@ -104,7 +104,7 @@ def excerpt(place: Place) -> list[str]:
 
 
 def block(kind: str, finding: Finding, is_bold: bool = False) -> str:
-    """The text of a finding, as a person reads it."""
+    """Returns the text of a finding for people."""
     where = f"{finding.place}: " if finding.place else ""
     name = f" [{finding.name}]" if finding.name else ""
     head = visible(f"{where}{kind}: {finding.headline}{name}")

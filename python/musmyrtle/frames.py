@@ -1,7 +1,7 @@
 """The bytes of a frame, as a node that pretends to be another one would send them (chapter 4, frame format)."""
 
 HEADER_CRC = (11, 0x385, 0x01A)
-"""Width, polynomial without its top term and initial value of the header CRC."""
+"""Width, polynomial without its top term, and initial value of the header CRC."""
 FRAME_CRC = (24, 0x5D6DCB)
 FRAME_OPENINGS = {"A": 0xFEDCBA, "B": 0xABCDEF}
 HEADER_BYTES, TRAILER_BYTES = 5, 3
@@ -9,7 +9,7 @@ MOST_SLOT, MOST_WORDS, CYCLE_COUNT = 2047, 127, 64
 
 
 def division(value: int, bits: int, width: int, polynomial: int, register: int) -> int:
-    """What the long division leaves in the register after the value's bits, the most significant one first."""
+    """Returns the register of the long division after the value's bits, the most significant one first."""
     top, mask = width - 1, (1 << width) - 1
     for place in reversed(range(bits)):
         if (register >> top ^ value >> place) & 1:
@@ -20,7 +20,10 @@ def division(value: int, bits: int, width: int, polynomial: int, register: int) 
 
 
 def data_frame(slot: int, cycle: int, payload: bytes, channel: str) -> bytes:
-    """A valid data frame that is neither a sync nor a startup frame: slot 1 to 2047, cycle 0 to 63, whole words."""
+    """Returns a valid data frame that is neither a sync nor a startup frame.
+
+    It has slot 1 to 2047, cycle 0 to 63 and whole words.
+    """
     words = len(payload) // 2
     if not (1 <= slot <= MOST_SLOT and 0 <= cycle < CYCLE_COUNT and len(payload) % 2 == 0 and words <= MOST_WORDS):
         raise ValueError(f"no frame has slot {slot}, cycle {cycle} and {len(payload)} bytes of payload")

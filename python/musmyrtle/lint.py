@@ -1,4 +1,4 @@
-"""What is to be said of a cluster file and a scenario, beside what `fr_bench` answers."""
+"""The findings about a cluster file and a scenario, beside the answer of `fr_bench`."""
 from collections.abc import Callable, Iterable
 from dataclasses import dataclass, field, replace
 from pathlib import Path
@@ -17,7 +17,7 @@ from musmyrtle.texts import FILE_LIMIT, NoText, Text, read_text
 from musmyrtle.trace_why import is_trace
 
 TRACE_LIMIT = 98_548_055
-"""No trace is longer."""
+"""The bytes of the longest trace."""
 
 OF_CLUSTER: tuple[tuple[str, Callable[[Cluster, Text], Iterable[Finding]]], ...] = (
     ("repeated-name", ranges.repeated_names),
@@ -38,25 +38,25 @@ OF_CLUSTER: tuple[tuple[str, Callable[[Cluster, Text], Iterable[Finding]]], ...]
     ("short-slots", physical.short_slots),
     ("action-point", physical.without_action_point),
 )
-"""The warnings and notes of a cluster that is taken, with their names."""
+"""The warnings and notes of an accepted cluster, with their names."""
 
 
 @dataclass
 class Lint:
-    """The refusals that are to be expected, the first one first, each with its reason; and the warnings."""
+    """The expected refusals, the first one first, each with its reason; and the warnings."""
 
     refusals: list[tuple[str, Finding]] = field(default_factory=list)
     warnings: list[Finding] = field(default_factory=list)
     further_warnings: int = 0
-    """How many warnings there are beside those in `warnings`."""
+    """The number of warnings beside those in `warnings`."""
     notes: list[Finding] = field(default_factory=list)
-    """What is no mistake, and still worth knowing."""
+    """Findings that are no mistakes, and still worth knowing."""
     allowed: frozenset[str] = frozenset()
     """The names of warnings that are silenced everywhere."""
     allows: Allows | None = None
 
     def warn(self, name: str, findings: Iterable[Finding], further: int = 0) -> None:
-        """Adds the findings of a name to the warnings, or to the notes, but for those that are silenced.
+        """Adds the findings of a name to the warnings, or to the notes, unless they are silenced.
 
         FURTHER ones are counted only.
         """
@@ -73,13 +73,13 @@ class Lint:
 
 @dataclass(frozen=True)
 class Task:
-    """What is to be looked at: a cluster file, a scenario if there is one, and a number of cycles."""
+    """The inputs to check: a cluster file, a scenario if there is one, and a number of cycles."""
 
     cluster: str
     scenario: str | None = None
     cycles: int | None = None
     files: dict[str, str] = field(default_factory=dict)
-    """For names of these the files that are read, where they aren't read by their names."""
+    """The files that are read in the place of these names, such as copies of pipes."""
     allowed: frozenset[str] = frozenset()
     """The names of warnings that are silenced everywhere."""
 
@@ -88,7 +88,7 @@ class Task:
 
 
 def read_bytes(file: str) -> bytes | None:
-    """The bytes of a file as far as they are looked at, of a trace more than of others."""
+    """Returns the bytes of a file up to the limit of its kind; a trace may be longer than others."""
     try:
         with open(file, "rb") as source:
             data = source.read(FILE_LIMIT + 1)
@@ -104,7 +104,7 @@ def unreadable(file: str, what: str) -> Finding:
 
 
 def lint(task: Task, overwritten: dict[int, int] | None = None) -> Lint:
-    """Returns what is to be said. OVERWRITTEN has the frames that the FIFO of each node overwrote in the run."""
+    """Returns the findings. OVERWRITTEN has the frames that the FIFO of each node overwrote in the run."""
     found = Lint(allowed=task.allowed)
     data = read_bytes(task.file(task.cluster))
     if data is None:
@@ -125,7 +125,7 @@ def lint(task: Task, overwritten: dict[int, int] | None = None) -> Lint:
 
 
 def lint_cluster(text: Text, found: Lint) -> Cluster | None:
-    """The cluster, if it is to be taken. What nothing reads is told in any case."""
+    """Returns the cluster, if it is accepted. Unread keys are reported in any case."""
     found.allows = Allows(text)
     found.warn("unknown-allow", *found.allows.unknown())
     found.warn("unread-key", *unread.unread_keys(text))

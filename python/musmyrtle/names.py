@@ -18,9 +18,9 @@ class UnknownName(KeyError):
 
 
 class Names:
-    """The numbers of nodes and of their buffers, by name. Of two things of one name the first one's.
+    """The numbers of nodes and of their buffers, by name. Where two have one name, the first one counts.
 
-    `wrong` says what is wrong with the first key `name` that isn't a string, or is None.
+    `wrong` describes the first key `name` that isn't a string, or is None.
     """
 
     def __init__(self, nodes: Mapping[str, int], buffers: list[dict[str, int]], wrong: str | None = None,
@@ -73,13 +73,13 @@ def names_in(data: bytes) -> Names:
 
 
 def tables_of(value: object) -> list[dict[str, object]]:
-    """Returns the tables of an array, with an empty one in the place of anything else."""
+    """Returns the tables of an array, with an empty one in the place of anything that isn't a table."""
     return [item if isinstance(item, dict) else {} for item in value] if isinstance(value, list) else []
 
 
 def named(tables: list[dict[str, object]], node: int | None, wrong: list[str],
           repeated: list[tuple[int | None, str]]) -> dict[str, int]:
-    """Returns the places of tables, by name, and adds to WRONG and REPEATED what isn't right in them."""
+    """Returns the places of tables, by name, and adds their faults to WRONG and REPEATED."""
     places: dict[str, int] = {}
     for place, table in enumerate(tables):
         name = table.get("name")

@@ -10,7 +10,7 @@ if TYPE_CHECKING:
 
 
 class Node:
-    """A node of a world, as one of its tasks calls it: task 0 unless another is chosen.
+    """A node of a world, as one of its tasks calls it: task 0 unless another one is chosen.
 
     Each call is one request. It raises `ValueError` for a number that is out of range, with nothing sent, `UnknownNode`
     where the cluster doesn't have the node, other refusals by name, and `SessionOver`.
@@ -78,11 +78,11 @@ class Node:
         self.world.ask(f"put {self.number}")
 
     def take(self) -> None:
-        """Has the controller take what it receives in the sealed window. Raises `WrongTurn` and `BusRefused`."""
+        """Has the controller take its observation in the sealed window. Raises `WrongTurn` and `BusRefused`."""
         self.world.ask(f"take {self.number}")
 
     def observe(self) -> None:
-        """Has the controller give its interface what it received. Raises `WrongTurn` and `SlotRefused`."""
+        """Has the controller give its observation to its interface. Raises `WrongTurn` and `SlotRefused`."""
         self.world.ask(f"observe {self.number}")
 
     def report(self) -> Report:
@@ -94,7 +94,7 @@ class Node:
         return "".join(f"{line}\n" for line in self.world.block(f"trace {self.number}"))
 
     def _frame(self, line: str) -> Frame | None:
-        """Returns the frame that a read or a pop is answered with. Asks for its origin with it."""
+        """Returns the frame of a read or a pop. Its origin is requested with it."""
         reply, origin = self.world.send([line, f"origin {self.number}"])
         if reply.startswith("refused "):
             raise refusal(reply, line)

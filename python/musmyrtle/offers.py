@@ -1,4 +1,4 @@
-"""What the nodes of a cluster may offer in static slots and minislots, found by node, channel, place and cycles."""
+"""The possible offers of nodes in static slots and minislots, found by node, channel, place and cycles."""
 from collections import defaultdict
 from functools import cache
 
@@ -6,11 +6,14 @@ from musmyrtle.cluster import Cluster
 from musmyrtle.sending import first_minislot
 
 PAST_ALL = 8001
-"""A minislot that no cycle has."""
+"""A number above each minislot."""
 
 
 class Offers:
-    """The offers of all nodes. Cycles are bits of a number: bit N is for the cycles that leave N when divided by 64."""
+    """The offers of all nodes.
+
+    Cycles are bits of a number: bit N is for the cycles that leave N when divided by 64.
+    """
 
     def __init__(self, cluster: Cluster):
         self.cluster = cluster

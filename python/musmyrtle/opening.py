@@ -1,4 +1,4 @@
-"""Why a world isn't opened: the refusal of the program, and the reason that `fr_lint` gives for it."""
+"""The reason why a world isn't opened: the refusal of the program, and the explanation by `fr_lint`."""
 import os
 
 from musmyrtle.refusals import ClusterRefused
@@ -6,13 +6,14 @@ from musmyrtle.visible import visible
 
 REFUSED = "refused "
 OF_THE_MACHINE = ("Memory", "Write")
-"""Refusals that say nothing of the cluster file."""
+"""Refusals that aren't about the cluster file."""
 
 
 def refused_cluster(said: str, cluster: str) -> ClusterRefused | None:
-    """Returns the exception for what the program said instead of its first line, or None for no refusal of the file.
+    """Returns the exception for the program's answer in place of its first line.
 
-    SAID may have further lines: before the refusal those of a launcher, and after it those that explain it.
+    Returns None if that is no refusal of the file. SAID may have further lines: before the refusal those of a launcher,
+    and after it those that explain it.
     """
     lines = said.split("\n")
     places = [number for number, line in enumerate(lines) if line.startswith(REFUSED)]
@@ -26,7 +27,7 @@ def refused_cluster(said: str, cluster: str) -> ClusterRefused | None:
 
 
 def reason_of(refusal: str, cluster: str) -> str:
-    """Returns file, line and column, the reason and what else has to do with it, or nothing where none is known."""
+    """Returns file, line and column, the reason and related places, or nothing where none is known."""
     if os.path.exists(cluster) and not os.path.isfile(cluster) and not os.path.isdir(cluster):
         # Reading a pipe again would wait for a writer.
         return ""

@@ -1,4 +1,4 @@
-"""What a run prints, read strictly: exactly the lines that the cluster's nodes have, and no other spelling."""
+"""The output of a run, read strictly: exactly the lines that the cluster's nodes have, and no other spelling."""
 import re
 from dataclasses import dataclass
 
@@ -10,12 +10,12 @@ HELD = re.compile(rf"(?:- -|{NUMBER}:([AB]) x((?:[0-9a-f]{{4}})*))")
 
 
 class BadOutcome(ValueError):
-    """The text isn't what a run of this cluster prints. The message says in which line."""
+    """The text isn't the outcome of a run of this cluster. The message names the line."""
 
 
 @dataclass(frozen=True)
 class NodeOutcome:
-    """What one node has at the end: buffers by number, the receive FIFO if there is one, and counters by channel."""
+    """The final state of one node: buffers by number, the receive FIFO if there is one, and counters by channel."""
 
     buffers: tuple[TransmitBuffer | ReceiveBuffer, ...]
     queue: Queue | None
@@ -24,7 +24,7 @@ class NodeOutcome:
 
 @dataclass(frozen=True)
 class Outcome:
-    """What all nodes have at the end, and how many windows the run had."""
+    """The final state of all nodes, and the number of windows of the run."""
 
     nodes: tuple[NodeOutcome, ...]
     windows: int
@@ -39,7 +39,7 @@ class Lines:
         self.lines, self.at = text[:-1].split("\n"), 0
 
     def take(self, front: str, form: str | re.Pattern[str]) -> re.Match[str]:
-        """The next line, which has to begin so and then to have this form whole."""
+        """Returns the next line, which must begin with the word and match the form."""
         line = self.lines[self.at] if self.at < len(self.lines) else None
         found = re.fullmatch(form, line[len(front):]) if line is not None and line.startswith(front) else None
         if found is None:
@@ -57,13 +57,15 @@ class Lines:
 
 
 Known = dict[tuple[int, str], NodeOutcome]
-"""What nodes have at the end, by their number and the lines that say it."""
+"""The final state of nodes, by their numbers and their lines."""
 
 
 def read_outcome(text: str, cluster: Cluster, known: Known | None = None) -> Outcome:
-    """The outcome of a run of this cluster. Raises `BadOutcome` for a text that is none. Where many outcomes are read,
-    most of their lines are the same: lines of a node that are KNOWN aren't read again, and others are known from then
-    on."""
+    """Returns the outcome of a run of this cluster. Raises `BadOutcome` for a text that is none.
+
+    Where many outcomes are read, most of their lines are the same: lines of a node that are KNOWN aren't read again,
+    and others are known from then on.
+    """
     lines = Lines(text)
     nodes = tuple(known_node(lines, node, known) if known is not None else read_node(lines, node)
                   for node in cluster.nodes)

@@ -1,4 +1,4 @@
-"""What a command writes to standard output and standard error, whatever becomes of them."""
+"""The output of a command to standard output and standard error, also where these fail."""
 import os
 import sys
 from collections.abc import Iterable
@@ -8,32 +8,32 @@ from typing import TextIO
 from musmyrtle.visible import visible
 
 CANNOT_BE_USED = 2
-"""The status where something that the command needs can't be used, such as its words, a program or its output."""
+"""The status where the command can't use its words, a program or its output."""
 
 
 class Stop(Exception):
-    """Nothing more is done: the status, and what is said."""
+    """The command ends, with a status and a message."""
 
     def __init__(self, status: int, message: str = ""):
         super().__init__(message)
         self.status = status
 
     def tell(self, command: str) -> int:
-        """Says it in one line, where standard error can be written, and returns the status."""
+        """Writes a message of one line to standard error, if that is possible, and returns the status."""
         if str(self):
             pass_on(f"{command}: {self}")
         return self.status
 
 
 def write(stream: TextIO | None, texts: Iterable[str]) -> None:
-    """Writes all of it. A reader that goes away before its end, as `head` does, is a `BrokenPipeError`."""
+    """Writes the whole text. A reader that goes away before its end, such as `head`, raises a `BrokenPipeError`."""
     if stream is None:
         raise Stop(CANNOT_BE_USED, "the output can't be written: it is closed")
     try:
         stream.writelines(texts)
         stream.flush()
     except OSError as error:
-        # Python writes what is left at its own end, and says in its own words that it can't.
+        # Python writes the rest at its own end, and reports a failure in its own words.
         os.dup2(os.open(os.devnull, os.O_WRONLY), stream.fileno())
         if isinstance(error, BrokenPipeError):
             raise

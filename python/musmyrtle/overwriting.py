@@ -14,7 +14,7 @@ class Overwritten(dict[int, int]):
     """The frames that the receive FIFO of each node overwrote in a run, as `fr_bench run` prints them."""
 
     def read(self, output: IO[str]) -> None:
-        """Reads what the program prints, and keeps the numbers of the lines `queue HELD OVERWRITTEN`."""
+        """Reads the program's output, and keeps the numbers of the lines `queue HELD OVERWRITTEN`."""
         node = None
         # A line without an end comes in parts, so that a program can't fill the memory.
         while line := output.readline(LONGEST_READ):
@@ -27,7 +27,7 @@ class Overwritten(dict[int, int]):
 
 def overwriting_fifos(cluster: Cluster, text: Text, scenario: Scenario, overwritten: dict[int, int]
                       ) -> Iterator[Finding]:
-    """Returns a warning for each FIFO that overwrote frames and that no line of the scenario pops."""
+    """Yields a warning for each FIFO that overwrote frames and that no line of the scenario pops."""
     popped = {node for (node, _), lines in scenario.scripts.items() if any(line.kind == "pop" for line in lines)}
     for node in cluster.nodes:
         lost = overwritten.get(node.number, 0)

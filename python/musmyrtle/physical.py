@@ -1,8 +1,8 @@
-"""Warnings of slots that are too short for what they carry at a bit rate.
+"""Warnings of slots that are too short for their frames at a bit rate.
 
-A byte is ten bits on the bus: two of a start sequence, and eight. Before the first byte a transmission start sequence
-of at least three bits and a frame start bit go out, and after the last one two bits of an end sequence; a dynamic frame
-has at least two bits of a trailing sequence more (chapter 3). Eleven bits of silence tell that the channel is idle
+A byte is ten bits on the bus: two of a start sequence, and eight. A transmission start sequence of at least three bits
+and a frame start bit come before the first byte. Two bits of an end sequence come after the last byte; a dynamic frame
+has at least two bits of a trailing sequence more (chapter 3). Eleven bits of silence show that the channel is idle
 again (chapters 3 and 5). A static slot also has an action point offset at both ends. Delays and the clocks' deviations
 come on top (chapter 5), and aren't known.
 """
@@ -22,7 +22,7 @@ LONGEST_SLOT = PARAMETERS["static_mt"][1]
 
 
 def bits_of_frame(words: int, is_dynamic: bool) -> int:
-    """The least bits that a frame of so many words takes, with the silence after it."""
+    """Returns the least bits that a frame of so many words takes, with the silence after it."""
     trailing = TRAILING if is_dynamic else 0
     return START + BITS_OF_BYTE * (BYTES_BESIDE_PAYLOAD + 2 * words) + END + trailing + IDLE
 
@@ -40,7 +40,7 @@ def is_number(value: object) -> TypeGuard[int | float]:
 
 
 def wrong_times(_: Cluster, text: Text) -> Iterator[Finding]:
-    """Returns warnings of keys of `physical` that are no numbers."""
+    """Yields warnings of keys of `physical` that are no numbers."""
     if "physical" not in text.document:
         return
     table = text.document["physical"]
@@ -60,7 +60,7 @@ def bits_of_macrotick(text: Text) -> float | None:
 
 
 def short_slots(cluster: Cluster, text: Text) -> Iterator[Finding]:
-    """Returns warnings of static slots and of minislots that are too short for their frames."""
+    """Yields warnings of static slots and of minislots that are too short for their frames."""
     bits = bits_of_macrotick(text)
     if bits is not None:
         yield from short_static_slots(cluster, text, bits)
@@ -88,7 +88,7 @@ def short_static_slots(cluster: Cluster, text: Text, bits: float) -> Iterator[Fi
 
 
 def without_action_point(cluster: Cluster, text: Text) -> Iterator[Finding]:
-    """Returns a warning where a static frame fits, and doesn't with the least action point offset at both ends."""
+    """Yields a warning where a static frame fits only without action point offsets at both ends."""
     bits = bits_of_macrotick(text)
     if bits is None:
         return

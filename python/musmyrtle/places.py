@@ -1,4 +1,4 @@
-"""Where something stands in a file: the lines and columns of the keys and items of a TOML text."""
+"""Places in a file: the lines and columns of the keys and items of a TOML text."""
 from bisect import bisect_right
 from dataclasses import dataclass, field
 from functools import cached_property
@@ -7,12 +7,12 @@ from itertools import accumulate
 from musmyrtle.toml_tables import Array, Table
 
 Path = tuple[str | int, ...]
-"""The way to a value from the top of a document: keys of tables and numbers of items."""
+"""The path to a value from the top of a document: keys of tables and numbers of items."""
 
 
 @dataclass(frozen=True)
 class Place:
-    """A line of a file, counted from 1, and the column where something begins in it, if that is known."""
+    """A line of a file, counted from 1, and the column of a thing in it, if that is known."""
 
     file: str
     line: int
@@ -24,7 +24,7 @@ class Place:
 
     @property
     def source(self) -> str:
-        """The text of the line."""
+        """Returns the text of the line."""
         return self.text[self.begin:self.end].rstrip("\r")
 
     def __str__(self) -> str:
@@ -33,14 +33,14 @@ class Place:
 
 
 class Places:
-    """The places of a document in its text. They are looked for only when they are asked for."""
+    """The places of a document in its text. They are computed only when they are asked for."""
 
     def __init__(self, file: str, text: str, root: Table):
         self.file, self.text, self.root = file, text, root
 
     @cached_property
     def starts(self) -> list[int]:
-        """The offset at which each line begins, and one after the end of the last."""
+        """Returns the offset at which each line begins, and one after the end of the last."""
         return list(accumulate((len(line) + 1 for line in self.text.split("\n")), initial=0))
 
     def at(self, offset: int) -> Place:

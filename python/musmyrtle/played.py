@@ -1,4 +1,4 @@
-"""Runs played in a session with `fr_world`, for what the outcome of a run doesn't say.
+"""Runs played in a session with `fr_world`, for facts that the outcome of a run doesn't have.
 
 An outcome names the journal entry that brought a frame, and not its cycle. It counts the frames of a receive FIFO, and
 doesn't say which they are. The minislots at which nodes send follow only from what is sent before them.
@@ -18,14 +18,14 @@ from musmyrtle.session import Session
 from musmyrtle.traces import fetched
 
 AT_ONCE = 50
-"""Requests that are sent together."""
+"""The number of requests that are sent together."""
 REQUEST_SECONDS = 120.0
-"""The time limit of a request. A session whose program hangs is over then."""
+"""The time limit of a request in seconds. It ends a session whose program hangs."""
 FORGED_WORD = b"\xa5\x5a"
 """The payload of a forged frame in the dynamic segment, and each word of one in a static slot."""
 
 Fifos = dict[int, Fifo | str]
-"""For each node that has a receive FIFO what became of its frames, or why that can't be read."""
+"""The frames of each receive FIFO by node, or why they can't be read."""
 Occasion = tuple[int, str]
 """A cycle of the run, and a channel."""
 
@@ -42,15 +42,15 @@ class Begun:
 
 @dataclass
 class Played:
-    """What a run showed on its way."""
+    """The observations of a run."""
 
     starts: list[int] = field(default_factory=list)
     """The number of the first window of each cycle."""
     fifos: Fifos = field(default_factory=dict)
     begun: list[Begun] = field(default_factory=list)
-    """What was begun in the dynamic segment, if that was asked for."""
+    """The transmissions that began in the dynamic segment, if they were asked for."""
     slots: dict[Occasion, int] = field(default_factory=dict)
-    """The slot that a channel opened in a cycle at the minislot that was watched, if one was."""
+    """The slot that a channel opened in a cycle at the watched minislot, if there is one."""
 
 
 class Player:
@@ -69,7 +69,8 @@ class Player:
                 self.calls.setdefault(line.value("CYCLE"), []).append(line)
 
     def play(self, lines: Iterable[str] = (), watched: int | None = None) -> Played:
-        """Returns what the run with these fault lines showed, with the slots that were open at the minislot WATCHED."""
+        """Returns the observations of the run with these fault lines, with the slots that were open at the minislot
+        WATCHED."""
         with closing(self.opened(lines)) as session:
             play = Play(self, session)
             play.run()
@@ -79,7 +80,7 @@ class Player:
             return play.played
 
     def record(self) -> Played:
-        """Returns what the run of the scenario showed, with what was begun in the dynamic segment."""
+        """Returns the observations of the scenario's run, with the transmissions that began in the dynamic segment."""
         with closing(self.opened()) as session:
             play = Play(self, session)
             is_stepped = self.cluster.parameters.minislots > 0
@@ -88,7 +89,7 @@ class Player:
             return play.played
 
     def lose(self, node: int, channels: str, cycles: range) -> list[Begun]:
-        """Returns what the node offers in the dynamic segment in a run in which all of that is lost, on these channels
+        """Returns the node's offers in the dynamic segment in a run in which all of them are lost, on these channels
         and in these cycles."""
         def due(cycle: int, window: Window) -> list[str]:
             return [f"mute {node} {channel}" for channel in channels]
@@ -100,7 +101,10 @@ class Player:
 
     def forge(self, node: int, minislot: int, occasions: Collection[Occasion]) -> dict[Occasion, int]:
         """Returns the slots that are open at the minislot in a run in which the node babbles a frame of the open slot
-        there, on each occasion on which one is open."""
+        there.
+
+        The node does so on each occasion on which a slot is open.
+        """
         found: dict[Occasion, int] = {}
         channels = sorted({channel for _, channel in occasions})
 
@@ -137,8 +141,10 @@ def forged_babble(node: int, channel: str, slot: int, cycle: int) -> str:
 
 
 Due = Callable[[int, Window], list[str] | None]
-"""The requests that come in a dynamic window of a cycle before it is done, or None where the rest of the cycle isn't
-done window by window."""
+"""The requests in a dynamic window of a cycle before it is done.
+
+None stands for a cycle whose rest isn't done window by window.
+"""
 Seen = Callable[[int, Window], None]
 
 
@@ -193,7 +199,7 @@ class Play:
                 self.played.begun.append(Begun(cycle, window.minislot, it.channel, it.fate))
 
     def watch(self, minislot: int) -> None:
-        """Reads which slots were open at the minislot. All nodes fetch the same windows."""
+        """Reads the slots that were open at the minislot. All nodes fetch the same windows."""
         for it in fetched(self.session.block("trace 0")):
             if it.minislot == minislot:
                 open_slots = {channel: slot for channel, slot in it.slots.items() if slot != "-"}

@@ -1,4 +1,4 @@
-"""The program `fr_bench`, which decides, and those beside it: which one it is, and what it answers."""
+"""The program `fr_bench`, which decides, and those beside it: their files and their answers."""
 import os
 import re
 import shutil
@@ -17,29 +17,34 @@ from musmyrtle.output import pass_on
 CHECKOUT = Path(__file__).resolve().parents[2]
 REFUSED_LINE = re.compile(r"refused [A-Z][A-Za-z]*( .*)?")
 MOST_TOLD, LONGEST_TOLD, MOST_SAID = 20, 4096, 300
-"""The lines and the characters of a line that are kept of what a program says, and the characters that are repeated."""
+"""The number of lines and of characters in a line that are kept of a program's messages, and of characters repeated."""
 
 
 @dataclass(frozen=True)
 class Answer:
-    """What the program says of its input: no refusal where the input is accepted, and otherwise the words after
-    `refused`."""
+    """The program's answer about its input.
+
+    It has no refusal if the input is accepted, and otherwise the words after `refused`.
+    """
 
     status: int
     refusal: str | None
     is_named: bool = True
-    """Whether a refusal is the program's, by a line `refused NAME`. Otherwise the program failed, and the refusal is
-    all that it said."""
+    """True for a refusal by a line `refused NAME`. Otherwise the program failed, and the refusal is its whole message.
+    """
 
     @property
     def is_one(self) -> bool:
-        """Whether the program answered: a signal, and an end that docs/formats/commands.md hasn't, are no answer."""
+        """Returns whether the program answered.
+
+        A signal and a status that docs/formats/commands.md doesn't have are no answer.
+        """
         is_usage = self.status == 2 and self.refusal == "usage"
         return self.status == 0 or self.status == 1 and self.is_named or is_usage
 
 
 def usual_program(name: str = "fr_bench") -> str | None:
-    """The launcher of the checkout that this package is in, or its program, or else the one on the path of commands."""
+    """Returns the launcher of this checkout, otherwise its program, otherwise the one on the path of commands."""
     is_checkout = (CHECKOUT / "python/musmyrtle/program.py").is_file()
     for file in (CHECKOUT / name, CHECKOUT / "dist" / name):
         if is_checkout and file.is_file():
@@ -50,8 +55,8 @@ def usual_program(name: str = "fr_bench") -> str | None:
 def itself(program: str) -> str:
     """Returns the program that a launcher of the checkout has just run, or otherwise the one that is named.
 
-    A launcher first checks whether the program is still that of the sources. That is needed once, and not for each of
-    many runs. The first line of its note in `out` is the folder of the program.
+    A launcher first checks whether the program is still that of the sources. One check is enough for many runs. The
+    first line of its note in `out` is the folder of the program.
     """
     if not is_launcher(program):
         return program
@@ -93,7 +98,7 @@ def listened(running: subprocess.Popen[Any], listen: Callable[[IO[str]], None] |
 
 def ask(program: str, words: list[str], started: Started = subprocess.Popen,
         listen: Callable[[IO[str]], None] | None = None) -> Answer:
-    """Returns the program's answer. What its launcher says meanwhile, as that it builds first, is passed on.
+    """Returns the program's answer. Messages of its launcher, such as that it builds first, are passed on.
 
     The lines by which a launcher explains a refusal aren't, since this package has longer reasons of its own. LISTEN
     reads what the program prints, in a thread of its own, until its end.
@@ -119,14 +124,17 @@ def ask(program: str, words: list[str], started: Started = subprocess.Popen,
 
 
 def no_answer(program: str, words: list[str], answer: Answer) -> str:
-    """Says what was run, how it ended and what it said, of a program that gave no answer."""
+    """Describes a program without an answer: its words, its end and its message."""
     said = f"refused {answer.refusal}" if answer.is_named else answer.refusal or ""
     said = "" if said == f"status {answer.status}" else f": {said[-MOST_SAID:]}"
     return f"{' '.join([program, *words])} {how_it_ended(answer.status)}{said}"
 
 
 def how_it_ended(status: int) -> str:
-    """Returns `was killed by signal 9 (SIGKILL)` or `ended with status 3`. A shell tells a signal by 128 and more."""
+    """Returns `was killed by signal 9 (SIGKILL)` or `ended with status 3`.
+
+    A shell gives a signal a status of 128 and more.
+    """
     number = -status if status < 0 else status - 128
     if 0 < number < signal.NSIG:
         named = {it.value: f" ({it.name})" for it in signal.Signals}

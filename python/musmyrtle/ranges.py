@@ -1,4 +1,4 @@
-"""Warnings of parameters out of the ranges of FlexRay 2.1 Rev A, and of what only version 3 of the standard allows."""
+"""Warnings of parameters out of the ranges of FlexRay 2.1 Rev A, and of features of version 3 alone."""
 from collections import defaultdict
 from collections.abc import Iterator
 
@@ -14,7 +14,7 @@ NOMINAL_BIT_RATE = rule_of("gdBit").greatest
 
 
 def out_of_range(cluster: Cluster, text: Text) -> Iterator[Finding]:
-    """Returns a warning for each parameter out of its range."""
+    """Yields a warning for each parameter out of its range."""
     for key in PARAMETERS:
         rule = OF_PARAMETERS.get(key)
         value = getattr(cluster.parameters, key)
@@ -35,7 +35,7 @@ def allowed(rule: Rule) -> str:
 
 
 def long_times(cluster: Cluster, text: Text) -> Iterator[Finding]:
-    """Returns warnings of a macrotick or a cycle that is too long or too short, where the file has its time."""
+    """Yields warnings of a macrotick or a cycle that is too long or too short, where the file has its time."""
     _, macrotick = bit_and_macrotick(text)
     if macrotick is None:
         return
@@ -52,7 +52,7 @@ def long_times(cluster: Cluster, text: Text) -> Iterator[Finding]:
 
 
 def other_bit_rate(_: Cluster, text: Text) -> Iterator[Finding]:
-    """Returns a warning of a bit rate that the standard doesn't have."""
+    """Yields a warning of a bit rate that the standard doesn't have."""
     rate, _macrotick = bit_and_macrotick(text)
     if rate is not None and rate != NOMINAL_BIT_RATE:
         reason = (f"{STANDARD} has 10 Mbit/s alone: `gdBit` is 0.1 microseconds ({CHAPTER}). Expected "
@@ -61,7 +61,7 @@ def other_bit_rate(_: Cluster, text: Text) -> Iterator[Finding]:
 
 
 def divided_slots(cluster: Cluster, text: Text) -> Iterator[Finding]:
-    """Returns a warning for each static slot that several nodes share, or that nobody owns in some cycles."""
+    """Yields a warning for each static slot that several nodes share, or that is without an owner in some cycles."""
     owners: dict[int, dict[str, list[Ownership]]] = defaultdict(lambda: defaultdict(list))
     for line in cluster.owned():
         for channel in line.channels:
@@ -89,7 +89,7 @@ def divided_slot(text: Text, slot: int, channels: list[str], lines: list[Ownersh
 
 
 def repeated_names(_: Cluster, text: Text) -> Iterator[Finding]:
-    """Returns a warning for each node, and for each buffer of a node, with the name of an earlier one."""
+    """Yields a warning for each node, and for each buffer of a node, with the name of an earlier one."""
     nodes = text.document["node"]
     yield from repeated(text, nodes, ("node",), "node {}")
     for number, node in enumerate(nodes):

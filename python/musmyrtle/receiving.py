@@ -1,4 +1,4 @@
-"""Warnings of receive buffers and receive FIFOs to which nothing comes, or not what they seem to be for."""
+"""Warnings of receive buffers and receive FIFOs that get no frames, or other ones than they seem to be for."""
 from collections.abc import Iterator
 
 from musmyrtle.cluster import CYCLES, Buffer, Cluster, Node, Queue
@@ -8,7 +8,7 @@ from musmyrtle.texts import Text
 
 
 def is_common(one: Buffer | Queue, other: Buffer) -> bool:
-    """Whether both are for some channel in some cycle."""
+    """Returns whether both are for some channel in some cycle."""
     return bool(set(one.channels) & set(other.channels)) and one.cycles.meet(other.cycles)
 
 
@@ -23,12 +23,12 @@ class Traffic:
                 self.senders.setdefault(buffer.slot, []).append(buffer)
 
     def comes_to(self, receiver: Buffer) -> bool:
-        """Whether another node may send what the receive buffer admits."""
+        """Returns whether another node may send a frame that the receive buffer admits."""
         return any(it.node != receiver.node and is_common(receiver, it) and can_send(self.cluster, it)
                    for it in self.senders.get(receiver.slot, ()))
 
     def is_queued(self, node: Node, queue: Queue, sender: Buffer) -> bool:
-        """Whether the FIFO gets anything that the buffer sends, beside what receive buffers of its node admit."""
+        """Returns whether the FIFO gets any frame of the buffer that no receive buffer of its node admits."""
         if sender.node == node.number or not is_common(queue, sender) or not can_send(self.cluster, sender):
             return False
         taking = [it for it in node.buffers if not it.transmits and it.slot == sender.slot]
@@ -67,7 +67,7 @@ def idle_receiver(traffic: Traffic, text: Text, buffer: Buffer) -> Finding:
 
 
 def why_not(traffic: Traffic, receiver: Buffer, sender: Buffer) -> str:
-    """Why what one buffer sends doesn't come to another."""
+    """Returns why frames of one buffer don't come to another."""
     if sender.node == receiver.node:
         return f"{sender} sends in it: no node receives its own frames"
     if not set(sender.channels) & set(receiver.channels):

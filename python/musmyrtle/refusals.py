@@ -2,10 +2,10 @@
 
 
 class SessionOver(RuntimeError):
-    """The session is over, and no further request can be asked. The message says why.
+    """The session is over, and no further request can be asked. The message has the reason.
 
-    That is what the program said on standard error, as `refused Write`, or how it ended, or why a reply couldn't be
-    read to its end.
+    That is the program's message on standard error, such as `refused Write`, its end, or the reason why a reply
+    couldn't be read to its end.
     """
 
 
@@ -24,7 +24,7 @@ class BadCycles(SessionOver, ValueError):
 class ClusterRefused(SessionOver):
     """The program refuses the cluster file, so the world isn't opened.
 
-    `refusal` has the words after `refused`, as `Overlap 1 A 0`, and `reason` what `fr_lint` says of the file, with line
+    `refusal` has the words after `refused`, as `Overlap 1 A 0`, and `reason` the explanation by `fr_lint`, with line
     and column. The reason is empty where none is known.
     """
 
@@ -40,7 +40,7 @@ class ClusterRefused(SessionOver):
 class NotStarted(SessionOver, OSError):
     """The program can't be started: it isn't there, or it can't be executed.
 
-    `filename` is the program and `errno` the failure. `strerror` says why, and where `fr_world` is looked for.
+    `filename` is the program and `errno` the failure. `strerror` has the reason, and where `fr_world` is looked for.
     """
 
     def __init__(self, number: int, reason: str, program: str) -> None:
@@ -52,7 +52,7 @@ class NotStarted(SessionOver, OSError):
 
 
 class Refused(Exception):
-    """A request was refused and has changed nothing, except that `window`, `cycle` and `run` may have done a part.
+    """A request was refused and has changed nothing. Only `window`, `cycle` and `run` may have done a part.
 
     `names` are the words after `refused`, and `line` is the request.
     """
@@ -79,11 +79,11 @@ class NoWindow(Refused):
 
 
 class Memory(Refused):
-    """The program is out of memory for the reply, or for a fault line. Of a seal it is a `BusMemory`."""
+    """The program is out of memory for the reply, or for a fault line. For a seal it is a `BusMemory`."""
 
 
 class UnknownNode(Refused):
-    """The cluster doesn't have the node. Of a fault of the open window it is a `BusUnknownNode`."""
+    """The cluster doesn't have the node. For a fault of the open window it is a `BusUnknownNode`."""
 
 
 class WrongTurn(Refused):
@@ -189,7 +189,7 @@ class NotSealed(BusRefused):
 
 
 class NotAllTaken(BusRefused):
-    """A node hasn't taken what it receives in the sealed window."""
+    """A node hasn't taken its observation of the sealed window."""
 
 
 class AlreadyPut(BusRefused):
@@ -197,7 +197,7 @@ class AlreadyPut(BusRefused):
 
 
 class AlreadyTaken(BusRefused):
-    """The node has taken what it receives in the sealed window."""
+    """The node has taken its observation of the sealed window."""
 
 
 class BusMemory(BusRefused, Memory):

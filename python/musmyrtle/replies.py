@@ -38,12 +38,12 @@ class Window:
 
     @property
     def is_static(self) -> bool:
-        """Whether it is a static slot."""
+        """Returns whether it is a static slot."""
         return self.minislot == 0
 
     @property
     def opens_cycle(self) -> bool:
-        """Whether it is the first window of its cycle."""
+        """Returns whether it is the first window of its cycle."""
         return self.is_static and self.a == 1
 
     def slot(self, channel: Channel) -> int | None:
@@ -94,7 +94,7 @@ class ReceiveBuffer:
 
 @dataclass(frozen=True, slots=True)
 class Queue:
-    """A receive FIFO: how many frames wait in it, and how many it lost."""
+    """A receive FIFO: the number of frames that wait in it, and of those that it lost."""
 
     waiting: int
     lost: int

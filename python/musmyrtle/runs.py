@@ -1,4 +1,4 @@
-"""A run of a cluster and a scenario for some cycles: for what it is refused, in the program's order."""
+"""The refusals of a run of a cluster and a scenario for some cycles, in the program's order."""
 from collections.abc import Iterator
 
 from musmyrtle.cluster import Buffer, Cluster, Node
@@ -15,7 +15,7 @@ Refusals = list[tuple[str, Finding]]
 
 
 class Run:
-    """What is asked of a run, and where its parts stand."""
+    """The request for a run, and the places of its parts."""
 
     def __init__(self, cluster: Cluster, text: Text, scenario: Scenario, cycles: int):
         self.cluster, self.text, self.scenario, self.cycles = cluster, text, scenario, cycles
@@ -131,7 +131,7 @@ class Run:
         return Finding(headline, reason, self.scenario.place_of(line, "PLACE"), (note,))
 
     def no_rooms(self) -> Refusals:
-        """The findings in the order of their nodes, for host entries before slot entries."""
+        """Returns the findings in the order of their nodes, for host entries before slot entries."""
         found = [(node, it) for node in self.cluster.nodes for it in self.no_host_room(node)]
         found += slot_rooms(self.cluster, self.text, self.cycles)
         return [(f"NoRoom {node.number}", it) for node, it in sorted(found, key=lambda it: it[0].number)]
@@ -163,7 +163,7 @@ def slot_rooms(cluster: Cluster, text: Text, cycles: int) -> list[tuple[Node, Fi
 
 
 def slot_room(cluster: Cluster, text: Text, cycles: int, nodes: list[Node]) -> Finding:
-    """Why the journals of nodes with the same room are too small for so many cycles."""
+    """Returns why the journals of nodes with the same room are too small for so many cycles."""
     windows = cluster.parameters.windows
     needed, had = 2 * cycles * windows, nodes[0].slot_entries
     want = f"{counted(cycles, 'cycle')} want{'s' if cycles == 1 else ''}"

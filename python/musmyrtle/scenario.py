@@ -31,7 +31,7 @@ HEX = re.compile(r"x(?:[0-9a-f]{2})*")
 
 @dataclass(frozen=True)
 class Line:
-    """A line of the scenario, by its number from 1, its words, and what they say."""
+    """A line of the scenario: its number from 1, its words, and their values."""
 
     number: int
     words: tuple[str, ...]
@@ -44,7 +44,7 @@ class Line:
         return self.words[1 + FORMS[self.kind].index(name)]
 
     def column(self, name: str) -> int:
-        """The column where the word of this name begins."""
+        """Returns the column where the word of this name begins."""
         return sum(len(it) + 1 for it in self.words[: 1 + FORMS[self.kind].index(name)]) + 1
 
     def value(self, name: str) -> int:
@@ -52,7 +52,7 @@ class Line:
 
     @property
     def size(self) -> int:
-        """The number of its bytes."""
+        """Returns the number of its bytes."""
         return (len(self.word("HEX")) - 1) // 2
 
 
@@ -64,23 +64,25 @@ class FaultLine(Line):
 
     @property
     def place(self) -> int | None:
-        """The slot or minislot, or nothing for every static slot."""
+        """Returns the slot or minislot, or nothing for every static slot."""
         return None if self.word("PLACE") == "s*" else int(self.word("PLACE")[1:])
 
     @property
     def cycle(self) -> int | None:
-        """The cycle, or nothing for every one."""
+        """Returns the cycle, or nothing for every one."""
         return None if self.word("CYCLES") == EVERY else self.value("CYCLES")
 
     @property
     def sort(self) -> tuple[str, str, str, bool]:
-        """Its kind, node and channel, and whether it is for static slots."""
+        """Returns its kind, node and channel, and whether it is for static slots."""
         return self.kind, "" if self.kind == "corrupt" else self.word("NODE"), self.word("CHANNEL"), self.is_static
 
 
 class FaultLines:
-    """The fault lines so far, found by the windows that they name. A line stands under its cycle and its place, and for
-    a line that is for every cycle or place, under `ANY` as well."""
+    """The fault lines so far, found by the windows that they name.
+
+    A line is listed by its cycle and its place, and a line for every cycle or place by `ANY` as well.
+    """
 
     ANY = -1
 
@@ -92,7 +94,7 @@ class FaultLines:
             self.lines.setdefault(key, line)
 
     def meeting(self, line: FaultLine) -> FaultLine | None:
-        """The first line so far that is the same sort of fault for a window that this one names too."""
+        """Returns the first line so far that is the same sort of fault for a common window."""
         cycles = (self.ANY,) if line.cycle is None else (line.cycle, None)
         places = (self.ANY,) if line.place is None else (line.place, None)
         found = [self.lines[key] for key in product((line.sort,), cycles, places) if key in self.lines]
@@ -151,7 +153,7 @@ class Reading:
         self.read_lines(lines)
 
     def read_lines(self, lines: list[str]) -> None:
-        """The lines after the first. What follows the last line feed is no line."""
+        """Reads the lines after the first. Bytes after the last line feed are no line."""
         for number, line in enumerate(lines[1:], 2):
             is_last = number == len(lines)
             if is_last and not line:
@@ -178,7 +180,7 @@ class Reading:
             self.refuse(f"BadLine {number + 1}", headline, reason, number + 1)
 
     def read_line(self, number: int, text: str) -> bool:
-        """Whether it is the line `end`."""
+        """Reads a line and returns whether it is `end`."""
         words = tuple(text.split(" "))
         found = bad_words(words, text, self.version)
         if found:
@@ -214,7 +216,7 @@ def truncated(lines: list[str]) -> tuple[str, str]:
 
 
 def bad_words(words: tuple[str, ...], text: str, version: int) -> tuple[str, str, int] | None:
-    """What is wrong with a line, what would be right, and the column."""
+    """Returns the fault of a line, the expected word, and the column."""
     odd = odd_spaces(text)
     if odd:
         return odd
@@ -237,7 +239,7 @@ def bad_words(words: tuple[str, ...], text: str, version: int) -> tuple[str, str
 
 
 def columns(words: tuple[str, ...]) -> list[int]:
-    """The columns of the words after the first."""
+    """Returns the columns of the words after the first."""
     found, column = [], 1
     for word in words[:-1]:
         column += len(word) + 1
@@ -246,7 +248,7 @@ def columns(words: tuple[str, ...]) -> list[int]:
 
 
 def odd_spaces(text: str, what: str = "A scenario") -> tuple[str, str, int] | None:
-    """Returns why a line has a space, a tab or a carriage return too many, is empty, or is a comment."""
+    """Returns the fault of a line with a surplus space, tab or carriage return, an empty line, or a comment."""
     for odd, name in (("\r", "a carriage return"), ("\t", "a tab")):
         if odd in text:
             reason = "Expected a line feed alone at the end, and single spaces."
@@ -263,7 +265,7 @@ def odd_spaces(text: str, what: str = "A scenario") -> tuple[str, str, int] | No
 
 
 def wrong_word(kind: str, name: str, word: str) -> str | None:
-    """What would be right in the place of a word, or nothing where it is right."""
+    """Returns the expected form of a word, or nothing where it is right."""
     if name == "CHANNEL":
         return None if word in ("A", "B") else "`A` or `B`"
     if name == "PLACE":

@@ -1,4 +1,4 @@
-"""Warnings of what is to be sent and can't be, of slots that are owned for nothing, and of sync and startup nodes."""
+"""Warnings of buffers that can't send, of slots that are owned for nothing, and of sync and startup nodes."""
 from collections.abc import Iterator
 
 from musmyrtle.cluster import Buffer, Cluster, Node, Ownership
@@ -8,12 +8,15 @@ from musmyrtle.texts import Text
 
 
 def first_minislot(cluster: Cluster, slot: int) -> int:
-    """The minislot at which a dynamic slot opens if nothing was sent in those before it; it never opens earlier."""
+    """Returns the first minislot at which a dynamic slot can open.
+
+    That is where it opens if nothing was sent in the minislots before.
+    """
     return slot - cluster.parameters.static_slots
 
 
 def can_send(cluster: Cluster, buffer: Buffer) -> bool:
-    """Whether a transmit buffer has a chance to send."""
+    """Returns whether a transmit buffer has a chance to send."""
     if cluster.is_static(buffer.slot):
         return True
     latest = cluster.nodes[buffer.node].latest[buffer.channels]
@@ -27,7 +30,7 @@ def silent_buffers(cluster: Cluster, text: Text) -> Iterator[Finding]:
 
 
 def silent_buffer(cluster: Cluster, text: Text, buffer: Buffer) -> Finding:
-    """Why a buffer for a dynamic slot never sends."""
+    """Returns why a buffer for a dynamic slot never sends."""
     first, minislots = first_minislot(cluster, buffer.slot), cluster.parameters.minislots
     headline = f"{buffer} never sends: "
     opens = f"slot {buffer.slot} opens at minislot {first} at the earliest, if nothing is sent in the slots before it"
@@ -63,7 +66,7 @@ def unfilled_slots(cluster: Cluster, text: Text) -> Iterator[Finding]:
 
 
 def sync_nodes(cluster: Cluster, text: Text) -> Iterator[Finding]:
-    """Returns a warning where there are too few or too many sync nodes."""
+    """Yields a warning where there are too few or too many sync nodes."""
     rule = rule_of("gSyncNodeMax")
     syncing = [node for node in cluster.nodes if any(line.is_sync for line in node.owned)]
     if not rule.admits(len(syncing)):
@@ -80,7 +83,7 @@ def starting(cluster: Cluster) -> list[Node]:
 
 
 def startup_nodes(cluster: Cluster, text: Text) -> Iterator[Finding]:
-    """Returns a warning where the cluster has too few startup (coldstart) nodes to start."""
+    """Yields a warning where the cluster has too few startup (coldstart) nodes to start."""
     nodes, least = starting(cluster), rule_of("coldstart nodes").least
     if len(nodes) < least:
         names = f": {joined([str(it.number) for it in nodes])}" if nodes else ""
@@ -92,7 +95,7 @@ def startup_nodes(cluster: Cluster, text: Text) -> Iterator[Finding]:
 
 
 def fault_tolerance(cluster: Cluster, text: Text) -> Iterator[Finding]:
-    """Returns a note where the cluster starts, and doesn't once a startup node fails."""
+    """Yields a note where the cluster starts, but not with one startup node less."""
     nodes = starting(cluster)
     if len(nodes) == 2:
         headline = f"the cluster has 2 startup nodes: {joined([str(it.number) for it in nodes])}"
@@ -102,7 +105,7 @@ def fault_tolerance(cluster: Cluster, text: Text) -> Iterator[Finding]:
 
 
 def syncing(cluster: Cluster) -> Iterator[tuple[Node, list[Ownership]]]:
-    """Returns each sync node with its sync slots."""
+    """Yields each sync node with its sync slots."""
     for node in cluster.nodes:
         lines = [line for line in node.owned if line.is_sync]
         if lines:
@@ -110,7 +113,7 @@ def syncing(cluster: Cluster) -> Iterator[tuple[Node, list[Ownership]]]:
 
 
 def key_slots(cluster: Cluster, text: Text) -> Iterator[Finding]:
-    """Returns a warning for each node with several sync slots."""
+    """Yields a warning for each node with several sync slots."""
     for node, lines in syncing(cluster):
         slots = sorted({line.slot for line in lines})
         if len(slots) > 1:
@@ -122,7 +125,7 @@ def key_slots(cluster: Cluster, text: Text) -> Iterator[Finding]:
 
 
 def sync_channels(cluster: Cluster, text: Text) -> Iterator[Finding]:
-    """Returns a warning for each sync slot on one channel only."""
+    """Yields a warning for each sync slot on one channel only."""
     for node, lines in syncing(cluster):
         for slot in sorted({line.slot for line in lines}):
             own = [line for line in lines if line.slot == slot]

@@ -1,4 +1,4 @@
-"""A session with the program `fr_world`: requests, a line each, and the reply to each."""
+"""A session with the program `fr_world`: requests and replies."""
 import os
 import threading
 import time
@@ -41,7 +41,7 @@ class Session:
             self._child = Child(command)
         except OSError as error:
             raise not_started(command[0], error) from None
-        # A session that is dropped ends its program, and so does the end of this one.
+        # A dropped session ends its program, and so does the end of this one.
         self._ender = weakref.finalize(self, self._child.end)
         _SESSIONS.add(self)
         try:
@@ -57,11 +57,11 @@ class Session:
 
     @property
     def is_closed(self) -> bool:
-        """Whether `close` was called."""
+        """Returns whether `close` was called."""
         return self._is_closed
 
     def close(self, timeout: float = CLOSE_SECONDS) -> None:
-        """Ends the program. A second time does nothing.
+        """Ends the program. A second call has no effect.
 
         The program has TIMEOUT seconds to end by itself, and is killed at the latest after three times as many. A
         request of another thread that is still unanswered after TIMEOUT seconds raises `SessionOver` there.
@@ -95,9 +95,9 @@ class Session:
         return reply
 
     def block(self, line: str, timeout: float | None = None) -> list[str]:
-        """Returns the lines that a query is answered with, without the first, which counts them.
+        """Returns the lines of a query's reply, without the first, which counts them.
 
-        Raises what `ask` raises, and `ValueError` for a request that is answered with one line.
+        Raises the exceptions of `ask`, and `ValueError` for a request whose reply is one line.
         """
         first, *lines = self.ask(line, timeout).split("\n")
         if not first.startswith("lines "):
@@ -123,7 +123,7 @@ class Session:
         return replies
 
     def _keep(self, line: str) -> None:
-        """Notes what a request that was done changes in the fault lines."""
+        """Notes the change of the fault lines by a request that was done."""
         if line == "forget":
             self.kept.clear()
         elif is_fault_line(line):
@@ -170,7 +170,7 @@ class Session:
         return "\n".join([first, *(self._child.line(deadline) for _ in range(int(count)))])
 
     def _broken(self, why: str) -> str:
-        """Ends a session in which replies are outstanding. Returns why."""
+        """Ends a session in which replies are outstanding. Returns the reason."""
         if self._over is None:
             self._over = why
         self._child.hang_up()
@@ -192,7 +192,7 @@ def _leave_all() -> None:
         session._leave()
 
 
-# A forked process has the same pipes. If it used them, each process would read replies of the other; if it only held
+# A forked process has the same pipes. If it used them, each process would read replies of the other. If it only held
 # them, the program wouldn't see that its input ends.
 os.register_at_fork(after_in_child=_leave_all)
 
@@ -211,7 +211,7 @@ def encoded(text: str, count: int) -> bytes:
 
 
 def missing(asked: list[str], replies: list[str]) -> str:
-    """Returns a clause that says which reply is missing."""
+    """Returns a clause that names the missing reply."""
     return f"no reply to `{shown(asked[len(replies)])}`" if asked else "no first line"
 
 

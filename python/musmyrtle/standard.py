@@ -12,9 +12,9 @@ MACROTICKS, MICROSECONDS, MINISLOTS, SLOTS, WORDS, NODES = (
 
 @dataclass(frozen=True)
 class Rule:
-    """A parameter of the standard: its name, what says it in a cluster file, its range and unit, and the check.
+    """A parameter of the standard: its name, its key in a cluster file, its range and unit, and the check.
 
-    `check` is the name of the warning, or `refused` where `fr_bench` refuses what is out of range.
+    `check` is the name of the warning, or `refused` where `fr_bench` refuses values out of range.
     """
 
     name: str
@@ -34,7 +34,7 @@ class Rule:
 
     @property
     def row(self) -> str:
-        """The line of the table in docs/formats/cluster.md."""
+        """Returns the line of the table in docs/formats/cluster.md."""
         check = "by `fr_bench`, which refuses it" if self.check == "refused" else f"warning `{self.check}`"
         name = self.name if " " in self.name else f"`{self.name}`"
         return f"| {name} | {self.key} | {self.range} | {check} |"

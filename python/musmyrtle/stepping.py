@@ -6,8 +6,8 @@ from musmyrtle.scenario import FaultLine, Line, Reading
 def requests_of(text: str, cycles: int) -> tuple[list[str], list[list[str]]]:
     """Returns the fault lines of a scenario, and for each of the cycles the requests of the tasks.
 
-    In a cycle these stand by node and then task. Raises `ValueError` with the line number, and with what would be
-    right, where the text is no scenario or a line names a cycle that isn't one of these.
+    In a cycle these are in the order of nodes and then tasks. Raises `ValueError` with the line number and the expected
+    text, where the text is no scenario or a line names a cycle that isn't one of these.
     """
     scenario = Reading("scenario", text.encode()).scenario
     if scenario.refusals:

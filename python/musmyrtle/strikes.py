@@ -14,8 +14,10 @@ MOST_BYTES = 262
 
 
 class Strikes:
-    """The faults of a scenario, held against what the cluster may send. What a guardian stops is no mistake here: that
-    it stops it is what such a line shows."""
+    """The faults of a scenario, compared with the possible offers of the cluster.
+
+    A fault that a guardian stops is no mistake here: the line demonstrates that.
+    """
 
     def __init__(self, cluster: Cluster, scenario: Scenario, cycles: int):
         self.cluster, self.scenario, self.cycles = cluster, scenario, cycles
@@ -39,11 +41,11 @@ class Strikes:
         return self.why_not_turned(line) if line.kind == "corrupt" else None
 
     def cycles_of(self, line: FaultLine) -> int:
-        """The cycle counts, 0 to 63, that the line is for, as bits of a number."""
+        """Returns the cycle counts, 0 to 63, that the line is for, as bits of a number."""
         return (1 << len(CYCLES[: self.cycles])) - 1 if line.cycle is None else 1 << line.cycle % len(CYCLES)
 
     def may_open(self, line: FaultLine) -> bool:
-        """Whether a slot may open at the line's minislot on one of the channels in one of its cycles."""
+        """Returns whether a slot may open at the line's minislot on one of the channels in one of its cycles."""
         last_without_traffic = LAST_SLOT - self.cluster.parameters.static_slots
         return (line.place or 0) <= last_without_traffic or self.is_anything_dynamic
 
@@ -59,7 +61,7 @@ class Strikes:
                 f"{LAST_SLOT}, opens at minislot {last}.")
 
     def offers(self, line: FaultLine, number: int) -> bool:
-        """Whether the node may offer something in one of the windows that the line is for."""
+        """Returns whether the node may offer something in one of the windows that the line is for."""
         channel, cycles = line.word("CHANNEL"), self.cycles_of(line)
         if line.is_static:
             return self.offered.is_in_slot(number, channel, line.place, cycles)

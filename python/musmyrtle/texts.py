@@ -1,4 +1,4 @@
-"""A cluster file as a text: whether it can be read at all, and what of it `fr_bench` refuses as no TOML."""
+"""A cluster file as a text: its TOML, and the texts that `fr_bench` refuses as no TOML."""
 from collections.abc import Iterable
 from dataclasses import dataclass
 
@@ -12,7 +12,7 @@ FILE_LIMIT = 1_048_576
 
 
 class NoText(Exception):
-    """The file is refused as a text: the words of the refusal, and why."""
+    """The file is refused as a text, with the words of the refusal and the reason."""
 
     def __init__(self, refusal: str, why: Finding):
         super().__init__(refusal)
@@ -21,7 +21,7 @@ class NoText(Exception):
 
 @dataclass(frozen=True)
 class Text:
-    """What was read of a file: the document and its places."""
+    """The content of a file: the document and its places."""
 
     file: str
     document: Table

@@ -1,8 +1,7 @@
 """Reads a TOML text in one pass, with the offsets of its keys and items.
 
 `fr_bench` reads TOML 1.1. `tomllib` reads TOML 1.0 and gives no offsets, and its time grows with the square of the
-parts of a key: 15 s for 32,000 of them. The time of this reader grows with the length of the text, whatever stands in
-it.
+parts of a key: 15 s for 32,000 of them. The time of this reader grows linearly with the length of any text.
 """
 import re
 
@@ -11,7 +10,7 @@ from musmyrtle.toml_values import CONTROL, VALUES, WORD, Noted, NoToml, bare_val
 from musmyrtle.visible import cut
 
 DEEPEST = 80
-"""So many arrays and inline tables in one another are read, and so many parts of a key or a header."""
+"""The greatest depth of nested arrays and inline tables, and the greatest number of parts of a key or a header."""
 NOT_DEEPER = f"At most {DEEPEST} arrays and inline tables in one another are read, and as many parts of a key."
 
 COMMENT = r"#[^\x00-\x08\x0a-\x1f\x7f]*+"
@@ -34,7 +33,7 @@ class Reader:
     def __init__(self, text: str):
         self.text, self.at = text, 0
         self.known: dict[str, object] = {}
-        """The values of words without quotes. Where a text has room for very many words, most of them are the same."""
+        """The values of words without quotes. Where a text has very many words, most of them are the same."""
 
     def document(self) -> Table:
         """Returns the table of the whole text. Raises `NoToml` at the first place where it isn't TOML."""
@@ -63,7 +62,7 @@ class Reader:
         self.at += len(word)
 
     def odd(self, why: str, right: str, note: Noted | None = None) -> NoToml:
-        """Returns what is wrong with the next character."""
+        """Returns the fault of the next character."""
         found = re.compile(CONTROL).match(self.text, self.at)
         return no_control(found) if found else NoToml(self.at, why, right, note)
 
@@ -161,7 +160,7 @@ class Reader:
         return found
 
     def in_array(self, error: NoToml, begin: int) -> NoToml:
-        """Returns what is wrong with an item, with the array, whose end may be missing in an earlier line."""
+        """Returns the fault of an item, with the array, whose end may be missing in an earlier line."""
         if "\n" not in self.text[begin:error.at]:
             return error
         return NoToml(error.at, error.why, f"{error.right} Is the `]` of the array missing?", ("the array", begin))
@@ -177,7 +176,7 @@ class Reader:
         return found
 
     def goes_on(self, closing: str, note: Noted) -> bool:
-        """Goes over a comma. Returns whether a further item comes, and not the end of the array or inline table."""
+        """Reads a comma and returns whether a further item comes, and not the end of the array or inline table."""
         text = self.text
         found = COMMA.match(text, self.at)
         if found:
@@ -204,7 +203,7 @@ def header_twice(table: Table, name: str, at: int) -> NoToml:
 
 
 def on_the_way(table: Table, name: str, at: int, begin: int) -> Table:
-    """Returns the table in which a header goes on: of an array of tables the last one."""
+    """Returns the table in which a header continues: of an array of tables the last one."""
     held = table.get(name)
     if held is None:
         held = table[name] = Table(ON_THE_WAY)
@@ -247,7 +246,7 @@ def opened_item(table: Table, name: str, at: int, begin: int) -> Table:
 
 
 def dotted(table: Table, name: str, at: int) -> Table:
-    """Returns the table in which a dotted key goes on."""
+    """Returns the table in which a dotted key continues."""
     held = table.get(name)
     if held is None:
         held = table[name] = Table(BY_DOTS)

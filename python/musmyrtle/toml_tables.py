@@ -2,9 +2,11 @@
 from typing import Any
 
 ON_THE_WAY, BY_HEADER, BY_DOTS, INLINE = range(4)
-"""How a table came to be: by the header of a table in it, by a header of its own, by a dotted key, or between braces.
-A table on the way may still have a header of its own and dotted keys, one by dots further dotted keys; and headers add
-tables to each but an inline one."""
+"""The origin of a table: the header of a table in it, its own header, a dotted key, or braces.
+
+A table by the header of an inner one may still have a header of its own and dotted keys, one by dots further dotted
+keys; and headers add tables to each but an inline one.
+"""
 
 
 class Table(dict[str, Any]):

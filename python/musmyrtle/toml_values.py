@@ -11,7 +11,7 @@ VALUES = "a string in quotes, a number, true, false, a date, a time, an array or
 WORD = re.compile(r"[-+.:_0-9A-Za-z]++(?:(?<=[0-9]{4}-[0-9]{2}-[0-9]{2}) (?=[0-9])[-+.:0-9A-Za-z]++)?")
 """The longest text that may be a value without quotes. A date and its time may have a space between them."""
 INTEGER = re.compile(r"[+-]?(?:0|[1-9](?:_?[0-9])*)")
-# What few files have is compiled where it is first met, since each call of a command would wait for it.
+# Rare patterns are compiled at their first use, since each call of a command would wait for them.
 OTHER_INTEGER = r"0(?:x[0-9A-Fa-f](?:_?[0-9A-Fa-f])*|o[0-7](?:_?[0-7])*|b[01](?:_?[01])*)"
 FLOAT = r"[+-]?(?:0|[1-9](?:_?[0-9])*)(?:\.[0-9](?:_?[0-9])*)?(?:[eE][+-]?[0-9](?:_?[0-9])*)?"
 CONSTANTS: dict[str, bool | float] = {"true": True, "false": False} | {
@@ -40,11 +40,11 @@ ESCAPE = (r"\\(?:([btnfre\"\\])|x([0-9A-Fa-f]{2})|u([0-9A-Fa-f]{4})|U([0-9A-Fa-f
 ESCAPED = {"b": "\b", "t": "\t", "n": "\n", "f": "\f", "r": "\r", "e": "\x1b", '"': '"', "\\": "\\"}
 
 Noted = tuple[str, int]
-"""What else has to do with a mistake, and the offset of it."""
+"""The related place of a mistake, and its offset."""
 
 
 class NoToml(ValueError):
-    """The text isn't TOML that the program reads: the message says why, and what would be right."""
+    """The text isn't TOML that the program reads. The message has the reason and the expected form."""
 
     def __init__(self, at: int, why: str, right: str, note: Noted | None = None):
         super().__init__(why)
@@ -113,7 +113,7 @@ def string(text: str, at: int, has_lines: bool = True) -> tuple[str, int]:
 
 
 def unfinished(text: str, at: int, end: int, quotes: str) -> NoToml:
-    """Returns what is wrong with a string that nothing ends: a control character stands in it, or it goes on."""
+    """Returns the fault of a string without an end: a control character in it, or its line's end."""
     control = re.compile(CONTROL).match(text, end)
     if control:
         return no_control(control)
@@ -127,7 +127,7 @@ def no_control(found: re.Match[str]) -> NoToml:
 
 
 def character(escape: re.Match[str], at: int) -> str:
-    """Returns what an escape in the string at an offset stands for."""
+    """Returns the character that an escape in the string at an offset stands for."""
     if escape[1]:
         return ESCAPED[escape[1]]
     digits = escape[2] or escape[3] or escape[4]

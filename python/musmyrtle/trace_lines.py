@@ -1,4 +1,4 @@
-"""The lines of a trace (docs/formats/trace.md): which word of a line is at fault, and what is expected."""
+"""The lines of a trace (docs/formats/trace.md): the faulty word of a line, and the expected one."""
 import re
 from collections.abc import Callable
 
@@ -8,7 +8,7 @@ from musmyrtle.scenario import columns, odd_spaces
 from musmyrtle.visible import cut
 
 Fault = tuple[str, str, int]
-"""A headline, what is expected, and the column."""
+"""A headline, the expected form, and the column."""
 
 FORMS = {
     "params": ("N",) * len(PARAMETERS),
@@ -57,7 +57,7 @@ def spelled(kind: str, version: int) -> str:
 
 
 def bad_trace_line(text: str, version: int, may_stand: tuple[str, ...]) -> Fault | None:
-    """Returns what is wrong with a line of a trace, where the lines MAY_STAND would be lawful."""
+    """Returns the fault of a trace line, where the lines MAY_STAND would be accepted."""
     odd = odd_spaces(text, "A trace")
     if odd:
         return odd
@@ -91,7 +91,7 @@ def bad_count(words: tuple[str, ...], version: int, length: int) -> Fault | None
 
 
 def bad_word(words: tuple[str, ...], version: int) -> Fault | None:
-    """Returns the first word that is none for its place."""
+    """Returns the first word that doesn't fit its place."""
     kind, keys = words[0], tuple(PARAMETERS)
     for place, (name, word, column) in enumerate(zip(form_of(kind, version), words[1:], columns(words))):
         found = wrong_word(name, word)
@@ -103,7 +103,7 @@ def bad_word(words: tuple[str, ...], version: int) -> Fault | None:
 
 
 def wrong_word(name: str, word: str) -> tuple[str, int] | None:
-    """Returns what is expected in the place of a word, and how far in the word the fault is."""
+    """Returns the expected form of a word, and the offset of the fault in it."""
     if word in WORDS.get(name, ()):
         return None
     if name == "FROM":
@@ -122,7 +122,7 @@ def wrong_word(name: str, word: str) -> tuple[str, int] | None:
 
 
 def wrong_hex(word: str, most: int, is_even: bool) -> tuple[str, int] | None:
-    """Returns what is wrong with bytes in hexadecimal digits, and at which of their characters."""
+    """Returns the fault of bytes in hexadecimal digits, and the character at which it is."""
     if not word.startswith("x"):
         return "`x` before the hexadecimal digits", 0
     for place, digit in enumerate(word[1:], 1):
@@ -143,7 +143,7 @@ Rule = Callable[[dict[str, str]], tuple[str, str] | None]
 
 
 def bad_together(words: tuple[str, ...]) -> Fault | None:
-    """Returns words each of which is right, and that don't go together."""
+    """Returns words that are right each by itself, but don't fit together."""
     held = dict(zip(OWN_OF_VERSION_3 if words[0] == "own" else FORMS[words[0]], words[1:]))
     places = dict(zip(held, columns(words)))
     rules: tuple[Rule, ...] = (bad_cycles, bad_startup, bad_span, bad_window)

@@ -1,4 +1,4 @@
-"""Why a trace is refused: what `fr_view why` answers, with the word at fault and what is expected."""
+"""The reason why a trace is refused: the answer of `fr_view why`, with the faulty word and the expected one."""
 import re
 import subprocess
 from dataclasses import dataclass
@@ -35,12 +35,13 @@ REASONS = {
     "Slot BadWindow": ("the cluster has no such window", "Expected a slot up to `static_slots` at MINISLOT 0, and "
                        "otherwise a minislot up to `minislots` with a slot above `static_slots`."),
 }
-"""The headline and what is expected, by the reasons of `fr_view why`."""
+"""The headline and the expected form, by the reasons of `fr_view why`."""
 
 
 @dataclass(frozen=True)
 class Why:
-    """The program's answer: the refusal, or none where it accepts the trace, the line at fault, the reason and the column.
+    """The program's answer: the refusal, or none where it accepts the trace, the faulty line, the reason and the
+    column.
 
     The reason has no numbers of words and columns. The column is that of the word that the program names, if any.
     """
@@ -53,7 +54,7 @@ class Why:
 
 
 class NoAnswer(Exception):
-    """The program gave no answer. The message says how it ended."""
+    """The program gave no answer. The message describes its end."""
 
 
 def is_trace(data: bytes) -> bool:
@@ -62,7 +63,10 @@ def is_trace(data: bytes) -> bool:
 
 
 def ask_why(program: str, file: str) -> Why:
-    """Returns what the program says of the trace in a file. Raises `NoAnswer`, and `OSError` where it can't be run."""
+    """Returns the program's answer about the trace in a file.
+
+    Raises `NoAnswer`, and `OSError` where the program can't be run.
+    """
     with open(file, "rb") as trace:
         ran = subprocess.run([program, "why"], stdin=trace, capture_output=True, text=True, errors="replace")
     lines = dict(line.partition(" ")[::2] for line in ran.stdout.splitlines())
@@ -84,7 +88,7 @@ def split_place(reason: str) -> tuple[str, int | None]:
 
 
 class TraceFile:
-    """The line of a trace at fault, and what the lines before it say."""
+    """The faulty line of a trace, and the content of the lines before it."""
 
     def __init__(self, name: str, file: str, number: int):
         self.name, self.number, self.version, self.has_begun = name, number, 1, False
@@ -99,7 +103,7 @@ class TraceFile:
 
     @property
     def may_stand(self) -> tuple[str, ...]:
-        """The first words of the lines that may stand in the place of the line at fault."""
+        """Returns the first words of the lines that are allowed in the place of the faulty line."""
         if self.number <= 3:
             return ("params",) if self.number == 2 else ("node",)
         return ENTRIES if self.has_begun else PLAN
@@ -147,7 +151,7 @@ def bad_magic(trace: TraceFile) -> Fault:
 
 
 def other_answer(text: str, due: str) -> Fault:
-    """Returns the first word of the line that isn't the one due."""
+    """Returns the first word of the line that differs from the expected line."""
     words, rights = text.split(" "), due.split(" ")
     for word, right, column in zip(words, rights, (1, *columns(tuple(words)))):
         if word != right:

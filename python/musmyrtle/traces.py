@@ -5,8 +5,11 @@ from dataclasses import dataclass
 
 @dataclass(frozen=True, slots=True)
 class Fetched:
-    """A window as the controller of a node fetched it: the cycle of the run, which isn't wrapped at 64, the minislot,
-    which is 0 in a static slot, and for each channel the slot that is open and what the node offers, or `-`."""
+    """A window as the controller of a node fetched it.
+
+    It has the cycle of the run, which isn't wrapped at 64, and the minislot, which is 0 in a static slot. For each
+    channel it has the open slot and the node's offer, or `-`.
+    """
 
     cycle: int
     minislot: int
@@ -15,7 +18,7 @@ class Fetched:
 
 
 def fetched(trace: Iterable[str]) -> Iterator[Fetched]:
-    """Returns the dynamic windows of a trace that begins with its run, in order."""
+    """Yields the dynamic windows of a trace that begins with its run, in order."""
     cycle = -1
     for line in trace:
         if not line.startswith("fetch "):

@@ -1,4 +1,4 @@
-"""Warnings of keys that nothing reads."""
+"""Warnings of keys that no program reads."""
 from collections.abc import Iterator
 from itertools import islice
 from typing import Any
@@ -14,11 +14,11 @@ NAMED = ("name",)
 """The program doesn't read it, and host programs find nodes and buffers by it."""
 PHYSICAL_KEYS = ("bit_rate", "macrotick_us")
 MOST_UNREAD = 20
-"""Of so many unread keys a warning is made; the others are counted. A file has room for 200,000 of them."""
+"""The number of unread keys that have a warning each; the others are counted. A file has room for 200,000 of them."""
 
 
 def tables_of(document: dict[str, Any]) -> Iterator[tuple[str, dict[str, Any], Path, tuple[str, ...]]]:
-    """Each table that is read: what it is, its keys, its path, and the keys that are read of it."""
+    """Yields each table that is read: its kind, its keys, its path, and the keys that are read in it."""
     yield "the top of the file", document, (), TOP_KEYS
     for name, keys in (("params", tuple(PARAMETERS)), ("physical", PHYSICAL_KEYS)):
         if isinstance(document.get(name), dict):
@@ -54,7 +54,7 @@ def unread_key(text: Text, key: str, who: str, table: dict[str, Any], path: Path
 
 
 def idle_keys(text: Text, static_slots: int) -> Iterator[Finding]:
-    """Keys that are read elsewhere, and mean nothing where they stand."""
+    """Yields keys that are read in other tables, and mean nothing in this one."""
     for number, node in numbered_tables(text.document.get("node")):
         for place, buffer in numbered_tables(node.get("buffer")):
             path: Path = ("node", number, "buffer", place)

@@ -1,4 +1,4 @@
-"""The version of the package and of the programs beside it, which the file VERSION has."""
+"""The version of the package and of the programs beside it, from the file VERSION."""
 from pathlib import Path
 
 

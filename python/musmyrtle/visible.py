@@ -1,7 +1,7 @@
 """Text from files and programs, made safe to show on a page, in a table and on a terminal."""
 
 LONGEST = 40
-"""So many characters of a key, a value or a word are shown."""
+"""The number of characters of a key, a value or a word that are shown."""
 
 
 def visible(text: str) -> str:

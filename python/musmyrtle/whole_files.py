@@ -1,4 +1,4 @@
-"""Files that a command writes: none of its inputs, and whole or not at all."""
+"""Output files of a command: none of its inputs, and written whole or not at all."""
 import os
 import shutil
 from contextlib import suppress
@@ -6,7 +6,7 @@ from pathlib import Path
 
 
 class Unusable(Exception):
-    """A file or a folder can't be used. The message names it and says why."""
+    """A file or a folder can't be used. The message names it and has the reason."""
 
 
 def unusable(name: str, error: OSError) -> Unusable:
@@ -14,8 +14,11 @@ def unusable(name: str, error: OSError) -> Unusable:
 
 
 def spare_inputs(outputs: dict[str, str], inputs: list[tuple[str, str]]) -> None:
-    """Raises `Unusable` where an output, by its option, is the file of an input, by what that is, or of another
-    output. Another name, a symbolic or a hard link doesn't hide it."""
+    """Raises `Unusable` if an output is the file of an input or of another output.
+
+    The outputs are given by their options, and the inputs by their kinds. Another name, a symbolic or a hard link
+    doesn't hide it.
+    """
     taken = list(inputs)
     for option, file in outputs.items():
         for what, other in taken:
@@ -40,8 +43,10 @@ def write_file(file: Path, data: bytes) -> None:
 
 
 def replace_file(name: str, data: bytes) -> None:
-    """Writes a file beside the named one and puts it in its place, so that a failure leaves the old file whole. What
-    is no regular file, as a pipe, is written itself."""
+    """Writes a file beside the named one and puts it in its place, so that a failure leaves the old file whole.
+
+    Anything but a regular file, such as a pipe, is written directly.
+    """
     file = Path(os.path.realpath(name))
     if os.path.exists(name) and not (os.path.isfile(name) and os.access(file.parent, os.W_OK)):
         Path(name).write_bytes(data)

@@ -94,9 +94,9 @@ class World:
             raise WrongLength(error.names, line, self.payload_length(node, buffer)) from None
 
     def block(self, line: str, timeout: float | None = None) -> list[str]:
-        """Returns the lines that a query is answered with, without the one that counts them.
+        """Returns the lines of a query's reply, without the one that counts them.
 
-        Raises what `ask` raises, and `ValueError` for a request that is answered with one line.
+        Raises the exceptions of `ask`, and `ValueError` for a request whose reply is one line.
         """
         return self._session.block(line, timeout)
 
@@ -130,7 +130,7 @@ class World:
 
     @property
     def names(self) -> Names:
-        """The names of nodes and buffers, as the cluster file had them when the world was opened.
+        """Returns the names of nodes and buffers, as the cluster file had them when the world was opened.
 
         Raises `UnknownName` where they couldn't be read, as from a pipe, which the program alone can read.
         """
@@ -139,7 +139,7 @@ class World:
         return self._names
 
     def payload_length(self, node: int, buffer: int) -> int | None:
-        """Returns the bytes of a transmit buffer's payload, as the cluster file had it when the world was opened.
+        """Returns the bytes of a transmit buffer's payload, as of the cluster file when the world was opened.
 
         Returns None where there is no such buffer, or where the file couldn't be read.
         """
@@ -182,7 +182,7 @@ class World:
         self.ask("advance")
 
     def record(self, number: int) -> Record:
-        """Returns the sealed window of this number, counted from 0: its transmissions and what became of each.
+        """Returns the sealed window of this number, counted from 0: its transmissions and their fates.
 
         Raises `NoWindow` where no such window is sealed, `Memory`, and `ValueError` out of 0 to 4294967295.
         """
@@ -191,7 +191,7 @@ class World:
     # ---- windows and cycles
 
     def window(self) -> Window | None:
-        """Does all that is still due in the open window. Returns the next one, or None once the run is over.
+        """Does all due steps in the open window. Returns the next window, or None once the run is over.
 
         Raises the first refusal that isn't `WrongTurn`. What was done before it stays done.
         """
@@ -202,7 +202,7 @@ class World:
             return moved(self.ask("window"))
 
     def cycle(self) -> Window | None:
-        """Does windows up to the first one of the next cycle. Returns and raises what `window` does."""
+        """Does windows up to the first one of the next cycle. Returns and raises as `window` does."""
         if not self._faults:
             return moved(self.ask("cycle"))
         with self._session.lock:
@@ -212,7 +212,7 @@ class World:
             return window
 
     def run(self, cycles: int) -> Window | None:
-        """Does so many cycles, 0 to 1024. Returns and raises what `window` does, and `ValueError` for other numbers."""
+        """Does so many cycles, 0 to 1024. Returns and raises as `window` does, and `ValueError` for other numbers."""
         cycles = some_cycles(cycles)
         if not self._faults:
             return moved(self.ask(f"run {cycles}"))
@@ -338,7 +338,7 @@ class World:
 
 
 def every_window(_: Window) -> bool:
-    """Tells that a fault comes into the window."""
+    """Returns True: a fault without a condition comes into each window."""
     return True
 
 
