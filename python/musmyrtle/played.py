@@ -89,8 +89,7 @@ class Player:
             return play.played
 
     def lose(self, node: int, channels: str, cycles: range) -> list[Begun]:
-        """Returns the node's offers in the dynamic segment in a run in which all of them are lost, on these channels
-        and in these cycles."""
+        """Returns the node's offers in the dynamic segment, all of which the run loses on these channels and cycles."""
         def due(cycle: int, window: Window) -> list[str]:
             return [f"mute {node} {channel}" for channel in channels]
 

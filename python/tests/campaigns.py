@@ -1,4 +1,4 @@
-"""What tests of campaigns share: a campaign over texts, and what its faults cost."""
+"""The common parts of campaign tests: a campaign over texts, and the costs of its faults."""
 import os
 import unittest
 from pathlib import Path

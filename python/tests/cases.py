@@ -1,4 +1,4 @@
-"""What the tests share: the cluster of three nodes and its scenario, changed, and what is said of them."""
+"""The common parts of the tests: the cluster of three nodes and its scenario, changes of them, and their findings."""
 import contextlib
 import io
 import os
@@ -23,7 +23,7 @@ WITH_ALLOWS = (EXAMPLES / "three-nodes/cluster.toml").read_text()
 CLUSTER = without_allows(WITH_ALLOWS)
 SCENARIO = (EXAMPLES / "three-nodes/scenario").read_text()
 PROGRAM = os.environ.get("FR_BENCH")
-"""The program to which each refusal is held as well, if it is named."""
+"""The program whose refusals must be the same, if one is named."""
 
 
 class Cases(unittest.TestCase):
@@ -33,7 +33,7 @@ class Cases(unittest.TestCase):
         self.folder = Path(folder.name)
 
     def run_with(self, *words: str) -> tuple[str | int | None, str, str]:
-        """The status of the command in this process, what it prints, and what on standard error."""
+        """Returns the status of the command in this process, its output, and its standard error."""
         output, error = io.StringIO(), io.StringIO()
         with contextlib.redirect_stdout(output), contextlib.redirect_stderr(error):
             status: str | int | None
@@ -44,14 +44,14 @@ class Cases(unittest.TestCase):
         return status, output.getvalue(), error.getvalue()
 
     def changed(self, text: str, changes: tuple[str, ...]) -> str:
-        """The text with each second of the words in the place of the one before it."""
+        """Returns the text with each second of the words in the place of the one before it."""
         for old, new in zip(changes[::2], changes[1::2]):
             self.assertIn(old, text)
             text = text.replace(old, new, 1)
         return text
 
     def look(self, cluster: str | bytes | None, scenario: str | bytes | None = None, cycles: int | None = None):
-        """What is found, and what the program answers; without one, as if it answered what is expected."""
+        """Returns the findings and the program's answer; without a program the answer that the findings predict."""
         script = None if scenario is None else self.written("scenario", scenario)
         task = Task(self.written("cluster.toml", cluster), script, cycles)
         found = lint(task)
@@ -68,11 +68,11 @@ class Cases(unittest.TestCase):
         return str(self.folder / name)
 
     def text(self, found: Lint, answer: Answer) -> str:
-        """All words that are printed, without the folder and with each gap as one space."""
+        """Returns all printed words, without the folder and with each gap as one space."""
         return " ".join("\n".join(told(answer, found)).replace(f"{self.folder}/", "").split())
 
     def refused(self, refusal: str, place: str, words: tuple[str, ...], *given) -> None:
-        """That a file is refused so, at this place, and that the words stand in the reason."""
+        """Asserts that a file is refused so, at this place, with the words in the reason."""
         found, answer = self.look(*given)
         self.assertTrue(found.refusals, "nothing is refused")
         told_refusal, finding = found.refusals[0]
@@ -81,7 +81,7 @@ class Cases(unittest.TestCase):
             self.assertIn(word, self.text(found, answer))
 
     def warned(self, place: str, words: tuple[str, ...], *given) -> None:
-        """That a file is accepted, and that one warning has this place and the words."""
+        """Asserts that a file is accepted, and that one warning has this place and the words."""
         found, answer = self.look(*given)
         self.assertEqual(found.refusals, [])
         texts = [f"{it.headline} {it.reason} {' '.join(note.text for note in it.notes)}" for it in found.warnings
@@ -90,7 +90,7 @@ class Cases(unittest.TestCase):
                         f"{words} at {place} isn't in {self.text(found, answer)}")
 
     def quiet(self, word: str, *given) -> None:
-        """That no warning has the word."""
+        """Asserts that no warning has the word."""
         found, _ = self.look(*given)
         self.assertEqual(found.refusals, [])
         self.assertEqual([it.headline for it in found.warnings if word in it.headline], [])

@@ -55,7 +55,7 @@ ECHO = GREETING + """for line in sys.stdin:
 
 
 def fake(folder: Path, text: str) -> Path:
-    """Writes a program of Python and returns its file."""
+    """Writes a Python program and returns its file."""
     file = folder / "fr_world"
     file.write_text(f"#!{sys.executable} -IS\n{BEGINNING}{text}")
     os.chmod(file, 0o755)

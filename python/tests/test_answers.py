@@ -1,4 +1,4 @@
-"""What counts as the answer of a run: an outcome, or a refusal of the run itself."""
+"""Tests of what counts as the answer of a run: an outcome, or a refusal of the run itself."""
 import unittest
 
 from musmyrtle.answers import UNANSWERED, Answer
@@ -32,7 +32,8 @@ class TestAnswers(unittest.TestCase):
             self.assertEqual(Answer(status, "", told).failure, wanted, (status, told))
 
     def test_the_run_without_a_fault(self):
-        """Only a refusal of the inputs is told as one. That they can't be read or are cut has to be seen here too."""
+        """Only a refusal of the inputs is reported as one. Unreadable and truncated inputs have to be noticed here too.
+        """
         nothing, cut = Lint(), Lint(refusals=[("Truncated", Finding("", ""))])
         for answer, found, wanted in (
                 (Asked(0, None), nothing, False), (Asked(0, None), cut, True),

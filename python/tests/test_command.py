@@ -1,4 +1,4 @@
-"""The command as a whole: its words, its statuses, what it prints."""
+"""Tests of the command as a whole: its words, its statuses and its output."""
 import os
 import signal
 import stat
@@ -17,31 +17,31 @@ UNWRITTEN = "fr_lint: the output can't be written: "
 COPYING = """#!/bin/sh
 for word; do if [ -f "$word" ]; then cat "$word"; fi; done >'{}'
 """
-"""A program that leaves behind what stands in the files that it is given."""
+"""A program that copies the files that it is given."""
 
 
 class Command(Cases):
     def stub(self, refusal: str = "") -> str:
-        """A program that answers always the same."""
+        """Writes a program that always answers the same."""
         lines = ["#!/bin/sh", f'echo "refused {refusal}" >&2; exit 1' if refusal else "echo fine"]
         path = self.written("stub", "\n".join(lines) + "\n")
         os.chmod(path, stat.S_IRWXU)
         return path
 
     def launch(self, *words: str, **streams: Any) -> tuple[int, str]:
-        """The status and standard error of the command as a process of its own."""
+        """Returns the status and standard error of the command as a process of its own."""
         streams = {"stderr": subprocess.PIPE, **streams}
         ran = subprocess.run([sys.executable, "-B", str(FR_LINT), *words], **streams)
         return ran.returncode, (ran.stderr or b"").decode()
 
     def copying(self) -> tuple[str, Path]:
-        """A program that keeps what it reads, and where."""
+        """Writes a program that keeps its input and its place."""
         path, kept = self.written("copying", COPYING.format(self.folder / "kept")), self.folder / "kept"
         os.chmod(path, stat.S_IRWXU)
         return path, kept
 
     def pipe(self, text: str) -> str:
-        """A name by which this process alone can read the text, and once."""
+        """Yields a name by which this process alone can read the text, and once."""
         source, end = os.pipe()
         self.addCleanup(os.close, source)
         os.write(end, text.encode())
@@ -74,13 +74,14 @@ class Command(Cases):
         self.assertEqual((status, output.splitlines()[2]), (1, "No reason is known for `Memory`."))
 
     def failing(self, *lines: str) -> str:
-        """A program that does this."""
+        """Writes a program that does this."""
         path = self.written("failing", "\n".join(["#!/bin/sh", *lines]) + "\n")
         os.chmod(path, stat.S_IRWXU)
         return path
 
     def test_a_program_without_an_answer(self):
-        """It is told what was run, how it ended and what it said. Of the file, which is refused, nothing is said."""
+        """The message has the words of the call, its end and the program's output, and nothing about the file, which is
+        refused."""
         cluster = self.written("cluster.toml", CLUSTER.replace("idle = 0", "idle = 3"))
         for lines, ended in (
             (["kill -9 $$"], "was killed by signal 9 (SIGKILL)"),
@@ -110,7 +111,7 @@ class Command(Cases):
             self.assertEqual((status, output, error), (2, "", f"fr_lint: {program} can't be run: {why}\n"))
 
     def test_a_program_that_says_much(self):
-        """Its words are passed on, and the end of them is repeated."""
+        """The messages are passed on, and their end is repeated."""
         cluster = self.written("cluster.toml", CLUSTER)
         program = self.failing("head -c 300000 /dev/zero | tr '\\0' y >&2; echo end >&2; exit 3")
         status, _, error = self.run_with(cluster, "--program", program)
@@ -129,7 +130,7 @@ class Command(Cases):
         self.assertEqual((status, output.splitlines()[0], error), (0, "fr_bench: accepted", "building\n"))
 
     def test_words_of_a_program_that_cannot_be_passed_on(self):
-        """That standard error is full, closed or gone changes nothing else."""
+        """A full, closed or abandoned standard error changes nothing in the output and the status."""
         taken = [self.written("cluster.toml", CLUSTER), "--program", self.failing("echo building >&2")]
         source, end = os.pipe()
         os.close(source)
@@ -150,14 +151,14 @@ class Command(Cases):
         self.assertEqual((running.returncode, output, error), (130, b"", b""))
 
     def test_many_warnings_and_mistakes(self):
-        """20 unread keys are told, 40 warnings with these and 20 mistakes, and how many more there are."""
+        """20 unread keys, 40 warnings with these and 20 mistakes are printed, and the number of the others."""
         keys = "".join(f"other{number} = 1\n" for number in range(60))
         slots = ", ".join(f'{{slot = {slot}, channels = "B"}}' for slot in range(4, 54))
         many = CLUSTER.replace("static_slots = 3", "static_slots = 103").replace("cycle_mt = 90", "cycle_mt = 2090")
         many = many.replace("slot = 4, ", "slot = 104, ").replace("latest_a = 4", f"latest_a = 4\nown = [{slots}]")
         status, output, _ = self.run_with(self.written("cluster.toml", f"{keys}{many}"), "--program", self.stub())
         self.assertEqual((status, output.count("is read by nothing"), output.count(": warning: ")), (0, 20, 40))
-        # 60 keys and 50 slots that are never filled, a queue to which nothing comes, one sync node, no startup node.
+        # 60 keys and 50 slots that are never filled, a FIFO without any traffic, one sync node, no startup node.
         self.assertEqual(output.splitlines()[-1], "and 73 more warnings")
         wrong = self.written("cluster.toml", many.replace(slots, slots.replace("B", "C")))
         status, output, _ = self.run_with(wrong, "--program", self.stub("BadNode 2"))
@@ -202,7 +203,7 @@ class Command(Cases):
         self.assertEqual((status, "there is no fr_bench" in error), (2, True))
 
     def test_output_that_cannot_be_written(self):
-        """Neither at once nor where Python keeps it until it ends."""
+        """Output fails at once, or when Python writes it at its end."""
         taken = [self.written("cluster.toml", CLUSTER), "--program", self.stub()]
         for words in (taken, ["--help"]):
             for kept in ("", "1"):
@@ -215,7 +216,7 @@ class Command(Cases):
                     self.assertEqual(closed, (2, f"{UNWRITTEN}it is closed\n"))
 
     def test_a_reader_that_has_gone_away(self):
-        """Nothing is said, and the status is the same: the cluster has a warning."""
+        """Nothing is printed, and the status is the same: the cluster has a warning."""
         taken = [self.written("cluster.toml", CLUSTER), "--program", self.stub()]
         source, end = os.pipe()
         os.close(source)

@@ -21,7 +21,7 @@ from tests.two_nodes import SCENE, TWO_NODES
 TOP = Path(__file__).resolve().parents[2]
 SECONDS = 20
 FAULTY = "grep -q '^mute' \"$last\" &&"
-"""The front of words that are for a run with a fault alone."""
+"""The front of words for a run with a fault alone."""
 
 
 class Command(unittest.TestCase):
@@ -34,7 +34,8 @@ class Command(unittest.TestCase):
         (self.folder / "scenario").write_text(SCENE)
 
     def words(self, *more: str) -> list[str]:
-        """Returns the words for two faults of node 1, and more words, of which the last ones of an option count."""
+        """Returns the words for two faults of node 1, and more words. Of an option that repeats, the last one counts.
+        """
         files = [str(self.folder / "cluster"), str(self.folder / "scenario")]
         return [*files, "--cycles", "2", "--kinds", "mute", "--nodes", "1", "--program", str(PROGRAM), "--world",
                 usual_world(), *more]
@@ -52,7 +53,7 @@ class Command(unittest.TestCase):
         self.assertEqual(self.asked(*more), ("", f"fr_faults: {told}\n", status))
 
     def program(self, does: str) -> str:
-        """Returns a program that does this, and then what it should do."""
+        """Returns a program that does this, and then its usual task."""
         file = self.folder / "program"
         file.write_text(f"#!/bin/sh\nfor last; do :; done\n{does}\nexec '{PROGRAM}' \"$@\"\n")
         file.chmod(0o755)
@@ -77,7 +78,7 @@ class TestRuns(Command):
         self.stopped("the run without a fault was killed: signal 9 (SIGKILL)", 4, "--program", self.program(does))
 
     def test_runs_without_an_answer(self):
-        """They are told with status 4, and done again with the job log."""
+        """They are reported with status 4, and repeated with the job log."""
         log = str(self.folder / "log")
         for does, effect in (("kill -9 $$", "killed\t1\t-\tsignal 9 (SIGKILL)"),
                              ("exit 127", "unreadable\t1\t-\tstatus 127"),
@@ -187,7 +188,7 @@ class TestFiles(Command):
         self.assertEqual((output, told.count("\n"), status), ("", 1, 2))
 
     def test_a_full_disk(self):
-        """A file that can't be written whole is told, and the old page stays."""
+        """A file that can't be written whole is reported, and the old page stays."""
         page = self.folder / "page"
         page.write_text("old")
         (self.folder / "cluster").write_text(TWO_NODES + "#" * 2000)
@@ -203,7 +204,7 @@ class TestFiles(Command):
         self.assertEqual(sorted(it.name for it in self.folder.iterdir()), ["cluster", "page", "scenario", "temporary"])
 
     def test_a_full_disk_for_the_log(self):
-        """What is noted by then stays, and the log goes on once there is room."""
+        """The entries noted by then stay, and the log goes on once there is room."""
         right, log = self.asked()[0], self.folder / "log"
         output, told, status = self.apart(["--joblog", str(log)], len(TWO_NODES))
         self.assertEqual((output, told, status), ("", f"fr_faults: --joblog {log}: File too large\n", 2))
@@ -212,7 +213,7 @@ class TestFiles(Command):
         self.assertEqual(log.read_bytes().count(b"\n"), 3)
 
     def apart(self, more: list[str], limit: int) -> tuple[str, str, int]:
-        """Asks it as a process of its own, in which no file has more bytes than this."""
+        """Runs the command as a process of its own, in which no file has more bytes than this."""
         def before() -> None:
             resource.setrlimit(resource.RLIMIT_FSIZE, (limit, limit))
         words = [sys.executable, "-B", str(TOP / "fr_faults"), *self.words(*more)]
@@ -241,7 +242,7 @@ class TestFiles(Command):
 
 
 class TestSignals(Command):
-    """A signal ends the command with all that it has started, and leaves nothing."""
+    """A signal ends the command with all programs that it started, and leaves no file."""
 
     def broken_off(self, number: int, does: str, *more: str) -> None:
         noted = self.folder / "noted"

@@ -1,4 +1,4 @@
-"""What a fault costs: outcomes are read strictly, and one is compared with another."""
+"""Tests of the costs of a fault: outcomes are read strictly, and one is compared with another."""
 import unittest
 
 from musmyrtle.fault_costs import COSTS, EFFECTS, FAILED, HARMLESS, IDLE, Calendar, Ended, differences
@@ -70,7 +70,7 @@ class TestOutcomes(unittest.TestCase):
         self.assertEqual(self.compared(waiting, OUTCOME), [(0, "tx 0", "sent", 1)])
 
     def test_words_of_effects(self):
-        """Each effect is a cost, harmless, a failure, or that there was no run."""
+        """Each effect is a cost, harmless, a failure, or the lack of a run."""
         self.assertEqual(sorted(EFFECTS), sorted((*FAILED, *COSTS, *HARMLESS, IDLE)))
 
 
@@ -80,16 +80,16 @@ def heard(node: int, without: str, having: str, channel: str) -> tuple:
 
 
 QUIET, TWICE = "0 0 0 0 0", "2 0 0 0 0"
-"""What is counted on a channel without a frame, and with a valid one in each of two cycles."""
+"""The counts on a channel without a frame, and with a valid one in each of two cycles."""
 
 
 def by_other_channel(counts: str) -> list[tuple]:
-    """Node 1 gets the frame of slot 1 on B alone, and counts so on A."""
+    """Returns the costs where node 1 gets the frame of slot 1 on B alone, and counts so on A."""
     return [(1, "rx 1", "channel", 1, FRESH_A, FRESH_B), heard(1, TWICE, counts, "A")]
 
 
 def slot_2_lost(counts: str) -> list[tuple]:
-    """Node 0 never gets the frame of slot 2, and counts so on A."""
+    """Returns the costs where node 0 never gets the frame of slot 2, and counts so on A."""
     return [(0, "rx 1", "lost", 1, PERIODIC, "-"), heard(0, TWICE, counts, "A")]
 
 
@@ -123,7 +123,8 @@ BY_HAND = {
     "forged 0 B * s*": [heard(0, QUIET, "0 0 0 0 2", "B"), heard(1, TWICE, "2 2 0 0 0", "B")],
     "forged 1 B * s2": [FORGED_HELD, heard(0, QUIET, TWICE, "B")],
     "forged 1 B * s*": [FORGED_HELD, heard(0, QUIET, "2 0 0 0 2", "B"), heard(1, TWICE, "0 0 0 0 2", "B")],
-    # Both channels: what the guardian of A stops is as on B alone; what it lets pass spoils the node's own slot.
+    # Both channels: a babble that the guardian of A stops costs what it costs on B alone. A babble that passes spoils
+    # the node's own slot.
     "lost 0 AB * all": [LOST_1, heard(1, TWICE, QUIET, "A"), heard(1, TWICE, QUIET, "B")],
     "lost 1 AB * all": slot_2_lost(QUIET),
     "lost 1 B * all": [(None, "-", "idle", 0, "-", "-")],
@@ -145,11 +146,11 @@ BY_HAND = {
     "forged 1 AB * s*": [SLOT_2_GONE_A, FORGED_HELD, heard(0, TWICE, "0 2 0 0 0", "A"),
                          heard(0, QUIET, "2 0 0 0 2", "B"), heard(1, TWICE, "2 0 0 0 2", "A"),
                          heard(1, TWICE, "0 0 0 0 2", "B")],
-    # A flipped bit makes a frame one that can't be read.
+    # A flipped bit makes a frame unreadable.
     **{f"{kind} - {place}": found for kind in ("header", "payload", "trailer")
        for place, found in (("A * s1", FLIPPED_1), ("A * s2", FLIPPED_2), ("B * s1", FLIPPED_B))},
 }
-"""What each fault of the two nodes does, in both cycles, by the rules of docs/RULES.md."""
+"""The costs of each fault of the two nodes, in both cycles, by the rules of docs/RULES.md."""
 
 
 class TestRuns(CampaignCases):
@@ -176,8 +177,8 @@ class TestRuns(CampaignCases):
         self.assertEqual(got, [("rx 1", "older", 1, "0:A x1111"), ("A", "counted", 1, "1 0 0 0 0")])
 
     def test_the_dynamic_segment_of_three_nodes(self):
-        """Node 2 sends three frames in slot 4, which opens at minislot 1, and all of them come to the queue of node 0,
-        which has popped one: a noise there costs these three, and so does the loss of node 2."""
+        """Node 2 sends three frames in slot 4, which opens at minislot 1. All of them come to the FIFO of node 0, which
+        has popped one. A noise there costs these three, and so does the loss of node 2."""
         narrowed = Selection(frozenset(["noise", "lost"]), None, frozenset(["m1", "all"]))
         found = self.found(self.campaign(CLUSTER, SCENARIO, 4), narrowed)
         for name in ("lost 2 AB * all", "lost 2 A * all", "noise 0 A * m1", "noise 1 AB * m1", "noise 2 A * m1"):
@@ -185,8 +186,8 @@ class TestRuns(CampaignCases):
             self.assertEqual(got, [(0, "lost", 3, "2 0", "0 0")], name)
 
     def test_guardians(self):
-        """No babble in a guarded static slot of another node makes any difference, and without guardians the same
-        babbles do, to all who receive the slot there."""
+        """No babble in a guarded static slot of another node makes any difference. Without guardians the same babbles
+        hurt all receivers of the slot there."""
         place = Selection(frozenset(["noise", "forged"]), frozenset([2]), frozenset(["s1", "s2"]))
         scenario = "\n".join(it for it in SCENARIO.split("\n") if not it.startswith("babble"))
         guarded = self.found(self.campaign(CLUSTER.replace('guard = "A"', 'guard = "AB"'), scenario, 4), place)
@@ -202,8 +203,8 @@ class TestRuns(CampaignCases):
             self.assertEqual(lost[f"{kind} 2 AB * s1"], [(1, "rx 1"), (1, "rx 2")])
 
     def test_a_node_that_fails_on_both_channels(self):
-        """What node 0 sends on both channels arrives as long as one of them works, and not where it is dead. So with
-        noise in its slot, which no guardian stops here."""
+        """Frames that node 0 sends on both channels arrive as long as one of them works, and not where node 0 is dead.
+        With noise in its slot, which no guardian stops here, the same holds."""
         campaign = self.campaign(TWO_NODES.replace('guard = "A"', 'guard = "none"'), SCENE, 2)
         found = self.found(campaign, Selection(frozenset(["lost", "noise"]), None, frozenset(["all", "s1"])))
         for fault in ("lost 0 {} * all", "noise 1 {} * s1", "noise 0 {} * s1"):

@@ -1,4 +1,4 @@
-"""Faults in the dynamic segment: what a lost node would send, and which slot a forged frame names."""
+"""Tests of faults in the dynamic segment: the frames that a lost node would send, and the slot of a forged frame."""
 from unittest.mock import patch
 
 from musmyrtle.fault_campaign import NoReference
@@ -34,8 +34,9 @@ buffer = [
 ]
 """
 SCENE = "frscenario 1\ncommit 0 0 0 0 x0003\ncommit 0 0 0 1 x0004\ncommit 1 0 0 0 x0006\nend\n"
-"""A frame of one word takes three minislots. In cycle 0 slots 3 and 4 are sent at minislots 1 and 4, slot 5 opens at 7,
-and slot 6 is sent at 8, the latest one of its node. In cycle 1 nothing is sent, and slot 9 opens at minislot 7."""
+"""The dynamic segment by hand. A frame of one word takes three minislots. In cycle 0 slots 3 and 4 are sent at
+minislots 1 and 4, slot 5 opens at 7, and slot 6 is sent at 8, the pLatestTx of its node. In cycle 1 nothing is sent,
+and slot 9 opens at minislot 7."""
 FORGED = bytes.fromhex("a55a")
 
 
@@ -73,8 +74,9 @@ class TestForged(CampaignCases):
                                 ("rx 2", "changed", "1:A xa55a")])
 
     def test_beside_a_babble_of_the_scenario(self):
-        """The scenario's babble in cycle 0 is left to it. Of ten bytes, it takes three minislots as a frame does, so
-        that slot 6 opens too late as well; of one byte it takes one, and slot 6 opens as without it."""
+        """The list leaves out the cycle of the scenario's babble. A babble of ten bytes takes three minislots like a
+        frame, so that slot 6 opens too late as well. One of one byte takes one minislot, and slot 6 opens as without
+        it."""
         for data, slot in (("ff" * 10, 7), ("ff", 9)):
             scene = SCENE.replace("end\n", f"babble 0 A 0 m7 x{data}\nend\n")
             lines = self.at(self.campaign_of(scene=scene), "m7")["forged 0 A * m7"].lines
@@ -90,7 +92,7 @@ class TestForged(CampaignCases):
             self.assertEqual(told, [wanted] if wanted else [])
 
     def test_a_session_that_ends_while_the_list_is_made(self):
-        """A refusal, and the end of the program, end the list with one line."""
+        """A refusal and the end of the program each end the list with one line."""
         campaign = self.campaign_of()
         for error in (Memory(("Memory",), "trace 0"), SessionOver("refused Memory")):
             with patch("musmyrtle.played.Play.run", side_effect=error), self.assertRaises(NoReference) as raised:

@@ -1,4 +1,5 @@
-"""What a fault costs a receive FIFO: its frames are compared one by one, also where no task can pop them."""
+"""Tests of the costs of a fault to a receive FIFO: its frames are compared one by one, also where no task can pop them.
+"""
 import unittest
 
 from musmyrtle.fault_campaign import Campaign
@@ -18,7 +19,7 @@ buffer = [{{kind = "{kind}", slot = 1, channels = "{sent}"}}]
 {host}
 queue = {{capacity = {capacity}, first = 1, last = 2, channels = "AB"}}
 """
-"""Node 0 sends in slot 1, slot 2 is nobody's, and node 1 has a FIFO for both slots."""
+"""Node 0 sends in slot 1, slot 2 has no owner, and node 1 has a FIFO for both slots."""
 SCENE = "frscenario 1\ncommit 0 0 0 0 x0001\ncommit 0 0 1 0 x0002\nend\n"
 POPPED = SCENE.replace("end\n", "pop 1 0 1\nend\n")
 
@@ -28,8 +29,8 @@ def two(host: str = "", capacity: int = 4, sent: str = "A", kind: str = "event")
 
 
 FORGED_AT_LAST = "forged 0 A {} s*"
-"""Node 0 forges frames in slots 1 and 2: that of slot 1 collides with its own frame, and that of slot 2 arrives. So the
-FIFO has one frame less and another one more, and as many as before."""
+"""Node 0 forges frames in slots 1 and 2. The one in slot 1 collides with its own frame, and the one in slot 2 arrives.
+So the FIFO has one frame less and another one more, and the same number as before."""
 
 
 class TestContent(CampaignCases):
@@ -64,7 +65,7 @@ class TestContent(CampaignCases):
         self.assertEqual(found, [("lost", 1, "256 0", "256 0"), ("changed", 1, "256 0", "256 0")])
 
     def test_the_other_channel(self):
-        """Both frames come on both channels. What is lost of one channel still comes by the other."""
+        """Both frames come on both channels. A frame lost on one channel still comes by the other."""
         campaign = self.campaign(two(sent="AB"), SCENE, 2)
         found = self.found(campaign, Selection(frozenset(["lost"]), frozenset([0])))
         wanted = {"A": ("channel", 2, "4 0", "2 0"), "B": ("channel", 2, "4 0", "2 0"), "AB": ("lost", 2, "4 0", "0 0")}
@@ -109,7 +110,7 @@ class TestContent(CampaignCases):
                                   "1 0: its trace has 1 frames waiting and 0 overwritten")])
 
     def test_a_fifo_that_is_not_emptied(self):
-        """It holds one frame and is sent two, so it overwrites one without any fault, which is told once."""
+        """The FIFO holds one frame and is sent two. So it overwrites one without any fault, which is reported once."""
         campaign = self.campaign(two(capacity=1), SCENE, 2)
         self.assertEqual(campaign.overwritten(), {1: 1})
         told = "".join(summary(Results([], campaign.cluster, 2, overwritten=campaign.overwritten())))
@@ -118,7 +119,7 @@ class TestContent(CampaignCases):
 
 
 def frames(text: str) -> list[StoredFrame]:
-    """A frame for each word: a letter for the frame and its channel."""
+    """Returns a frame for each word: a letter for the frame and its channel."""
     return [StoredFrame(ord(it[0]), 1, "----", it[0], it[1]) for it in text.split()]
 
 

@@ -1,7 +1,8 @@
-"""Runs that other machines do: what isn't the answer of the run that was asked for is done on this one.
+"""Tests of runs by other machines. Any answer other than that of the requested run is replaced by a run on this one.
 
-`parallel` is a script here that runs the jobs on a copy of the folder, as a machine has it. Where the real one is
-installed, it is tried too, with a script in the place of `ssh`."""
+`parallel` is a script here that runs the jobs on a copy of the folder, as on a machine. Where the real one is
+installed, it is tried too, with a script in the place of `ssh`.
+"""
 import os
 import shlex
 import shutil
@@ -47,7 +48,7 @@ case $0 in
 esac
 exec PROGRAM "$@"
 """
-"""A program that fails where it stands in the folder of a job."""
+"""A program that fails in the folder of a job."""
 FAR = """#!/bin/sh
 echo "$*" >>NOTED
 while [ "$1" != far ]; do shift; done
@@ -86,7 +87,8 @@ class Machines(unittest.TestCase):
         (self.folder / "runs").mkdir()
 
     def done(self, program: str = str(PROGRAM), hosts: Hosts = Hosts()) -> tuple[int, Campaign]:
-        """Does some faults, which have to cost what they cost by hand. Returns how many were done on this machine."""
+        """Does some faults, whose costs must be those worked out by hand. Returns how many were done on this machine.
+        """
         files = Folder(self.folder / "runs", TWO_NODES.encode(), SCENE.encode(), 2)
         means = Means(program, usual_world(), 2, hosts)
         campaign = Campaign(cluster_of(TWO_NODES), scenario_of(SCENE), files, means)
@@ -107,7 +109,7 @@ class TestMachines(Machines):
                          ["arguments", "cluster.toml", "scenario", "tools"])
 
     def test_machines_without_answers(self):
-        """All runs are done on this machine then, and come to the same."""
+        """All runs are done on this machine then, with the same results."""
         no_space = "trap '' XFSZ; ulimit -f 0"
         for text in (parallel(": >lines"), parallel("rm program"), parallel(no_space), parallel(">cluster.toml"),
                      parallel(after="| sed 's/^out tx 0 2/out tx 0 1/'"), parallel(after="| grep -v '^out rx'"),
@@ -163,7 +165,7 @@ class TestParallel(Machines):
             self.assertEqual((here, campaign.folder.cluster.read_text()), (0, TWO_NODES))
 
     def test_a_machine_that_shares_the_temporary_folder(self):
-        """It uses the files that are there, and nothing that the campaign reads is overwritten or removed."""
+        """It uses the existing files, and nothing that the campaign reads is overwritten or removed."""
         noted = self.folder / "noted"
         self.script("ssh", FAR.replace("NOTED", shlex.quote(str(noted))))
         for words in (("--sshlogin", "1/ssh -p 2222 far"), ("--sshlogin", "1/ssh -p 2222 far", "--sshlogin", "1/:")):
@@ -174,7 +176,7 @@ class TestParallel(Machines):
         self.assertEqual([it for it in noted.read_text().splitlines() if not it.startswith(SSH_OPTIONS)], [])
 
     def test_machines_that_fail_leave_their_jobs_to_another_one(self):
-        """A job goes to a machine by chance, so that one that is tried once is lost in most rounds."""
+        """A job goes to a random machine, so that a job tried once is lost in most rounds."""
         self.script("ssh", "#!/bin/sh\nexit 1\n")
         failing = [word for port in (1, 2, 3) for word in ("--sshlogin", f"1/ssh -p {port} far")]
         for _ in range(2):

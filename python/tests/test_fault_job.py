@@ -1,4 +1,4 @@
-"""A job on another machine: what it isn't given whole, and what it doesn't do whole, is no answer."""
+"""Tests of a job on another machine: incomplete inputs and incomplete work are no answer."""
 import shlex
 import shutil
 import subprocess
@@ -71,7 +71,7 @@ class TestJobs(unittest.TestCase):
         self.assertEqual(self.done(self.sent(), tool), ([], 1))
 
     def test_a_full_disk(self):
-        """A scenario that is cut isn't run, and what a run can't print is no answer."""
+        """A truncated scenario isn't run, and truncated output of a run is no answer."""
         for blocks in ("0", "1"):
             for how in ("", "trap '' XFSZ; "):
                 with self.subTest(f"{how}{blocks}"):
@@ -80,7 +80,7 @@ class TestJobs(unittest.TestCase):
         self.assertEqual(self.done(self.sent("ulimit -f 0"))[0], [])
 
     def test_a_list_of_other_lines(self):
-        """Even if all digests of what was sent were right, a run has exactly its lines."""
+        """Even with the right digests of all files sent, a run must have exactly its lines."""
         sent = self.sent()
         jobs = (sent.folder / "jobs").read_text()
         for changed in (jobs.replace("0 1 1", "0 2 2"), jobs.replace("0 1 1", "0 4 4"), jobs.replace("1 2 3", "1 2 2"),

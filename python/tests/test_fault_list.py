@@ -14,7 +14,7 @@ from tests.two_nodes import TWO_NODES
 
 
 class Plays:
-    """Runs that showed what a test says."""
+    """Runs with the results that a test gives."""
 
     def __init__(self, recorded: list[Begun] = [], lost: list[Begun] = [], opened: dict = {}):
         self.begun, self.lost, self.opened = recorded, lost, opened
@@ -45,8 +45,8 @@ class TestList(unittest.TestCase):
         return [str(it) for it in faults_of(*given, **more)[0]]
 
     def test_all_of_two_nodes(self):
-        """Node 0 owns slot 1 on both channels and node 1 slot 2 on A; there is no dynamic segment. What is on both
-        channels comes first."""
+        """Node 0 owns slot 1 on both channels and node 1 slot 2 on A; there is no dynamic segment. Faults on both
+        channels come first."""
         lost = [f"lost {node} {channels} * all" for node in "01" for channels in ("AB", "A", "B")]
         babbles = [f"{node} {channels} * {place}" for node in "01" for channels in ("AB", "A", "B")
                    for place in ("s1", "s2", "s*")]
@@ -67,8 +67,8 @@ class TestList(unittest.TestCase):
         self.assertEqual(lines["forged 0 AB * s2"], [f"babble 0 A 0 s2 x{frames[0]}", f"babble 0 B 0 s2 x{frames[1]}"])
 
     def test_idle(self):
-        """Node 1 of the two sends nothing on B, and node 2 of the three, which owns no slot, nothing before a commit.
-        That is listed, and nothing else is idle."""
+        """Node 1 of the two sends nothing on B. Node 2 of the three owns no slot and sends nothing before a commit.
+        These are listed, and nothing else is idle."""
         idle = [str(it) for it in faults_of(TWO_NODES, 2)[0] if it.is_idle]
         self.assertEqual(idle, ["lost 1 B * all"])
         found, left_out = faults_of(CLUSTER, 2, only("lost", nodes=frozenset([2])))
@@ -137,7 +137,7 @@ class TestList(unittest.TestCase):
         self.assertEqual(Selection().missing(cluster_of(TWO_NODES)), None)
 
     def test_a_window_takes_one_fault_of_a_kind(self):
-        """What the scenario has already is left to it: of one cycle, of one slot, of all."""
+        """A window with a fault of the kind is left to the scenario: in one cycle, in one slot, in all."""
         found, left_out = faults_of(TWO_NODES, 3, only("mute", nodes=frozenset([0])), "mute 0 A 1 s1\nmute 0 B * s*\n")
         self.assertEqual([(str(it), it.lines) for it in found], [
             ("mute 0 A * s1", ("mute 0 A 0 s1", "mute 0 A 2 s1")),
@@ -166,7 +166,7 @@ class TestList(unittest.TestCase):
         self.assertEqual(left_out, LeftOut())
 
     def test_no_slot_at_a_minislot(self):
-        """Where no slot opens no frame can be forged; that isn't the scenario's doing."""
+        """Where no slot opens no frame can be forged, and the scenario isn't named as the reason."""
         asked = only("forged", nodes=frozenset([0]), places=places_of("m3"))
         self.assertEqual(faults_of(CLUSTER, 2, asked), ([], LeftOut(unopened=3)))
         found, left_out = faults_of(CLUSTER, 2, asked, "babble 0 A * m3 x00\nbabble 0 B * m3 x00\n")

@@ -1,4 +1,4 @@
-"""The job log of a campaign: what it notes, what it goes on from, and what it refuses."""
+"""Tests of the job log of a campaign: its notes, how it is resumed, and which logs it refuses."""
 import json
 import tempfile
 import unittest
@@ -48,7 +48,7 @@ class TestLog(unittest.TestCase):
         self.assertEqual(self.file.read_bytes(), data)
 
     def test_what_is_done_again_is_not_noted(self):
-        """A run that has no answer, or that isn't comparable, is neither harmless nor harmful for good."""
+        """A run without an answer, or that isn't comparable, is neither harmless nor harmful for good."""
         log = self.opened()
         for number, effect in enumerate(("killed", "unreadable", "not comparable", "refused")):
             log.add(fault(number), [LOST, Difference(1, "queue", effect, 1, "-", "-")])

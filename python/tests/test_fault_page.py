@@ -1,4 +1,4 @@
-"""How the table, the summary and the page tell what faults cost."""
+"""Tests of the costs of faults in the table, the summary and the page."""
 import re
 import unittest
 
@@ -109,7 +109,8 @@ class TestAgainst(unittest.TestCase):
         self.assertEqual(found, [])
 
     def test_a_table_of_an_earlier_version(self):
-        """It has no faults of both channels, so these aren't compared, and that is said. All others are."""
+        """The earlier table has no faults of both channels, so these aren't compared, and a line reports that. All
+        others are compared."""
         before = read_ranks(self.HEAD.format(""))
         done = DONE[:1] + DONE[-1:]
         self.assertEqual([str(it) for it, _ in worse(done, before)], ["noise 1 A * s1"])
@@ -148,7 +149,7 @@ class TestPage(unittest.TestCase):
         self.assertEqual((len(links) > 3, sorted(links)), (True, sorted(names)))
 
     def test_no_text_becomes_a_mark(self):
-        """Names of files and nodes, what a run said, and the states of a buffer."""
+        """The texts are names of files and nodes, a run's messages, and the states of a buffer."""
         mark = "<i>&"
         labels = Labels({0: mark, 1: mark}, {(0, 1): mark})
         done = [(fault("lost", 1, BOTH, "all"), [Difference(0, "rx 1", "lost", 1, mark, mark)]),
@@ -157,12 +158,12 @@ class TestPage(unittest.TestCase):
         self.assertEqual((text.count("&lt;i&gt;&amp;") > 8, text.count("<i>")), (True, 0))
 
     def test_a_sort_that_is_not_listed(self):
-        """A table without faults doesn't look as if nothing came of them."""
+        """A table without faults doesn't look like one of faults without effects."""
         text = self.page(DONE[:1])
         self.assertEqual(text.count("None of these faults was listed, so nothing is said of them."), 2)
 
     def test_runs_that_failed(self):
-        """The only run of node 1 that fails silent was killed: its cells say neither harmless nor harmful."""
+        """The only run of node 1 that fails silent was killed: its cells show neither harmless nor harmful."""
         text = self.page()
         row = '<tr><th>node 1<br><small>1 run failed</small></th>' + 2 * \
             '<td class="nothing"><span>no outcome</span></td>' + "</tr>"
@@ -181,7 +182,7 @@ class TestPage(unittest.TestCase):
         self.assertIn("node 1 FIFO: not comparable, which counts as a loss", text)
 
     def test_names(self):
-        """Names of nodes and buffers stand beside their numbers, and nothing in them reaches a reader raw."""
+        """Names of nodes and buffers are printed beside their numbers, with everything in them escaped."""
         labels = Labels.read(NAMED.encode())
         self.assertEqual(labels.node(0), "node 0 pe\\x1b[31mdal")
         self.assertEqual(labels.thing(0, "rx 1"), "rx 1 (an\\u202egle <b>)")

@@ -1,4 +1,4 @@
-"""The files of up to 1 MiB that cost most: each is looked at in two seconds of the processor, and little is printed."""
+"""Tests of the slowest files of up to 1 MiB: each takes at most two seconds of the processor, and little is printed."""
 import time
 
 from musmyrtle.command import told
@@ -86,7 +86,7 @@ FAULTS = {
 
 class Times(Cases):
     def held(self, wanted: str | None, *given) -> None:
-        """That a file is looked at in time, and that what is said of it is short."""
+        """Asserts that a file is checked in time, and that its findings are short."""
         task = Task(*given)
         begun = time.process_time()
         found = lint(task)
@@ -103,7 +103,7 @@ class Times(Cases):
                 self.held(refusal, self.written("cluster.toml", text))
 
     def test_scenarios(self):
-        """Of a cluster that is accepted, with 1,024 ownership lines and buffers that are for no cycle of the run."""
+        """The cluster is accepted, with 1,024 ownership lines and buffers that are for no cycle of the run."""
         cluster = self.written("cluster.toml", PARAMETERS + "".join(
             node([own(64 * it + line + 1, 32, 64) for line in range(64) if 64 * it + line < 1023],
                  [buffer("event", 1024 + 32 * it + line // 2, "AB"[line % 2], 32, 64) for line in range(64)])

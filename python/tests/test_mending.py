@@ -1,4 +1,5 @@
-"""Texts from which a mistake can be mended: what was expected, in words of the cluster file or the scenario."""
+"""Tests of texts from which a mistake can be mended: the expected form, in words of the cluster file or the scenario.
+"""
 from tests.cases import CLUSTER, SCENARIO, Cases
 from tests.test_standard import PHYSICAL
 
@@ -29,7 +30,7 @@ class Mending(Cases):
         self.assertNotIn("dynamic slot", self.text(found, answer).partition(" warning:")[0])
 
     def test_one_reason_for_journals_of_the_same_room(self):
-        """Each cycle has 7 windows of two entries: 300 cycles want 4200, and each of three nodes has room for 4096."""
+        """Each cycle has 7 windows of two entries: 300 cycles need 4200, and each of three nodes has room for 4096."""
         found, answer = self.look(CLUSTER, SCENARIO, 300)
         self.assertEqual([(refusal, finding.headline) for refusal, finding in found.refusals],
                          [("NoRoom 0", "300 cycles want 4200 slot entries of each of nodes 0, 1 and 2, and each has "

@@ -1,4 +1,4 @@
-"""Why a world isn't opened, and lengths that a payload doesn't have: each message says what would be right."""
+"""Tests of worlds that aren't opened, and of payloads of wrong lengths: each message has the expected form."""
 import copy
 import errno
 import io
@@ -40,7 +40,7 @@ class Folders(unittest.TestCase):
 
 
 class TestNoProgram(Folders):
-    """The checkout and the path of commands have the programs that a test puts there."""
+    """Tests in which the checkout and the path of commands have only the test's programs."""
 
     def setUp(self) -> None:
         super().setUp()

@@ -1,4 +1,4 @@
-"""Where keys and items stand in a TOML text."""
+"""Tests of the places of keys and items in a TOML text."""
 import unittest
 
 from musmyrtle.places import Places

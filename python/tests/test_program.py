@@ -1,4 +1,4 @@
-"""Which program is run: the one that a launcher has noted, or otherwise the launcher itself."""
+"""Tests of the choice of the program: the one that a launcher has noted, or otherwise the launcher itself."""
 import contextlib
 import io
 import tomllib
@@ -78,7 +78,7 @@ class Noted(unittest.TestCase):
 
 class Asked(unittest.TestCase):
     def answer(self, lines: str) -> tuple[Answer, str]:
-        """Returns the answer of a program that refuses with these lines, and what is shown meanwhile."""
+        """Returns the answer of a program that refuses with these lines, and the output meanwhile."""
         with TemporaryDirectory() as folder:
             program = Path(folder) / NAME
             program.write_text(f"#!/bin/sh\nprintf '{lines}' >&2\nexit 1\n")

@@ -1,4 +1,4 @@
-"""An older Python says in one line which one is needed, before it meets anything that it can't do."""
+"""Tests that an older Python names the needed version in one line, before it meets anything that it can't do."""
 import ast
 import os
 import subprocess
@@ -18,7 +18,7 @@ def without(name, *more, **further):
 
 builtins.__import__ = without
 """
-"""Makes this Python say that it is version 3.10, which has no `tomllib`."""
+"""Makes this Python claim to be version 3.10, which has no `tomllib`."""
 NEEDS = "musmyrtle needs Python 3.11, and this is Python 3.10.13"
 
 
@@ -41,7 +41,8 @@ class TestOldPython(unittest.TestCase):
                                   "    sys.exit(str(error))\n"), (1, [NEEDS]))
 
     def test_an_older_python_can_read_that_far(self) -> None:
-        """A whole file is read before its first line is done, so no form of a later version may stand in these."""
+        """A whole file is read before its first line is executed, so these files may have no form of a later version.
+        """
         for name in ("fr_lint", "fr_faults", "python/musmyrtle/__init__.py"):
             ast.parse((TOP / name).read_text(), name, feature_version=(3, 7))
 

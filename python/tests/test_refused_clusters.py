@@ -1,4 +1,4 @@
-"""A mistake of each kind for which a cluster file is refused: the text goes in, the words come out."""
+"""Tests of a mistake of each kind for which a cluster file is refused: a text, and the words of its finding."""
 from tests.cases import CLUSTER, Cases
 
 # The first node's `own`, `queue` and buffer lines, as changes name them.

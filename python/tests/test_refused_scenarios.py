@@ -1,4 +1,4 @@
-"""A mistake of each kind for which a scenario or a run is refused: the text goes in, the words come out."""
+"""Tests of a mistake of each kind for which a scenario or a run is refused: a text, and the words of its finding."""
 from tests.cases import CLUSTER, SCENARIO, Cases
 
 LINE = "commit 0 0 0 0 x0a0b"

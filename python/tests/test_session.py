@@ -65,7 +65,7 @@ class Sessions(unittest.TestCase):
         return world._session._child.number
 
     def over(self, said: str, kind: type[SessionOver], call, *given) -> None:
-        """That a call ends the session with these words, and that each later call says why."""
+        """Asserts that a call ends the session with these words, and that each later call gives the reason."""
         with self.assertRaisesRegex(SessionOver, said) as raised:
             call(*given)
         self.assertIs(type(raised.exception), kind)
@@ -86,7 +86,7 @@ class TestThreads(Sessions):
         return bytes((0xa0 + number, number))
 
     def read(self, number: int) -> int:
-        """How many of some reads of a node have the payload of another one."""
+        """Returns how many of some reads of a node have the payload of another one."""
         node = self.shared.node(number)
         wanted = self.payload((number + 1) % NODES)
         found = [node.read(1) for _ in range(300)]
@@ -150,7 +150,7 @@ class TestInterrupted(Sessions):
         raise Interrupt
 
     def test_no_reply_belongs_to_an_earlier_request(self):
-        """Signals at random moments: a world goes on with the right replies, or says that it is over."""
+        """Signals come at random moments: a world goes on with the right replies, or reports that it is over."""
         moments, over = random.Random(4), 0
         for turn in range(60):
             with World(THREE_NODES, 8) as world:

@@ -1,4 +1,5 @@
-"""The network of the tutorial with one slip at a time: what is said names the line of the slip, or what is missing."""
+"""Tests of the network of the tutorial with one slip at a time: the finding names the line of the slip, or the missing
+part."""
 import re
 from pathlib import Path
 
@@ -53,7 +54,7 @@ class Slips(Cases):
         self.assertEqual((found.refusals, found.warnings), ([], []))
 
     def named(self, text: str, old: str, new: str, findings) -> None:
-        """That the first finding or one of its notes is at a line of the slip, or of its cycle's parts."""
+        """Asserts that the first finding or one of its notes is at a line of the slip, or of its cycle's parts."""
         before = text[: text.index(old)].count("\n") + 1
         lines = range(before, before + max(new.count("\n"), old.count("\n")) + 1)
         places = [place for it in findings[:1] for place in (it.place, *(note.place for note in it.notes)) if place]

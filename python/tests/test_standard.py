@@ -48,7 +48,7 @@ RANGES = (
     ("cluster.toml:16:1", ("`bit_rate` is 5000000 bits a second", "10 Mbit/s alone", "`gdBit`"),
      ("[[node]]", PHYSICAL.format(1).replace("10_", "5_"))),
 )
-"""What is out of range, with the words of the warning: each bound from the standard, and one beyond."""
+"""Values out of range, with the words of the warning: each bound from the standard, and one beyond."""
 FITTING = (
     ("minislots = 4", "minislots = 306", "minislot_mt = 5", "minislot_mt = 50", "nit_mt = 10", "nit_mt = 640",
      "cycle_mt = 90", "cycle_mt = 16000"),
@@ -86,7 +86,8 @@ class Standard(Cases):
         self.assertEqual(self.look(third)[0].notes, [])
 
     def test_divided_slots(self):
-        """Between nodes, and between a node and nobody; two lines of a node that share all cycles are no mistake."""
+        """A slot is divided between nodes, or is without an owner in some cycles. Two lines of a node that share all
+        cycles are no mistake."""
         shared = OWN.replace("}", '}, {slot = 3, channels = "A", repetition = 2}')
         other = ', {slot = 3, channels = "A", base = 1, repetition = 2}'
         self.warned("cluster.toml:17:50", ("slot 3 on A is divided among nodes 0 and 1", "version 3"),

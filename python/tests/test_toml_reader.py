@@ -1,4 +1,4 @@
-"""What TOML is: texts with their values, and texts that are none, each with the place of the mistake."""
+"""Tests of TOML texts with their values, and of texts that aren't TOML, each with the place of the mistake."""
 import math
 import tomllib
 import unittest
@@ -98,7 +98,7 @@ class Texts(Cases):
             self.assertTrue(self.is_accepted(text), text[:40])
 
     def test_the_program_reads_the_same(self):
-        """A text that is TOML is refused for what it hasn't: parameters."""
+        """A text that is TOML is refused for its missing parameters."""
         for texts, refusal in (((*DOCUMENTS, *DEEPEST), "Params Missing static_slots"), (NONE, "Toml")):
             for text in texts:
                 with self.subTest(text=text[:40]):
@@ -106,7 +106,7 @@ class Texts(Cases):
                     self.assertEqual(answer.refusal, refusal)
 
     def test_tomllib_reads_the_same(self):
-        """Of random texts `tomllib` takes none that isn't read here, and has the same values."""
+        """Of random texts `tomllib` accepts none that isn't accepted here, and has the same values."""
         random = Random(1)
         taken = 0
         for _ in range(3000):
@@ -122,7 +122,7 @@ class Texts(Cases):
 
 
 def plain(value: object) -> object:
-    """The value without the kinds of tables, and with each date as `moment`."""
+    """Returns the value without the kinds of tables, and with each date as `moment`."""
     if isinstance(value, dict):
         return {key: plain(held) for key, held in value.items()}
     if isinstance(value, list):

@@ -1,4 +1,4 @@
-"""What a terminal obeys comes out of `fr_lint` and `fr_faults` as escapes: from files, names, words and programs."""
+"""Tests that control characters leave `fr_lint` and `fr_faults` as escapes: from files, names, words and programs."""
 import os
 import stat
 import subprocess
@@ -9,22 +9,22 @@ from tests.cases import CLUSTER, SCENARIO, Cases
 
 TOP = Path(__file__).resolve().parents[2]
 OBEYED = "\x1b[2J\x7f\x9b\u200e\u200f\u202a\u202b\u202c\u202d\u202e\u2066\u2067\u2068\u2069\u2028\u2029\ufeff"
-"""Controls of a terminal, all that turn the direction of writing, and separators of lines and paragraphs."""
+"""Controls of a terminal, all characters that turn the direction of writing, and separators of lines and paragraphs."""
 SPELLED = r"\x1b[2J\x7f\x9b\u200e\u200f\u202a\u202b\u202c\u202d\u202e\u2066\u2067\u2068\u2069\u2028\u2029\ufeff"
 IN_TOML = OBEYED.replace("\x1b", r"\u001b").replace("\x7f", r"\u007f")
 RAW = OBEYED.replace("\x1b", "").replace("\x7f", "")
-"""Those that may stand in a TOML text themselves."""
+"""Those of them that a TOML text may have unescaped."""
 
 
 class VisibleOutput(Cases):
     def stub(self, text: str, status: int, name: str = "stub") -> str:
-        """A program that says the text on standard error."""
+        """Writes a program that writes the text to standard error."""
         path = self.written(name, f"#!/bin/sh\nprintf '%s\\n' '{text}' >&2\nexit {status}\n")
         os.chmod(path, stat.S_IRWXU)
         return path
 
     def launch(self, command: str, *words: str | bytes) -> str:
-        """Returns all that the command writes. Nothing but its line ends is unprintable in that."""
+        """Returns the whole output of the command. Nothing but its line ends is unprintable in it."""
         environment = {**os.environ, "PYTHONIOENCODING": "utf-8:surrogateescape", "COLUMNS": "200"}
         ran = subprocess.run([sys.executable, "-B", TOP / command, *words], capture_output=True, env=environment)
         text = (ran.stdout + ran.stderr).decode(errors="surrogateescape")

@@ -1,4 +1,4 @@
-"""What is accepted and still can't work, or breaks a rule of the standard: the text goes in, the words come out."""
+"""Tests of accepted texts that can't work or break a rule of the standard: a text, and the words of its warning."""
 from tests.cases import CLUSTER, EXAMPLES, SCENARIO, Cases, without_allows
 
 OWN = 'own = [{slot = 1, channels = "AB", sync = true}]'

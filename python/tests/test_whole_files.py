@@ -1,4 +1,4 @@
-"""Files that are written: never an input, and whole or not at all."""
+"""Tests of output files: never an input, and written whole or not at all."""
 import os
 import tempfile
 import unittest

@@ -1,4 +1,4 @@
-"""Worlds, and scenarios that a program makes."""
+"""Tests of worlds, and of scenarios that a program makes."""
 import importlib
 import inspect
 import os
