@@ -1,7 +1,11 @@
-# For tools/launch, tools/build, tools/ship and the test command: what a program was made from, and which it is.
+# Functions of tools/launch_anew, tools/build, tools/ship and the test command: the sources of a program, and its
+# digest.
 
-# The digest of all sources below a folder: of a line for each file, its digest and its name, in the order of names.
-# It is one for all programs. Per program the launcher would walk crates.txt at each call, and a renewal takes a minute.
+# Prints the digest of all sources below a folder: of a line for each file, its digest and its name, in the order of
+# names.
+#
+# One digest serves all programs. With one for each, the launcher would read crates.txt at each call, and a renewal
+# takes a minute.
 digest_of_sources() {
     (
         CDPATH='' cd -- "$1" && set -o pipefail &&
@@ -10,13 +14,13 @@ digest_of_sources() {
     )
 }
 
-# The digest of a file, or of standard input.
+# Prints the digest of a file, or of standard input.
 digest_of() {
     local digest
     digest=$(sha256sum -- "$1") && printf '%s\n' "${digest%% *}"
 }
 
-# What a file of digests says after a word: `kit`, `sources`, or the name of a program.
+# Prints the rest of the line of a file of digests that begins with a word: `kit`, `sources`, or the name of a program.
 recorded() {
     local word rest
     [[ -f $1 ]] || return 1
@@ -29,7 +33,7 @@ recorded() {
     return 1
 }
 
-# The programs of the repository below a folder.
+# Prints the programs of the repository below a folder.
 programs() {
     local main
     for main in "$1"/crates/*/src/main.rt; do

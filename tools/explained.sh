@@ -1,5 +1,5 @@
-# For tools/told, in a plain shell: what to mend where a program has ended with status 1 or 2. The program's own line
-# stands before this, unchanged. Only what is the cause for sure is printed.
+# For tools/told, in a plain shell: an explanation where a program has ended with status 1 or 2. The program's own line
+# comes before it, unchanged. Only certain causes are printed.
 . "$top/tools/words.sh"
 . "$top/tools/help.sh"
 
@@ -53,7 +53,7 @@ explain_words() {
     [ ! -t 2 ] || say "$more"
 }
 
-# Says in `slip` what the first word is, which is no command.
+# Sets `slip` to a description of the first word, which is no command.
 find_program() {
     case $1 in
     help | -h | --help)
@@ -81,13 +81,13 @@ find_program() {
     esac
 }
 
-# Adds to `slip` the one of the `known` words that the word $1 is most like, if it is like one.
+# Adds to `slip` the nearest of the `known` words to the word $1, if one is near.
 find_nearest() {
     case $1 in
     *"
 "*) return ;;
     esac
-    # Words are apart, and no pattern.
+    # The words are split here, and none is a pattern.
     # shellcheck disable=SC2086
     nearest=$(printf '%s\n' "$1" $known | awk '
         function least(a, b) { return a < b ? a : b }
@@ -113,8 +113,8 @@ find_nearest() {
     [ -z "$nearest" ] || slip="$slip; did you mean $nearest?"
 }
 
-# Tells whether the file that can't be read is the cause. The program reads the cluster file first, so of a scenario it
-# is only where that is right, for which the program is asked again.
+# Succeeds if the unreadable file is the cause. The program reads the cluster file first. So a scenario is the cause
+# only where the cluster file is right, and the program is asked about that again.
 is_cause() {
     [ "$unread_as" = SCENARIO ] || return 0
     case $name in

@@ -1,6 +1,6 @@
-# For tools/launch and tools/explained.sh, in a plain shell: the help of the program $name. Its texts stand in
-# tools/help/NAME. Below a line `== COMMAND` stand the usage of the command, a sentence, its arguments and an example;
-# below `== after` stands the end of the overview.
+# For tools/launch and tools/explained.sh, in a plain shell: the help of the program $name. The texts are in
+# tools/help/NAME. A line `== COMMAND` comes before the usage of the command, a sentence, its arguments and an example.
+# A line `== after` comes before the end of the overview.
 
 # Answers a call for help or for the version and ends the script. Other words are left to the program.
 answer() {

@@ -5,7 +5,7 @@
 # moved to dist/ and a note from the future. A change within one clock tick that keeps the size can be missed; ./test
 # reads all sources.
 
-# Tells whether the program is the one that `digests` beside it names.
+# Succeeds if the program is the one that `digests` beside it names.
 is_named() {
     digest=$(sha256sum <"$top/$folder/$name") || return
     while read -r word named; do
@@ -17,20 +17,20 @@ is_named() {
     return 1
 } 2>/dev/null
 
-# Prints the program's folder, and then a line for all that decides whether it is the right one: device, number, mode,
-# size, times and name. Times alone aren't enough, since moving a folder changes no time of its files.
+# Prints the program's folder, and then a line for each file on which the choice of the program depends: device, number,
+# mode, size, times and name. Times alone aren't enough, since moving a folder changes no time of its files.
 identities() {
     CDPATH='' cd -- "$top" && printf '%s\n' "$folder" || return
     kit=
     if [ "$folder" != dist ]; then
-        # A change of the kit shows in these.
+        # A changed kit changes one of these.
         kit=$(command -v rt) && kit=$(readlink -f -- "$kit") || kit=
     fi
     find crates.txt HANDLES crates/*/src crates/*/specs crates/*/proofs "$folder/$name" "$folder/digests" \
         ${kit:+"$kit" "${kit%/*}"} -printf '%D %i %m %s %T@ %C@ %p\n'
 }
 
-# Tells whether nothing has changed since it was noted.
+# Succeeds if nothing has changed since the note was written.
 is_as_noted() {
     identities 2>/dev/null | cmp -s - "$top/$found"
 }

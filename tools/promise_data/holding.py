@@ -1,4 +1,4 @@
-"""Holds the names in the data to the sources."""
+"""Compares the names in the data with the sources."""
 import re
 from pathlib import Path
 
@@ -6,13 +6,13 @@ from .reading import Clause, Promise, Section, split_name
 from .sources import Crate
 
 NAME = re.compile(r"`([^`]+)`")
-# Programs that are none of the repository's.
+# Programs of others.
 OUTSIDE = {"tshark", "valgrind"}
 FOLDERS = ("tools/", "tests/", "fuzz/", "bench/", "docs/", "examples/", "python/", "crates/", "wrong-bodies/")
 
 
 class Names:
-    """The names that were looked for: how many there are, and how many there aren't."""
+    """The names that were looked up: the number of those that exist, and of those that don't."""
 
     def __init__(self, top: Path, crates: dict[str, Crate]) -> None:
         self.top, self.crates = top, crates
@@ -21,7 +21,7 @@ class Names:
         self.libraries = (top / "crates.txt").read_text(encoding="utf-8")
 
     def hold(self, is_there: bool, place: str, told: str) -> None:
-        """Counts one name, and prints what is wrong where it isn't there."""
+        """Counts one name, and prints the finding if it doesn't exist."""
         if is_there:
             self.passed += 1
         else:
@@ -29,7 +29,7 @@ class Names:
             print(f"{place}: {told}")
 
     def section(self, section: Section) -> None:
-        """Holds all names of a crate's data."""
+        """Looks up all names of a crate's data."""
         file = f"crates/{section.crate}/promises.toml"
         self.prose(file, section.crate, section.title, section.about, *section.notes)
         for number, promise in enumerate(section.promises, 1):
@@ -40,7 +40,7 @@ class Names:
                 self.hold(self.is_test(name), file, f"there is no test {name}")
 
     def promise(self, place: str, crate: str, promise: Promise) -> None:
-        """Holds the names of a row."""
+        """Looks up the names of a row."""
         for clause in promise.clauses:
             self.clause(place, clause)
         for key, kind in (("invariants", "type"), ("definitions", "module of definitions"), ("display", "type")):
@@ -57,7 +57,7 @@ class Names:
         self.prose(place, crate, promise.text, *promise.texts.values())
 
     def clause(self, place: str, clause: Clause) -> None:
-        """Holds functions and their clauses. A function without named clauses must have a contract."""
+        """Looks up functions and their clauses. A function without named clauses must have a contract."""
         crate = self.crates.get(clause.crate)
         for name in clause.functions:
             owner, _, function = name.rpartition("::")
@@ -71,7 +71,7 @@ class Names:
                 self.hold(wanted in crate.clauses[function], place, f"{name} has no clause {wanted}")
 
     def mutant(self, place: str, key: str, folder: str, home: str, name: str) -> None:
-        """Holds a mutant, which counts as named only by the data of its own crate."""
+        """Looks up a mutant, which counts as named only by the data of its own crate."""
         crate = self.crates.get(home)
         there = crate is not None and name in (crate.gate if key == "gate" else crate.mutants)
         self.hold(there, place, f"there is no mutant {name} in the folder {folder} of {home}")
@@ -79,7 +79,7 @@ class Names:
             self.mutants.add((home, key, name))
 
     def prose(self, place: str, home: str, *texts: str) -> None:
-        """Holds the names in free texts: words of the sources, mutants, tests, and files."""
+        """Looks up the names in free texts: words of the sources, mutants, tests, and files."""
         for name in (name for text in texts for name in NAME.findall(text)):
             self.mutants.update((home, key, name) for key in ("gate", "mutants") if home)
             if re.fullmatch(r"[\w:]+", name):
@@ -89,12 +89,12 @@ class Names:
                 self.hold((self.top / name.split()[0]).exists(), place, f"there is no {name}")
 
     def is_word(self, name: str) -> bool:
-        """Whether a crate has it, or it is a mutant or a library."""
+        """Returns whether a crate has it, or it is a mutant or a library."""
         in_crates = any(crate.has_word(name) for crate in self.crates.values())
         return in_crates or re.search(rf"[ :]{name}\b", self.libraries) is not None
 
     def is_test(self, name: str) -> bool:
-        """Whether it is a file, a crate that has tests, or `crate/test`."""
+        """Returns whether it is a file, a crate that has tests, or `crate/test`."""
         home, _, test = name.partition("/")
         if home in self.crates:
             tests = self.crates[home].tests
@@ -102,7 +102,7 @@ class Names:
         return (self.top / name.split()[0]).is_file()
 
     def every_mutant(self) -> None:
-        """Holds that each mutant of the repository is named by the data of its crate."""
+        """Checks that each mutant of the repository is named by the data of its crate."""
         for name, crate in self.crates.items():
             for key, mutants in (("gate", crate.gate), ("mutants", crate.mutants)):
                 for mutant in sorted(mutants):

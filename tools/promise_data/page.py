@@ -34,7 +34,7 @@ def clause_text(clause: Clause, crate: str) -> str:
 
 
 def carried_text(promise: Promise, crate: str) -> str:
-    """Returns the cell of what carries a promise."""
+    """Returns the cell with the carriers of a promise."""
     parts = [clause_text(clause, crate) for clause in promise.clauses]
     if inner := promise.list_of("parts"):
         parts[-1] += f" (part{'s' if len(inner) > 1 else ''} {code(inner)})"
@@ -67,7 +67,7 @@ def tests_text(names: list[str]) -> str:
 
 
 def tested_text(section: Section) -> list[str]:
-    """Returns the list of what tests show."""
+    """Returns the list of tests with what each shows."""
     if len(section.tested) == 1:
         what, by = section.tested[0]
         return [wrapped(f"Tested by {tests_text(by)}: {what}")]
@@ -100,5 +100,5 @@ def with_table(page: str, sections: list[Section]) -> str:
 
 
 def outside_table(page: str) -> str:
-    """Returns what is written by hand in docs/PROMISES.md."""
+    """Returns the handwritten part of docs/PROMISES.md."""
     return page.partition(START)[0] + page.partition(END)[2]

@@ -35,7 +35,7 @@ class Crate:
         if path.suffix != ".rt":
             return
         self.tests.update(TEST.findall(text))
-        # A function's contract stands between its name and the name of the next one.
+        # A function's contract is between its name and the name of the next one.
         _, *parts = FUNCTION.split(text)
         for function, rest in zip(parts[::2], parts[1::2]):
             self.clauses.setdefault(function, set()).update(CLAUSE.findall(rest))
@@ -43,7 +43,7 @@ class Crate:
                 self.contracts.add(function)
 
     def has_word(self, name: str) -> bool:
-        """Whether the name is a word, a module or a mutant of the crate."""
+        """Returns whether the name is a word, a module or a mutant of the crate."""
         return name in self.words or name in self.modules or name in self.gate or name in self.mutants
 
 
