@@ -1,4 +1,4 @@
-"""Builds a small program that stands on crates of the repository, for the scripts that measure by one."""
+"""Builds a small program on crates of the repository, for the benches that measure with one."""
 import shutil
 import subprocess
 import sys

@@ -1,9 +1,10 @@
-"""Cluster files of full nodes: bench/cluster_speed says what each node has."""
+"""Cluster files of full nodes, which bench/cluster_speed describes."""
 LINES, STATIC, DYNAMIC = 64, 1023, 1024
 
 
 def owned(node, line):
-    """The slot of an ownership line, and its channels: the last slot is divided between two lines by channel."""
+    """Returns the slot of an ownership line, and its channels: the last slot is divided between two lines by channel.
+    """
     place = line * 16 + node
     if place < STATIC - 1:
         return place + 1, "AB"
@@ -11,7 +12,7 @@ def owned(node, line):
 
 
 def cluster(nodes):
-    """The text of a cluster file."""
+    """Yields the text of a cluster file."""
     yield "guard = \"AB\"\n[params]\n"
     yield f"static_slots = {STATIC}\nminislots = 1000\nstatic_words = 2\nstatic_mt = 10\nminislot_mt = 2\n"
     yield f"symbol_mt = 0\nnit_mt = 10\ncycle_mt = {STATIC * 10 + 2010}\nidle = 1\nwords_per_minislot = 4\n"

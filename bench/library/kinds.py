@@ -25,7 +25,7 @@ class Kind:
             yield f'  {{kind = "receive", slot = {other}, channels = "AB"}},\n]\n'
 
     def lines(self, cycles):
-        """Each task commits and reads in turn, in cycles that are spread over the run."""
+        """Yields the lines: each task commits and reads in turn, in cycles that are spread over the run."""
         each = min(self.lines_at_most // (self.nodes * self.tasks), cycles)
         for node in range(self.nodes):
             for task in range(self.tasks):

@@ -1,4 +1,4 @@
-"""Runs a program once, and tells what it took; and a large file, to be read by another program for comparison."""
+"""Measures one call of a program, and makes a large file, which another program reads for comparison."""
 import os
 import subprocess
 import sys
@@ -15,7 +15,8 @@ class Took(NamedTuple):
 
 
 def timed(words, read="/dev/null", told=subprocess.DEVNULL):
-    """What these words took with the file `read` as standard input, and with standard output at `told`.
+    """Returns the time and memory of these words with the file `read` as standard input, and with standard output at
+    `told`.
 
     A program that can't be run, or that ends with another status than 0, ends the script.
     """
@@ -34,7 +35,10 @@ def timed(words, read="/dev/null", told=subprocess.DEVNULL):
 
 
 def large_file(folder):
-    """A file of 42 MB in lines of 512 bytes. It isn't made in memory: a child's peak is at least that of the script."""
+    """Writes a file of 42 MB in lines of 512 bytes.
+
+    It isn't made in memory: a child's peak is at least that of the script.
+    """
     large = folder / "large"
     with open(large, "wb") as out:
         out.writelines(b"x" * 511 + b"\n" for _ in range(82_031))

@@ -1,4 +1,4 @@
-"""Traces of several kinds: bench/audit_speed says what each is."""
+"""Traces of several kinds, which bench/audit_speed describes."""
 HOST, WINDOWS, CYCLES, SLOTS, BUFFERS = 16384, 32768, 64, 4, 64
 LONG, SHORT = bytes(range(254)), bytes((10, 11))
 
@@ -32,7 +32,7 @@ def frame_crc(data, start):
 
 
 def frame(slot, cycle, start, payload):
-    """A data frame, without sync and startup."""
+    """Returns a data frame, without sync and startup."""
     words = len(payload) // 2
     covered = slot << 7 | words
     crc = header_crc([covered >> place & 1 for place in range(19, -1, -1)])
@@ -42,7 +42,7 @@ def frame(slot, cycle, start, payload):
 
 
 def frames(payload):
-    """What both channels bring in each slot and cycle."""
+    """Returns the frames of both channels in each slot and cycle."""
     return {
         (slot, cycle): f"x{frame(slot, cycle, 0xFEDCBA, payload)} x{frame(slot, cycle, 0xABCDEF, payload)}"
         for slot in range(1, SLOTS + 1)
@@ -51,7 +51,7 @@ def frames(payload):
 
 
 def receiving(out, part, payload, windows, commits=0, first=False, after=None):
-    """Windows of slots that the node receives, with commits on an event buffer, first or among the windows."""
+    """Returns windows of slots that the node receives, with commits on an event buffer, first or among the windows."""
     commits, windows, seen = commits // part, windows // part, frames(payload)
     host = max(1, commits, windows if after else 0)
     out.write(f"frtrace 1\nparams 8 0 {len(payload) // 2} 100 1 0 200 1000 0 1\n")
@@ -77,8 +77,11 @@ def receiving(out, part, payload, windows, commits=0, first=False, after=None):
 
 
 def sending(out, part, withdraws=False):
-    """As many event buffers as a plan may have, each of which takes a commit and sends it before the next does, or
-    takes every other one back before its slot comes."""
+    """Returns the calls of as many event buffers as a plan may have.
+
+    Each of them gets a commit and sends it before the next does, or has every other one taken back before its slot
+    comes.
+    """
     commits = HOST // part if not withdraws else HOST * 2 // 3 // part
     out.write(f"frtrace {2 if withdraws else 1}\nparams 64 0 1 20 1 0 200 1480 0 1\n")
     out.write(f"node 1 0 0 {HOST // part} {2 * commits}\n")

@@ -27,7 +27,7 @@ CHANNELS: tuple[Channel, Channel] = ("A", "B")
 
 
 def word_of(value: float, step: float) -> bytes:
-    """A value of so many steps, as a frame's first word; its second is spare."""
+    """Returns a value of so many steps, as a frame's first word; its second is spare."""
     return round(value / step).to_bytes(2, "big") + bytes(2)
 
 
@@ -37,13 +37,13 @@ def value_of(payload: bytes, step: float) -> float:
 
 @dataclass
 class Car:
-    """What the brake slows down, and what its wheels tell."""
+    """The car that the brake slows down, and the speed of its wheels."""
 
     speed: float = 20.0
     """In metres per second."""
 
     def brake(self, force: float) -> None:
-        """One cycle with this share of the full force, 0 to 1."""
+        """Brakes for one cycle with this share of the full force, 0 to 1."""
         self.speed = max(0.0, self.speed - force * FULL_DECELERATION * CYCLE_SECONDS)
 
 
@@ -83,7 +83,7 @@ def stopped(cluster: Path, babble: bool, cycles: int = CYCLES) -> Car:
 
 
 def with_guard(guard: str, folder: Path) -> Path:
-    """The cluster with another guard."""
+    """Returns the cluster with another guard."""
     file = folder / "brakes.toml"
     file.write_text((HERE / "brakes.toml").read_text().replace('guard = "AB"', f'guard = "{guard}"'))
     return file

@@ -15,7 +15,7 @@ NUMBER = re.compile(rb"[0-9]+")
 WORD = re.compile(rb"[^ \n]+")
 FILE_LIMIT = 1_048_576
 MOST = 4_000_000
-"""The bytes that a change may make of a text."""
+"""The bytes that a change may turn a text into."""
 
 
 def between(random, text, put):
@@ -24,7 +24,7 @@ def between(random, text, put):
 
 
 def instead(random, text, form, put):
-    """The text with one piece of this form replaced; PUT makes the new piece of the old one."""
+    """Returns the text with one piece of this form replaced; PUT makes the new piece of the old one."""
     found = list(form.finditer(text))
     if not found:
         return text
@@ -104,7 +104,7 @@ def repeated_line(random, text, _):
 
 
 def long_line(random, text, _):
-    """One line filled up to about as many bytes as a line may have."""
+    """Returns the text with one line filled up to about the longest line."""
     def fill(lines, at, _):
         line, filling = lines[at].rstrip(b"\n"), random.choice((b" ", b"x", b"0", b"#", b"\xff"))
         lines[at] = line + filling * (random.choice((1199, 1200, 1201, 1202, 5000)) - len(line)) + b"\n"
@@ -112,7 +112,7 @@ def long_line(random, text, _):
 
 
 def long_end(random, text, _):
-    """The text filled up to about as many bytes as a file may have."""
+    """Returns the text filled up to about the largest file."""
     return text + random.choice((b"#", b"\n", b" ", b"x")) * (FILE_LIMIT + random.randint(-1, 1) - len(text))
 
 
@@ -151,7 +151,7 @@ def foreign_word(random, text, other):
 
 
 def spliced(random, text, other):
-    """The front of one text and the rest of another."""
+    """Returns the front of one text and the rest of another."""
     return text[: random.randint(0, len(text))] + other[random.randint(0, len(other)):]
 
 
@@ -163,7 +163,8 @@ CHANGES = (
 
 
 def changed(random, text, other):
-    """The text with one or several changes; OTHER is a text of the same kind, from which lines and words come."""
+    """Returns the text with one or several changes. OTHER is a text of the same kind, from which lines and words come.
+    """
     for _ in range(random.choice((1, 1, 1, 1, 2, 3, 8))):
         text = random.choice(CHANGES)(random, text, other)[:MOST]
     return long_end(random, text, other) if random.random() < 0.003 else text

@@ -1,4 +1,4 @@
-"""Lawful inputs: the examples, small ones made by chance, and the largest of each kind."""
+"""Lawful inputs: the examples, small random ones, and the largest of each kind."""
 from pathlib import Path
 
 EXAMPLES = Path(__file__).resolve().parent.parent.parent / "examples"
@@ -17,7 +17,7 @@ def examples(name):
 
 
 def division(fields, width, polynomial, register):
-    """A CRC over fields, each a value with its number of bits, most significant bit first."""
+    """Returns a CRC over fields, each a value with its number of bits, most significant bit first."""
     for value, bits in fields:
         for place in reversed(range(bits)):
             top = register >> (width - 1) & 1
@@ -27,7 +27,7 @@ def division(fields, width, polynomial, register):
 
 
 def frame(slot, cycle, payload, channel, is_data=True):
-    """The bytes of a frame that is neither a sync nor a startup frame."""
+    """Returns the bytes of a frame that is neither a sync nor a startup frame."""
     covered = ((0, 2), (slot, 11), (len(payload) // 2, 7))
     fields = ((0, 2), (is_data, 1), *covered, (division(covered, 11, 0x385, 0x01A), 11), (cycle, 6))
     header = 0
@@ -52,8 +52,8 @@ class Buffer:
 
 
 def buffers(random, params, owned, own_cycles):
-    """Some buffers of a node that owns a static slot on both channels in these cycles, and may send early in the
-    dynamic segment."""
+    """Returns some buffers of a node that owns a static slot on both channels in these cycles, and may send early in
+    the dynamic segment."""
     slots, minislots, words = params[:3]
     made = [Buffer(random, "receive", random.randint(1, slots), random.choice(("A", "B", "AB")), words)]
     if owned:
@@ -68,8 +68,10 @@ def buffers(random, params, owned, own_cycles):
 
 
 class Journal:
-    """The lines of a trace, and what the calls on its interface leave of the buffers and the queue. The node owns a
-    slot in every cycle, or divides it with others."""
+    """The lines of a trace, and the state of the buffers and the FIFO after its calls.
+
+    The node owns a slot in every cycle, or divides it with others.
+    """
 
     def __init__(self, random):
         self.random, self.params = random, random.choice(CYCLES)
@@ -161,7 +163,7 @@ def trace(random):
 
 
 class Cluster:
-    """A small cluster, and what its scenarios have to know of it."""
+    """A small cluster, and the facts that its scenarios need."""
 
     def __init__(self, random):
         self.random, self.params = random, random.choice(CYCLES)
@@ -205,7 +207,7 @@ class Cluster:
         place = self.random.randrange(len(made))
         if made[place].kind == "receive":
             return f"read {number} {task} {cycle} {place}"
-        # A buffer is one task's, since of two that commit or withdraw in one cycle either may be the first.
+        # A buffer is one task's: of two that commit or withdraw in one cycle either may be the first.
         if place % tasks != task:
             return None
         if self.random.random() < 0.3:
@@ -236,7 +238,7 @@ class Cluster:
 
 
 def request(random, nodes):
-    """A request of a session with the world of so many nodes. It may be refused."""
+    """Returns a request of a session with the world of so many nodes. It may be refused."""
     node, task, buffer = random.randrange(nodes + 1), random.randrange(2), random.randrange(3)
     payload, channel = f"x{random.randbytes(random.choice((0, 2, 2, 4))).hex()}", random.choice("AB")
     return random.choice((
@@ -250,24 +252,24 @@ def request(random, nodes):
 
 
 def fault_line(random, node, channel):
-    """A fault line for a world of some cycles. It may be refused."""
+    """Returns a fault line for a world of some cycles. It may be refused."""
     where = f"{channel} {random.choice('**0123')} {random.choice(('s*', 's1', 's3', 's4', 'm1', 'm5'))}"
     return random.choice((f"babble {node} {where} x{random.randbytes(9).hex()}", f"mute {node} {where}",
                           f"corrupt {where} {random.randrange(90)}"))
 
 
 def session(random):
-    """Requests to the world of the three nodes of the examples."""
+    """Returns requests to the world of the three nodes of the examples."""
     return "".join(f"{request(random, 3)}\n" for _ in range(random.randint(0, 60))).encode()
 
 
 def write_largest_session(path):
-    """A run of as many cycles as may be, and each node's trace of it."""
+    """Writes a run of as many cycles as possible, and each node's trace of it."""
     path.write_text("run 1024\n" + "".join(f"trace {node}\n" for node in range(16)))
 
 
 def write_largest_trace(path):
-    """The longest lawful trace: each room is full, and each payload and all bytes that were seen are longest."""
+    """Writes the longest lawful trace: each room is full, and each payload and all observed bytes are longest."""
     windows, commits = 32_768, 16_384
     seen, payload = f"x{'00' * 262}", f"x{'00' * 254}"
     with open(path, "w", encoding="ascii") as out:
@@ -279,13 +281,13 @@ def write_largest_trace(path):
 
 
 def write_largest_cluster(path):
-    """A cluster file of as many bytes as may be, the most of them numbers under a key that nobody reads."""
+    """Writes a cluster file of as many bytes as possible, most of them numbers under a key that isn't read."""
     text = f"spare = [{'1,' * 500_000}]\n".encode() + (EXAMPLES / "vehicle/cluster.toml").read_bytes()
     path.write_bytes(text + b"#" * (FILE_LIMIT - len(text)))
 
 
 def write_largest_scenario(path):
-    """A scenario of as many lines as may be for one cycle of the vehicle of the examples."""
+    """Writes a scenario of as many lines as possible for one cycle of the vehicle of the examples."""
     places = [f"{node} {channel} 0 m{it}" for node in range(9) for channel in "AB" for it in range(1, 241)]
     lines = "".join(f"babble {place} x{'00' * 40}\n" for place in places[:4094])
     path.write_text(f"frscenario 1\n{lines}end\n")

@@ -1,4 +1,4 @@
-"""Captures of bytes on a bus: how a record is spelled, and what Debian's `tshark` is to read of it."""
+"""Captures of bytes on a bus: the spelling of a record, and its fields as Debian's `tshark` must read them."""
 import subprocess
 
 FIELDS = ("frame.time_epoch", "frame.len", "flexray.ch", "flexray.fcrc_err", "flexray.hcrc_err", "flexray.fes_err",
@@ -9,7 +9,7 @@ INITIAL = {"A": 0xFEDCBA, "B": 0xABCDEF}
 
 
 def division(bits, width, polynomial, register):
-    """The CRC of bits by the long division of the standard, one bit after another."""
+    """Returns the CRC of bits by the long division of the standard, one bit after another."""
     for bit in bits:
         feedback = bit ^ (register >> (width - 1) & 1)
         register = (register << 1 & ((1 << width) - 1)) ^ (polynomial if feedback else 0)
@@ -29,7 +29,7 @@ def frame_crc(data, channel):
 
 
 def fault_of(data, channel):
-    """Which of the error flags is set: of a frame CRC, of a header CRC, of an end in a wrong place, or none."""
+    """Returns the error flag that is set: of a frame CRC, of a header CRC, of an end in a wrong place, or none."""
     header = int.from_bytes(data[:5], "big")
     if len(data) < 8 or len(data) != 8 + 2 * (header >> 17 & 0x7F):
         return "end"
@@ -39,7 +39,7 @@ def fault_of(data, channel):
 
 
 def wanted(time, channel, data):
-    """What `tshark` is to read of a record."""
+    """Returns the fields of a record that `tshark` must read."""
     fault = fault_of(data, channel)
     captured = data if fault == "end" else data[:-3]
     told = [f"{time // 1_000_000}.{time % 1_000_000:06}000", str(2 + len(captured)), str("AB".index(channel)),
@@ -63,10 +63,10 @@ def read_by_tshark(capture):
 
 
 def alike(got, told):
-    """Of a record without a whole header the fields that it has are compared."""
+    """Returns whether the fields agree. Of a record without a whole header only its own fields are compared."""
     if got[:6] != told[:6]:
         return False
-    # A number may be told in hexadecimal.
+    # `tshark` may print a number in hexadecimal.
     return all(int(word, 0) == int(number) for word, number in zip(got[6:], told[6:]))
 
 
@@ -74,7 +74,7 @@ ERROR_FLAGS = {"": 0, "frame": 0x10, "header": 0x08, "end": 0x04}
 
 
 def record_of(time, channel, data):
-    """The record of bytes that came on a channel at a time in microseconds."""
+    """Returns the record of bytes that came on a channel at a time in microseconds."""
     fault = fault_of(data, channel)
     captured = bytes([0x81 if channel == "B" else 0x01, ERROR_FLAGS[fault]]) + (data if fault == "end" else data[:-3])
     numbers = (time // 1_000_000, time % 1_000_000, len(captured), len(captured))

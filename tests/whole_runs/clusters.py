@@ -25,7 +25,7 @@ class Clusters:
         self.runs.check(f"check where {name}", ["check", self.path], wanted)
 
     def node(self, name, node, wanted):
-        """The same of the small cycle with this one node."""
+        """Does the same for the small cycle with this one node."""
         self.check(name, f"{SMALL_CYCLE}[[node]]\n{node}\n", wanted)
 
     def files(self):
@@ -63,7 +63,7 @@ class Clusters:
             self.node(f"a slot is owned with {cycles}", f'own = [{{slot = 1, channels = "A", {cycles}}}]', bad)
 
     def faults(self):
-        """Faults among the lines of all nodes."""
+        """Checks faults among the lines of all nodes."""
         own, buffer = "own = [{slot = 2,", '  {kind = "receive", slot = 2, channels = "A"},\n'
         self.check("a slot has two owners", self.three.replace(own, 'own = [{slot = 1, channels = "AB"}, {slot = 2,'),
                    refused("Overlap 1 A 0"))
@@ -81,7 +81,7 @@ class Clusters:
         self.node("four words begin at the ninth", f"latest_a = 9\n{late}", SMALL)
 
     def divided(self):
-        """Static slots that nodes divide by cycles."""
+        """Checks static slots that nodes divide by cycles."""
         cluster = (EXAMPLES / "divided-slot/cluster.toml").read_text()
         accepted = (EXAMPLES / "divided-slot/check").read_bytes(), b"", 0
         line = '{slot = 3, channels = "A", base = 0, repetition = 2}'
@@ -116,8 +116,7 @@ class Clusters:
         self.node("lines and buffers overlap", f"{taken}{twice}", refused("Overlap 3 B 0"))
 
     def parameters(self):
-        """Each parameter just below its least value and just above its greatest, and a file that has none of the
-        keys."""
+        """Checks each parameter just below its least value and just above its greatest, and a file without any key."""
         self.check("there is no parameter", "guard = \"A\"\n[params]\n", refused("Params Missing static_slots"))
         self.check("the cycle isn't filled", SMALL_CYCLE.replace("cycle_mt = 120", "cycle_mt = 121"),
                    refused("Params CycleSum"))
@@ -132,7 +131,7 @@ class Clusters:
                            refused(f"Params OutOfRange {key}"))
 
     def kinds(self):
-        """A node with a fault of each kind: one kind after another is told and taken away."""
+        """Checks a node with a fault of each kind: one kind after another is reported and removed."""
         buffers = [
             '{kind = "event", slot = 7, channels = "B", words = 127}',
             '{kind = "event", slot = 6, channels = "A", words = 1}',
@@ -152,8 +151,8 @@ class Clusters:
             self.node(f"one slot is for {one} and {other}", f"buffer = [{halves % one}, {halves % other}]", wanted)
 
     def full_cycle(self):
-        """A cycle of 1,023 static slots that 16 nodes own in turn, and a buffer for the last dynamic slot in the last
-        cycle."""
+        """Checks a cycle of 1,023 static slots that 16 nodes own in turn, and a buffer for the last dynamic slot in the
+        last cycle."""
         slots, length, nodes = 1023, 10, 16
         segment = slots * length
         lines = ["[params]", f"static_slots = {slots}", "minislots = 1100", "static_words = 0",
@@ -178,7 +177,7 @@ class Clusters:
         self.runs.check("plan of a full cycle", ["plan", self.path], (told, b"", 0))
 
     def windows(self):
-        """When the channels are open to a node that owns slots 1 and 2 of three, or slot 3."""
+        """Checks the open windows of guardians for a node that owns slots 1 and 2 of three, or slot 3."""
         first, last = ('own = [{slot = 1, channels = "AB"}, {slot = 2, channels = "AB"}]',
                        'own = [{slot = 3, channels = "A"}]')
         apart = [f"slot {slot} {channel} 0 0 1" for slot in (1, 2) for channel in "AB"]

@@ -1,5 +1,5 @@
-"""Runs of `fr_faults` whole: its words, its statuses, its table, and runs that are broken off or given to
-`parallel`."""
+"""Runs of `fr_faults` whole: its words, its statuses, its table, and runs that are interrupted or given to `parallel`.
+"""
 import os
 import re
 import shutil
@@ -16,10 +16,10 @@ HEADING = "kind\tnode\tchannels\tcycles\tplace\treceiver\tthing\teffect\tamount\
 KILLED_AT = "#!/bin/sh\nfor last; do :; done\nif grep -q 'mute 0 A \\* s1$' \"$last\"; then kill -9 $$; fi\n" \
     "if grep -q 'mute 0 B \\* s1$' \"$last\"; then echo 'refused Memory' >&2; exit 1; fi\n" \
     "if grep -q 'mute 1 A \\* s2$' \"$last\"; then echo nothing; exit; fi\nexec '{}' \"$@\"\n"
-"""A program that is killed by one fault, refuses another, and prints something else by a third."""
+"""A program that is killed by one fault, refuses another, and prints another text for a third."""
 
 NOTING = "#!/bin/sh\necho >>'{}'\n"
-"""A program that notes each time it is run, and prints nothing."""
+"""A program that notes each run, and prints nothing."""
 
 SLOW = "#!/bin/sh\nsleep 0.02\nexec '{}' \"$@\"\n"
 """A program slow enough that its list can be broken off."""
@@ -34,12 +34,12 @@ class Faults:
         self.front = [sys.executable, "-B", TOP / "fr_faults", "--program", runs.program, "--world", world]
 
     def ask(self, *words):
-        """Output, standard error and status."""
+        """Returns output, standard error and status."""
         output, told, status = run([*self.front, *words])
         return output.decode(), told.decode(), status
 
     def whole(self):
-        """A table has a heading, and lines that stand in the order of the list; it doesn't depend on cores."""
+        """Checks that a table has a heading, and lines in the order of the list, whatever the number of cores."""
         table, told, status = self.ask(*THREE_NODES)
         lines = table.splitlines()
         self.runs.compare("the status of a whole list", (status, table[:len(HEADING)]), (0, HEADING))
@@ -76,7 +76,7 @@ class Faults:
         self.runs.compare("one thing that is worse", (told.splitlines()[-2:], status), (wanted, 3))
 
     def earlier_table(self, table):
-        """A table of an earlier version, whose faults are all of one channel, is compared with these."""
+        """Compares a table of an earlier version, whose faults are all of one channel, with these."""
         earlier = self.folder / "earlier"
         lines = [it for it in table.splitlines(True) if "\tAB\t" not in it and "\tidle\t" not in it]
         earlier.write_text("".join(lines).replace("\tchannels\t", "\tchannel\t", 1))
@@ -86,8 +86,10 @@ class Faults:
         self.runs.compare("a table of an earlier version", (told.splitlines()[-2:], status), (wanted, 0))
 
     def guarded(self):
-        """On both channels too no babble in a guarded static slot of another node makes any difference: in the three
-        nodes with guardians on both channels each, in the car those of node 9 and node 5 in some slots."""
+        """Checks that no babble in a guarded static slot of another node makes any difference, on both channels too.
+
+        The three nodes have guardians on both channels each, and the car those of node 9 and node 5 in some slots.
+        """
         both = self.folder / "both.toml"
         text = (EXAMPLES / THREE_NODES[0]).read_text()
         both.write_text(text.replace('guard = "A"', 'guard = "AB"'))
@@ -106,7 +108,7 @@ class Faults:
             self.runs.compare(f"babbles on both channels in {words[0]}", (wanted in told, status), (True, 0))
 
     def refused(self):
-        """What is refused is told once, as the other tool tells it, and nothing is printed."""
+        """Checks that a refusal is reported once, as `fr_lint` reports it, and that nothing is printed."""
         bad = self.folder / "bad"
         text = (EXAMPLES / "three-nodes/scenario").read_text()
         bad.write_text(text.replace("commit 1 0 0 0", "commit 1 0 9 0"))
@@ -122,7 +124,8 @@ class Faults:
             self.runs.compare(f"the words {words}", (output, status), ("", 2))
 
     def absent(self):
-        """Nodes, slots and minislots that the cluster doesn't have are told as cycles are that the run doesn't have."""
+        """Checks that nodes, slots and minislots that the cluster doesn't have are reported like cycles that the run
+        doesn't have."""
         for words, told in ((["--nodes", "9", "--fail-on", "lost"], "cluster has no node 9: its nodes are 0 to 2"),
                             (["--slots", "99"], "cluster has no static slot 99: its static slots are 1 to 3"),
                             (["--slots", "m99"], "cluster has no minislot 99: its minislots are 1 to 4"),
@@ -135,7 +138,8 @@ class Faults:
         self.runs.compare("a place that no fault of the kind has", empty, ("", "", 0))
 
     def outputs(self):
-        """Output that can't be written is told in a line, and who has read enough of it hears nothing."""
+        """Checks that output that can't be written is reported in a line, and that a reader that leaves early gets no
+        message."""
         for words in ([*THREE_NODES, "--kinds", "mute"], [*THREE_NODES, "--list"], ["--help"]):
             with open("/dev/full", "wb") as full:
                 got = run([*self.front, *words], output=full)
@@ -150,7 +154,7 @@ class Faults:
                 self.runs.compare(f"{words} to nobody", run([*self.front, *words], output=pipe), (b"", b"", 0))
 
     def unlike(self):
-        """A program that doesn't answer as the one that is meant is named, and so is one that can't be run."""
+        """Checks that a program with a wrong answer is named, and so is one that can't be run."""
         program, noted = self.folder / "noting", self.folder / "noted"
         program.write_text(NOTING.format(noted))
         program.chmod(0o755)
@@ -172,7 +176,7 @@ class Faults:
         self.runs.compare("no page is left of what is refused", (status, page.exists()), (1, False))
 
     def failing(self, table):
-        """A run that is killed or refused stands in the table as such, and all others as ever."""
+        """Checks that a run that is killed or refused is in the table as such, and that all others are as usual."""
         program = self.folder / "killed"
         program.write_text(KILLED_AT.format(self.runs.program))
         program.chmod(0o755)
@@ -188,12 +192,13 @@ class Faults:
         self.runs.compare("all other runs", [line for line in got.splitlines() if line not in lines], others)
 
     def resumed(self, table):
-        """Broken off after a while, or with a log that ends within a line, it goes on and comes to the same table."""
+        """Checks that an interrupted campaign goes on to the same table, and so does one whose log ends within a line.
+        """
         log, slow = self.folder / "log", self.folder / "slow"
         slow.write_text(SLOW.format(self.runs.program))
         slow.chmod(0o755)
         words = [*THREE_NODES, "--joblog", str(log), "--program", slow]
-        # Who runs this in the background may have the signal ignored, which a child would inherit.
+        # A shell in the background may have the signal ignored, which a child would inherit.
         running = subprocess.Popen([*self.front, *words, "--cores", "1"], cwd=EXAMPLES, stdout=subprocess.PIPE,
                                    stderr=subprocess.PIPE,
                                    preexec_fn=lambda: signal.signal(signal.SIGINT, signal.SIG_DFL))
@@ -215,7 +220,8 @@ class Faults:
         self.runs.compare("a log of another run", self.ask(*other)[::2], ("", 2))
 
     def paged(self, table):
-        """The page stands by itself, and has a cell for each node that may have a fault and each that may be hurt."""
+        """Checks that the page is self-contained, and has a cell for each node that may have a fault and each that may
+        be hurt."""
         page = self.folder / "page.html"
         got = self.ask(*THREE_NODES, "--html", page)
         text = page.read_text()
@@ -229,7 +235,7 @@ class Faults:
         self.runs.compare("the cells of the matrices", cells, (3 + 3 + 5) * 3)
 
     def parallel(self, table):
-        """By GNU parallel on this machine, where it is there."""
+        """Checks runs by GNU parallel on this machine, if it is installed."""
         if shutil.which("parallel"):
             self.runs.compare("the table by parallel", self.ask(*THREE_NODES, "--parallel")[::2], (table, 0))
 

@@ -19,7 +19,7 @@ LATER = 4_000_000_000
 CAUGHT = "#!/bin/sh\ntrap 'echo caught; exit 5' TERM\necho ready\nwhile :; do sleep 0.02; done\n"
 KILLED = "#!/bin/sh\necho ready\nwhile :; do sleep 0.02; done\n"
 READING = "#!/bin/sh\necho $$\nread -r line\necho \"$line\"\nexit 7\n"
-"""A program that names its process, and ends once it has read a line."""
+"""A program that prints its process ID, and ends once it has read a line."""
 SHELLS = ["dash"], ["bash", "--posix"]
 """Shells that systems have as `sh`."""
 NO_KIT = "/usr/bin:/bin"
@@ -67,7 +67,7 @@ class Checkout:
         (self.path / name).chmod(0o755)
 
     def sources(self) -> str:
-        """The digest of all sources, as dist/README.md computes it."""
+        """Returns the digest of all sources, as dist/README.md computes it."""
         command = ("find crates.txt HANDLES crates/*/{src,specs,proofs} -type f -print0 | LC_ALL=C sort -z |"
                    " xargs -0 sha256sum | sha256sum")
         told = subprocess.run(["bash", "-c", command], cwd=self.path, capture_output=True, check=True, text=True).stdout
@@ -87,7 +87,7 @@ class Checkout:
         (folder / "digests").write_text("".join(f"{line}\n" for line in lines))
 
     def call(self, **environment: str) -> tuple[str, str, int]:
-        """What the launcher prints of a call, and its status."""
+        """Returns the launcher's output in a call, and its status."""
         words = [self.path / "fr_bench", "midpoint"]
         ran = subprocess.run(words, capture_output=True, text=True, timeout=SECONDS, stdin=subprocess.DEVNULL,
                              env=os.environ | {"PATH": NO_KIT} | environment)
@@ -117,7 +117,7 @@ class Launchers:
         return Checkout(self.folder / f"{self.count}{name}", program)
 
     def noted(self) -> Checkout:
-        """A repository whose program has been run, so that the next call goes by the note."""
+        """Returns a repository whose program has been run, so that the next call uses the note."""
         made = self.checkout()
         self.runs.compare("a first call", (made.call(), made.note.exists()), (RAN, True))
         return made
@@ -149,7 +149,7 @@ class Launchers:
                           not_run("the sources aren't those that dist/fr_bench was made from"))
 
     def replacing(self) -> None:
-        """With right words the program takes the place of the launcher, at the first call and later."""
+        """Checks that with right words the program replaces the launcher, at the first call and later."""
         made = self.checkout(program="#!/bin/sh\necho $$\n")
         for when in ("first", "second"):
             running = subprocess.Popen([made.path / "fr_bench", "midpoint"], stdin=subprocess.DEVNULL,
@@ -158,7 +158,7 @@ class Launchers:
             self.runs.compare(f"the process of a {when} call", output, f"{running.pid}\n")
 
     def replaced(self) -> None:
-        """Another program in place of the one that is named."""
+        """Checks that another program in place of the one that is named isn't run."""
         wrong = not_run("dist/fr_bench isn't the program that dist/digests names")
         made = self.noted()
         other = made.path / "other"
@@ -180,11 +180,11 @@ class Launchers:
         self.runs.compare("a call with a note from the future", made.call(), wrong)
 
     def forged(self) -> None:
-        """Notes that name another program."""
+        """Checks that notes that name another program aren't used."""
         made = self.noted()
         made.ship(made.path / "elsewhere", WRONG)
         for folder in ("elsewhere", "dist/../elsewhere", "/", "", str(made.path / "elsewhere")):
-            # Written as the launcher writes it, so that all but the folder is right.
+            # The note is spelled as the launcher spells it, so that all but the folder is right.
             words = ["sh", "-c", 'top=. name=fr_bench folder=$1; . tools/identities.sh; identities', "sh", folder]
             told = subprocess.run(words, cwd=made.path, capture_output=True, env={"PATH": NO_KIT}, timeout=SECONDS)
             made.note.write_bytes(told.stdout)
@@ -200,7 +200,7 @@ class Launchers:
             self.runs.compare(f"a call by a link below {name!r}", (ran.stdout, ran.returncode), ("right\n", 0))
 
     def signals(self, words: list[str], is_terminal: bool) -> None:
-        """A signal to the launcher ends the program, which may catch it."""
+        """Checks that a signal to the launcher ends the program, which may catch it."""
         place = f"with {words} {'at a terminal' if is_terminal else 'without a terminal'}"
         for program, number, wanted in ((CAUGHT, signal.SIGTERM, ("caught\n", 5)),
                                         (KILLED, signal.SIGTERM, ("", -signal.SIGTERM)),
@@ -213,7 +213,7 @@ class Launchers:
                               wanted)
 
     def stops(self, words: list[str], is_terminal: bool) -> None:
-        """SIGTSTP and SIGCONT to the launcher, or to all processes as a terminal sends them, reach the program."""
+        """Checks that SIGTSTP and SIGCONT reach the program, from the launcher or by a terminal to all processes."""
         place = f"with {words} {'at a terminal' if is_terminal else 'without a terminal'}"
         made = self.checkout(program=READING)
         for send, whom in ((os.kill, "the launcher"), (os.killpg, "both")):
@@ -222,7 +222,7 @@ class Launchers:
                               ("stopped", "going on", "end\n", 7))
 
     def shell(self, shell: list[str]) -> None:
-        """tools/told in a shell that isn't `sh` here."""
+        """Checks tools/told in a shell that isn't `sh` here."""
         place = f"to tools/told in {' '.join(shell)}"
         made = self.checkout(program=READING)
         told = [*shell, made.path / "tools/told", "fr_bench", made.path / "dist/fr_bench"]
@@ -233,12 +233,12 @@ class Launchers:
 
 
 def state_of(process: int) -> str:
-    """The state of a process, as Linux has it: `T` if it is stopped."""
+    """Returns the state of a process, as Linux has it: `T` if it is stopped."""
     return Path(f"/proc/{process}/stat").read_text().rpartition(")")[2].split()[0]
 
 
 def ticks_of(process: int) -> int:
-    """How long a process has had the processor, in hundredths of a second."""
+    """Returns the processor time of a process, in hundredths of a second."""
     return sum(map(int, Path(f"/proc/{process}/stat").read_text().rpartition(")")[2].split()[11:13]))
 
 
@@ -253,9 +253,9 @@ def wait_until(processes: set[int], *states: str) -> bool:
 
 def stopped_by(made: Checkout, words: list[str | Path], send: Callable[[int, int], None],
                is_terminal: bool) -> tuple[str, str, str, int]:
-    """What SIGTSTP and then SIGCONT do, and how the program ends after that."""
+    """Returns the effects of SIGTSTP and then of SIGCONT, and how the program ends after that."""
     ours, theirs = pty.openpty() if is_terminal else os.pipe()
-    # A session of its own is never stopped by SIGTSTP.
+    # A process group whose parent is in another session is never stopped by SIGTSTP.
     running = subprocess.Popen(words, stdin=subprocess.PIPE, stdout=subprocess.PIPE, stderr=theirs, text=True,
                                process_group=0)
     os.close(theirs)
@@ -280,7 +280,7 @@ def stopped_by(made: Checkout, words: list[str | Path], send: Callable[[int, int
 
 
 def interrupted(words: list[str | Path]) -> tuple[str, int]:
-    """What a program does after SIGINT to all processes, if that was ignored before the launcher was started."""
+    """Returns the effect of SIGINT to all processes, if that was ignored before the launcher was started."""
     with_ignored = ["env", "--ignore-signal=INT", *words]
     with subprocess.Popen(with_ignored, stdin=subprocess.PIPE, stdout=subprocess.PIPE, stderr=subprocess.DEVNULL,
                           text=True, process_group=0) as running:
@@ -291,7 +291,7 @@ def interrupted(words: list[str | Path]) -> tuple[str, int]:
 
 
 def signalled(words: list[str | Path]) -> int:
-    """How the launcher ends if a signal for it and the end of the program come at once."""
+    """Returns how the launcher ends if a signal for it and the end of the program come at once."""
     with subprocess.Popen(words, stdin=subprocess.PIPE, stdout=subprocess.PIPE, stderr=subprocess.DEVNULL, text=True,
                           process_group=0) as running:
         assert running.stdin is not None and running.stdout is not None
@@ -307,7 +307,7 @@ def signalled(words: list[str | Path]) -> int:
 
 
 def ended_by(made: Checkout, words: list[str], number: signal.Signals, is_terminal: bool) -> tuple[str, int]:
-    """What a program still prints after the launcher got a signal, and how the launcher ended."""
+    """Returns the program's output after a signal to the launcher, and how the launcher ended."""
     ours, theirs = pty.openpty() if is_terminal else os.pipe()
     running = subprocess.Popen([made.path / "fr_bench", *words], stdin=subprocess.DEVNULL, stdout=subprocess.PIPE,
                                stderr=theirs, text=True, start_new_session=True)

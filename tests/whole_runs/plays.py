@@ -18,9 +18,12 @@ ANSWERS = """0 0 0 commit 0 x0a0b = 0
 1 0 3 read 1 = 2 1 A x0c0d
 2 0 3 commit 0 x7003 = 44
 """
-"""Of the three-node cluster's scenario. A cycle has three static slots and four minislots, so a journal has 14 entries
-of it, and one for each line before. Node 2 sends in slot 4, and its first frame is the oldest in node 0's queue; node
-0's frame of slot 1 in cycle 2 is the last that node 1 has before cycle 3."""
+"""The reads and pops of the three-node cluster's scenario.
+
+A cycle has three static slots and four minislots, so a journal has 14 entries of it, and one for each line before. Node
+2 sends in slot 4, and its first frame is the oldest in node 0's FIFO. Node 0's frame of slot 1 in cycle 2 is the last
+that node 1 has before cycle 3.
+"""
 
 COMMITS = """0 0 0 0 0 x0a0b = sent 0 1 A alone 1:b1 0 1 B collided -
 0 0 1 2 29 x0c0d = sent 2 1 A alone 1:b1 2 1 B collided -
@@ -31,9 +34,11 @@ COMMITS = """0 0 0 0 0 x0a0b = sent 0 1 A alone 1:b1 0 1 B collided -
 2 0 1 1 15 x7002 = sent 1 4 A alone 0:queue
 2 0 0 3 44 x7003 = sent 3 4 A alone 0:queue
 """
-"""What became of them: node 2 babbles in each static slot, where the guardians of A stop it and on B, without
-guardians, it collides. Node 1's buffer is a state buffer and sends its last commit in each cycle; the others send
-once."""
+"""The fates of its commits.
+
+Node 2 babbles in each static slot, where the guardians of A stop it and on B, without guardians, it collides. Node 1's
+buffer is a state buffer and sends its last commit in each cycle; the others send once.
+"""
 
 RECORD = """0 0 - 1 A 0 offer passed alone 1 --s- x30010236000a0b18f7d3 -
 0 0 - 1 B 0 offer passed collided 1 --s- x30010236000a0b3e7702 -
@@ -48,12 +53,17 @@ RECORD = """0 0 - 1 A 0 offer passed alone 1 --s- x30010236000a0b18f7d3 -
 3 0 1 4 A 2 offer passed alone 4 ---- x200402cec070012cca22 -
 7 1 - 1 A 0 offer passed alone 1 -ns- x100102360100006a9aa8 -
 """
-"""What the bus had in the first cycle, and in the second up to node 0's null frame. The lines 11 and 12 of the scenario
-babble, and no other line is a fault."""
+"""The record of the first cycle, and of the second up to node 0's null frame.
+
+The lines 11 and 12 of the scenario babble, and no other line is a fault.
+"""
 
 HEARD = [(0, "A", "30010236000a0b18f7d3"), (20, "A", "200203c140111155f463"), (40, "B", "00"),
          (60, "A", "200402cec070012cca22"), (90, "A", "100102360100006a9aa8")]
-"""What a listener hears of that: what passed alone, when its window began. A slot has 20 macroticks, a cycle 90."""
+"""The transmissions that a listener hears: those that passed alone, each when its window began.
+
+A slot has 20 macroticks, a cycle 90.
+"""
 
 CELLS = [
     "data n0 blocked: cycle 0, slot 1, window 0: data; node 0 sent x30010236000a0b18f7d3; node 2 babbled x00, blocked",
@@ -63,7 +73,7 @@ CELLS = [
     *(f"silence: cycle 0, slot {slot}, window {slot - 1}: silence" for slot in (5, 6, 7)),
     "null n0 blocked: cycle 1, slot 1, window 7: null; node 0 sent x100102360100006a9aa8; node 2 babbled x00, blocked",
 ]
-"""The cells of that in a matrix of channel A."""
+"""The cells of these windows in a matrix of channel A."""
 
 LOOKS = {
     ("--channel", "B"): ["collision n0", "collision n1", "broken n2"],
@@ -113,12 +123,14 @@ TOLD = """0 0 0 pop = -
 1 1 2 read 1 = -
 1 1 2 read 2 = 1 1 B x0404
 """
-"""Its answers, by node, task and line within a cycle. The withdraw takes back the commit that has overwritten those
-before it, so slot 1 has no frame in cycle 0; in cycle 1 it has one on B alone, since what node 0 offers on A is
-lost."""
+"""The answers, by node, task and line within a cycle.
+
+The withdraw takes back the commit that has overwritten those before it, so slot 1 has no frame in cycle 0. In cycle 1
+it has one on B alone, since node 0's offer on A is lost.
+"""
 
 TURNED = "frscenario 1\ncommit 0 0 0 0 x0a0b\ncorrupt A 0 s1 80\ncorrupt B 0 s1 79\ncorrupt A 0 s3 0\nend\n"
-"""A frame of ten bytes has no bit 80, and nobody sends in slot 3, so one of these bits is turned."""
+"""A frame of ten bytes has no bit 80, and slot 3 has no sender, so one of these bits is flipped."""
 
 FAULTS = """frscenario 2
 pop 0 1 2
@@ -140,16 +152,19 @@ ORIGINS = ["0 0 - 1 A 0 offer 4", "0 0 - 1 A - corrupt 5", "0 0 - 1 B - corrupt 
 """The lines of its record that come from a fault, up to the seventh word, and the number of the scenario's line."""
 
 IDLE = "".join(f"line {number} struck nothing\n" for number in (3, 5, 8, 9, 12)).encode()
-"""Its lines that struck nothing: node 2 offers nothing in slot 1; what node 0 offers there on A is lost, so no bit of
-it is turned; its frame on B, as that of node 1 in slot 2, has 10 bytes, so bit 79 is its last one; in slot 3 nobody
-sends; and in slot 2 on A node 1 sends twice, in its own slot."""
+"""Its lines without effect.
+
+Node 2 offers nothing in slot 1. Node 0's offer there on A is lost, so no bit of it is flipped. Its frame on B has 10
+bytes, as that of node 1 in slot 2, so bit 79 is its last one. Slot 3 has no sender, and in slot 2 on A node 1 sends
+twice, in its own slot.
+"""
 
 REFUSALS = {
     "commit 0 2 0 0 x0a0b": "BadScript 2", "mute 0 A 4 s1": "BadFault 2", "babble 2 A 0 s1 x01": "BadFault 2",
     "read 3 0 0 0": "BadScript 6", "commit 0 0 1 0 x0a": "BadLine 13", "corrupt A * m5 1": "BadFault 2",
     "commit 0 0 4 0 x0a0b": "BadScript 0", "pop 1 0 3": "BadScript 2",
 }
-"""Lines for which the scenario is refused, or the run with it, as `fr_bench run` refuses it."""
+"""Lines for which the scenario is refused, or the run with it, as by `fr_bench run`."""
 
 COMMANDS = [["outcome"], ["answers"], ["commits"], ["record"], ["bus"], ["matrix"], ["trace", "0"]]
 
@@ -178,7 +193,7 @@ class Plays:
                 self.runs.check(f"matrix of {name}", ["matrix", *words], (picture.read_bytes(), b"", 0))
 
     def audited(self, name, words, outcome):
-        """The audit of each node's trace is the node's report."""
+        """Checks that the audit of each node's trace is the node's report."""
         for node, block in enumerate(outcome.removesuffix("settled\n").split("node ")[1:]):
             report = "".join(line for line in block.splitlines(True)[1:] if not line.startswith("windows "))
             trace, errors, status = run([self.runs.program, "trace", str(node), *words])
@@ -196,7 +211,7 @@ class Plays:
         self.runs.check("answers of no line", ["answers", *words], (b"", b"", 0))
 
     def lines(self):
-        """What became of commits, and what the bus carried."""
+        """Checks the fates of commits, and the transmissions on the bus."""
         self.runs.check_once(f"commits, {WRITTEN}", ["commits", *THREE_NODES], (COMMITS.encode(), b"", 0))
         told, errors, status = run([self.runs.program, "record", *THREE_NODES])
         front = told.decode().splitlines(True)[:RECORD.count("\n")]
@@ -212,7 +227,7 @@ class Plays:
                               (self.reported(outcome.read_text()), 0))
 
     def strikes(self):
-        """Which lines of a scenario the faults of a record come from, and which struck nothing, by each command."""
+        """Checks the scenario lines of the faults of a record, and the lines without effect, by each command."""
         words = self.given((EXAMPLES / "three-nodes/cluster.toml").read_text(), FAULTS)
         for command in COMMANDS:
             _, errors, status = run([self.runs.program, *command, *words])
@@ -224,7 +239,7 @@ class Plays:
 
     @staticmethod
     def counted(told):
-        """For each node and buffer that has commits: how many, and how many were sent, overwritten, pending,
+        """Returns for each node and buffer that has commits: how many, and how many were sent, overwritten, pending,
         withdrawn."""
         counts = {}
         for line in told.splitlines():
@@ -235,7 +250,7 @@ class Plays:
 
     @staticmethod
     def reported(outcome):
-        """The same by the reports."""
+        """Returns the same by the reports."""
         counts, node = {}, None
         for line in map(str.split, outcome.splitlines()):
             if line[0] == "node":

@@ -33,14 +33,14 @@ class NoRun(Exception):
 
 
 class Preloaded:
-    """The program, and the library: what SOURCE puts in the place of functions of the C library."""
+    """The program, and the library: the functions of SOURCE replace those of the C library."""
 
     def __init__(self, program, source, folder, built_by="tools/build"):
         self.program, self.source, self.folder, self.built_by = program, source, Path(folder), built_by
         self.library = self.folder / "preloaded.so"
 
     def make(self):
-        """Whether there is a compiler, with which the library is made."""
+        """Makes the library, and returns whether there is a compiler."""
         compiler = shutil.which("cc") or shutil.which("clang") or shutil.which("gcc")
         if compiler is None:
             return False
@@ -51,7 +51,7 @@ class Preloaded:
         return True
 
     def run(self, command, kind=None, number=0, **more):
-        """What the command answers where its N-th call of this kind is met, and whether it came so far."""
+        """Returns the command's answer where its N-th call of this kind fails, and whether it came so far."""
         words, given = command
         mark = self.folder / "-".join([kind or "whole", str(number), Path(words[0]).name, *more])
         added = {"LD_PRELOAD": str(self.library), "MARK_OF_THE_CALL": str(mark), **more}
@@ -75,7 +75,7 @@ def trace():
 
 
 def commands():
-    """Each command of fr_bench with an example, as its words and what it is given."""
+    """Returns each command of fr_bench with an example, as its words and its standard input."""
     return {
         "audit": (["audit"], trace()),
         "check": (["check", CLUSTER], b""),
@@ -86,7 +86,7 @@ def commands():
 
 
 def views():
-    """The same of fr_view."""
+    """Returns the same for fr_view."""
     run = [CLUSTER, str(FOLDER / "scenario"), "--cycles", "4"]
     return {
         "schedule": (["schedule", CLUSTER], b""),
@@ -105,14 +105,17 @@ def views():
 
 
 def sessions():
-    """The same of fr_world: a request of each kind that takes memory."""
+    """Returns the same for fr_world: a request of each kind that takes memory."""
     asked = ["commit 0 0 0 x0a0b", "window", "window", "babble 2 A x00", "mute 1 A * s*", "window", "run 2", "now",
              "report 1", "trace 0", "record 1"]
     return {"session": ([CLUSTER, "--cycles", "4"], "".join(f"{line}\n" for line in asked).encode())}
 
 
 def replies(output):
-    """The replies of a session, each with the lines of its block. None where the first line or a reply isn't whole."""
+    """Returns the replies of a session, each with the lines of its block.
+
+    Returns None where the first line or a reply isn't whole.
+    """
     lines = output.decode().split("\n")
     if lines[:1] != ["frworld 1"] or lines.pop() != "":
         return None

@@ -1,4 +1,4 @@
-"""Runs of the second program that say why a trace is refused, and that show what was seen up to there."""
+"""Runs of `fr_view why` on refused traces, and of the views of a trace up to its fault."""
 import os
 
 from .runner import EXAMPLES, USAGE, WRITTEN, Folder, refused
@@ -7,7 +7,7 @@ from .views import COLUMNS, record
 
 SEEN = [(record(20, 0x01, 0, "200203c1400a0b"), "20 0 2 A valid - 2 ---- b0 x0a0b"),
         (record(110, 0x01, 0, "000203c1410000"), "110 1 2 A valid - 2 -n-- - x0000")]
-"""What the receive-buffer trace shows: a record, and a line of the table, for its two windows."""
+"""The views of the receive-buffer trace: a record, and a line of the table, for its two windows."""
 
 RECEIVED = [
     # A byte of the payload is another, so its CRC is wrong and the buffer stays empty.
@@ -69,11 +69,11 @@ COMMITTED = [
     (5, "queue 0 1 3 AB 0 1", "BadLine 5", "queue 0 1 3 AB 0 1", "reason Line Form", 0),
     (5, "rx 1 A 0 1\n" * 65 + "begin", "BadLine 69", "rx 1 A 0 1", "reason Line Full", 0),
 ]
-"""The same of the three-commits trace."""
+"""The same for the three-commits trace."""
 
 
 def told(refusal, number, text, reason, windows):
-    """What `why` writes of a refused trace."""
+    """Returns the output of `why` for a refused trace."""
     lines = [f"refused {refusal}", f"line {number} {text}".rstrip(" "), reason, f"lines {number - 1}",
              f"windows {windows}"]
     return "".join(f"{line}\n" for line in lines if line).encode(), b"", 1
@@ -137,7 +137,7 @@ class Reasons:
                                 given=text)
 
     def shown(self, name, given, count, refusal):
-        """What is shown of the first sightings, in both forms."""
+        """Returns the views of the first observations, in both forms."""
         errors = f"refused {refusal}\n".encode() if refusal else b""
         table = COLUMNS + "".join(f"{line}\n" for _, line in SEEN[:count])
         capture = FILE_HEADER + b"".join(told for told, _ in SEEN[:count])

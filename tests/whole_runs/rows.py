@@ -1,4 +1,7 @@
-"""Worked rows of the bus, the world and withdraws, as sessions: each event with its reply, and what is seen and kept.
+"""Worked rows of the bus, the world and withdraws, as sessions: each event with its reply, the observations and the
+frames kept.
+
+The expected values were worked out by hand from the rules, and stood in tests of single calls before.
 
 The expected values were worked out by hand from the rules, and stood in tests of single calls before.
 """
@@ -60,13 +63,13 @@ WITHDRAWN = [
     ("cycle", "open 7 1 0 1 1"), ("look 0", "window 7 1 0 1 1"), ("fetch 0", "done"), ("withdraw 0 0 0", "withdrawn -"),
     ("window", "open 8 1 0 2 2"),
 ]
-"""A withdrawn commit is never sent, and what was handed over isn't taken back."""
+"""A withdrawn commit is never sent, and a frame that was handed to the bus isn't taken back."""
 
 SENT = [
     ("commit 0 0 0 x0001", "committed 0"), ("window", "open 1 0 0 2 2"), ("withdraw 0 0 0", "withdrawn -"),
     ("cycle", "open 7 1 0 1 1"), ("window", "open 8 1 0 2 2"),
 ]
-"""A state commit that was sent stands."""
+"""A state commit that was sent stays."""
 
 LEFT_EMPTY = [
     ("commit 0 0 0 x0001", "committed 0"), ("window", "open 1 0 0 2 2"), ("withdraw 0 0 0", "withdrawn -"),
@@ -98,7 +101,7 @@ BABBLED = "x20010346809999e937d0"
 
 
 def sent(*transmissions):
-    """The lines of the record of the window of slot 2."""
+    """Returns the lines of the record of the window of slot 2."""
     return ["window 1 0 0 2 2", *transmissions]
 
 
@@ -109,7 +112,7 @@ class Rows:
         self.runs, self.folder = runs, folder
 
     def check(self, name, cluster, cycles, asked, seen=(), kept=()):
-        """The requests are answered so, the nodes saw this in the last window, and their traces have these lines."""
+        """Checks the replies, the nodes' observations in the last window, and lines of their traces."""
         path = self.folder / "row.toml"
         path.write_text(cluster)
         talk = Talk(self.runs.program, path, cycles)
@@ -140,7 +143,8 @@ class Rows:
         self.check("withdraws are refused as commits are", EVENT_MODE, 2, WITHDRAWS_REFUSED)
 
     def sights(self):
-        """What each node sees where one babbles, loses an offer, has bits turned or overruns its slot."""
+        """Checks the observations of each node where one babbles, loses an offer, has bits flipped or overruns its
+        slot."""
         offers = [f"sent 1 A offer passed {DATA_A}", f"sent 1 B offer passed {DATA_B}"]
         babbles = ["sent 2 A babble blocked x00", "sent 2 B babble passed x00"]
         record = ("record 1", sent(*offers, *babbles))
@@ -164,7 +168,7 @@ class Rows:
             self.check("the last minislots and a seventeenth byte", SMALL, 1, asked, [(look, "-")])
 
     def windows(self):
-        """How long transmissions move the windows, and a run's cycles."""
+        """Checks how long transmissions move the windows, and a run's cycles."""
         to_minislots = [("window", "open 1 0 0 2 2"), ("window", "open 2 0 0 3 3"), ("window", "open 3 0 1 4 4")]
         asked = [*to_minislots, ("babble 1 A x" + "00" * 8, "done"), ("window", "open 4 0 2 - 5"),
                  ("babble 0 A x01", "done"), ("window", "open 5 0 3 5 6"),
@@ -185,7 +189,8 @@ class Rows:
         self.check("a run goes through its cycles and ends", THREE_NODES, 66, [*asked, ("window", "over"), *ended])
 
     def faults(self):
-        """What comes of faults in a guarded slot: what node 1 holds of each channel, its counters, and the commit."""
+        """Checks the effects of faults in a guarded slot: node 1's frames of each channel, its counters, and the
+        commit."""
         muted = [("mute 0 A", "done"), (f"babble 0 A {BABBLED}", "done")]
         word, none = "frame 0 1 --s- x0a0b", "frame -"
         rows = [

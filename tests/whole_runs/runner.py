@@ -1,4 +1,4 @@
-"""Runs of the built program, and what they are compared with."""
+"""Runs of the built program, and their comparison."""
 import os
 import socket
 import subprocess
@@ -11,14 +11,14 @@ WRITTEN = "written at once"
 
 
 def need(*programs):
-    """Ends the script where one of the programs isn't there."""
+    """Ends the script if one of the programs isn't there."""
     for program in programs:
         if not os.access(program, os.X_OK):
             sys.exit(f"{program} isn't there: tools/build builds it, and --shipped takes the one of dist/")
 
 
 def run(words, given=b"", output=subprocess.PIPE, closed=()):
-    """What the program answers to words and input: its output, its standard error and its status."""
+    """Returns the program's answer to words and input: its output, its standard error and its status."""
     how = {"stdin": given} if hasattr(given, "fileno") else {"input": given}
     if closed:
         how["preexec_fn"] = lambda: [os.close(number) for number in closed]
@@ -50,7 +50,7 @@ class Folder:
 
 
 class Runs:
-    """The runs so far: how many were as wanted, and how many weren't."""
+    """The numbers of passed and failed runs so far."""
 
     def __init__(self, program):
         self.program, self.passed, self.failed = program, 0, 0
@@ -70,7 +70,10 @@ class Runs:
         self.compare(name, got, wanted)
 
     def check_once(self, name, words, wanted, given=b""):
-        """The same, and that the whole output came by one write. Each write to this socket is a message of its own."""
+        """Compares the same, and checks that the whole output came by one write.
+
+        Each write to this socket is a message of its own.
+        """
         ours, theirs = socket.socketpair(socket.AF_UNIX, socket.SOCK_SEQPACKET)
         ours.settimeout(SECONDS)
         with ours, theirs:

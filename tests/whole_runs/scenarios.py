@@ -11,7 +11,7 @@ ADDED = {
     "babble 2 A 3 s2 x": "BadFault 2", "babble 2 A * m1 x00": "settled", "babble 1 A * s* x00": "settled",
     "corrupt A 0 s4 1": "BadFault 2", "corrupt B 3 m4 1": "settled", "corrupt A 0 m1 65535": "settled",
 }
-"""What comes of a run of the three nodes whose scenario has this line beside the others."""
+"""The results of a run of the three nodes whose scenario has this line beside the others."""
 
 
 class Scenarios:
@@ -91,7 +91,7 @@ class Scenes:
         self.runs.check(name, words, wanted)
 
     def told(self, name, lines, cluster=None, scenario=None):
-        """That a run is done, and that these are the lines of these nodes, beside others."""
+        """Checks that a run is done, and that these are the lines of these nodes, beside others."""
         words = self.words(cluster or self.cluster, scenario or self.scenario)
         self.compare_lines(name, words, lines, lambda told, line: told == line)
 
@@ -99,7 +99,7 @@ class Scenes:
         return self.cluster.replace('guard = "A"', f'guard = "{channels}"')
 
     def outcome_with(self, name, lines, cluster=None, scenario=None):
-        """That a run has the example's outcome, but for these lines of these nodes."""
+        """Checks that a run has the example's outcome, but for these lines of these nodes."""
         parts = self.outcome.split("node ")
         for node, line in lines:
             front = line[:4] if line[1] != " " else line[:2]
@@ -108,7 +108,7 @@ class Scenes:
         self.check(name, ("node ".join(parts).encode(), b"", 0), cluster, scenario)
 
     def compare_lines(self, name, words, lines, are_same):
-        """That the run is done, and that each of these lines is the same as one that its node has."""
+        """Checks that the run is done, and that each of these lines is the same as one that its node has."""
         got, errors, status = run([self.runs.program, *words])
         nodes = dict(enumerate(part.splitlines()[1:] for part in got.decode().split("node ")[1:]))
         missing = [(node, line) for node, line in lines
@@ -156,7 +156,7 @@ def scenes(runs, folder):
 
 
 def babbles(scenes):
-    """Babble everywhere, on a guarded channel and on one that isn't. Each outcome is compared whole."""
+    """Checks babbles everywhere, on a guarded channel and on one that isn't. Each outcome is compared whole."""
     b = [(0, "B 4 0 0 0 0"), (1, "B 4 0 0 0 0"), (2, "B 8 0 0 0 0")]
     quiet = [(1, "rx 2 31:B x0c0d"), *b]
     scenes.outcome_with("run without babble", quiet, scenario=scenes.quiet)
@@ -175,7 +175,8 @@ def babbles(scenes):
 
 
 def faulty_nodes(scenes, both, quiet):
-    """Runs that differ by what node 2 commits, babbles and loses. The others see the same in guarded static slots."""
+    """Checks runs that differ in node 2's commits, babbles and losses. The others see the same in guarded static slots.
+    """
     others = scenes.quiet.replace("x7001", "xffff").replace("x7002", "x0000").replace("x7003", "x1234")
     places = {"A 0 s1": "20010346800a0b34ae92", "A 1 s*": "00" * 262, "A 2 s2": "", "A 3 s*": "ff", "B * s*": "aa55"}
     babble = [f"babble 2 {place} x{sent}" for place, sent in places.items()]
@@ -186,7 +187,7 @@ def faulty_nodes(scenes, both, quiet):
         for line in faults:
             scenario = scenes.with_line(line, scenario)
         scenes.outcome_with(f"run where node 2 commits otherwise and {name}", quiet, cluster=both, scenario=scenario)
-    # In the dynamic segment nobody is held back: a lost frame and babble show in the counters, and in no static slot.
+    # Nothing is guarded in the dynamic segment: a lost frame and babble show in the counters, and in no static slot.
     dynamic = scenario
     places = ("mute 2 A 0 m1", "babble 2 A 1 m1 x00", "babble 2 B 2 m3 x00", "mute 2 A 3 m1", "babble 2 A 3 m1 x00")
     for line in places:
@@ -197,7 +198,8 @@ def faulty_nodes(scenes, both, quiet):
 
 
 def withdraws(scenes):
-    """Commits taken back: one before its slot, one that was sent already, one in the same cycle, and one too late."""
+    """Checks withdrawn commits: one before its slot, one that was sent already, one in the same cycle, and one too
+    late."""
     scenes.check("run of the same scenario in version 2", (scenes.outcome.encode(), b"", 0),
                  scenario=scenes.scenario.replace("frscenario 1", "frscenario 2"))
     lines = ["commit 0 0 0 0 x0a0b", "withdraw 0 0 0 0", "commit 0 1 2 0 x0c0d", "pop 0 1 2", "withdraw 0 1 3 0",
@@ -216,7 +218,7 @@ def withdraws(scenes):
 
 
 def faults(scenes):
-    """One commit of node 0 in slot 1, and one fault in its window."""
+    """Checks one commit of node 0 in slot 1, and one fault in its window."""
     muted = scenes.with_line("mute 0 A 0 s1", scenes.one_commit)
     scenes.told("run with a muted owner", [(0, "tx 0 1 1 0 0 0"), (1, "rx 1 - -"), (1, "rx 2 1:B x0a0b")],
                 scenario=muted)
@@ -231,8 +233,11 @@ def faults(scenes):
 
 
 def divided(scenes):
-    """Slot 3 on A is node 0's in even cycles and node 1's in odd ones. What node 1 babbles there passes in the odd ones
-    alone."""
+    """Checks a divided slot.
+
+    Slot 3 on A is node 0's in even cycles and node 1's in odd ones. A babble of node 1 there passes in the odd ones
+    alone.
+    """
     cluster = (EXAMPLES / "divided-slot/cluster.toml").read_text()
     lines = [(0, "A 7 2 0 0 0"), (1, "A 9 0 0 0 2"), (2, "A 10 2 0 0 0")]
     scenario = scenes.with_line("babble 1 A * s3 x00", scenes.quiet)
@@ -240,7 +245,7 @@ def divided(scenes):
 
 
 def long_runs(scenes):
-    """Cycles of a run go on after 63: lines and faults of cycle 65 come in it, and those of cycle 0 not in cycle 64."""
+    """Checks cycles after 63: lines and faults of cycle 65 come in it, and those of cycle 0 not in cycle 64."""
     scenario = "frscenario 1\ncommit 0 0 65 0 x0a0b\ncorrupt A 0 s1 40\ncorrupt A 65 s2 40\nmute 0 B 65 s1\nend\n"
     lines = [(0, "tx 0 1 1 0 0 0"), (0, "A 65 1 0 0 0"), (0, "B 66 0 0 0 0"), (1, "rx 1 911:A x0a0b"), (1, "rx 2 - -"),
              (1, "A 65 1 0 0 0"), (1, "B 65 0 0 0 0"), (2, "A 130 2 0 0 0"), (2, "B 131 0 0 0 0"), (2, "windows 462")]
@@ -255,7 +260,7 @@ def long_runs(scenes):
 
 
 def free_runs(scenes):
-    """Counts that no order of the tasks changes."""
+    """Checks counts that don't depend on the order of the tasks."""
     lines = [(0, "tx 0 2 "), (1, "tx 0 2 "), (2, "tx 0 3 "), (2, "A 8 0 0 0 0"), (2, "windows 28"), (2, "settled")]
     for _ in range(3):
         words = [*scenes.words(scenes.cluster, scenes.scenario), "--free"]

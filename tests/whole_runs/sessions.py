@@ -128,14 +128,14 @@ def text_of(lines):
 
 
 def strikes(cycles, place, cycle, minislot, slot):
-    """Whether a fault line of a scenario comes in a window."""
+    """Returns whether a fault line of a scenario comes in a window."""
     if cycles not in ("*", str(cycle)):
         return False
     return place == (f"m{minislot}" if minislot != "0" else f"s{slot}") or place == "s*" and minislot == "0"
 
 
 class Talk:
-    """A session on two pipes, to which each request is given once the reply to the one before has come."""
+    """A session on two pipes, to which each request is given after the reply to the one before."""
 
     def __init__(self, program, cluster, cycles):
         pipes = {"stdin": subprocess.PIPE, "stdout": subprocess.PIPE, "stderr": subprocess.PIPE}
@@ -143,7 +143,7 @@ class Talk:
         self.held = b""
 
     def line(self):
-        """The next line that is written."""
+        """Returns the next line of output."""
         while b"\n" not in self.held:
             ready, _, _ = select.select([self.ran.stdout], [], [], SECONDS)
             more = self.ran.stdout.read(65536) if ready else b""
@@ -154,7 +154,7 @@ class Talk:
         return line.decode()
 
     def ask(self, request):
-        """The reply to a request; that of a block is its lines."""
+        """Returns the reply to a request. That of a block is its lines."""
         self.ran.stdin.write(f"{request}\n".encode())
         reply = self.line()
         if not reply.startswith("lines "):
@@ -162,13 +162,13 @@ class Talk:
         return [self.line() for _ in range(int(reply.split(" ")[1]))]
 
     def close(self, rest=b""):
-        """Ends the input after some last bytes, and gives what came then."""
+        """Ends the input after some last bytes, and returns the output until the end."""
         output, errors = self.ran.communicate(rest, timeout=SECONDS)
         return self.held + output, errors, self.ran.returncode
 
 
 def some_fault_lines(count):
-    """Fault lines of the three nodes that may stand beside one another."""
+    """Yields fault lines of the three nodes that don't clash."""
     places = ("s1", "s2", "s3", "m1", "m2", "m3", "m4")
     lines = itertools.product(("mute", "babble"), range(3), "AB", range(1024), places)
     for kind, node, channel, cycle, place in itertools.islice(lines, count):
@@ -184,7 +184,7 @@ class Sessions:
         self.small.write_text(SMALL)
 
     def check(self, name, cluster, cycles, asked, rest=b"", status=0):
-        """All requests at once are answered so, and each reply is one write."""
+        """Checks that all requests at once get these replies, and that each reply is one write."""
         given = text_of(request for request, _ in asked).encode() + rest
         wanted = [GREETING] + [f"{reply}\n" for _, reply in asked]
         ours, theirs = socket.socketpair(socket.AF_UNIX, socket.SOCK_SEQPACKET)
@@ -216,7 +216,8 @@ class Sessions:
         self.check("a run that is over", THREE_NODES, 2, over)
 
     def many_fault_lines(self):
-        """Each fault line costs the same, however many are kept, and is still compared with all of them."""
+        """Checks that each fault line costs the same time, however many are kept, and is still compared with all of
+        them."""
         seconds = {}
         for count in (4_000, 64_000):
             lines = list(some_fault_lines(count))
@@ -229,12 +230,13 @@ class Sessions:
             seconds[count] = after.ru_utime + after.ru_stime - before.ru_utime - before.ru_stime
             is_answered = output == (GREETING + text_of(replies)).encode()
             self.runs.compare(f"{count} fault lines", (is_answered, errors, status), (True, b"", 0))
-        # Sixteen times the lines. With each line compared with all others one by one it is 250 times the time.
+        # Sixteen times the lines. If each line were compared with all others one by one, it would be 250 times the
+        # time.
         times = seconds[64_000] / max(seconds[4_000], 0.005)
         self.runs.compare(f"64,000 fault lines in {times:.0f} times the time of 4,000", times < 60, True)
 
     def recorded(self):
-        """A window of the record has each transmission with what became of it."""
+        """Checks that a window of the record has each transmission with its fate."""
         asked = [("commit 0 0 0 x0a0b", "committed 0"), ("window", "open 1 0 0 2 2"), ("babble 1 A x00", "done"),
                  ("corrupt B 7", "done"), ("window", "open 2 1 0 1 1")]
         lines = ["window 1 0 0 2 2", f"sent 0 A offer passed {DATA_A}", f"sent 0 B offer passed {DATA_B}",
@@ -252,7 +254,7 @@ class Sessions:
         self.runs.compare("all bytes", got, (b"frworld 1\nrefused BadLine 1\nopen 0 0 0 1 1\n", b"", 0))
 
     def examples(self):
-        """What a scenario's run comes to, it comes to by requests."""
+        """Checks that requests give the outcome of a scenario's run."""
         for folder in sorted(path for path in EXAMPLES.iterdir() if (path / "scenario").exists()):
             for outcome in folder.glob("outcome-of-*-cycles"):
                 cycles = int(outcome.name.split("-")[2])
@@ -264,7 +266,7 @@ class Sessions:
                     self.runs.compare(f"a session of {folder.name} with {strike.__name__}", got, outcome.read_text())
 
     def outcome(self, folder, cycles, strike):
-        """The outcome of a stepped run, by a session that does the scenario's lines and faults."""
+        """Returns the outcome of a lockstep run, by a session that does the scenario's lines and faults."""
         lines = [line.split(" ") for line in (folder / "scenario").read_text().splitlines()[1:-1]]
         nodes = (folder / "cluster.toml").read_text().count("[[node]]")
         talk = Talk(self.runs.program, folder / "cluster.toml", cycles)
@@ -292,14 +294,14 @@ class Sessions:
         return "".join(reports) + f"windows {windows}\nsettled\n"
 
     def keep(self, talk, lines, cycle, opened):
-        """Gives the fault lines in the first window, as they are."""
+        """Gives the fault lines in the first window, unchanged."""
         if cycle == 0 and opened == "open 0 0 0 1 1":
             for line in lines:
                 if line[0] in ("babble", "mute", "corrupt"):
                     talk.ask(" ".join(line))
 
     def strike(self, talk, lines, cycle, opened):
-        """Brings the faults that come in the open window, one by one."""
+        """Injects the faults that come in the open window, one by one."""
         minislot, slot = opened.split(" ")[3:5]
         for kind, *words in lines:
             if kind == "corrupt" and strikes(words[1], words[2], cycle, minislot, slot):
@@ -308,7 +310,8 @@ class Sessions:
                 talk.ask(" ".join([kind, *words[:2], *words[4:]]))
 
     def talks(self):
-        """Each reply comes before the next request is given, and one who dies in a line has said nothing by it."""
+        """Checks that each reply comes before the next request is given, and that a partial last line isn't a request.
+        """
         for rest in (b"", b"commit 0 0 0 x0c0d", b"now\nrun 1"):
             talk = Talk(self.runs.program, THREE_NODES, 1)
             try:

@@ -8,10 +8,13 @@ from .runner import EXAMPLES, SECONDS, Runs
 
 LOOPS = 2
 MOST_SHARES = 2
-"""The most fair shares that a run may take. With two loops on its core a share is three times what it takes alone. A run
-that looks on without sleeping takes some 70 shares."""
+"""The most fair shares that a run may take.
+
+With two loops on its core a share is three times its time alone. A run that waits without sleeping takes some 70
+shares.
+"""
 TRIES = 4
-"""How many runs beside the loops may be too slow, since other work of the machine slows single runs."""
+"""The number of runs beside the loops that may be too slow, since other work of the machine slows single runs."""
 
 
 def on_core(core: int, words: list[str | Path]) -> "subprocess.Popen[bytes]":
@@ -30,7 +33,7 @@ def seconds_of(core: int, words: list[str | Path]) -> float:
 
 
 def beside_loops(runs: Runs) -> None:
-    """The car's threads sleep while other processes have the core, and don't look on."""
+    """Checks that the car's threads sleep while other processes have the core."""
     core = max(os.sched_getaffinity(0))
     words = [runs.program, "run", "vehicle/cluster.toml", "vehicle/scenario", "--cycles", "54"]
     alone = min(seconds_of(core, words) for _ in range(3))

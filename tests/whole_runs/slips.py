@@ -69,8 +69,10 @@ SLIPS: list[tuple[str, Words, str]] = [
     ("fr_world", (CLUSTER, "-cycles", "4"), "did you mean --cycles?"),
     ("fr_world", (CLUSTER, "--cycles", "0"), "from 1 to 1024, not 0"),
 ]
-"""A program, words that it answers with `usage`, and what names the slip. Under these, the usage of the command must
-stand."""
+"""A program, words that it answers with `usage`, and the text that names the slip.
+
+The usage of the command must follow.
+"""
 
 UNREAD: list[tuple[str, Words, str]] = [
     ("fr_bench", ("check", "missing.toml"), "no such file: missing.toml"),
@@ -86,7 +88,7 @@ UNREAD: list[tuple[str, Words, str]] = [
     ("fr_view", ("schedule", "missing.toml"), "no such file: missing.toml"),
     ("fr_world", ("missing.toml", "--cycles", "4"), "no such file: missing.toml"),
 ]
-"""The same of words that are right, with a file that can't be read: the whole second line."""
+"""The same for right words, with a file that can't be read: the whole second line."""
 
 ALONE: list[tuple[str, Words, str]] = [
     ("fr_bench", ("check", SCENARIO), "refused Toml"),
@@ -95,7 +97,7 @@ ALONE: list[tuple[str, Words, str]] = [
     ("fr_view", ("trace", "9", *RUN), "refused UnknownNode"),
     ("fr_bench", ("audit",), "refused BadMagic"),
 ]
-"""Refusals that the words don't explain: the program's line stands alone."""
+"""Refusals that the words don't explain: the program's line is alone."""
 
 POOL = ["a", "4", "0", "1024", "1025", "04", "--cycles", "--cycles=4", "--cycles=", "--free", "--free=1", "--channel",
         "A", "--channel=B", "C", "--node=3", "--node", "16", "--from", "--cycle=5", "--cycle", "--own", "--all",
@@ -158,7 +160,7 @@ class Slips:
             self.runs.compare(f"the refusal of {program} {words}", self.call(program, words), ("", f"{wanted}\n", 1))
 
     def streams(self) -> None:
-        """The status and standard input, whatever reads standard error."""
+        """Checks the status and standard input, for each reader of standard error."""
         for words, status in ((("check", "missing"), 1), (("chek",), 2)):
             reading, writing = os.pipe()
             os.close(reading)
@@ -215,7 +217,7 @@ class Slips:
                               (f"{tool} {version}", "", 0))
 
     def agreement(self) -> None:
-        """Words have a slip exactly if the program ends with status 2."""
+        """Checks that words have a slip exactly if the program ends with status 2."""
         drawn = random.Random(1)
         for _ in range(150):
             program = drawn.choice(sorted(self.programs))

@@ -15,7 +15,7 @@ PAUSE = 0.002
 
 
 def pipe() -> tuple[int, int]:
-    """A small pipe, whose ends don't block."""
+    """Returns a small pipe, whose ends don't block."""
     ends = os.pipe()
     for end in ends:
         fcntl.fcntl(end, fcntl.F_SETPIPE_SZ, SMALL)
@@ -24,7 +24,7 @@ def pipe() -> tuple[int, int]:
 
 
 def slowly_read(words: list[str | Path], given: bytes) -> tuple[bytes, bytes, int]:
-    """What a program writes to a pipe that is full most of the time, its standard error and its status."""
+    """Returns a program's output to a pipe that is full most of the time, its standard error and its status."""
     ours, theirs = pipe()
     with subprocess.Popen(words, stdin=subprocess.PIPE, stdout=theirs, stderr=subprocess.PIPE, cwd=EXAMPLES) as running:
         os.close(theirs)
@@ -42,7 +42,7 @@ def slowly_read(words: list[str | Path], given: bytes) -> tuple[bytes, bytes, in
 
 
 def slowly_written(words: list[str | Path], given: bytes) -> tuple[bytes, bytes, int]:
-    """What a program answers to input that comes in two parts, by a pipe that is empty at first."""
+    """Returns a program's answer to input that comes in two parts, by a pipe that is empty at first."""
     theirs, ours = pipe()
     with subprocess.Popen(words, stdin=theirs, stdout=subprocess.PIPE, stderr=subprocess.PIPE, cwd=EXAMPLES) as running:
         os.close(theirs)
@@ -57,7 +57,7 @@ def slowly_written(words: list[str | Path], given: bytes) -> tuple[bytes, bytes,
 
 
 def without_blocking(runs: Runs, programs: dict[str, Path]) -> None:
-    """Each program writes all that it writes otherwise, and reads all that it reads otherwise."""
+    """Checks that each program writes and reads all its bytes as usual."""
     three = ["three-nodes/cluster.toml", "three-nodes/scenario", "--cycles", "4"]
     trace = (EXAMPLES / "receive-buffer/trace").read_bytes()
     session = b"cycle\n" + b"report 0\ntrace 1\n" * 200
@@ -81,5 +81,5 @@ def without_blocking(runs: Runs, programs: dict[str, Path]) -> None:
 
 
 def short(output: bytes, error: bytes, status: int) -> tuple[int, str, bytes, int]:
-    """An answer with its output in short, since that may be long."""
+    """Returns an answer with a short form of its output, since that may be long."""
     return len(output), hashlib.sha256(output).hexdigest(), error, status

@@ -52,7 +52,7 @@ MARKED_B = "x200203c1400001f4b3d4"
 
 
 def window(number, a, b, offered="- -"):
-    """The window of slot 2 in the cycle of this number, with what was seen there."""
+    """Returns the window of slot 2 in the cycle of this number, with the observations."""
     return [f"fetch {number} {number} 0 2 2 {offered}", f"see {number} {a} {b}"]
 
 
@@ -71,7 +71,7 @@ class Traces:
         self.runs.check(f"audit where {name}", ["audit"], wanted, given=given)
 
     def changed(self, lines, place, line, error):
-        """The trace with this line in the place of another, counted from 1."""
+        """Returns the trace with this line in the place of another, counted from 1."""
         self.check(f"line {place} is {line!r}", [*lines[:place - 1], line, *lines[place:]], refused(f"{error} {place}"))
 
     def reports(self):
@@ -144,7 +144,7 @@ class Traces:
             self.told(f"commits are withdrawn in {mode} mode", plan, entries, report, version=2)
 
     def divided(self):
-        """A slot that nodes divide by cycles, and the form of an ownership line in each version."""
+        """Checks a slot that nodes divide by cycles, and the form of an ownership line in each version."""
         lines = (EXAMPLES / "divided-slot/trace").read_text().splitlines()
         for version in (1, 2):
             self.check(f"an ownership line has cycles in version {version}", [f"frtrace {version}", *lines[1:]],
@@ -174,12 +174,12 @@ class Traces:
                   version=3)
 
     def told(self, name, plan, entries, report, params=ONE_WORD, version=1):
-        """That a trace of this plan is legal, and that its report has these lines."""
+        """Checks that a trace of this plan is legal, and that its report has these lines."""
         lines = [f"frtrace {version}", params, *plan, "begin", *entries, "end"]
         self.check(name, lines, ("".join(f"{line}\n" for line in report).encode(), b"", 0))
 
     def refused_at_last(self, name, plan, entries):
-        """That the last of the entries is a call that is refused."""
+        """Checks that the last of the entries is a call that is refused."""
         lines = ["frtrace 1", ONE_WORD, *plan, "begin", *entries]
         self.check(name, [*lines, "end"], refused(f"Refused {len(lines)}"))
 
@@ -229,7 +229,7 @@ class Traces:
             self.told(f"a transmission begins at minislot 5 of {latest}", plan, entries, report, TEN_MINISLOTS)
 
     def calls(self):
-        """Calls that are refused."""
+        """Checks calls that are refused."""
         sender = ["node 1 0 0 2 8", "own 2 AB 0 0", "tx event 2 AB 0 1 - 0"]
         commit = "commit 0 0 x0001"
         for line in ("commit 1 0 x0001", "commit 0 1 x0001", "commit 0 0 x00010002", "read 0 0 -", "pop 0 -"):
@@ -251,7 +251,8 @@ class Traces:
             self.refused_at_last(f"where {name}", ["node 1 0 0 8 8"], entries)
 
     def full_journals(self):
-        """Two commits fill the room for the host. Windows go on to the end of theirs, and no host call is taken."""
+        """Checks that two commits fill the room for the host, after which windows go on to the end of theirs without
+        host calls."""
         plan = ["node 1 0 0 2 6", "own 2 A 0 0", "tx event 2 A 0 1 - 0", "rx 1 AB 0 1", "queue 1 3 3 AB 0 1"]
         commits = ["commit 0 0 x0001", "commit 0 0 x0002"]
         windows = [*window(0, "own", DATA_B, "1 -"), *window(1, "conflict", "-", "null -")]
@@ -267,7 +268,7 @@ class Traces:
         self.refused_at_last("a fourth window has no room", plan, [*commits, *windows, "fetch 3 3 0 2 2 null -"])
 
     def ends(self):
-        """Traces that are cut, and bytes after the end."""
+        """Checks truncated traces, and bytes after the end."""
         for lines, error in ((["frtrace 1"], "Truncated"), ([], "BadMagic"), (["frtrace 2"], "Truncated"),
                              (["frtrace 3"], "Truncated"), (["frtrace 4"], "BadMagic"),
                              ([*self.frames, "x"], f"BadLine {len(self.frames) + 1}")):
@@ -284,7 +285,7 @@ class Traces:
                                 given=given.encode())
 
     def forms(self):
-        """Lines in a form that is none, each in the place of a lawful one."""
+        """Checks wrong forms of lines, each in the place of a lawful one."""
         forms = {
             2: ["params 3 4 1 20 5 0 10 90 0", "params 3 4 1 20 5 0 10 90 0 5 5",
                 "params 3 4 1 20 5 0 10 90 0 4294967296", "params 3 4 1 20 5 0 10 90 0 05"],

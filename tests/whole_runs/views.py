@@ -20,7 +20,7 @@ DATA_A, DATA_B = "200203c1400a0ba32217", "200203c1400a0b85a2c6"
 
 
 def record(time, mark, flags, data):
-    """A record by the format: seconds, microseconds, two lengths, the measurement header, and the bytes."""
+    """Returns a record by the format: seconds, microseconds, two lengths, the measurement header, and the bytes."""
     data = bytes([mark, flags]) + bytes.fromhex(data)
     return struct.pack("<IIII", time // 1_000_000, time % 1_000_000, len(data), len(data)) + data
 
@@ -31,7 +31,7 @@ WORKED = {
         (record(20, 0x01, 0, DATA_A[:-6]), "20 0 2 A valid - 2 ---- - x0a0b"),
         (record(20, 0x81, 0, DATA_B[:-6]), "20 0 2 B valid - 2 ---- - x0a0b"),
     ],
-    # A frame of channel A on B has another frame CRC, and one with a turned bit in its ID another header CRC.
+    # A frame of channel A on B has another frame CRC, and one with a flipped bit in its ID another header CRC.
     f"fetch 0 1 0 2 2 - -\nsee 0 x200303c1400a0ba32217 x{DATA_A}\n": [
         (record(110, 0x01, 0x08, "200303c1400a0b"), "110 1 2 A syntax header - - - x200303c1400a0ba32217"),
         (record(110, 0x81, 0x10, DATA_A[:-6]), f"110 1 2 B syntax frame - - - x{DATA_A}"),
@@ -43,8 +43,8 @@ WORKED = {
         # The window isn't later in its round, so it is of the next: 64 cycles of 90 macroticks later.
         (record(64 * 90 + 20, 0x01, 0, "200303bc000a0b"), "5780 0 2 A content - 3 ---- - x0a0b"),
     ],
-    # A minislot, in a channel with a slot and in one without; a null frame of another cycle; nothing of what has no
-    # bytes.
+    # A minislot, in a channel with a slot and in one without; a null frame of another cycle; nothing for an observation
+    # without bytes.
     "fetch 0 63 3 5 - - -\nsee 0 x x00\nfetch 9 1 0 2 2 - -\nsee 9 x000203c1410000d14f6c noise\n": [
         (record(63 * 90 + 70, 0x01, 0x04, ""), "5740 63 5 A syntax short - - - x"),
         (record(63 * 90 + 70, 0x81, 0x04, "00"), "5740 63 - B - short - - - x00"),
@@ -53,7 +53,7 @@ WORKED = {
     "": [],
     "fetch 0 0 0 2 2 - -\nsee 0 - conflict\nfetch 1 0 0 3 3 - -\n": [],
 }
-"""Entries, with the record and the line of each sighting."""
+"""Entries, with the record and the line of each observation."""
 
 TAKEN = f"""frtrace 1
 params 3 4 1 20 5 0 10 90 0 5
@@ -77,13 +77,13 @@ TAKERS = """20 0 2 A valid - 2 ---- b0,b1 x0a0b
 5780 0 2 B valid - 2 ---- b0,b2 x0a0b
 5850 1 1 A syntax short - - - x
 """
-"""A buffer for both channels takes what came on A, and what came on B where nothing did on A; the queue gets nothing
-that a receive buffer is for."""
+"""A buffer for both channels stores the frame on A, and the one on B if there is none on A. The FIFO gets nothing that
+a receive buffer is for."""
 
 OWN = {
     # A null frame in cycle 0, and the data of commit 6 in cycle 1.
     "withdrawn-commits": [record(0, 0x01, 0, "0001034680 0000"), record(90, 0x01, 0, "2001034681 0003")],
-    # What the node sent stands between what came from others, A before B; where it saw a conflict there is no record.
+    # The node's own frames are between those of others, A before B. A conflict that it saw has no record.
     "several-buffers": [
         record(0, 0x01, 0, "30010515c0 00000002"), record(0, 0x81, 0, "30010515c0 00000002"),
         record(20, 0x01, 0, "200204e280 20a00001"), record(20, 0x81, 0, "200204e280 20b00001"),
@@ -145,7 +145,8 @@ class Views:
                             (picture.read_bytes(), b"", 0))
 
     def owners(self):
-        """The owners that a picture names are the lines `slot` of the plan for its cycle, in their order."""
+        """Checks that the owners that a picture names are the lines `slot` of the plan for its cycle, in their order.
+        """
         for cluster in sorted(EXAMPLES.glob("*/cluster.toml")):
             plan = [line.split() for line in cluster.with_name("plan").read_text().splitlines()]
             owned, opened = ([line for line in plan if line[0] == kind] for kind in ("slot", "guard"))
@@ -161,7 +162,7 @@ class Views:
                 self.runs.compare(f"open intervals of {cluster.parent.name} in cycle {cycle}", got_open, wanted_open)
 
     def titles(self, words, kind):
-        """The titles of a picture's elements of a kind; each element has one."""
+        """Returns the titles of a picture's elements of a kind; each element has one."""
         text, errors, status = run([self.runs.program, *words])
         if errors or status:
             return [f"status {status}, {errors}"]
