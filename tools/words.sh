@@ -1,11 +1,11 @@
-# For tools/launch, tools/launch_anew and tools/told, in a plain shell: what is wrong with the words of a call, as
-# far as they show it. It starts no other program, but for words that aren't ASCII, so that it takes next to no time.
+# For tools/launch, tools/launch_anew and tools/told, in a plain shell: slips in the words of a call. It starts another
+# program only for words that aren't ASCII, so that it takes next to no time.
 #
-# The programs decide. What is found here is printed only after a program has failed, and only where it is the cause.
-# tests/commands holds it to the programs.
+# The programs decide. A slip is printed only after a program has failed, and only if it is the cause. tests/commands
+# compares the slips with the programs.
 
-# Runs the program $1 with the words after it. Where these look wrong, or on a terminal, tools/told runs it, which
-# stays and explains a failure. Otherwise no further process stays.
+# Runs the program $1 with the words after it. If these look wrong, or on a terminal, tools/told runs it, stays, and
+# explains a failure. Otherwise no other process stays.
 start() {
     program=$1
     shift
@@ -17,15 +17,15 @@ start() {
     exec "$program" "$@"
 }
 
-# Tells whether the words can't be right, or name a file that can't be read.
+# Succeeds if the words can't be right, or name an unreadable file.
 has_slip() {
     read_words "$@"
     find_unread
     [ -n "$slip$unread" ]
 }
 
-# Sets what the command $1 of the program $name reads: its `places` in order, its `options` with a value, its `flags`
-# without one, and its standard `input`, where that is a file. Fails where it has no such command.
+# Sets the arguments of the command $1 of the program $name: its `places` in order, its `options` with a value, its
+# `flags` without one, and its standard `input`, if that is a file. Fails if there is no such command.
 find_command() {
     places=
     options=
@@ -47,7 +47,7 @@ find_command() {
     esac
 }
 
-# Sets `range` to what the argument $1 may be, and tells whether $2 is that.
+# Sets `range` to the allowed values of the argument $1, and succeeds if $2 is one of them.
 is_in_range() {
     case $1 in
     --cycles) least=1 most=1024 ;;
@@ -72,8 +72,8 @@ is_in_range() {
     [ "$2" -ge "$least" ] && [ "$2" -le "$most" ]
 }
 
-# Sets `slip` to the first thing that is wrong with the words, or to nothing. Of a misspelt word it sets `misspelt` too,
-# and `known` to the words that there are. Of right words it sets `file` and `scenario` to the files that they name.
+# Sets `slip` to the first fault of the words, or to nothing. For a misspelt word it also sets `misspelt`, and `known` to
+# the words to choose from. For right words it sets `file` and `scenario` to the files that they name.
 read_words() {
     forget_words
     if ! is_ascii "$*" && ! is_utf8 "$*"; then
@@ -130,7 +130,7 @@ read_arguments() {
     [ -n "$slip" ] || find_missing
 }
 
-# Reads the option $1, and the word $2 if it is its value. Sets `taken` to the number of words that these are.
+# Reads the option $1, and the word $2 if it is its value. Sets `taken` to the number of words read.
 read_option() {
     taken=1
     option=${1%%=*}
@@ -195,7 +195,7 @@ read_place() {
     surplus=${surplus:-$1}
 }
 
-# Finds what the words lack or have too much, and a node whose place has another word.
+# Finds missing and surplus words, and a node whose place has another word.
 find_missing() {
     if [ -n "$has_surplus" ]; then
         find_surplus
@@ -233,7 +233,7 @@ find_surplus() {
     [ -n "$places" ] || slip="$slip; $command reads $input on standard input: < $surplus"
 }
 
-# Sets `unread` to the file of the words that can't be read, and why, or to nothing; and `unread_as` to its argument.
+# Sets `unread` to the unreadable file of the words and the reason, or to nothing, and `unread_as` to its argument.
 find_unread() {
     unread=
     unread_as=
@@ -263,7 +263,7 @@ try_file() {
     fi
 }
 
-# Says why a file isn't there: mostly because it isn't, and else because of a link, or a folder on the way to it.
+# Prints why a file can't be found: it doesn't exist, or a link or a folder on its path is at fault.
 find_gap() {
     unread="no such file: $1"
     if [ -L "$1" ]; then
@@ -291,6 +291,6 @@ is_ascii() {
 
 is_utf8() {
     printf '%s' "$1" | iconv -f UTF-8 -t UTF-8 >/dev/null 2>&1
-    # Without iconv this can't be told.
+    # Without iconv an unreadable name isn't recognised.
     [ $? -ne 1 ]
 }

@@ -1,8 +1,8 @@
 """Starts programs for fuzz/hostile, and stays small itself.
 
-The system tells a child's greatest resident size as no less than that of the process that started it. So programs are
-started from here: a line on standard input is the JSON object {"words": [..], "given": FILE, "output": FILE, "error":
-FILE, "limit": SECONDS}, and the line that comes back {"status": N, "size": KIB, "seconds": S}. A status of null says
+The system never reports a child's greatest resident size below that of the process that started it. So programs are
+started from here. A line on standard input is the JSON object {"words": [..], "given": FILE, "output": FILE, "error":
+FILE, "limit": SECONDS}, and the line that comes back {"status": N, "size": KIB, "seconds": S}. A status of null means
 that the program didn't end in time.
 """
 import json

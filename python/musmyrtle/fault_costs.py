@@ -44,8 +44,7 @@ class Difference:
     """`rx B`, `tx B`, `queue` for the receive FIFO, the channel of the counters, or `-` where there is no outcome."""
     effect: str
     amount: int
-    """Cycles for `older` and `newer`, frames of a FIFO, commits of a transmit buffer, counts of a channel, otherwise 1.
-    """
+    """Cycles for `older` and `newer`, frames of a FIFO, commits of a transmit buffer, counts of a channel, or 1."""
     without: str
     having: str
 

@@ -101,8 +101,7 @@ class Selection:
         return kind in self.kinds and is_node and (self.places is None or place in self.places)
 
     def missing(self, cluster: Cluster) -> str | None:
-        """Returns the first named node, static slot or minislot that the cluster doesn't have, and those that it has.
-        """
+        """Returns the first named node, static slot or minislot that doesn't exist, and those that do."""
         parameters = cluster.parameters
         for what, named, known in (("node", self.nodes or (), range(len(cluster.nodes))),
                                    ("static slot", self.numbers("s"), range(1, parameters.static_slots + 1)),
@@ -275,8 +274,7 @@ class Listing:
         return lines
 
     def forged_at(self, node: Node, channels: str, minislot: int) -> Iterator[tuple[str, list[str]]]:
-        """Yields a line for each cycle and channel in which a slot is open at the minislot in the run with the fault.
-        """
+        """Yields a line for each cycle and channel with an open slot at the minislot in the run with the fault."""
         place = f"m{minislot}"
         free = frozenset((cycle, channel) for cycle in self.each_cycle() for channel in channels
                          if self.free(f"babble {node.number} {channel}", cycle, place, NOISE))

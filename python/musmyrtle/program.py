@@ -30,8 +30,7 @@ class Answer:
     status: int
     refusal: str | None
     is_named: bool = True
-    """True for a refusal by a line `refused NAME`. Otherwise the program failed, and the refusal is its whole message.
-    """
+    """True for a refusal by a line `refused NAME`. Otherwise the program failed, and the refusal has its message."""
 
     @property
     def is_one(self) -> bool:

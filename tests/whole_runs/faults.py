@@ -1,5 +1,4 @@
-"""Runs of `fr_faults` whole: its words, its statuses, its table, and runs that are interrupted or given to `parallel`.
-"""
+"""Runs of `fr_faults` whole: its words, its statuses, its table, and runs that are interrupted or go to `parallel`."""
 import os
 import re
 import shutil
@@ -192,8 +191,7 @@ class Faults:
         self.runs.compare("all other runs", [line for line in got.splitlines() if line not in lines], others)
 
     def resumed(self, table):
-        """Checks that an interrupted campaign goes on to the same table, and so does one whose log ends within a line.
-        """
+        """Checks that an interrupted campaign ends with the same table, also if its log ends within a line."""
         log, slow = self.folder / "log", self.folder / "slow"
         slow.write_text(SLOW.format(self.runs.program))
         slow.chmod(0o755)

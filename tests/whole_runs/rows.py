@@ -2,8 +2,6 @@
 frames kept.
 
 The expected values were worked out by hand from the rules, and stood in tests of single calls before.
-
-The expected values were worked out by hand from the rules, and stood in tests of single calls before.
 """
 from .cycles import ONE_WORD, SMALL_CYCLE
 from .sessions import DATA_A, DATA_B, Talk

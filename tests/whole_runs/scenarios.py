@@ -175,8 +175,7 @@ def babbles(scenes):
 
 
 def faulty_nodes(scenes, both, quiet):
-    """Checks runs that differ in node 2's commits, babbles and losses. The others see the same in guarded static slots.
-    """
+    """Checks that others see the same in guarded static slots, whatever node 2 commits, babbles and loses."""
     others = scenes.quiet.replace("x7001", "xffff").replace("x7002", "x0000").replace("x7003", "x1234")
     places = {"A 0 s1": "20010346800a0b34ae92", "A 1 s*": "00" * 262, "A 2 s2": "", "A 3 s*": "ff", "B * s*": "aa55"}
     babble = [f"babble 2 {place} x{sent}" for place, sent in places.items()]

@@ -310,8 +310,7 @@ class Sessions:
                 talk.ask(" ".join([kind, *words[:2], *words[4:]]))
 
     def talks(self):
-        """Checks that each reply comes before the next request is given, and that a partial last line isn't a request.
-        """
+        """Checks that each reply comes before the next request, and that a partial last line isn't a request."""
         for rest in (b"", b"commit 0 0 0 x0c0d", b"now\nrun 1"):
             talk = Talk(self.runs.program, THREE_NODES, 1)
             try:

@@ -145,8 +145,7 @@ class Views:
                             (picture.read_bytes(), b"", 0))
 
     def owners(self):
-        """Checks that the owners that a picture names are the lines `slot` of the plan for its cycle, in their order.
-        """
+        """Checks that a picture names the owners of the plan's lines `slot` for its cycle, in their order."""
         for cluster in sorted(EXAMPLES.glob("*/cluster.toml")):
             plan = [line.split() for line in cluster.with_name("plan").read_text().splitlines()]
             owned, opened = ([line for line in plan if line[0] == kind] for kind in ("slot", "guard"))
