@@ -291,6 +291,6 @@ is_ascii() {
 
 is_utf8() {
     printf '%s' "$1" | iconv -f UTF-8 -t UTF-8 >/dev/null 2>&1
-    # Without iconv an unreadable name isn't recognised.
+    # Without iconv each text counts as UTF-8.
     [ $? -ne 1 ]
 }

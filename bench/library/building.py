@@ -9,14 +9,13 @@ TOP = Path(__file__).resolve().parent.parent.parent
 
 
 def build(name, source, libraries, program):
-    """Proves and builds the program as a crate of this name in a copy of the repository, and puts it where `program`
-    says.
+    """Proves and builds the program as a crate of this name in a copy of the repository, and puts it into `program`.
 
-    `libraries` are the crates, and the kit's libraries, that the source names. All crates below are proved with it, but
-    for what `rt check` kept of them on this machine: `rt run` takes nothing of what `rt ci` kept. From nothing that
-    takes long, and it is said so.
+    `libraries` are the crates, and the kit's libraries, that the source names. All crates below are proved with it,
+    unless `rt check` kept their proofs on this machine: `rt run` uses no proofs that `rt ci` kept. Without kept proofs
+    that takes long, and a message is printed.
     """
-    print(f"proves and builds {name} and all below it, which takes long from nothing", file=sys.stderr, flush=True)
+    print(f"proves and builds {name} and all crates below it, which takes long without kept proofs", file=sys.stderr, flush=True)
     with tempfile.TemporaryDirectory() as folder:
         copy = Path(folder)
         shutil.copytree(TOP / "crates", copy / "crates", ignore=shutil.ignore_patterns("out", "must-fail"))
