@@ -1,4 +1,4 @@
-"""The numbers and payloads that a request can name. What is out of range is refused before anything is sent."""
+"""The numbers and payloads that a request can name. Values out of range are refused before anything is sent."""
 import operator
 from collections.abc import Callable
 from typing import SupportsIndex

@@ -114,7 +114,7 @@ def lasting(task: Task) -> Iterator[Task]:
 def lasting_file(name: str, copies: ExitStack) -> str:
     """Returns a name under which a file can be read again.
 
-    That is the file behind a name such as `/dev/stdin`, which is another one for the program, or a copy of a pipe's
+    It is the file behind a name such as `/dev/stdin`, which is another one for the program, or a copy of a pipe's
     content.
     """
     behind = os.path.realpath(name)

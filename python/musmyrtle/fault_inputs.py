@@ -73,7 +73,7 @@ def copied(given: argparse.Namespace, folder: Path) -> tuple[Task, dict[str, byt
 def is_of_inputs(answer: Asked, found: Lint) -> bool:
     """Returns whether the inputs are refused, by the program or by the readers here.
 
-    Where the program reports unreadable or truncated inputs, this counts only if the same is found here.
+    If the program reports unreadable or truncated inputs, this counts only if the same is found here.
     """
     if answer.status == 0:
         return bool(found.refusals)

@@ -1,4 +1,4 @@
-"""What a machine is sent for its runs, and how their answers are checked.
+"""The files that a machine gets for its runs, and the check of their answers.
 
 A machine gets the program, the cluster file, the scenario, all lines of the faults in one file, a list of the runs, and
 a script. A job is some of these runs, one after another. It compares the digest of all that it was given with the one

@@ -1,6 +1,6 @@
 """The single faults that a network can have: each node lost or babbling, each frame disturbed, on one channel or both.
 
-A fault is some fault lines beside those of a scenario. Where the scenario has a fault of the same kind in a window
+A fault is some fault lines beside those of a scenario. If the scenario has a fault of the same kind in a window
 already, the window is left out, since it takes one of a kind; a fault that has no window left isn't listed.
 """
 from collections.abc import Collection, Iterable, Iterator
@@ -194,7 +194,7 @@ class Listing:
     def losses(self, kind: str, node: Node, channels: str) -> Iterator[tuple[str, list[str]]]:
         """Yields all that the node sends on the channels.
 
-        Where it sends nothing there, it is idle and there is no line.
+        If it sends nothing there, it is idle and there is no line.
         """
         if not self.selection.wants(kind, [node.number], ALL):
             return

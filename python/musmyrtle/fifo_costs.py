@@ -9,9 +9,9 @@ Frame = tuple[int, int, str, str]
 def fifo_effects(before: Fifo, after: Fifo) -> Iterator[tuple[str, int]]:
     """Yields each effect with its number of frames, the costs first. BEFORE is the FIFO without the fault.
 
-    What counts is which frames the host got or can still get, whichever channel they came by. Where the FIFO overwrites
-    frames without any fault, a frame that nobody popped there is lost only if it never came with the fault, and a frame
-    is another one only if it never came without it: which of these frames are overwritten is chance.
+    The frames that the host got or can still get count, whichever channel they came by. If the FIFO overwrites frames
+    without any fault, the choice of the overwritten ones is random. Then a frame that no task popped is lost only if it
+    never came with the fault, and a frame is another one only if it never came without it.
     """
     one, other = by_frame(before.kept), by_frame(after.kept)
     came = by_frame(before.stored if before.overwritten else before.kept)

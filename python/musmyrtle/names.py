@@ -18,7 +18,7 @@ class UnknownName(KeyError):
 
 
 class Names:
-    """The numbers of nodes and of their buffers, by name. Where two have one name, the first one counts.
+    """The numbers of nodes and of their buffers, by name. If two have one name, the first one counts.
 
     `wrong` describes the first key `name` that isn't a string, or is None.
     """

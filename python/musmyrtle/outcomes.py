@@ -63,8 +63,8 @@ Known = dict[tuple[int, str], NodeOutcome]
 def read_outcome(text: str, cluster: Cluster, known: Known | None = None) -> Outcome:
     """Returns the outcome of a run of this cluster. Raises `BadOutcome` for a text that is none.
 
-    Where many outcomes are read, most of their lines are the same: lines of a node that are KNOWN aren't read again,
-    and others are known from then on.
+    In many outcomes most lines are the same. So lines of a node that are KNOWN aren't read again, and others are known
+    from then on.
     """
     lines = Lines(text)
     nodes = tuple(known_node(lines, node, known) if known is not None else read_node(lines, node)

@@ -4,7 +4,7 @@
 class SessionOver(RuntimeError):
     """The session is over, and no further request can be asked. The message has the reason.
 
-    That is the program's message on standard error, such as `refused Write`, its end, or the reason why a reply
+    The reason is the program's message on standard error, such as `refused Write`, its end, or the reason why a reply
     couldn't be read to its end.
     """
 

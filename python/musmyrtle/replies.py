@@ -26,8 +26,8 @@ class Frame:
 class Window:
     """A transmission opportunity, the same for all nodes: a static slot, or a minislot at which a channel opens a slot.
 
-    `number` counts the windows of the run from 0, `cycle` is 0 to 63, `minislot` is 0 in the static segment and counts
-    from 1 in the dynamic one, and `a` and `b` are the slots that the channels open, if any.
+    `number` counts the windows of the run from 0, and `cycle` is 0 to 63. `minislot` is 0 in the static segment and
+    counts from 1 in the dynamic one. `a` and `b` are the slots that the channels open, if any.
     """
 
     number: int

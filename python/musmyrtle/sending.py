@@ -10,7 +10,7 @@ from musmyrtle.texts import Text
 def first_minislot(cluster: Cluster, slot: int) -> int:
     """Returns the first minislot at which a dynamic slot can open.
 
-    That is where it opens if nothing was sent in the minislots before.
+    It opens there if nothing was sent in the minislots before.
     """
     return slot - cluster.parameters.static_slots
 

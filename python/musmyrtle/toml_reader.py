@@ -33,7 +33,7 @@ class Reader:
     def __init__(self, text: str):
         self.text, self.at = text, 0
         self.known: dict[str, object] = {}
-        """The values of words without quotes. Where a text has very many words, most of them are the same."""
+        """The values of words without quotes. In a text with very many words most of them are the same."""
 
     def document(self) -> Table:
         """Returns the table of the whole text. Raises `NoToml` at the first place where it isn't TOML."""

@@ -25,7 +25,7 @@ BODIES = {
     '"': re.compile(r'((?:[^"\\\x00-\x08\x0a-\x1f\x7f]++|\\[^\x00-\x1f\x7f])*)'),
     "'": re.compile(r"([^'\x00-\x08\x0a-\x1f\x7f]*+)"),
 }
-"""What may stand in a string of one line, by its quotes."""
+"""The characters of a string of one line, by its quotes."""
 LONG_BODIES = {
     '"""':
         r'(?:\r?\n)?((?:[^"\\\x00-\x08\x0b-\x1f\x7f]++|\r\n|\\(?:\r\n|[^\x00-\x08\x0b-\x1f\x7f])|"{1,2}(?!"))*)',

@@ -120,7 +120,7 @@ class World:
     def node(self, number: int) -> Node:
         """Returns the node of this number, 0 to 15, in the order of the cluster file. Raises `ValueError` for others.
 
-        Where the cluster doesn't have it, the calls of the node raise `UnknownNode`.
+        If the cluster doesn't have it, the calls of the node raise `UnknownNode`.
         """
         return Node(self, number)
 
@@ -193,7 +193,7 @@ class World:
     def window(self) -> Window | None:
         """Does all due steps in the open window. Returns the next window, or None once the run is over.
 
-        Raises the first refusal that isn't `WrongTurn`. What was done before it stays done.
+        Raises the first refusal that isn't `WrongTurn`. Steps that were done before it stay done.
         """
         if not self._faults:
             return moved(self.ask("window"))

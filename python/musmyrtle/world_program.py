@@ -17,7 +17,7 @@ MISSING = (errno.ENOENT, errno.ENOTDIR, errno.EACCES, errno.ENOEXEC)
 def usual_world() -> str:
     """Returns the `fr_world` to run.
 
-    That is the program that the variable MUSMYRTLE_WORLD names, or the launcher of the checkout that this package is
+    It is the program that the variable MUSMYRTLE_WORLD names, or the launcher of the checkout that this package is
     in, or the program of its `dist/`, or `fr_world` on the path of commands.
     """
     named = os.environ.get(VARIABLE)

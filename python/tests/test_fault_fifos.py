@@ -86,7 +86,7 @@ class TestContent(CampaignCases):
         self.assertEqual(self.queue(campaign, "mute 0 A 0 s1"), [("lost", 1, "1 0", "1 0")])
 
     def test_not_comparable(self):
-        """Where the content of a FIFO can't be read, a fault that may reach it counts as a loss."""
+        """If the content of a FIFO can't be read, a fault that may reach it counts as a loss."""
         program = self.folder / "viewer"
         program.write_text(f"#!/bin/sh\n[ \"$1\" = frames ] && exit 3\nexec '{PROGRAM}' \"$@\"\n")
         program.chmod(0o755)

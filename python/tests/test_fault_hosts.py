@@ -1,6 +1,6 @@
 """Tests of runs by other machines. Any answer other than that of the requested run is replaced by a run on this one.
 
-`parallel` is a script here that runs the jobs on a copy of the folder, as on a machine. Where the real one is
+`parallel` is a script here that runs the jobs on a copy of the folder, as on a machine. If the real one is
 installed, it is tried too, with a script in the place of `ssh`.
 """
 import os

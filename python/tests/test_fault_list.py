@@ -166,7 +166,7 @@ class TestList(unittest.TestCase):
         self.assertEqual(left_out, LeftOut())
 
     def test_no_slot_at_a_minislot(self):
-        """Where no slot opens no frame can be forged, and the scenario isn't named as the reason."""
+        """If no slot opens, no frame can be forged, and the scenario isn't named as the reason."""
         asked = only("forged", nodes=frozenset([0]), places=places_of("m3"))
         self.assertEqual(faults_of(CLUSTER, 2, asked), ([], LeftOut(unopened=3)))
         found, left_out = faults_of(CLUSTER, 2, asked, "babble 0 A * m3 x00\nbabble 0 B * m3 x00\n")

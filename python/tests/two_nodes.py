@@ -51,6 +51,6 @@ B 2 0 0 0 0
 windows 4
 settled
 """
-"""After two cycles. In the journal of node 0 the entries are a commit, two for each of the windows 0 and 1, a commit,
-and two for each of the windows 2 and 3, so that it saw window 3 in entry 9. Node 1 has one commit, and saw window 2 in
-entry 6."""
+"""The outcome after two cycles. The journal of node 0 has a commit, two entries for each of the windows 0 and 1, a
+commit, and two for each of the windows 2 and 3. So it observed window 3 in entry 9. Node 1 has one commit, and observed
+window 2 in entry 6."""

@@ -154,7 +154,7 @@ class Talk:
         return line.decode()
 
     def ask(self, request):
-        """Returns the reply to a request. That of a block is its lines."""
+        """Returns the reply to a request. The reply of a block is its lines."""
         self.ran.stdin.write(f"{request}\n".encode())
         reply = self.line()
         if not reply.startswith("lines "):
