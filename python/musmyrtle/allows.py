@@ -13,7 +13,7 @@ from musmyrtle.texts import Text
 from musmyrtle.visible import cut
 
 WARNINGS = {
-    "unread-key": "a key is read by nothing",
+    "unread-key": "a key is unknown",
     "idle-key": "a key is read elsewhere, and means nothing where it stands",
     "repeated-name": "two nodes, or two buffers of a node, have the same `name`",
     "never-sends": "a transmit buffer has no chance to send",

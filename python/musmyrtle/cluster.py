@@ -182,7 +182,7 @@ class Reader:
     def missing(self, key: str, right: str) -> None:
         # The nearest known word is looked for only if it is printed.
         meant = alike(self.table, self.known, key) if len(self.faults) < MOST_REASONS else []
-        notes = [(f"`{it}` is read by nothing: is `{key}` meant?", (*self.path, it)) for it in meant]
+        notes = [(f"`{it}` is an unknown key: is `{key}` meant?", (*self.path, it)) for it in meant]
         self.note(f"{self.who} has no `{key}`", f"Expected `{key}` with {right}.", notes=notes)
 
     def wrong(self, key: str, right: str) -> None:
@@ -320,7 +320,7 @@ class Reading:
         right = f"Expected 1 to {MOST_NODES} tables `[[node]]`."
         if "node" not in self.document:
             meant = alike(self.document, ("node",), "node")
-            notes = tuple((f"`{it}` is read by nothing: is `node` meant?", (it,)) for it in meant)
+            notes = tuple((f"`{it}` is an unknown key: is `node` meant?", (it,)) for it in meant)
             self.faults.append(Fault("TooManyNodes", "the file has no node", right, notes=notes))
             return []
         if isinstance(nodes, dict):

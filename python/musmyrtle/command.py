@@ -22,13 +22,13 @@ from musmyrtle.visible import cut, visible
 
 FINE, REFUSED, USAGE, WARNED, BROKEN_OFF = 0, 1, 2, 4, 130
 MOST_WARNINGS, MOST_REPEATED = 40, 200
-ABOUT = """Explains what is wrong with a cluster file, and with a scenario for it: where, why, and what is expected.
+ABOUT = """Explains the faults of a cluster file, and of a scenario for it: place, reason, and expected form.
 
-fr_bench runs first, by `check CLUSTER` or by `run CLUSTER SCENARIO --cycles N`, and decides what is refused. What it
-accepts and what still can't work, or breaks a rule of the standard that the bench doesn't check, is a warning."""
-STATUSES = """status: 0 where fr_bench accepts the input, with warnings or without, 1 where it refuses it, 2 where the
-words are no command, fr_bench can't be run or fails, or the output can't be written, 4 where there are warnings and
---strict is given, 130 where SIGINT broke it off"""
+fr_bench runs first, by `check CLUSTER` or by `run CLUSTER SCENARIO --cycles N`, and decides what is refused. An
+accepted input that can't work, or breaks a rule of the standard that the bench doesn't check, has a warning."""
+STATUSES = """status: 0 if fr_bench accepts the input, with warnings or without, 1 if it refuses it, 2 if the words are no
+command, fr_bench can't be run or fails, or the output can't be written, 4 if there are warnings and --strict is
+given, 130 if SIGINT broke it off"""
 SILENCED = """warnings: each ends with its name, as `[sync-nodes]`. `--allow NAME` silences it, and so does a comment
 `# lint: allow NAME: why` at the end of the line of its place in the cluster file, or alone in the line before. Names:
 
@@ -79,7 +79,7 @@ def parsed(words: list[str] | None) -> argparse.Namespace:
     parser = Parser(prog="fr_lint", description=ABOUT, epilog=f"{STATUSES}\n\n{SILENCED}{listed_names()}",
                     allow_abbrev=False, formatter_class=argparse.RawDescriptionHelpFormatter)
     parser.add_argument("cluster", metavar="CLUSTER",
-                        help="a cluster file, or a trace, of which fr_view says why it is refused")
+                        help="a cluster file, or a refused trace, which fr_view explains")
     parser.add_argument("scenario", metavar="SCENARIO", nargs="?", help="a scenario; it wants --cycles as well")
     parser.add_argument("--cycles", metavar="N", type=cycles_of, help=f"the cycles of the run, 1 to {MOST_CYCLES}")
     parser.add_argument("--strict", action="store_true", help="end with status 4 where there are warnings")

@@ -14,7 +14,7 @@ NOT_COMPARABLE, IDLE = "not comparable", "idle"
 EFFECTS = {
     "refused": "the run was refused",
     "killed": "the run was killed",
-    "unreadable": "what the run printed is no outcome",
+    "unreadable": "the output of the run is no outcome",
     NOT_COMPARABLE: "the content of a FIFO isn't known, so that a frame of it may be lost",
     "lost": "a buffer holds nothing, or a FIFO lost frames or never got them",
     "older": "a buffer holds an older frame",

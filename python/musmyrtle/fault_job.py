@@ -3,7 +3,7 @@
 A machine gets the program, the cluster file, the scenario, all lines of the faults in one file, a list of the runs, and
 a script. A job is some of these runs, one after another. It compares the digest of all that it was given with the one
 that it is called with, and before each run the digest of the run's scenario. An answer carries both digests, the number
-of fault lines, and the digests of what the run printed. An answer in which one of them is wrong isn't taken.
+of fault lines, and the digests of the run's output. An answer in which one of them is wrong isn't taken.
 """
 import hashlib
 import re

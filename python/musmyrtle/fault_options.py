@@ -12,13 +12,13 @@ from musmyrtle.findings import counted
 from musmyrtle.program import usual_program
 
 FAIL_ON = ("lost", "older", "changed", "worse")
-ABOUT = """Tells what each single fault of a network costs: a run for each, held against the run without it.
+ABOUT = """Prints the costs of each single fault of a network: a run for each, compared with the run without it.
 
-The table goes to standard output: a line for each fault and each thing that a node has otherwise by it. The summary
-goes to standard error. docs/FAULTS.md says what faults there are and what the words mean."""
-STATUSES = """status: 0 where nothing else is to be said, 1 where the cluster or the scenario is refused, 2 where the
-words are no command, a file can't be used or the output can't be written, 3 where --fail-on has found something,
-4 where a run was refused or killed or has no outcome, 130, 143 or 129 where SIGINT, SIGTERM or SIGHUP broke it off"""
+The table goes to standard output: a line for each fault and each thing of a node that it changes. The summary goes to
+standard error. docs/FAULTS.md describes the faults and the words."""
+STATUSES = """status: 0 if no other status applies, 1 if the cluster or the scenario is refused, 2 if the words are no
+command, a file can't be used or the output can't be written, 3 if --fail-on found a cost, 4 if a run was refused or
+killed or has no outcome, 130, 143 or 129 if SIGINT, SIGTERM or SIGHUP broke it off"""
 
 
 SSHLOGIN = f"""a machine, as parallel names it: 8/bench1, or 8/ssh -p 2222 bench1. The command ssh gets the options
@@ -85,10 +85,10 @@ def arguments() -> argparse.ArgumentParser:
     add("--in-cycle", metavar="C", type=cycle_of, help="in this cycle of the run, instead of in every one")
     add("--html", metavar="FILE", help="write a page with the matrix of nodes as well")
     add("--fail-on", metavar="WORD,..", type=words_of(FAIL_ON), default=frozenset(),
-        help="end with status 3 where a fault costs this: lost (also what is not comparable), older, changed, or worse "
+        help="end with status 3 where a fault costs this: lost (also not comparable), older, changed, or worse "
              "with --against")
-    add("--against", metavar="TABLE", help="tell what is worse than in this earlier table")
-    add("--cores", metavar="N", type=cores_of, default=os.cpu_count() or 1, help="how many runs at once (all cores)")
+    add("--against", metavar="TABLE", help="report faults that cost more than in this earlier table")
+    add("--cores", metavar="N", type=cores_of, default=os.cpu_count() or 1, help="the number of runs at once (all cores)")
     add("--joblog", metavar="FILE", help="note each fault that is done, in a new file")
     add("--resume", action="store_true", help="go on where the run of this --joblog was broken off")
     add("--parallel", action="store_true", help="give the runs to GNU parallel")

@@ -28,7 +28,7 @@ section.cell { display: none; border-left: 4px solid #555; padding-left: 1em; } 
 @media print { section.cell { display: block; } }
 """
 KEY = {
-    "lost": "a buffer holds nothing, or a FIFO lost frames; also what is not comparable",
+    "lost": "a buffer holds nothing, or a FIFO lost frames; also frames that are not comparable",
     "older": "a buffer holds an older frame",
     "changed": "a buffer holds another payload, or a FIFO other frames",
     "pending": "commits stay behind (pending), or fewer were sent (unsent)",
@@ -48,7 +48,7 @@ class Subject:
 
 def page(subject: Subject, results: Results) -> str:
     labels, runs = results.labels, results.runs
-    title = f"What single faults cost in {visible(subject.cluster_file)}"
+    title = f"Costs of single faults in {visible(subject.cluster_file)}"
     parts = [
         f'<!DOCTYPE html>\n<html lang="en"><head><meta charset="utf-8"><title>{escape(title)}</title>',
         f"<style>{STYLE}</style></head><body><h1>{escape(title)}</h1>",
@@ -85,7 +85,7 @@ def most(runs: Done, labels: Labels) -> Iterator[str]:
 
 
 def kinds(results: Results) -> Iterator[str]:
-    yield "<p>Each run is counted once, by the worst that it costs.</p>"
+    yield "<p>Each run is counted once, by its worst effect.</p>"
     yield "<table><tr>" + "".join(f"<th>{it}</th>" for it in ("kind", "what it is", *COUNTED)) + "</tr>"
     for label, what, counts in rows(results):
         numbers = "".join(f'<td class="number">{it}</td>' for it in counts)

@@ -182,7 +182,7 @@ def summary(results: Results) -> Iterator[str]:
     for line in lines:
         rest = (word.rjust(width) for word, width in zip(line[1:], widths[1:]))
         yield "  ".join([line[0].ljust(widths[0]), *rest]) + "\n"
-    yield "each run is counted once, by the worst that it costs\n"
+    yield "each run is counted once, by its worst effect\n"
     yield HARMLESS_WORDS + "\n"
     for note in notes(results):
         yield note + "\n"
@@ -214,7 +214,7 @@ def stopped(results: Results) -> Iterator[str]:
     if not of_others:
         return
     costing, failures = sum(bool(it) for it in completed), len(of_others) - len(completed)
-    is_told = f"{costing or 'none'} made any difference to anybody" if completed else "no run completed"
+    is_told = f"{costing or 'none'} made any difference to a node" if completed else "no run completed"
     yield (f"of the babbles in guarded static slots that aren't the node's own, {len(completed)}, {is_told}"
            + (f"; {failures} more failed" if failures else ""))
 

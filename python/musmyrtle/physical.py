@@ -45,12 +45,12 @@ def wrong_times(_: Cluster, text: Text) -> Iterator[Finding]:
         return
     table = text.document["physical"]
     if not isinstance(table, dict):
-        yield text.finding("`physical` is no table", "It isn't looked at. Expected `[physical]`.", ("physical",))
+        yield text.finding("`physical` is no table", "It isn't read. Expected `[physical]`.", ("physical",))
         return
     for key, unit in UNITS.items():
         if not is_number(table.get(key)):
             found = f"is {shown(table[key])}" if key in table else "is missing"
-            reason = f"Slots aren't held to their times without. Expected a number from 1e-6 to 1e12, of {unit}."
+            reason = f"Without it, slots aren't compared with their times. Expected a number from 1e-6 to 1e12, of {unit}."
             yield text.finding(f"`{key}` of `[physical]` {found}", reason, ("physical", key))
 
 

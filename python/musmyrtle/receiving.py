@@ -46,8 +46,8 @@ def idle_receivers(cluster: Cluster, text: Text) -> Iterator[Finding]:
         queue = node.queue
         if queue and not any(traffic.is_queued(node, queue, it) for slot, senders in traffic.senders.items()
                              if queue.first <= slot <= queue.last for it in senders):
-            reason = (f"It is for slots {queue.first} to {queue.last} on {queue.channels} in {queue.cycles}. No "
-                      "transmit buffer of another node sends there what no receive buffer of the node admits. Expected "
+            reason = (f"It is for slots {queue.first} to {queue.last} on {queue.channels} in {queue.cycles}. "
+                      "Every data frame that another node sends there goes to a receive buffer of the node. Expected "
                       "other slots.")
             yield text.finding(f"nothing comes to {queue}", reason, queue.path)
 

@@ -50,7 +50,7 @@ def unread_key(text: Text, key: str, who: str, table: dict[str, Any], path: Path
     meant = nearest(key, [it for it in keys if it not in table])
     hint = f"Is `{meant}` meant? " if meant else ""
     reason = f"{hint}Keys of {who} are {joined([f'`{it}`' for it in keys])}."
-    return text.finding(f"`{cut(key)}` of {who} is read by nothing", reason, (*path, key))
+    return text.finding(f"`{cut(key)}` of {who} is an unknown key", reason, (*path, key))
 
 
 def idle_keys(text: Text, static_slots: int) -> Iterator[Finding]:

@@ -28,7 +28,7 @@ class Allowed(Cases):
     def test_a_comment_of_the_line_before_is_no_comment_of_this_one(self):
         cluster = self.changed(CLUSTER, ("latest_a = 4", "tasks_ = 1 # lint: allow unread-key\nlatestA = 4"))
         self.assertEqual([it.headline for it in self.look(cluster)[0].warnings if it.name == "unread-key"],
-                         ["`latestA` of node 2 is read by nothing"])
+                         ["`latestA` of node 2 is an unknown key"])
 
     def test_a_string_is_no_comment(self):
         cluster = self.changed(CLUSTER, ("latest_a = 4", 'latestA = "# lint: allow unread-key"'))

@@ -157,7 +157,7 @@ class Command(Cases):
         many = CLUSTER.replace("static_slots = 3", "static_slots = 103").replace("cycle_mt = 90", "cycle_mt = 2090")
         many = many.replace("slot = 4, ", "slot = 104, ").replace("latest_a = 4", f"latest_a = 4\nown = [{slots}]")
         status, output, _ = self.run_with(self.written("cluster.toml", f"{keys}{many}"), "--program", self.stub())
-        self.assertEqual((status, output.count("is read by nothing"), output.count(": warning: ")), (0, 20, 40))
+        self.assertEqual((status, output.count("is an unknown key"), output.count(": warning: ")), (0, 20, 40))
         # 60 keys and 50 slots that are never filled, a FIFO without any traffic, one sync node, no startup node.
         self.assertEqual(output.splitlines()[-1], "and 73 more warnings")
         wrong = self.written("cluster.toml", many.replace(slots, slots.replace("B", "C")))

@@ -12,7 +12,7 @@ FIFO = "queue = {capacity = 2, first = 4, last = 7"
 
 IN_CLUSTERS = (
     ("Expected `minislots` with a whole number from 0 to 8000", "minislots = 4\n", ""),
-    ("`minislot` is read by nothing: is `minislots` meant?", "minislots = 4", "minislot = 4"),
+    ("`minislot` is an unknown key: is `minislots` meant?", "minislots = 4", "minislot = 4"),
     ("Expected a whole number from 0 to 127", "static_words = 1", "static_words = 128"),
     ("Expected a whole number from 1 to 1000", "static_mt = 20", 'static_mt = "20"'),
     ("Expected a whole number from 0 to 2", "idle = 0", "idle = 3"),
@@ -22,7 +22,7 @@ IN_CLUSTERS = (
     ("The value is missing", "idle = 0", "idle ="),
     ("Expected `=` here", "idle = 0", "idle: 0"),
     ("Expected `[[node]]` for each of several", "[[node]]", "[node]"),
-    ("`Node` is read by nothing: is `node` meant?", "[[node]]", "[[Node]]", "[[node]]", "[[Node]]", "[[node]]",
+    ("`Node` is an unknown key: is `node` meant?", "[[node]]", "[[Node]]", "[[node]]", "[[Node]]", "[[node]]",
      "[[Node]]"),
     ("or the `}` of the inline table before", EVENT, EVENT[:-1]),
     ("Is the `]` of the array missing? cluster.toml:19:10: the array", '"A"},\n]', '"A"},\n'),

@@ -9,7 +9,7 @@ DYNAMIC = '{kind = "event", slot = 4, channels = "A", words = 1}'
 
 PARAMETERS = (
     ("Params Missing idle", "cluster.toml:3:1", ("`[params]` has no `idle`", "from 0 to 2"), "idle = 0\n", ""),
-    ("Params Missing idle", "cluster.toml:3:1", ("`Idle` is read by nothing: is `idle` meant?", "cluster.toml:12:1"),
+    ("Params Missing idle", "cluster.toml:3:1", ("`Idle` is an unknown key: is `idle` meant?", "cluster.toml:12:1"),
      "idle = 0", "Idle = 0"),
     ("Params Missing static_slots", "None", ("no table `[params]`",), "[params]", "[parameters]"),
     ("Params Missing static_slots", "cluster.toml:1:1", ("under `params` 7",), 'guard = "A"', "params = 7", "[params]",
@@ -29,7 +29,7 @@ TOP = (
     ("BadGuard", "cluster.toml:1:1", ("is true",), 'guard = "A"', "guard = true"),
     ("TooManyNodes", "cluster.toml:1:1", ("`node` is 7", "1 to 16 tables"), 'guard = "A"', "node = 7",
      CLUSTER[CLUSTER.index("[[node]]"):], ""),
-    ("TooManyNodes", "None", ("the file has no node", "`nodes` is read by nothing: is `node` meant?"),
+    ("TooManyNodes", "None", ("the file has no node", "`nodes` is an unknown key: is `node` meant?"),
      CLUSTER[CLUSTER.index("[[node]]"):], "[[nodes]]\ntasks = 1\n"),
     ("TooManyNodes", "cluster.toml:41:1", ("the file has 17 nodes",), CLUSTER[CLUSTER.index("[[node]]"):],
      "[[node]]\n" * 10
@@ -53,7 +53,7 @@ NODES = (
      ("`slot` of ownership line 0 of node 0 is 4", "from 1 to 3, which is `static_slots`"),
      OWN, OWN.replace("slot = 1", "slot = 4")),
     ("BadNode 0", "cluster.toml:17:8",
-     ("has no `channels`", "`chanels` is read by nothing: is `channels` meant?", "cluster.toml:17:19"),
+     ("has no `channels`", "`chanels` is an unknown key: is `channels` meant?", "cluster.toml:17:19"),
      OWN, OWN.replace("channels", "chanels")),
     ("BadNode 0", "cluster.toml:17:19", ('`channels` of ownership line 0 of node 0 is "BA"', '"A", "B" or "AB"'),
      OWN, OWN.replace('"AB"', '"BA"')),

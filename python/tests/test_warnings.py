@@ -7,7 +7,7 @@ DYNAMIC = '{kind = "event", slot = 4, channels = "A", words = 1}'
 RECEIVE = '{kind = "receive", slot = 2, channels = "A"}'
 
 UNREAD = (
-    ("cluster.toml:35:1", ("`latestA` of node 2 is read by nothing", "Is `latest_a` meant?"), "latest_a = 4",
+    ("cluster.toml:35:1", ("`latestA` of node 2 is an unknown key", "Is `latest_a` meant?"), "latest_a = 4",
      "latestA = 4"),
     ("cluster.toml:21:4", ("`repitition` of buffer 1 of node 0", "Is `repetition` meant?"), RECEIVE,
      "{repitition = 2, " + RECEIVE[1:]),
@@ -136,4 +136,4 @@ class Warnings(Cases):
 
     def test_warnings_come_with_a_refusal_too(self):
         found, answer = self.look(CLUSTER.replace("latest_a = 4", "latestA = 4").replace("idle = 0", "idle = 3"))
-        self.assertIn("cluster.toml:35:1: warning: `latestA` of node 2 is read by nothing", self.text(found, answer))
+        self.assertIn("cluster.toml:35:1: warning: `latestA` of node 2 is an unknown key", self.text(found, answer))

@@ -49,7 +49,7 @@ class Faults:
         self.runs.compare("the order of the lines", (order, listed[1:]), (sorted(order), ("", 0)))
         for cores in ("1", "3"):
             self.runs.compare(f"the table by {cores} cores", self.ask(*THREE_NODES, "--cores", cores), (table, told, 0))
-        stopped = "in guarded static slots that aren't the node's own, 8, none made any difference to anybody\n"
+        stopped = "in guarded static slots that aren't the node's own, 8, none made any difference to a node\n"
         count = re.search(r"^all +(\d+)", told, re.MULTILINE)
         idle = ["lost\t2\tB\t*\tall"]
         found = [line.removesuffix("\tidle") for line in listed[0].splitlines() if line.endswith("\tidle")]
@@ -103,7 +103,7 @@ class Faults:
         # 56 on B is node 5's own in some cycles, so of it 4 are left on AB and B, and 5 on A.
         for words, count in (([both, scene, "--cycles", "4"], 7 * 3 * 2), (car, (5 + 5 + 4 + 4 + 5) * 2)):
             told, status = self.ask(*words, *babbles)[1:]
-            wanted = f"in guarded static slots that aren't the node's own, {count}, none made any difference to anybody"
+            wanted = f"in guarded static slots that aren't the node's own, {count}, none made any difference to a node"
             self.runs.compare(f"babbles on both channels in {words[0]}", (wanted in told, status), (True, 0))
 
     def refused(self):
