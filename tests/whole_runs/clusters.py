@@ -191,7 +191,7 @@ class Clusters:
             ("channel B isn't guarded", f'guard = "A"\n{SMALL_CYCLE}[[node]]\n{first}\n',
              [*apart, "guard 0 A 0 0 40", "guard 0 A 0 60 110", "guard 0 B 0 0 110"]),
             ("there are no minislots", f"{short}[[node]]\n{first}\n", [*apart, "guard 0 A 0 0 40", "guard 0 B 0 0 40"]),
-            ("a slot is left to nobody in three cycles of four",
+            ("a slot has no owner in three cycles of four",
              f'guard = "A"\n{SMALL_CYCLE}[[node]]\n{quarter}\n[[node]]\n',
              ["slot 2 A 0 2 4", "slot 2 B 0 2 4", "guard 0 A 0 60 110", "guard 0 A 1 60 110", "guard 0 A 2 20 40",
               "guard 0 A 2 60 110", "guard 0 A 3 60 110",

@@ -150,7 +150,7 @@ class Faults:
             source, end = os.pipe()
             os.close(source)
             with open(end, "wb") as pipe:
-                self.runs.compare(f"{words} to nobody", run([*self.front, *words], output=pipe), (b"", b"", 0))
+                self.runs.compare(f"{words} without a reader", run([*self.front, *words], output=pipe), (b"", b"", 0))
 
     def unlike(self):
         """Checks that a program with a wrong answer is named, and so is one that can't be run."""

@@ -276,7 +276,7 @@ class Plays:
         words = self.given((EXAMPLES / "three-nodes/cluster.toml").read_text(), TURNED)
         for channel, wanted in (("A", "data n0"), ("B", "broken n0 turned")):
             looks = [cell.partition(": ")[0] for cell in self.cells([*words, "--channel", channel])]
-            self.runs.compare(f"the turned bit on {channel}", looks[:3], [wanted, "null n1", "silence"])
+            self.runs.compare(f"the flipped bit on {channel}", looks[:3], [wanted, "null n1", "silence"])
         for options in (["--channel", "C"], ["--channel", "a"], ["--node", "16"], ["--node", "00"],
                         ["--from", "1024"], ["--from", "-1"], ["--node"], ["--node", "0", "--node", "0"]):
             self.runs.check(f"matrix with {options}", ["matrix", *THREE_NODES, *options], USAGE)

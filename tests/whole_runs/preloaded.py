@@ -17,7 +17,7 @@ MARK = r"""
 #include <sys/syscall.h>
 #include <unistd.h>
 
-/* Whether this is the N-th call of a kind, of which the environment names one; that it was met is told by a file. */
+/* Returns whether this is the N-th call of the kind in the environment. A file marks that it came. */
 static int is_met(atomic_long *made, const char *kind) {
     const char *wanted = getenv(kind);
     if (!wanted || atomic_fetch_add(made, 1) + 1 != atol(wanted))

@@ -152,7 +152,7 @@ class Rows:
         self.check("lost offers", THREE_NODES, 1, [*FRAME, *MUTED, *SLOT_2, record],
                    [("-", "noise"), ("-", "conflict"), ("-", "conflict")])
         record = ("record 1", sent(*offers, "corrupt A 9", "corrupt B 80"))
-        self.check("turned bits", THREE_NODES, 1, [*FRAME, *TURNED, *SLOT_2, record],
+        self.check("flipped bits", THREE_NODES, 1, [*FRAME, *TURNED, *SLOT_2, record],
                    [(TURNED_ON_A, DATA_B), ("own", "own")])
         for bytes_sent, look in ((ELEVEN, "overrun"), (TEN, TEN)):
             asked = [("run 0", "open 0 0 0 1 1"), ("window", "open 1 0 0 2 2"), ("window", "open 2 0 0 3 3"),
@@ -193,7 +193,7 @@ class Rows:
         word, none = "frame 0 1 --s- x0a0b", "frame -"
         rows = [
             ("a muted owner that babbles", muted, "frame 0 1 ---- x9999", "A 1 0 0 0 0"),
-            ("a bit that is turned in the frame", [("corrupt A 40", "done")], none, "A 0 1 0 0 0"),
+            ("a bit that is flipped in the frame", [("corrupt A 40", "done")], none, "A 0 1 0 0 0"),
             ("a bit after its end", [("corrupt A 999", "done")], word, "A 1 0 0 0 0"),
             ("another's babble", [(f"babble 2 A {BABBLED}", "done")], word, "A 1 0 0 0 0"),
         ]
