@@ -1,6 +1,6 @@
-/* How long the threads of a run need for themselves: a controller for each node and one thread for the bus go through
- * the windows as those of fr_bench do, with one lock, two condition variables, and up to 200 looks before a thread
- * sleeps. Nothing is offered, seen, recorded or settled.
+/* Measures the time that the threads of a run need for themselves. A controller for each node and one thread for the bus
+ * go through the windows as those of fr_bench do, with one lock, two condition variables, and up to 200 looks before a
+ * thread sleeps. Nothing is offered, observed, recorded or cross-checked.
  *
  *     cc -O2 -pthread -o run_floor bench/run_floor.c && ./run_floor 16 32768
  */
