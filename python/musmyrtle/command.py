@@ -26,8 +26,8 @@ ABOUT = """Explains the faults of a cluster file, and of a scenario for it: plac
 
 fr_bench runs first, by `check CLUSTER` or by `run CLUSTER SCENARIO --cycles N`, and decides what is refused. An
 accepted input that can't work, or breaks a rule of the standard that the bench doesn't check, has a warning."""
-STATUSES = """status: 0 if fr_bench accepts the input, with warnings or without, 1 if it refuses it, 2 if the words are no
-command, fr_bench can't be run or fails, or the output can't be written, 4 if there are warnings and --strict is
+STATUSES = """status: 0 if fr_bench accepts the input, with warnings or without, 1 if it refuses it, 2 if the words are
+no command, fr_bench can't be run or fails, or the output can't be written, 4 if there are warnings and --strict is
 given, 130 if SIGINT broke it off"""
 SILENCED = """warnings: each ends with its name, as `[sync-nodes]`. `--allow NAME` silences it, and so does a comment
 `# lint: allow NAME: why` at the end of the line of its place in the cluster file, or alone in the line before. Names:

@@ -88,7 +88,7 @@ def arguments() -> argparse.ArgumentParser:
         help="end with status 3 where a fault costs this: lost (also not comparable), older, changed, or worse "
              "with --against")
     add("--against", metavar="TABLE", help="report faults that cost more than in this earlier table")
-    add("--cores", metavar="N", type=cores_of, default=os.cpu_count() or 1, help="the number of runs at once (all cores)")
+    add("--cores", metavar="N", type=cores_of, default=os.cpu_count() or 1, help="the runs at once (all cores)")
     add("--joblog", metavar="FILE", help="note each fault that is done, in a new file")
     add("--resume", action="store_true", help="go on where the run of this --joblog was broken off")
     add("--parallel", action="store_true", help="give the runs to GNU parallel")

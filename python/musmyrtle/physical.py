@@ -50,7 +50,7 @@ def wrong_times(_: Cluster, text: Text) -> Iterator[Finding]:
     for key, unit in UNITS.items():
         if not is_number(table.get(key)):
             found = f"is {shown(table[key])}" if key in table else "is missing"
-            reason = f"Without it, slots aren't compared with their times. Expected a number from 1e-6 to 1e12, of {unit}."
+            reason = f"Slots aren't compared with times without it. Expected a number from 1e-6 to 1e12, of {unit}."
             yield text.finding(f"`{key}` of `[physical]` {found}", reason, ("physical", key))
 
 

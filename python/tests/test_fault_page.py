@@ -69,7 +69,7 @@ class TestSummary(unittest.TestCase):
     def test_runs_that_failed_say_nothing_of_guardians(self):
         """Of the three babbles in guarded slots of others one failed, one makes a difference, one none."""
         told = "of the babbles in guarded static slots that aren't the node's own, 2, 1 made any difference to " \
-            "anybody; 1 more failed"
+            "a node; 1 more failed"
         self.assertIn(told, self.lines())
         alone = [(fault("noise", 1, BOTH, "s1"), [killed()])]
         self.assertIn("of the babbles in guarded static slots that aren't the node's own, 0, no run completed; "
