@@ -78,7 +78,7 @@ def nearest(word: str, known: tuple[str, ...] | list[str]) -> str | None:
 
 
 def alike(words: Iterable[str], known: tuple[str, ...], meant: str) -> list[str]:
-    """Returns the first unknown words that resemble a known word most."""
+    """Returns the first unknown words whose nearest known word is the one meant."""
     unknown = islice((it for it in words if it not in known), MOST_ALIKE)
     return list(islice((it for it in unknown if nearest(it, known) == meant), MOST_NOTES))
 
