@@ -1,0 +1,15 @@
+use Rattle.std.proofs.Common.{ℕ, ap, ◌∙◌}
+use Rattle.fr_why.specs.Faults.{window_count}
+use Rattle.fr_why.specs.WhyText.{accepted_text}
+use Rattle.fr_why.proofs.explain.explained.Goals as goal
+
+pub returns-in-Ok-clause-told : goal.returns-in-Ok-clause-told
+returns-in-Ok-clause-told c =
+    let found = c.in-Ok-Accepted.ensures.found in
+    let s = c.in-Ok-Accepted.interface in (
+      s,
+      found.0,
+      found.1,
+      found.3,
+      c.in-Ok.ensures.told ∙ ap (λ (n : ℕ). accepted_text n (window_count s.entries)) found.2,
+    )
