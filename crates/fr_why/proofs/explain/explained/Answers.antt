@@ -1,11 +1,12 @@
-use Rattle.std.proofs.Common.{ℕ, ap, ◌∙◌}
+use Rattle.std.proofs.Common.{ℕ, ap, ◌∙◌, subst}
 use Rattle.fr_why.specs.Faults.{window_count}
+use Rattle.fr_why.specs.Finding.{IsFound}
 use Rattle.fr_why.specs.WhyText.{accepted_text}
 use Rattle.fr_why.proofs.explain.explained.Goals as goal
 
 pub returns-in-Ok-clause-told : goal.returns-in-Ok-clause-told
 returns-in-Ok-clause-told c =
-    let found = c.in-Ok-Accepted.ensures.found in
+    let found = subst (IsFound c.args.text.now) c.in-Ok-Accepted.field-0-is c.in-Ok-Accepted.ensures.found in
     let s = c.in-Ok-Accepted.interface in (
       s,
       found.0,
