@@ -31,6 +31,10 @@ RECEIVED = [
     (2, "node 1 0 0 8 8", "BadLine 2", "node 1 0 0 8 8", "reason Line Word 1 1", 0),
     (2, "params 3 4 1 20 5 0 10 90 0", "BadLine 2", "params 3 4 1 20 5 0 10 90 0", "reason Line Form 11 29", 0),
     (3, "node 9 0 0 8 8", "BadLine 3", "node 9 0 0 8 8", "reason Line Form 2 6", 0),
+    (3, "node 1 0 0 0 8", "BadLine 3", "node 1 0 0 0 8", "reason Line Form 5 12", 0),
+    (3, "node 1 0 0 8 1", "BadLine 3", "node 1 0 0 8 1", "reason Line Form 6 14", 0),
+    (4, "own 1024 A 0 0", "BadLine 4", "own 1024 A 0 0", "reason Line Form 2 5", 0),
+    (4, "own 1 A 0 1", "BadLine 4", "own 1 A 0 1", "reason Line Form", 0),
     (4, "rx 2 AB 0 3", "BadLine 4", "rx 2 AB 0 3", "reason Line Form 5 11", 0),
     (4, "read 0 0 -", "BadLine 4", "read 0 0 -", "reason Line Word 1 1", 0),
     (9, "own 1 A 0 0", "BadLine 9", "own 1 A 0 0", "reason Line Word 1 1", 1),
@@ -66,7 +70,7 @@ COMMITTED = [
     (5, "tx event 1 A 0 1 - 0\nown 2 A 0 0", "BadLine 6", "own 2 A 0 0", "reason Line Late", 0),
     (5, "queue 2 1 3 AB 0 1\nrx 2 A 0 1", "BadLine 6", "rx 2 A 0 1", "reason Line Late", 0),
     (5, "queue 2 1 3 AB 0 1\nqueue 2 1 3 AB 0 1", "BadLine 6", "queue 2 1 3 AB 0 1", "reason Line Full", 0),
-    (5, "queue 0 1 3 AB 0 1", "BadLine 5", "queue 0 1 3 AB 0 1", "reason Line Form", 0),
+    (5, "queue 0 1 3 AB 0 1", "BadLine 5", "queue 0 1 3 AB 0 1", "reason Line Form 2 7", 0),
     (5, "rx 1 A 0 1\n" * 65 + "begin", "BadLine 69", "rx 1 A 0 1", "reason Line Full", 0),
 ]
 """The same for the three-commits trace."""

@@ -2,8 +2,9 @@
 -- it.
 use Rattle.std.proofs.Common.{◌≡◌, ℕ, suc, ◌+◌, ◌^◌, ℤ, Bool, true, false, List, [], ◌∷◌, take, codes, Option, Some}
 use Rattle.std.proofs.Common.{None, is_some, inl, inr}
-use Rattle.std.proofs.Common.{option_map, refl, sym, ap, ◌∙◌, arith, if◌then◌else◌, IsSome, IfSome, zero}
-use Rattle.std.proofs.lemmas.Bool.{cases_Bool}
+use Rattle.std.proofs.Common.{option_map, leb, refl, sym, ap, ◌∙◌, arith, if◌then◌else◌, IsSome, IfSome, zero}
+use Rattle.std.proofs.lemmas.Bool.{cases_Bool, and_parts}
+use Rattle.std.specs.Prelude.{nat_le, not, ◌&&◌, ◌||◌}
 use Rattle.std.specs.Result.{result_ok}
 use Rattle.std.specs.Str.{bytes_eq}
 use Rattle.fr_journal.specs.declared.entry.Entry.{Entry}
@@ -14,7 +15,8 @@ use Rattle.fr_lines.specs.declared.plan_lines.PlanLine.{PlanLine}
 use Rattle.fr_lines.specs.declared.plan_lines.PlanLine.TheVariants as plan_line
 use Rattle.fr_lines.specs.declared.versions.Version.{Version}
 use Rattle.fr_lines.specs.declared.versions.Version.TheVariants.{One, Two, Three}
-use Rattle.fr_lines.specs.Forms.{fits, repetition_in, params_forms, node_forms, own_forms, tx_forms, rx_forms}
+use Rattle.fr_lines.specs.Forms.{fits, number_from_in, static_slot_in, repetition_in, params_forms, node_forms}
+use Rattle.fr_lines.specs.Forms.{own_forms, tx_forms, rx_forms}
 use Rattle.fr_lines.specs.Forms.{queue_forms}
 use Rattle.fr_lines.specs.Forms.{commit_forms, withdraw_forms, read_forms, pop_forms, fetch_forms, see_forms, forms_of}
 use Rattle.fr_lines.specs.Forms.{wrong_at, wrong_after, wrong_in, place_in, IsLine, BeginsNoLine}
@@ -23,7 +25,8 @@ use Rattle.fr_lines.specs.PartReading.{size_in}
 use Rattle.fr_lines.specs.PartReading.{payload_in, taken_back_in, from_in, offered_in, seen_in, window_in}
 use Rattle.fr_lines.specs.Reading.{Five, parameter_in, five_in, at_end, ten_in, params_in, limits_in, node_in}
 use Rattle.fr_lines.specs.Reading.{last_cycles_in}
-use Rattle.fr_lines.specs.Reading.{own_cycles_in, ownership_in, transmit_in, receive_in, reception_in, plan_line_in}
+use Rattle.fr_lines.specs.Reading.{own_cycles_in, fitting_own, fitting_queue, ownership_in, transmit_in, receive_in}
+use Rattle.fr_lines.specs.Reading.{reception_in, plan_line_in}
 use Rattle.fr_lines.specs.Reading.{every_cycle}
 use Rattle.fr_lines.specs.Reading.{commit_in, told_withdraw_in, withdraw_in, read_in, pop_in, fetch_in, observe_in}
 use Rattle.fr_lines.specs.Reading.{entry_in}
@@ -34,7 +37,8 @@ use Rattle.fr_slots.specs.declared.filter.Filter.{Filter}
 use Rattle.fr_slots.specs.declared.plan.Buffer.{Buffer}
 use Rattle.fr_slots.specs.declared.plan.Own.{Own}
 use Rattle.fr_slots.specs.declared.plan.Queue.{Queue}
-use Rattle.fr_slots.specs.Plans.{Plan}
+use Rattle.fr_slots.specs.Numbers.{last_static_slot}
+use Rattle.fr_slots.specs.Plans.{Plan, plan_of, limits_fit, own_fits, queue_fits}
 use Rattle.fr_slots.specs.Windows.{Opportunity}
 use Rattle.fr_text.proofs.BindLemmas.{bind_some}
 use Rattle.fr_text.specs.Reading.{number_in}
@@ -49,6 +53,16 @@ lawful_class b n c h = elim (cases_Bool (is_repetition n)) [
   | inl is ↦ is
   | inr not_so ↦ cc (rw not_so at h)
 ]
+
+number_from_right : (least bound n : ℕ) (word : List ℕ) → number_in bound word ≡ Some n → nat_le least n ≡ true
+    → is_some (number_from_in least bound word) ≡ true
+unfolding number_from_in
+number_from_right least bound n word is low = rw is (rw low refl)
+
+static_right : (word : List ℕ) (slot : ℕ) → slot_in word ≡ Some slot → nat_le slot last_static_slot ≡ true
+    → is_some (static_slot_in word) ≡ true
+unfolding static_slot_in
+static_right word slot is low = rw is (rw low refl)
 
 repetition_right : (word : List ℕ) (n : ℕ) → number_in 65 word ≡ Some n → is_repetition n ≡ true
     → is_some (repetition_in word) ≡ true
@@ -96,6 +110,37 @@ window_right n c m a b w h =
       known (optional_slot_in b) on_b kb,
     )
 
+-- ---- what a plan can have
+
+limits_pass : (t a b h s : ℕ) (p : Plan) → result_ok (plan_of t a b h s) ≡ Some p → limits_fit t a b h s ≡ true
+limits_pass t a b h s p read = elim (cases_Bool (limits_fit t a b h s)) [
+  | inl pass ↦ pass
+  | inr fail ↦ cc (rw fail at read)
+]
+
+limits_low : (t a b h s : ℕ) → limits_fit t a b h s ≡ true → (nat_le 1 h ≡ true) × (nat_le 2 s ≡ true)
+limits_low t a b h s pass =
+    let (six, slot_high) =
+    and_parts (leb t 8 && leb a 8000 && leb b 8000 && leb 1 h && leb h 16384 && leb 2 s) (leb s 65536) pass in
+    let (five, slot_low) = and_parts (leb t 8 && leb a 8000 && leb b 8000 && leb 1 h && leb h 16384) (leb 2 s) six in
+    let (four, host_high) = and_parts (leb t 8 && leb a 8000 && leb b 8000 && leb 1 h) (leb h 16384) five in
+    let (three, host_low) = and_parts (leb t 8 && leb a 8000 && leb b 8000) (leb 1 h) four in
+    (host_low, slot_low)
+
+own_static : (o x : Own) → fitting_own o ≡ Some x → nat_le o.slot last_static_slot ≡ true
+own_static o x h = elim (cases_Bool (own_fits o)) [
+  | inl pass ↦ (and_parts (leb o.slot 1023) (not o.startup || o.sync) pass).0
+  | inr fail ↦ cc (rw fail at h)
+]
+
+queue_some : (q x : Queue) → fitting_queue q ≡ Some x → nat_le 1 q.capacity ≡ true
+queue_some q x h = elim (cases_Bool (queue_fits q)) [
+  | inl pass ↦
+      let (two, last) = and_parts (leb 1 q.capacity && leb q.capacity 256) (leb q.first q.last) pass in
+      (and_parts (leb 1 q.capacity) (leb q.capacity 256) two).0
+  | inr fail ↦ cc (rw fail at h)
+]
+
 -- ---- lines
 
 node_right : (words : List (List ℕ)) (x : Plan) → limits_in words ≡ Some x → wrong_at node_forms words ≡ None
@@ -111,12 +156,13 @@ node_right (t ∷ a ∷ b ∷ host ∷ slot ∷ []) x h =
     let (x2, k2, h2) = bind_some (number_in 8001 b) _ x h1 in
     let (x3, k3, h3) = bind_some (number_in 16385 host) _ x h2 in
     let (x4, k4, h4) = bind_some (number_in 65537 slot) _ x h3 in
+    let low = limits_low x0 x1 x2 x3 x4 (limits_pass x0 x1 x2 x3 x4 x h4) in
     rw (
       known (number_in 9 t) x0 k0,
       known (number_in 8001 a) x1 k1,
       known (number_in 8001 b) x2 k2,
-      known (number_in 16385 host) x3 k3,
-      known (number_in 65537 slot) x4 k4,
+      number_from_right 1 16385 x3 host k3 low.0,
+      number_from_right 2 65537 x4 slot k4 low.1,
     ) refl
 node_right (t ∷ a ∷ b ∷ host ∷ slot ∷ more ∷ words) x h = cc h
 
@@ -241,8 +287,9 @@ queue_right (n ∷ s ∷ t ∷ c ∷ p ∷ q ∷ []) x h =
     let (x3, k3, h3) = bind_some (channels_in c) _ x h2 in
     let (x4, k4, h4) = bind_some (cycles_in p q) _ x h3 in
     let y = cycles_right p q x4 k4 in
+    let some = queue_some (record { capacity = x0; first = x1; last = x2; channels = x3; cycles = x4 }) x h4 in
     rw (
-      known (number_in 257 n) x0 k0,
+      number_from_right 1 257 x0 n k0 some,
       known (slot_in s) x1 k1,
       known (slot_in t) x2 k2,
       known (channels_in c) x3 k3,
@@ -265,14 +312,15 @@ last_cycles_right (b ∷ r ∷ []) x h =
     rw (y.0, y.1) refl
 last_cycles_right (b ∷ r ∷ more ∷ words) x h = cc h
 
-own_front : (forms : List WordForm) (s c y t : List ℕ) (rest : List (List ℕ)) → is_some (slot_in s) ≡ true
+own_front : (forms : List WordForm) (s c y t : List ℕ) (rest : List (List ℕ)) → is_some (static_slot_in s) ≡ true
     → is_some (channels_in c) ≡ true → is_some (flag_in y) ≡ true → is_some (flag_in t) ≡ true
     → wrong_at forms rest ≡ None
-    → wrong_at (form.Slot ∷ form.Channels ∷ form.Flag ∷ form.Flag ∷ forms) (s ∷ c ∷ y ∷ t ∷ rest) ≡ None
+    → wrong_at (form.StaticSlot ∷ form.Channels ∷ form.Flag ∷ form.Flag ∷ forms) (s ∷ c ∷ y ∷ t ∷ rest) ≡ None
 own_front forms s c y t rest ks kc ky kt right =
     rw (ks, kc, ky, kt, right) refl
 
-own_whole : (v : Version) (s c y t : List ℕ) (rest : List (List ℕ)) (x : CycleClass) → is_some (slot_in s) ≡ true
+own_whole : (v : Version) (s c y t : List ℕ) (rest : List (List ℕ)) (x : CycleClass)
+    → is_some (static_slot_in s) ≡ true
     → is_some (channels_in c) ≡ true → is_some (flag_in y) ≡ true → is_some (flag_in t) ≡ true
     → own_cycles_in v rest ≡ Some x → wrong_at (own_forms v) (s ∷ c ∷ y ∷ t ∷ rest) ≡ None
 unfolding own_cycles_in
@@ -294,7 +342,8 @@ own_right v (s ∷ c ∷ y ∷ t ∷ rest) x h =
     let (x2, k2, h2) = bind_some (flag_in y) _ x h1 in
     let (x3, k3, h3) = bind_some (flag_in t) _ x h2 in
     let (x4, k4, h4) = bind_some (own_cycles_in v rest) _ x h3 in
-    own_whole v s c y t rest x4 (known (slot_in s) x0 k0) (known (channels_in c) x1 k1) (known (flag_in y) x2 k2)
+    let static = own_static (record { slot = x0; channels = x1; cycles = x4; sync = x2; startup = x3 }) x h4 in
+    own_whole v s c y t rest x4 (static_right s x0 k0 static) (known (channels_in c) x1 k1) (known (flag_in y) x2 k2)
     (known (flag_in t) x3 k3) k4
 
 withdraw_right : (v : Version) (words : List (List ℕ)) (x : Entry) → withdraw_in v words ≡ Some x

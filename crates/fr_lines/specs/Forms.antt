@@ -1,5 +1,6 @@
 -- The words that a line of a trace has after its first, and which of its words is wrong (project-defined).
-use Rattle.std.specs.Prelude.{◌≡◌, ◌⊎◌, IsSome, ℕ, ◌+◌, ◌^◌, Bool, List, [], ◌∷◌, codes, take, Option, Some, None}
+use Rattle.std.specs.Prelude.{◌≡◌, ◌⊎◌, IsSome, ℕ, ◌+◌, ◌^◌, nat_le, Bool, List, [], ◌∷◌, codes, take, Option, Some}
+use Rattle.std.specs.Prelude.{None}
 use Rattle.std.specs.Prelude.{is_some, option_map}
 use Rattle.std.specs.Prelude.{if◌then◌else◌}
 use Rattle.std.specs.Str.{bytes_eq}
@@ -13,10 +14,23 @@ use Rattle.fr_lines.specs.Reading.{params_in, node_in, plan_line_in, entry_in}
 use Rattle.fr_lines.specs.Spelling.{begin_line, end_line}
 use Rattle.fr_lines.specs.Versions.{has_withdraws, has_own_cycles}
 use Rattle.fr_slots.specs.Admission.{is_repetition}
+use Rattle.fr_slots.specs.Numbers.{last_static_slot}
 use Rattle.fr_text.specs.Reading.{◌>>=◌, number_in}
 use Rattle.fr_text.specs.Spaces.{words_of, room_of}
 
 -- ---- words
+
+-- a number from this one to below that one
+unfoldable pub number_from_in : ℕ → ℕ → List ℕ → Option ℕ
+number_from_in least bound word = do
+  n ← number_in bound word
+  if nat_le least n then Some n else None
+
+-- a slot that can be a static one
+unfoldable pub static_slot_in : List ℕ → Option ℕ
+static_slot_in word = do
+  slot ← slot_in word
+  if nat_le slot last_static_slot then Some slot else None
 
 -- one of the seven repetitions of a cycle counter filter
 unfoldable pub repetition_in : List ℕ → Option ℕ
@@ -27,7 +41,9 @@ repetition_in word = do
 -- the word is one of these
 abbrev pub fits : WordForm → List ℕ → Bool
 fits (form.Number bound) word = is_some (number_in bound word)
+fits (form.NumberFrom least bound) word = is_some (number_from_in least bound word)
 fits form.Slot word = is_some (slot_in word)
+fits form.StaticSlot word = is_some (static_slot_in word)
 fits form.SlotOrNone word = is_some (optional_slot_in word)
 fits form.Channels word = is_some (channels_in word)
 fits form.Repetition word = is_some (repetition_in word)
@@ -56,12 +72,13 @@ params_forms = form.Number (2 ^ 32) ∷ form.Number (2 ^ 32) ∷ form.Number (2 
     ∷ form.Number (2 ^ 32) ∷ five_numbers
 
 abbrev pub node_forms : List WordForm
-node_forms = form.Number 9 ∷ form.Number 8001 ∷ form.Number 8001 ∷ form.Number 16385 ∷ form.Number 65537 ∷ []
+node_forms = form.Number 9 ∷ form.Number 8001 ∷ form.Number 8001 ∷ form.NumberFrom 1 16385
+    ∷ form.NumberFrom 2 65537 ∷ []
 
 abbrev pub own_forms : Version → List WordForm
 own_forms version = if has_own_cycles version
-    then form.Slot ∷ form.Channels ∷ form.Flag ∷ form.Flag ∷ form.Number 64 ∷ form.Repetition ∷ []
-    else form.Slot ∷ form.Channels ∷ form.Flag ∷ form.Flag ∷ []
+    then form.StaticSlot ∷ form.Channels ∷ form.Flag ∷ form.Flag ∷ form.Number 64 ∷ form.Repetition ∷ []
+    else form.StaticSlot ∷ form.Channels ∷ form.Flag ∷ form.Flag ∷ []
 
 abbrev pub tx_forms : List WordForm
 tx_forms = form.Mode ∷ form.Slot ∷ form.Channels ∷ form.Number 64 ∷ form.Repetition ∷ form.Size ∷ form.Flag ∷ []
@@ -70,7 +87,7 @@ abbrev pub rx_forms : List WordForm
 rx_forms = form.Slot ∷ form.Channels ∷ form.Number 64 ∷ form.Repetition ∷ []
 
 abbrev pub queue_forms : List WordForm
-queue_forms = form.Number 257 ∷ form.Slot ∷ form.Slot ∷ form.Channels ∷ form.Number 64 ∷ form.Repetition ∷ []
+queue_forms = form.NumberFrom 1 257 ∷ form.Slot ∷ form.Slot ∷ form.Channels ∷ form.Number 64 ∷ form.Repetition ∷ []
 
 abbrev pub commit_forms : List WordForm
 commit_forms = form.Number 8 ∷ form.Number 64 ∷ form.Payload ∷ []

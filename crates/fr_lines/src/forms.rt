@@ -1,6 +1,7 @@
 //! The words that the lines of a trace have after their first, and which of a line's words is wrong.
 ghost use Rattle.std.specs.Prelude.{◌≡◌, ◌+◌, ◌≤◌, ◌^◌, is_some, length, option_map, take, IfSome};
-ghost use Rattle.fr_lines.specs.Forms.{repetition_in, own_forms, plan_forms_of, journal_forms_of, forms_of};
+ghost use Rattle.fr_lines.specs.Forms.{number_from_in, static_slot_in, repetition_in, own_forms, plan_forms_of};
+ghost use Rattle.fr_lines.specs.Forms.{journal_forms_of, forms_of};
 ghost use Rattle.fr_lines.specs.Forms.{wrong_at, wrong_in, place_in, BeginsNoLine};
 ghost use Rattle.fr_lines.specs.PartReading.{optional_slot_in, offered_in, seen_in};
 ghost use Rattle.fr_text.specs.Spaces.{words_of, room_of};
@@ -11,6 +12,7 @@ use crate::parts::{
 use crate::versions::Version;
 use fr_frame::frame::FRAME_BYTES;
 use fr_slots::filter::CycleFilter;
+use fr_slots::params::LAST_STATIC_SLOT;
 use fr_text::hexes::bytes_of;
 use fr_text::numbers::number_of;
 use fr_text::words::Words;
@@ -20,8 +22,12 @@ use fr_text::words::Words;
 pub(crate) enum WordForm {
     /// A number below this one.
     Number(u64),
+    /// A number from the first of these to below the second.
+    NumberFrom(u64, u64),
     /// A slot.
     Slot,
+    /// A slot that can be a static one.
+    StaticSlot,
     /// A slot or `-`.
     SlotOrNone,
     /// Channels.
@@ -56,7 +62,9 @@ impl WordForm {
     {
         match self {
             WordForm::Number(bound) => number_of(word, bound).is_some(),
+            WordForm::NumberFrom(least, bound) => is_number_from(word, least, bound),
             WordForm::Slot => slot_of(word).is_some(),
+            WordForm::StaticSlot => is_static_slot(word),
             WordForm::SlotOrNone => is_slot_or_none(word),
             WordForm::Channels => channels_of(word).is_some(),
             WordForm::Repetition => is_repetition(word),
@@ -69,6 +77,28 @@ impl WordForm {
             WordForm::Offer => is_offer(word),
             WordForm::Observation => is_observation(word),
         }
+    }
+}
+
+/// Returns whether the word is a number from `least` to below `bound`.
+#[tactic(auto, unfolding(crate::specs::Forms::number_from_in))]
+fn is_number_from(word: &[u8], least: u64, bound: u64) -> bool
+    ensures { result ≡ is_some (number_from_in least bound word.now) }
+{
+    match number_of(word, bound) {
+        Some(number) => number >= least,
+        None => false,
+    }
+}
+
+/// Returns whether the word is a slot that can be a static one.
+#[tactic(auto, unfolding(crate::specs::Forms::static_slot_in))]
+fn is_static_slot(word: &[u8]) -> bool
+    ensures { result ≡ is_some (static_slot_in word.now) }
+{
+    match slot_of(word) {
+        Some(slot) => slot.number() <= LAST_STATIC_SLOT,
+        None => false,
     }
 }
 
@@ -128,19 +158,19 @@ const NODE: [WordForm; 5] = [
     WordForm::Number(9),
     WordForm::Number(8001),
     WordForm::Number(8001),
-    WordForm::Number(16385),
-    WordForm::Number(65537),
+    WordForm::NumberFrom(1, 16385),
+    WordForm::NumberFrom(2, 65537),
 ];
 
 const OWN: [WordForm; 4] = [
-    WordForm::Slot,
+    WordForm::StaticSlot,
     WordForm::Channels,
     WordForm::Flag,
     WordForm::Flag,
 ];
 
 const OWN_IN_CYCLES: [WordForm; 6] = [
-    WordForm::Slot,
+    WordForm::StaticSlot,
     WordForm::Channels,
     WordForm::Flag,
     WordForm::Flag,
@@ -166,7 +196,7 @@ const RX: [WordForm; 4] = [
 ];
 
 const QUEUE: [WordForm; 6] = [
-    WordForm::Number(257),
+    WordForm::NumberFrom(1, 257),
     WordForm::Slot,
     WordForm::Slot,
     WordForm::Channels,

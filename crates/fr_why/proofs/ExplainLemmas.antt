@@ -1,17 +1,19 @@
 -- What is kept of a text, and what is written of its line at fault.
 use Rattle.std.proofs.Common.{◌≡◌, ℕ, ◌<◌, ◌≤◌, List, [], ◌++◌, length, take, Option, Some, None, Ok, Err, IfSome, inl}
+use Rattle.std.proofs.Common.{Result, OnOk, IfErr, sym, ◌⊎◌}
 use Rattle.std.proofs.Common.{inr, ap, ◌∙◌, subst, arith, lit<}
 use Rattle.std.proofs.lemmas.Bool.{cases_lt}
 use Rattle.std.proofs.lemmas.List.{length-take-le, take_all}
-use Rattle.std.specs.Io.KnownBytes.{Appends}
+use Rattle.std.specs.Io.KnownBytes.{Appends, Keeps}
 use Rattle.std.specs.Prelude.{option_map}
 use Rattle.fr_capture.specs.declared.form.Form.{Form}
-use Rattle.fr_interface.specs.State.{State}
+use Rattle.fr_capture.specs.Shows.{text_of}
+use Rattle.fr_interface.specs.State.{State, IsLegalInterface}
 use Rattle.fr_trace.specs.Audit.{IsOfText}
 use Rattle.fr_trace.specs.declared.error.TraceError.{TraceError}
 use Rattle.fr_trace.specs.declared.error.TraceError.TheVariants as refusal
 use Rattle.fr_trace.specs.Refusals.{feed_count}
-use Rattle.fr_trace.specs.Stream.{fresh, take_bytes}
+use Rattle.fr_trace.specs.Stream.{fresh, take_bytes, outcome_of}
 use Rattle.fr_why.specs.Asking.{reason_asked}
 use Rattle.fr_why.specs.declared.head.Head.{Head}
 use Rattle.fr_why.specs.declared.reason.Reason.{Reason}
@@ -82,3 +84,22 @@ shows_fault form text front line rest old new refusal.Truncated is fault shown =
 shows_fault form text front line rest old new refusal.Read is fault shown = absurd is
 shows_fault form text front line rest old new refusal.Write is fault shown = absurd is
 shows_fault form text front line rest old new refusal.Memory is fault shown = absurd is
+
+-- what an accepted text shows is written, or the writer or an allocation fails
+pub shows_accepted : (form : Form) (text : List ℕ) (old new : Option (List ℕ)) (s : State)
+    (r : Result (Unit {0}) TraceError) → outcome_of (take_bytes fresh text) ≡ Ok s → IsLegalInterface s
+    → OnOk r (Appends old new (text_of form s))
+    → IfErr r (λ e. (e ≡ refusal.Write) ⊎ ((e ≡ refusal.Memory) × Keeps old new)) → ShowsUntil form text old new r
+shows_accepted form text old new s (Ok x) is legal shown failed = (s, is, legal, shown)
+shows_accepted form text old new s (Err e) is legal shown (inl write) =
+    subst (λ (d : TraceError). ShowsUntil form text old new (Err d)) (sym write) tt
+shows_accepted form text old new s (Err e) is legal shown (inr memory) =
+    subst (λ (d : TraceError). ShowsUntil form text old new (Err d)) (sym memory.0) memory.1
+
+-- of a reader whose bytes are known the same is said of those that are kept
+pub shows_known : (form : Form) (known : Option (List ℕ)) (bytes : List ℕ) (old new : Option (List ℕ))
+    (r : Result (Unit {0}) TraceError) → IfSome known (λ text. bytes ≡ kept text) → ShowsUntil form bytes old new r
+    → IfSome known (λ text. ShowsUntil form (kept text) old new r)
+shows_known form None bytes old new r is shown = tt
+shows_known form (Some text) bytes old new r is shown =
+    subst (λ (t : List ℕ). ShowsUntil form t old new r) is shown
