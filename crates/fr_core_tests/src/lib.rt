@@ -1,6 +1,6 @@
 //! The tests of frames, lanes and macroticks, of the sender table and of guardians, of the bus, of the world over
 //! events, and of runs that no scenario can ask for. What a command or a session can show is tried by
-//! `scripts/commands`. They stand apart from what they test, since a crate with tests is proved twice.
+//! `tests/commands`. They stand apart from what they test, since a crate with tests is proved twice.
 #![tactic(auto)]
 
 #[cfg(test)]

@@ -1,4 +1,4 @@
-//! Runs that no command line and no scenario can ask for. All others are tried by `scripts/commands`.
+//! Runs that no command line and no scenario can ask for. All others are tried by `tests/commands`.
 
 use fr_core::script::Script;
 use fr_runs::check::{RunRefusal, check_run};

@@ -1,5 +1,5 @@
 //! Who sends and who passes: in the three-node cluster, also where two of its nodes divide a slot by cycles, and in a
-//! cycle of 1,023 static slots. `scripts/commands` has their whole plans.
+//! cycle of 1,023 static slots. `tests/commands` has their whole plans.
 
 use fr_guardian::guardian::Guardian;
 use fr_schedule::cluster::Cluster;

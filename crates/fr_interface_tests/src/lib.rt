@@ -1,4 +1,4 @@
-//! The tests of the host interface. What a trace and its report can show is tried by `scripts/commands`.
+//! The tests of the host interface. What a trace and its report can show is tried by `tests/commands`.
 #![tactic(auto)]
 
 #[cfg(test)]

@@ -1,4 +1,4 @@
-//! The tests of books, desks and wires, and of runs in threads and their outcome. `scripts/commands` tries each command
+//! The tests of books, desks and wires, and of runs in threads and their outcome. `tests/commands` tries each command
 //! of the program, runs too, on many texts.
 #![tactic(auto)]
 

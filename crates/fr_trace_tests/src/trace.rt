@@ -1,5 +1,5 @@
 //! Worked traces with the answers that the format gives, in pieces too, and readers and writers that fail. Other
-//! refusals of traces are tried by `scripts/commands`.
+//! refusals of traces are tried by `tests/commands`.
 
 ghost use Rattle.std.specs.Prelude.{◌<◌};
 
