@@ -56,7 +56,7 @@ RULES = (
     Rule("gdCycle", "`cycle_mt` times `macrotick_us`", 10, 16000, MICROSECONDS, RANGE),
     Rule("gdMacrotick", "`macrotick_us`", 1, 6, MICROSECONDS, RANGE),
     Rule("gdBit", "`bit_rate`", 10_000_000, 10_000_000, "bits a second", "bit-rate"),
-    Rule("gdActionPointOffset", "what `static_mt` leaves of the frame, half of it", 1, 63, MACROTICKS,
+    Rule("gdActionPointOffset", "half of what the frame leaves of `static_mt`", 1, 63, MACROTICKS,
          "action-point"),
     Rule("gSyncNodeMax", "nodes with `sync` in `own`", 2, 15, NODES, "sync-nodes"),
     Rule("coldstart nodes", "nodes with `startup` in `own`", 2, 15, NODES, "startup-nodes"),
