@@ -1,4 +1,4 @@
-//! What the lines of scripts do in the world.
+//! The calls of scripts in the world.
 ghost use Rattle.std.specs.Prelude.{◌≡◌, slice_get, IfOk, OnOk};
 ghost use Rattle.fr_playing.specs.Calls.{event_of, entries_in, asked_in_line, asked_in_script, asked_in, AddsCalls};
 ghost use Rattle.fr_playing.specs.Calls.{DoesCall};
@@ -10,7 +10,7 @@ use fr_core::script::{Action, Line, Script};
 use fr_core::world::World;
 use fr_slots::numbers::{NodeId, TaskId};
 
-/// What a line of a script did, and how that was answered (project-defined).
+/// An executed line of a script, with its answer (project-defined).
 #[derive(Drop, PartialEq, Eq)]
 pub struct Call {
     /// The node.
@@ -19,12 +19,12 @@ pub struct Call {
     pub task: TaskId,
     /// The cycle of the run, from 0.
     pub cycle: u16,
-    /// What the task did.
+    /// The call of the task.
     pub action: Action,
     // The number is kept, since the channel of a frame stands in the entry and not in the reply.
     /// The entry of the node's journal that tells of it, from 0.
     pub entry: u32,
-    /// How it was answered.
+    /// The answer.
     pub reply: Reply,
 }
 

@@ -1,4 +1,4 @@
-//! Why a run isn't played, or not shown.
+//! The reasons for which a run isn't played, or not shown.
 ghost use Rattle.std.specs.Prelude.{◌≡◌};
 ghost use Rattle.fr_playing.specs.declared.error.PlayError.TheVariants as refusal;
 ghost use Rattle.fr_playing.specs.Refusals.{failure_of_file};
@@ -10,8 +10,8 @@ use fr_runs::check::RunRefusal;
 use fr_scenario::error::ScenarioError;
 use thiserror::Error;
 
-/// Why a run isn't played, or not shown (project-defined). Printed, it is the error's name, and for an error of a crate
-/// below the names and values of that error.
+/// The reason for which a run isn't played, or not shown (project-defined). Printed, it is the error's name, and for an
+/// error of a crate below the names and values of that error.
 #[derive(Clone, Copy, Debug, Drop, PartialEq, Eq, Error)]
 pub enum PlayError {
     /// The cluster file is refused, an input couldn't be read or was too long, the output couldn't be written, or

@@ -15,7 +15,7 @@ use std::io::Read;
 pub struct PlayedFile {
     /// The scenario that the file is.
     pub scenario: Scenario,
-    /// What the run leaves.
+    /// The world and the calls at the end of the run.
     pub played: Played,
 }
 

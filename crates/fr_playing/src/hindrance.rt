@@ -1,4 +1,4 @@
-//! What ends a play before the run is over.
+//! The events that end a single-threaded run early.
 ghost use Rattle.std.specs.Prelude.{◌≡◌, None};
 ghost use Rattle.fr_playing.specs.Refusals.{error_of_hindrance, hindrance_of, refusal_of, IsOfRun};
 ghost use Rattle.fr_playing.specs.declared.hindrance.Hindrance.TheVariants as hindrance;
@@ -10,8 +10,8 @@ use fr_commands::error::BenchError;
 use fr_core::error::StepError;
 use std::alloc::{AllocError, AllocFailed};
 
-/// What ends a play before the run is over. Of a run that the cluster accepts only a failed allocation is known to
-/// come.
+/// An event that ends a single-threaded run early. In a run that the cluster accepts, only a failed allocation is known
+/// to come.
 #[derive(Clone, Copy, PartialEq, Eq)]
 pub(crate) enum Hindrance {
     /// The world refused an event.

@@ -1,4 +1,4 @@
-//! What holds of every run that is played.
+//! Laws of every single-threaded run.
 ghost use Rattle.std.specs.Prelude.{ℕ, List};
 ghost use Rattle.fr_core.specs.Scripts.{Scripted};
 ghost use Rattle.fr_core.specs.Worlds.{opening_world};
@@ -8,8 +8,8 @@ ghost use Rattle.fr_runs.specs.declared.fault_line.FaultLine.{FaultLine};
 ghost use Rattle.fr_schedule.specs.Descriptions.{Description};
 ghost use Rattle.fr_session.specs.Laws.{IsLed};
 
-/// What a run leads to, a list of events leads to from the opening world (project-defined). It does nothing but tell
-/// so.
+/// A list of events leads from the opening world to the world of the run (project-defined). An empty function: its
+/// clause is the law.
 pub fn led_by_events()
     ensures { (d : Description) (scripts : List Scripted) (faults : List FaultLine) (cycles : ℕ) (played : Played)
         → IsPlayed d scripts faults cycles played → IsLed (opening_world d cycles) played.world }

@@ -18,12 +18,12 @@ use fr_schedule::cluster::Cluster;
 use fr_session::moving::whole_window;
 use std::alloc::Global;
 
-/// What a run leaves (project-defined).
+/// The world and the calls at the end of a run (project-defined).
 #[derive(Drop)]
 pub struct Played {
     /// The world at its end.
     pub world: World,
-    /// What the lines of the scripts did, in the order in which they were done.
+    /// The executed lines of the scripts, in their order.
     pub calls: Vec<Call>,
 }
 
@@ -90,14 +90,14 @@ fn play_all(
 
 /// Plays a run of the cluster for so many cycles in one thread, one event of its world after another (project-defined).
 ///
-/// Cycle after cycle, first the lines of the cycle are done, in the order of the scripts and of the lines of each. Then
-/// comes window after window: the faults that come in it, in the order of their lines; the look, the fetch and the put
-/// of each node; the seal; the take and the observe of each node; the bus's advance. Where no two tasks touch one
-/// buffer or one queue in a cycle, this is what a stepped run in threads leads to.
+/// In each cycle its lines are executed first, in the order of the scripts and of the lines of each. Then comes window
+/// after window: its faults, in the order of their lines; the look, fetch and put of each node; the seal; the take and
+/// observe of each node; the bus's advance. A lockstep run in threads leads to the same if no two tasks touch one
+/// buffer or one receive FIFO in a cycle.
 ///
-/// Refused with `Run` exactly as `check_run` refuses, and then with `Memory` where memory is refused. `Step` and
-/// `Unfinished` would say that the world refused an event, or wasn't over after so many cycles. Of a run that can be
-/// had neither is known to come; that they don't is tested.
+/// Refused with `Run` exactly as `check_run` refuses, and then with `Memory` if an allocation fails. `Step` and
+/// `Unfinished` would say that the world refused an event, or wasn't over after so many cycles. In a run that the
+/// cluster accepts neither is known to come: tests show that.
 pub fn play(
     alloc: Global,
     cluster: &Cluster,

@@ -1,8 +1,8 @@
-//! Why a session ends before its input does.
+//! The reasons for which a session ends before its input does.
 
 use thiserror::Error;
 
-/// Why a session ends before its input does (project-defined).
+/// The reason for which a session ends before its input does (project-defined).
 #[derive(Clone, Copy, Debug, PartialEq, Eq, Error)]
 pub enum SessionError {
     /// The requests couldn't be read.

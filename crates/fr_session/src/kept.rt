@@ -94,7 +94,7 @@ impl KeptLines {
         }
     }
 
-    /// Appends a line. Where the allocation for it fails, the lines stay as they are.
+    /// Appends a line. If its allocation fails, the lines stay as they are.
     pub(crate) fn push(&mut self, line: FaultLine) -> Result<(), AllocError>
         ensures kept { OnOk result (self.new ≡ self.old ++ line ∷ []) }
         ensures same { OnErr result (self.new ≡ self.old) }

@@ -17,7 +17,7 @@ const FRONT: usize = LONGEST_LINE + 1;
 /// The front of a line.
 pub(crate) type Line = ArrayVec<u8, FRONT>;
 
-/// What a reader had next of a line.
+/// The part of a line that a reader had next.
 #[derive(Clone, Copy, PartialEq, Eq)]
 enum Piece {
     /// Its end, with the line feed.

@@ -17,7 +17,7 @@ use std::hash::{BuildHasherDefault, FoldHasher};
 pub(crate) enum Target {
     /// The node babbles on channel B, or on A.
     Babble { node: u8, on_b: bool },
-    /// What the node offers on channel B, or on A, is lost.
+    /// The offer of the node on channel B, or on A, is lost.
     Mute { node: u8, on_b: bool },
     /// A bit is flipped on channel B, or on A.
     Corrupt { on_b: bool },
@@ -34,8 +34,8 @@ pub(crate) enum Reach {
     Any,
 }
 
-/// Where lines are looked up. Each line leaves four marks: its own, and those with `Any` in place of its cycles, of its
-/// slots or minislots, and of both.
+/// A key under which lines are looked up. Each line leaves four marks: its own, and those with `Any` in place of its
+/// cycles, of its slots or minislots, and of both.
 #[derive(Clone, Copy, PartialEq, Eq, Hash, Drop)]
 pub(crate) struct Mark {
     pub target: Target,
@@ -176,7 +176,7 @@ pub(crate) fn is_met(marks: &Marks, own: Mark) -> bool
         || has(marks, own.at(cycles.other(), places.other()))
 }
 
-/// Adds the four marks of a line of this mark. Where an allocation fails, some of them may be there.
+/// Adds the four marks of a line of this mark. If an allocation fails, some of them may be there.
 pub(crate) fn add_all(marks: &mut Marks, own: Mark) -> Result<(), AllocFailed<Mark>>
     ensures { OnOk result (AddsMarks marks.old own marks.new) }
 {

@@ -1,4 +1,4 @@
-//! What comes in a window and what is due in it, as events.
+//! The faults and steps of a window, as events.
 ghost use Rattle.std.specs.Prelude.{◌≡◌, ◌≤◌, ◌++◌, List, IfOk, OnOk};
 ghost use Rattle.std.specs.List.{flat_map, range_with_len};
 ghost use Rattle.fr_core.specs.Runs.{Answer, StepsAll};
@@ -92,9 +92,8 @@ fn push_whole(events: &mut Vec<Event>, nodes: u8) -> Result<(), AllocError>
     push_sights(events, nodes)
 }
 
-/// Returns what is due in a window of so many nodes, 16 at most, in which nothing has been done, but for the bus's
-/// advance: the look, the fetch and the put of each node, the seal, and the take and the observe of each
-/// (project-defined).
+/// Returns what is due in a window of so many nodes, at most 16, in which nothing has been done (project-defined): the
+/// look, fetch and put of each node, the seal, and the take and observe of each. The bus's advance isn't among them.
 ///
 /// Refused where memory is.
 pub fn whole_window(alloc: Global, nodes: u8) -> Result<Vec<Event>, AllocError>
@@ -148,7 +147,7 @@ fn strike_open(world: &mut World, faults: &[FaultLine])
     match world.bus().collecting() {
         Some(window) => {
             let cycle = run_cycle_of(world.bus(), &window);
-            // Where the window has a fault of the same kind, node and channel, that one stays.
+            // A fault of the same kind, node and channel that the window has stays.
             let _struck = strike_all(world, cycle, &window, faults);
         }
         None => {}

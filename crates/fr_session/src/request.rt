@@ -1,10 +1,10 @@
-//! What a line asks for.
+//! The requests of a session.
 
 use fr_core::event::Event;
 use fr_runs::fault_line::FaultLine;
 use fr_slots::numbers::NodeId;
 
-/// What a line asks for (project-defined).
+/// A request (project-defined).
 #[derive(Drop, PartialEq, Eq)]
 pub enum Request {
     /// One event of the world.
@@ -17,13 +17,13 @@ pub enum Request {
     Window,
     /// Windows up to the start of the next cycle but so many.
     Run(u16),
-    /// Where the bus stands.
+    /// The state of the bus.
     Now,
     /// The report of the node's interface.
     Report(NodeId),
     /// The trace of the node's interface.
     Trace(NodeId),
-    /// Where the frame came from that the last call of the node's tasks read or popped.
+    /// The origin of the frame that the last entry of the node's journal returned, if it is a read or a pop.
     Origin(NodeId),
     /// The window of this number in the bus's record.
     Record(u32),

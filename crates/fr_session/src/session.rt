@@ -26,7 +26,7 @@ use std::alloc::Global;
 use std::io;
 use std::io::{BufRead, Write};
 
-/// What a session goes by.
+/// The terms of a session.
 #[derive(Clone, Copy)]
 struct Terms<'a> {
     /// All that can be due in a window.
@@ -37,7 +37,7 @@ struct Terms<'a> {
     cycles: u16,
 }
 
-/// What a session keeps from line to line: the fault lines, and room for a line.
+/// The state that a session keeps from line to line: the fault lines, and room for a line.
 #[derive(Drop)]
 struct Session {
     alloc: Global,
@@ -205,17 +205,17 @@ impl Session {
 /// (project-defined).
 ///
 /// The reply is handed on at once: the writer is flushed after each. A line that is no request, or has more than 1200
-/// bytes before its line feed, is answered with `refused BadLine N`, N its number from 1, and changes nothing. What
-/// stands after the last line feed is no request, and isn't done or answered.
+/// bytes before its line feed, is answered with `refused BadLine N`, N its number from 1, and changes nothing. Text
+/// after the last line feed is no request, and is neither executed nor answered.
 ///
-/// A fault line, as a scenario spells it, is kept, and its fault comes into each window that `window`, `cycle` or `run`
-/// does from then on and that the line names, if that isn't sealed yet; `forget` ends all lines. A line that a run of
-/// the cluster for so many cycles couldn't have beside those that are kept is answered with `refused BadFault N`, N the
-/// number of those. The cluster is to be the world's, and the cycles those for which the world was opened.
+/// A fault line, as a scenario spells it, is kept. Its fault comes into each window that the line names and that
+/// `window`, `cycle` or `run` executes from then on, if that isn't sealed yet; `forget` ends all lines. A line that a
+/// run of the cluster for so many cycles couldn't have beside those that are kept is answered with `refused BadFault
+/// N`, N the number of those. The cluster is to be the world's, and the cycles those for which the world was opened.
 ///
-/// Ends early with `Memory` where memory for the session itself is refused, before anything is read or written; with
-/// `Read` where the reader fails, and with `Write` where the writer does, which may have taken a part of a reply by
-/// then. A failed allocation later on is answered: `refused Bus Memory` of a seal, `refused Memory` of a fault line, a
+/// Ends early with `Memory` if an allocation for the session itself fails, before anything is read or written; with
+/// `Read` if the reader fails, and with `Write` if the writer does, which may have taken a part of a reply by then. A
+/// failed allocation later on is answered: `refused Bus Memory` of a seal, `refused Memory` of a fault line, a
 /// report, a trace or a window of the record.
 pub fn serve<R: BufRead, W: Write>(
     alloc: Global,
@@ -225,7 +225,7 @@ pub fn serve<R: BufRead, W: Write>(
     reader: &mut R,
     writer: &mut W,
 ) -> Result<(), SessionError>
-    // What is written is the first line and then the reply to each line, in order, by the definition of events.
+    // It writes the first line and then the reply to each line, in order, by the definition of events.
     ensures served { OnOk result (ServedWorld (terms_of cluster.now cycles) (R.remaining reader.old)
         (W.contents writer.old) (W.contents writer.new) world.old world.new) }
     // A failed allocation ends it only before it has begun.

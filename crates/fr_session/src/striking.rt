@@ -52,10 +52,10 @@ pub fn strike_all(
     window: &Window,
     faults: &[FaultLine],
 ) -> Result<(), StepError>
-    // Where nothing is refused each fault has come.
+    // If nothing is refused, each fault has come.
     ensures passes { OnOk result (Passes world.old (flat_map (strike_events cycle window.now) faults.now) world.new) }
     ensures tries { Tries world.old (flat_map (strike_events cycle window.now) faults.now) world.new }
-    // What is returned is the first refusal, if there is one.
+    // It returns the first refusal, if there is one.
     ensures told { Tells world.old (flat_map (strike_events cycle window.now) faults.now) result world.new }
 {
     let mut struck = Ok(());

@@ -100,9 +100,9 @@ fn write_call<W: Write>(writer: &mut W, world: &World, call: &Call) -> io::Resul
 }
 
 /// Writes a line for each of the calls, in their order (project-defined): the node, the task, the cycle of the run,
-/// what the task did in the words of a scenario, `=`, and the answer. That is the number of the entry of a commit, and
-/// of the commit that a withdraw took back; of a read or a pop the cycle count, the slot, the channel and the payload
-/// of the frame; and `-` for none.
+/// the call in the words of a scenario, `=`, and the answer. The answer of a commit is the number of its entry, that of
+/// a withdraw the number of the commit that it took back. For a read or a pop it is the cycle count, the slot, the
+/// channel and the payload of the frame. It is `-` for none.
 ///
 /// Fails where the writer fails, and then a part of the text may have gone out.
 pub fn write_answers<W: Write>(writer: &mut W, world: &World, calls: &[Call]) -> io::Result<()>

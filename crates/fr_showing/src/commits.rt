@@ -317,11 +317,11 @@ fn write_node<W: Write>(
 // Commits come from journals, not from scripts, so each has its line by construction. Receivers come from the record
 // and the plans: by the headline promise each node observed that.
 /// Writes a line for each commit of each node's journal, in the order of the nodes and of the entries
-/// (project-defined): the node, the buffer, the task, the cycle of the run, the entry, the payload, `=`, and what
-/// became of it. That is
-/// `pending`; `withdrawn` or `overwritten`, with the cycle and the entry that did it; or `sent`, and then for each time
-/// and each channel on which it was handed to the bus the cycle of the run, the slot, the channel, how it ended there
-/// (`End`), and the receive buffers and queues that took it, in the order of the nodes, or a dash.
+/// (project-defined): the node, the buffer, the task, the cycle of the run, the entry, the payload, `=`, and the fate.
+/// The fate is `pending`; `withdrawn` or `overwritten`, with the cycle and the entry that did it; or `sent`. After
+/// `sent` stand, for each time and channel on which it was handed to the bus: the cycle of the run, the slot, the
+/// channel, its end there (`End`), and the receive buffers and receive FIFOs that stored it, in the order of the nodes,
+/// or a dash.
 ///
 /// Fails where the writer fails, and then a part of the text may have gone out.
 pub fn write_commits<W: Write>(writer: &mut W, world: &World) -> io::Result<()>

@@ -1,4 +1,4 @@
-//! How transmissions ended.
+//! The ends of transmissions.
 ghost use Rattle.std.specs.Prelude.{◌≡◌, ◌≤◌, count_by, option_map, slice_get};
 ghost use Rattle.std.specs.List.{find};
 ghost use Rattle.fr_bus.specs.Outcome.{passed_on};
@@ -10,7 +10,7 @@ use fr_slots::channel::Channel;
 use fr_slots::params::Params;
 use fr_slots::window::Window;
 
-/// How a transmission ended (project-defined).
+/// The end of a transmission (project-defined).
 #[derive(Clone, Copy, PartialEq, Eq)]
 pub enum End {
     /// It passed alone, as it was sent.

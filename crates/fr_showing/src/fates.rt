@@ -1,4 +1,4 @@
-//! What became of a commit, and where it was sent.
+//! The fate of a commit, and the windows in which it was sent.
 ghost use Rattle.std.specs.Prelude.{◌≡◌, ◌<◌, ◌+◌, ◌^◌, true, if◌then◌else◌, take, slice_get, IsSomeAnd};
 ghost use Rattle.fr_core.specs.Accounts.{begins_cycle_at};
 ghost use Rattle.fr_journal.specs.Fate.{is_commit_on, is_data_of};
@@ -13,7 +13,7 @@ use fr_journal::lent::LentEntry;
 use fr_slots::channel::Channel;
 use fr_slots::window::Window;
 
-/// What became of a commit, and by which entry: its cycle of the run, and its number in the journal.
+/// The fate of a commit, and the entry that decided it: its cycle of the run, and its number in the journal.
 #[derive(Clone, Copy)]
 pub(crate) enum Became {
     /// A later fetch handed it to the bus.

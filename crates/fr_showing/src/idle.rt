@@ -79,9 +79,9 @@ fn idle_numbers(
 
 /// Returns the numbers of the scenario's fault lines that had no effect in the run, in their order (project-defined).
 ///
-/// A line struck something if in a window in which its fault comes a transmission shows it: of a babble line one that
-/// its node babbled on its channel, of a mute line one of its node on its channel that is muted, of a corrupt line one
-/// that passed alone on its channel with a bit turned.
+/// A line had an effect if a transmission shows it, in a window in which the fault of the line comes. For a babble line
+/// that is one that its node babbled on its channel, for a mute line one of its node on its channel that is muted, and
+/// for a corrupt line one that passed alone on its channel with a flipped bit.
 ///
 /// Refused where memory is refused.
 pub fn idle_lines(alloc: Global, file: &PlayedFile) -> Result<Vec<u32>, AllocError>

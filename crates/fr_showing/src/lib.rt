@@ -1,6 +1,6 @@
-//! What a run was, as texts: what each line of a script was answered, what became of each commit, what the bus carried,
-//! as lines, as a capture and as a picture, the trace of a node, the outcome; and which fault lines had no effect
-//! (project-defined).
+//! The texts that show a run (project-defined): the answers to the lines of scripts, the fates of commits, the record
+//! of the bus as lines, as a capture and as a picture, the trace of a node, and the outcome. It also finds fault lines
+//! that had no effect.
 //!
 //! ```text
 //! // Writes a line for each commit, and gives the numbers of the fault lines that had no effect.

@@ -212,15 +212,14 @@ pub(crate) fn begun_with(begun: usize, sealed: &Sealed) -> usize
 
 /// Writes the bus's record of a run with the scenario (project-defined): for each window, in their order, a line for
 /// each of its transmissions, in the order of the nodes, of a node on channel A before B and its offer before its
-/// babble, and then one for each bit that was to be turned.
+/// babble, and then one for each bit that was to be flipped.
 ///
 /// A line has the window's number, the cycle of the run, the minislot or a dash in a static slot, the slot and the
-/// channel. Those of a transmission go on with the node, `offer` or `babble`, `passed`, `blocked` or `muted`, how it
-/// ended (`End`), the ID and the flags of the frame that its bytes are, or two dashes, and the bytes as they were sent.
-/// Those of a bit go on with a dash, `corrupt`, and the bit, counted from the most significant one of the first byte.
-/// The last word of each is the number of the scenario's line that it comes from, where line 1 names the version, or a
-/// dash: of a babble the line that has the node babble, of a muted offer the line that lost it, of a bit the line that
-/// turns it.
+/// channel. For a transmission follow the node, `offer` or `babble`, `passed`, `blocked` or `muted`, and its end
+/// (`End`). Then come the ID and the flags of the frame that its bytes are, or two dashes, and the bytes as sent. For a
+/// bit follow a dash, `corrupt`, and the bit, counted from the most significant one of the first byte. The last word is
+/// the number of the scenario's line behind it, where line 1 names the version, or a dash. That line has the node
+/// babble, loses the muted offer, or flips the bit.
 ///
 /// Fails where the writer fails, and then a part of the text may have gone out.
 pub fn write_record<W: Write>(

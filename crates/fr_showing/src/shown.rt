@@ -1,4 +1,4 @@
-//! What can be shown of a run, as texts.
+//! The views of a run, as texts.
 ghost use Rattle.std.specs.Prelude.{◌≡◌, ◌⊎◌, Some, None, IfOk, OnOk, IfErr, length};
 ghost use Rattle.std.specs.List.{flat_map};
 ghost use Rattle.fr_commands.specs.declared.error.BenchError.TheVariants as bench;
@@ -33,7 +33,7 @@ use fr_slots::numbers::NodeId;
 use fr_trace::trace::write_trace;
 use std::alloc::Global;
 
-/// What is to be shown of a run (project-defined).
+/// A view of a run (project-defined).
 #[derive(Clone, Copy, PartialEq, Eq)]
 pub enum Shown {
     /// Each node's report, the number of windows and that all agrees, as a run in threads prints it.
@@ -45,7 +45,7 @@ pub enum Shown {
     /// A line for each transmission and each flipped bit of the bus's record, with the number of the scenario's line
     /// that it comes from.
     Record,
-    /// What a listener on the bus hears that sends nothing, as a capture.
+    /// A capture of what a listener on the bus hears that sends nothing.
     Heard,
     /// A picture of what a channel carried, or of what a node saw there.
     Matrix(View),

@@ -1,4 +1,4 @@
-//! What took a transmission.
+//! The receivers of a transmission.
 ghost use Rattle.std.specs.Prelude.{◌≡◌, ◌≤◌, ◌||◌, ◌∷◌, [], false, length, IfOk, is_some};
 ghost use Rattle.std.specs.Option.{option_and_then};
 ghost use Rattle.fr_bus.specs.Record.{seen_by};

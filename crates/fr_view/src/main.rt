@@ -1,8 +1,8 @@
-//! The bench's program for looking at things. It reads its command from the words after its name, does it, and says by
-//! its exit status how it went: 0 where it is done, 1 where an input is refused, 2 where the words are no command.
+//! The bench's program for views. It executes the command of the words after its name. Its exit status is 0 after
+//! success, 1 if an input is refused, and 2 if the words are no command.
 //!
-//! What it prints on standard output comes only once the command has accepted all its input, but for `--until-fault`,
-//! and for `why`, whose answer it is. A refusal is one line on standard error; of a run that was played each fault line
+//! Output comes only once the command has accepted all its input, but for `--until-fault`, and for `why`, whose answer
+//! is its output. A refusal is one line on standard error; of a run that was played each fault line
 //! that had no effect has a line there too.
 //!
 //! ```text
@@ -53,7 +53,7 @@ use std::process::ExitCode;
 use std::rt::{Env, Files};
 use std::time::Clock;
 
-/// What the program prints where it is asked for help.
+/// The help of the program.
 const HELP: &str = "fr_view schedule FILE [--cycle N] > SVG
     a picture of a cycle of the cluster, 0 unless another is named
 fr_view capture [--own] [--until-fault] < TRACE > CAPTURE

@@ -1,4 +1,4 @@
-//! How the program ends when it hasn't done what it was asked.
+//! The ends of a program that hasn't executed its command.
 ghost use Rattle.std.specs.Prelude.{◌≡◌};
 ghost use Rattle.fr_world.specs.Failures.{status_of};
 
@@ -8,7 +8,8 @@ use fr_session::error::SessionError;
 use fr_words::error::OrderError;
 use thiserror::Error;
 
-/// Why the program hasn't done what it was asked; printed, it is the line on standard error (project-defined).
+/// The reason for which the program hasn't executed its command (project-defined). Printed, it is the line on standard
+/// error.
 #[derive(Clone, Copy, Debug, Drop, PartialEq, Eq, Error)]
 pub enum Failure {
     /// The words were no command, or memory for reading them was refused.

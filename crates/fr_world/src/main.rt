@@ -1,14 +1,13 @@
 //! The program through which host programs take part in a cluster. It opens the world of a cluster file for a run of
-//! some cycles, and then answers each line on standard input with a line or a block of lines on standard output, before
+//! some cycles. Then it answers each line on standard input with a line or a block of lines on standard output, before
 //! it reads the next.
 //!
 //! ```text
 //! fr_world cluster.toml --cycles 4
 //! ```
 //!
-//! Its exit status says how it went: 0 where the input came to its end, 1 where the cluster is refused or a stream
-//! fails, 2 where the words are no command. Such a refusal is one line on standard error. That of a request is its
-//! reply.
+//! Its exit status is 0 at the end of the input, 1 if the cluster is refused or a stream fails, and 2 if the words are
+//! no command. Such a refusal is one line on standard error. The refusal of a request is its reply.
 //!
 //! *(project-defined)* marks a rule of this project's own, which says nothing of the standard.
 //!
@@ -70,7 +69,7 @@ fn serve_world<R: Files + Input + Print + AllocGlobal + Clock>(
         &mut reader,
         &mut writer,
     );
-    // What a write that failed has left is let go, so that nothing comes after the failure.
+    // The rest of a failed write is dropped, so that nothing comes after the failure.
     let _left = writer.into_parts();
     Ok(served?)
 }
