@@ -20,6 +20,13 @@ class BrokenOff(BaseException):
         self.status = SIGNALLED + number
 
 
+class Deferral:
+    """The blocks in which `BrokenOff` is held back, and the signal that came meanwhile."""
+
+    depth = 0
+    number: int | None = None
+
+
 @contextmanager
 def breaking_off() -> Iterator[None]:
     """Raises `BrokenOff` at the first of the signals, and ignores those after it.
@@ -36,7 +43,10 @@ def breaking_off() -> Iterator[None]:
         for it in handled:
             # SIG_IGN would be inherited by the programs that are started to clean up.
             signal.signal(it, lambda *_: None)
-        raise BrokenOff(number)
+        if Deferral.depth:
+            Deferral.number = number
+        else:
+            raise BrokenOff(number)
 
     for it in handled:
         signal.signal(it, break_off)
@@ -45,6 +55,22 @@ def breaking_off() -> Iterator[None]:
     finally:
         for it in handled:
             signal.signal(it, before[it])
+
+
+@contextmanager
+def deferred() -> Iterator[None]:
+    """Holds `BrokenOff` back until the block ends. Programs that start in it get all signals, unlike in `held`."""
+    if threading.current_thread() is not threading.main_thread():
+        yield
+        return
+    Deferral.depth += 1
+    try:
+        yield
+    finally:
+        Deferral.depth -= 1
+        if not Deferral.depth and Deferral.number is not None:
+            number, Deferral.number = Deferral.number, None
+            raise BrokenOff(number)
 
 
 @contextmanager

@@ -8,6 +8,8 @@ from collections.abc import Iterable, Iterator
 from contextlib import contextmanager, suppress
 from typing import Any
 
+from musmyrtle.breaking import deferred
+
 GRACE = 2.0
 """The seconds between SIGTERM and SIGKILL."""
 AGAIN = 0.25
@@ -30,21 +32,26 @@ class Children:
     @contextmanager
     def started(self, words: list[str], **how: Any) -> Iterator[Process]:
         """Runs a program, and waits for its end. An exception in the block ends the program and its process group."""
-        with self.lock:
-            if self.is_over:
-                raise Over
-            process = subprocess.Popen(words, process_group=0, **how)
-            self.running.add(process)
+        started: list[Process] = []
         try:
-            with process:
+            # A signal within `Popen` would lose the program that it has started.
+            with deferred(), self.lock:
+                if self.is_over:
+                    raise Over
+                started.append(subprocess.Popen(words, process_group=0, **how))
+                self.running.update(started)
+            with started[0] as process:
                 try:
                     yield process
                 except BaseException:
                     end([process])
                     raise
+        except BaseException:
+            end(started)
+            raise
         finally:
             with self.lock:
-                self.running.discard(process)
+                self.running.difference_update(started)
 
     def ran(self, words: list[str], data: bytes = b"") -> tuple[int, bytes, bytes]:
         """Runs a program to its end, with DATA on its standard input. Returns its status, its output and its standard
