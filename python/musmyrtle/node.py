@@ -95,9 +95,11 @@ class Node:
 
     def _frame(self, line: str) -> Frame | None:
         """Returns the frame of a read or a pop. Its origin is requested with it."""
-        reply, origin = self.world.send([line, f"origin {self.number}"])
-        if reply.startswith("refused "):
-            raise refusal(reply, line)
+        asked = [line, f"origin {self.number}"]
+        reply, origin = replies = self.world.send(asked)
+        for request, answer in zip(asked, replies):
+            if answer.startswith("refused "):
+                raise refusal(answer, request)
         return frame_of(reply.split(" ")[1:], origin)
 
     def _ask(self, line: str) -> str:

@@ -5,6 +5,7 @@ import os
 import subprocess
 import sys
 import unittest
+from unittest.mock import patch
 from pathlib import Path
 from tempfile import TemporaryDirectory
 
@@ -251,6 +252,12 @@ class TestWorld(unittest.TestCase):
         self.assertEqual(self.receiver.report().buffers[1].channel, "A")
         read = [line.split(" ") for line in self.receiver.trace().splitlines() if line.startswith("read ")]
         self.assertEqual([words[3].partition(":")[2] for words in read], ["A"])
+
+    def test_a_program_that_knows_no_origin(self):
+        """A program without the request refuses it, also after a read that it accepts."""
+        with patch.object(self.world, "send", return_value=["frame 0 1 --s- x0007", "refused BadLine 2"]):
+            with self.assertRaises(BadLine):
+                self.receiver.read(1)
 
     def test_a_report_is_told_in_parts(self):
         self.sender.commit(0, words(1))

@@ -44,7 +44,7 @@ RECEIVED = [
     (9, "read\t0\\ \x7f\r", "BadLine 9", r"read\x090\x5c \x7f\x0d", "reason Line Word 1 1", 1),
     (9, "0" * 1201, "LineTooLong 9", "0" * 1200, "", 1),
     (1, "frtrace 4", "BadMagic", "frtrace 4", "", 0),
-    # An upper-case digit, an odd number of digits, a word too many, an end that goes on, and words that don't go together.
+    # An upper-case digit, an odd number of digits, a word too many, an end that goes on, words that don't go together.
     (8, "see 0 x0A noise", "BadLine 8", "see 0 x0A noise", "reason Line Form 3 7", 1),
     (8, "see 0 x0a1 noise", "BadLine 8", "see 0 x0a1 noise", "reason Line Form 3 7", 1),
     (8, "see 0 - - -", "BadLine 8", "see 0 - - -", "reason Line Form 5 11", 1),
