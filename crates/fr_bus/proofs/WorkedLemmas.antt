@@ -16,7 +16,7 @@ use Rattle.fr_slots.specs.declared.channel.Channels.TheVariants as channels
 use Rattle.fr_slots.specs.Parameters.{Parameters}
 use Rattle.fr_slots.specs.Plans.{Plan, empty_plan}
 use Rattle.fr_slots.specs.Windows.{Opportunity, static_window}
-use Rattle.fr_status.specs.declared.seen.Seen.{Seen}
+use Rattle.fr_status.specs.Forms.{Seen}
 use Rattle.fr_status.specs.declared.seen.Seen.TheVariants.{Silence, Own as Owns, Conflict, Noise, Bytes}
 
 abbrev one_word : Parameters

@@ -13,7 +13,7 @@ ghost use Rattle.fr_bus.specs.Corruption.{turned, with_bit_turned, corrupted};
 ghost use Rattle.fr_slots.specs.declared.channel.Channel.TheVariants as Channel;
 ghost use Rattle.fr_guardian.specs.Guarding.{passes};
 ghost use Rattle.fr_slots.specs.Windows.{slot_of};
-ghost use Rattle.fr_status.specs.Lent.{whole_seen};
+ghost use Rattle.fr_status.specs.Forms.{whole_seen};
 ghost use Rattle.fr_status.specs.declared.seen.Seen.TheVariants as Sight;
 
 use crate::station::{Side, Stations, write_over};
@@ -489,7 +489,7 @@ impl Sealed {
     ghost use Rattle.std.specs.Option.{option_copied};
     ghost use Rattle.fr_bus.specs.Record.{corrupt_on, heard, offer_in, seen_by};
     ghost use Rattle.fr_bus.specs.Outcome.{longest};
-    ghost use Rattle.fr_status.specs.Lent.{whole_seen};
+    ghost use Rattle.fr_status.specs.Forms.{whole_seen};
 
     /// Returns the bit that a fault turns on the channel, if any, counted from the most significant bit of the first
     /// byte (project-defined).

@@ -9,7 +9,7 @@ use Rattle.fr_capture.specs.Moments.{begins_round, fetch_number, fetched, is_not
 use Rattle.fr_capture.specs.Moments.{place_in_round, round_length, rounds, time_of}
 use Rattle.fr_capture.specs.Sightings.{in_window, sighting, sightings_at, sightings_in}
 use Rattle.fr_interface.specs.State.{State}
-use Rattle.fr_journal.specs.declared.entry.Entry.{Entry}
+use Rattle.fr_journal.specs.Forms.{Entry}
 use Rattle.fr_journal.specs.declared.entry.Entry.TheVariants.{Commit, Withdraw, Read, Pop, Fetch, Observe}
 use Rattle.fr_journal.specs.declared.entry.Offered.{Offered}
 use Rattle.fr_slots.proofs.HistoryLemmas.{last_after-snoc, each_after-snoc, count_after-snoc}
@@ -17,7 +17,7 @@ use Rattle.fr_slots.specs.declared.channel.Channel.TheVariants.{A, B}
 use Rattle.fr_slots.specs.History.{count_after}
 use Rattle.fr_slots.specs.Parameters.{Parameters}
 use Rattle.fr_slots.specs.Windows.{Opportunity}
-use Rattle.fr_status.specs.declared.seen.Seen.{Seen}
+use Rattle.fr_status.specs.Forms.{Seen}
 
 -- ---- one entry more
 

@@ -20,7 +20,7 @@ use Rattle.fr_capture.specs.declared.moment.Moment.{Moment}
 use Rattle.fr_capture.specs.Shows.{heading, shown, shown_of, Shows, Ends, EndsAt}
 use Rattle.fr_capture.specs.Sightings.{Sighting, sightings_at, sightings_in}
 use Rattle.fr_capture.proofs.MomentLemmas.{one_moment, seen_same, sightings-snoc, few_rounds}
-use Rattle.fr_journal.specs.declared.entry.Entry.{Entry}
+use Rattle.fr_journal.specs.Forms.{Entry}
 
 -- of so many entries what is seen has been written, after the heading
 pub record IsShown (form : Form) (s : State) (entries : List Entry) (count : ℕ) (start now : Option (List ℕ))

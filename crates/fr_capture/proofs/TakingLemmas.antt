@@ -14,7 +14,7 @@ use Rattle.fr_slots.specs.declared.plan.Queue.{Queue}
 use Rattle.fr_slots.specs.Parameters.{Parameters}
 use Rattle.fr_slots.specs.Plans.{Plan, admits_window, is_receive}
 use Rattle.fr_slots.specs.Windows.{Opportunity}
-use Rattle.fr_status.specs.declared.seen.Seen.{Seen}
+use Rattle.fr_status.specs.Forms.{Seen}
 
 abbrev takes_words : Bool → Bool → Bool → Bool → Bool → Channel → Bool
 takes_words receives admits_a admits_b a b A = receives && (a && admits_a)

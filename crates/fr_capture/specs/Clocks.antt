@@ -6,13 +6,13 @@ use Rattle.fr_capture.specs.declared.moment.Moment.{Moment}
 use Rattle.fr_capture.specs.Moments.{last_fetch, last_window, place_in_round, round_length, rounds}
 use Rattle.fr_capture.specs.Sightings.{Sighting, sighting}
 use Rattle.fr_interface.specs.State.{State}
-use Rattle.fr_journal.specs.declared.entry.Entry.{Entry}
+use Rattle.fr_journal.specs.Forms.{Entry}
 use Rattle.fr_journal.specs.declared.entry.Entry.TheVariants.{Commit, Withdraw, Read, Pop, Fetch, Observe}
 use Rattle.fr_slots.specs.declared.channel.Channel.{Channel}
 use Rattle.fr_slots.specs.declared.channel.Channel.TheVariants.{A, B}
 use Rattle.fr_slots.specs.Parameters.{Parameters}
 use Rattle.fr_slots.specs.Windows.{Opportunity}
-use Rattle.fr_status.specs.declared.seen.Seen.{Seen}
+use Rattle.fr_status.specs.Forms.{Seen}
 
 abbrev pub time_at : Parameters → Moment → ℕ
 time_at p m = m.rounds * round_length p + m.place

@@ -16,7 +16,7 @@ use Rattle.fr_interface.specs.State.{State}
 use Rattle.fr_lines.specs.Spelling.{line_text}
 use Rattle.fr_slots.specs.declared.channel.Channel.{Channel}
 use Rattle.fr_slots.specs.Windows.{slot_of}
-use Rattle.fr_status.specs.declared.seen.Seen.{Seen}
+use Rattle.fr_status.specs.Forms.{Seen}
 use Rattle.fr_status.specs.declared.seen.Seen.TheVariants.{Silence, Own, Conflict, Noise, Overrun, Bytes}
 
 -- the end of the line, where it may be known which frame the bytes are

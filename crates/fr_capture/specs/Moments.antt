@@ -2,7 +2,7 @@
 -- which the first window was, and a macrotick is one of them (project-defined).
 use Rattle.std.specs.Prelude.{ℕ, ◌+◌, ◌*◌, nat_le, Bool, false, List, [], length, Option, Some, None}
 use Rattle.std.specs.Prelude.{unwrap_or}
-use Rattle.fr_journal.specs.declared.entry.Entry.{Entry}
+use Rattle.fr_journal.specs.Forms.{Entry}
 use Rattle.fr_journal.specs.declared.entry.Entry.TheVariants.{Commit, Withdraw, Read, Pop, Fetch, Observe}
 use Rattle.fr_slots.specs.History.{last_after, count_after}
 use Rattle.fr_slots.specs.Numbers.{cycle_count}

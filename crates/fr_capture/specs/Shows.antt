@@ -3,7 +3,7 @@ use Rattle.std.specs.Prelude.{ℕ, List, ◌++◌, Option, Some, None, Result, O
 use Rattle.std.specs.Io.KnownBytes.{Keeps, Appends}
 use Rattle.std.specs.List.{flat_map}
 use Rattle.fr_interface.specs.State.{State, IsLegalInterface}
-use Rattle.fr_journal.specs.declared.entry.Entry.{Entry}
+use Rattle.fr_journal.specs.Forms.{Entry}
 use Rattle.fr_slots.specs.Parameters.{Parameters}
 use Rattle.fr_trace.specs.Audit.{IsTextOf, IsRefusedBy, HasBegin, StopsAt, StopsAtEnd}
 use Rattle.fr_trace.specs.declared.error.TraceError.{TraceError}

@@ -8,13 +8,13 @@ use Rattle.fr_capture.specs.Takers.{takers_of}
 use Rattle.fr_interface.specs.Handing.{bytes_handed}
 use Rattle.fr_interface.specs.State.{State}
 use Rattle.fr_journal.specs.Counts.{seen_on}
-use Rattle.fr_journal.specs.declared.entry.Entry.{Entry}
+use Rattle.fr_journal.specs.Forms.{Entry}
 use Rattle.fr_journal.specs.declared.entry.Entry.TheVariants.{Commit, Withdraw, Read, Pop, Fetch, Observe}
 use Rattle.fr_slots.specs.declared.channel.Channel.{Channel}
 use Rattle.fr_slots.specs.declared.channel.Channel.TheVariants.{A, B}
 use Rattle.fr_slots.specs.History.{each_after}
 use Rattle.fr_slots.specs.Windows.{Opportunity, slot_of}
-use Rattle.fr_status.specs.declared.seen.Seen.{Seen}
+use Rattle.fr_status.specs.Forms.{Seen}
 
 -- What was seen on a channel: when the window began, its cycle count, the slot that the channel had open, if any, what
 -- the fetch of the window had handed to the bus there, if anything, and what took the frame that came.

@@ -20,7 +20,7 @@ use Rattle.fr_capture.specs.declared.takers.Taker.{Taker}
 use Rattle.fr_capture.specs.Sightings.{Sighting}
 use Rattle.fr_capture.specs.Takers.{takers_word}
 use Rattle.fr_slots.specs.declared.channel.Channel.{Channel}
-use Rattle.fr_status.specs.declared.seen.Seen.{Seen}
+use Rattle.fr_status.specs.Forms.{Seen}
 use Rattle.fr_status.specs.declared.seen.Seen.TheVariants.{Silence, Own, Conflict, Noise, Overrun, Bytes}
 use Rattle.arrayvec.specs.ArrayVec.{ArrayVec}
 

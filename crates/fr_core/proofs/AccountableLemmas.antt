@@ -19,7 +19,7 @@ use Rattle.fr_core.proofs.SendingLemmas.{found_in, account_is_ready}
 use Rattle.fr_core.proofs.TakingLemmas.{transmitter_admits, transmitter_transmits}
 use Rattle.fr_frame.specs.Fields.{Fields}
 use Rattle.fr_interface.specs.State.{State, IsLegalInterface}
-use Rattle.fr_journal.specs.declared.entry.Entry.{Entry}
+use Rattle.fr_journal.specs.Forms.{Entry}
 use Rattle.fr_journal.specs.declared.entry.Entry.TheVariants.{Fetch}
 use Rattle.fr_journal.specs.declared.entry.Offered.{Offered}
 use Rattle.fr_journal.specs.declared.entry.Offered.TheVariants.{Nothing, Null}

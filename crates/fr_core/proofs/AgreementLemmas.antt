@@ -34,7 +34,7 @@ use Rattle.fr_core.specs.Steps.{look_in_turn, take_in_turn, looked, fetched, put
 use Rattle.fr_core.specs.Worlds.{WorldState, has_node, interface_at, carried_at, no_interface, new_interface}
 use Rattle.fr_core.specs.Worlds.{opening_world}
 use Rattle.fr_interface.specs.State.{State, with_entry, withdraw_entry, read_entry, pop_entry, fetch_entry}
-use Rattle.fr_journal.specs.declared.entry.Entry.{Entry}
+use Rattle.fr_journal.specs.Forms.{Entry}
 use Rattle.fr_journal.specs.declared.entry.Entry.TheVariants as entries
 use Rattle.fr_journal.specs.OpenWindow.{window_mark}
 use Rattle.fr_schedule.specs.Descriptions.{Description}
@@ -43,7 +43,7 @@ use Rattle.fr_slots.specs.declared.channel.Channel.TheVariants.{A, B}
 use Rattle.fr_slots.specs.Parameters.{Parameters}
 use Rattle.fr_slots.specs.Plans.{Plan}
 use Rattle.fr_slots.specs.Windows.{Opportunity}
-use Rattle.fr_status.specs.declared.seen.Seen.{Seen}
+use Rattle.fr_status.specs.Forms.{Seen}
 
 -- ---- the node that changes, and the others
 

@@ -14,7 +14,7 @@ use Rattle.fr_core.proofs.TimingLemmas.{AreTimed, same_cycle}
 use Rattle.fr_core.specs.Receivers.{IsOwner}
 use Rattle.fr_interface.specs.State.{State, IsLegalInterface}
 use Rattle.fr_slots.proofs.PlaceLemmas.{AllAfter-front, AllAfter-cut}
-use Rattle.fr_journal.specs.declared.entry.Entry.{Entry}
+use Rattle.fr_journal.specs.Forms.{Entry}
 use Rattle.fr_journal.specs.declared.entry.Entry.TheVariants.{Commit, Withdraw, Read, Pop, Fetch, Observe}
 use Rattle.fr_journal.specs.declared.entry.Offered.{Offered}
 use Rattle.fr_journal.specs.Legal.{IsLegal, IsLegalFetch}

@@ -17,7 +17,7 @@ use Rattle.fr_core.specs.Runs.{Answer, is_commit_at, commits_by}
 use Rattle.fr_core.specs.Steps.{Steps, step_refusal, step_done, if_node, looked, fetched, put_on_bus, taken, observed}
 use Rattle.fr_core.specs.Worlds.{WorldState, has_node, interface_at, carried_at, no_interface}
 use Rattle.fr_interface.specs.State.{State, with_entry, withdraw_entry, read_entry, pop_entry, fetch_entry}
-use Rattle.fr_journal.specs.declared.entry.Entry.{Entry}
+use Rattle.fr_journal.specs.Forms.{Entry}
 use Rattle.fr_journal.specs.declared.entry.Entry.TheVariants as entries
 use Rattle.fr_slots.specs.Windows.{Opportunity}
 

@@ -19,7 +19,7 @@ use Rattle.fr_frame.specs.Fields.{Fields, IsFrame}
 use Rattle.fr_frame.specs.Payload.{IsPayload}
 use Rattle.fr_frame.proofs.EncodingLemmas.{encoded_is_decoded}
 use Rattle.fr_interface.specs.State.{State, IsLegalInterface}
-use Rattle.fr_journal.specs.declared.entry.Entry.{Entry}
+use Rattle.fr_journal.specs.Forms.{Entry}
 use Rattle.fr_journal.specs.declared.entry.Entry.TheVariants.{Commit, Withdraw, Read, Pop, Fetch, Observe}
 use Rattle.fr_journal.specs.declared.entry.Offered.{Offered}
 use Rattle.fr_journal.specs.declared.entry.Offered.TheVariants.{Nothing, Null, Data}

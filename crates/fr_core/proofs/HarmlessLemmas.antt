@@ -29,7 +29,7 @@ use Rattle.fr_slots.specs.History.{AllAfter}
 use Rattle.fr_guardian.specs.Guarding.{passes_in, passes}
 use Rattle.fr_guardian.proofs.AloneLemmas.{passes_alone, owner_passes}
 use Rattle.fr_interface.specs.State.{State, IsLegalInterface}
-use Rattle.fr_journal.specs.declared.entry.Entry.{Entry}
+use Rattle.fr_journal.specs.Forms.{Entry}
 use Rattle.fr_journal.specs.declared.entry.Entry.TheVariants.{Fetch}
 use Rattle.fr_journal.specs.Offers.{frame_with, bytes_of}
 use Rattle.fr_minislot.specs.DynamicRows.{minislots_filled_by}

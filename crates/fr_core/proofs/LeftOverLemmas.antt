@@ -11,7 +11,7 @@ use Rattle.fr_core.proofs.ReadyLemmas.{pending-new, pending-same, pending-gone, 
 use Rattle.fr_core.proofs.ReadyLemmas.{paid-same, ready-new, ready-same, ready-taken}
 use Rattle.fr_journal.proofs.HeldCommitLemmas.{pending_is, held_is, held-other, one_buffer}
 use Rattle.fr_journal.proofs.LastCommitLemmas.{payload_of-next}
-use Rattle.fr_journal.specs.declared.entry.Entry.{Entry}
+use Rattle.fr_journal.specs.Forms.{Entry}
 use Rattle.fr_journal.specs.declared.entry.Entry.TheVariants.{Commit, Withdraw, Read, Pop, Fetch, Observe}
 use Rattle.fr_journal.specs.declared.entry.Offered.{Offered}
 use Rattle.fr_journal.specs.Fate.{is_commit_on, last_commit, sends, takes_back, pending_commit, held_commit}

@@ -24,7 +24,7 @@ use Rattle.fr_frame.specs.Encoding.{encoded}
 use Rattle.fr_frame.specs.Fields.{Fields}
 use Rattle.fr_interface.specs.declared.interface.Offer.{Offer}
 use Rattle.fr_interface.specs.State.{State, with_entry, fetch_entry}
-use Rattle.fr_journal.specs.declared.entry.Entry.{Entry}
+use Rattle.fr_journal.specs.Forms.{Entry}
 use Rattle.fr_journal.specs.declared.entry.Entry.TheVariants.{Observe}
 use Rattle.fr_journal.specs.Offers.{offered, frame_of_offer, bytes_of}
 use Rattle.fr_journal.specs.OpenWindow.{window_mark}
@@ -36,7 +36,7 @@ use Rattle.fr_slots.specs.Parameters.{Parameters}
 use Rattle.fr_slots.specs.Plans.{Plan}
 use Rattle.fr_slots.specs.Windows.{Opportunity, slot_of}
 use Rattle.fr_slots.proofs.HistoryLemmas.{each_after-snoc}
-use Rattle.fr_status.specs.declared.seen.Seen.{Seen}
+use Rattle.fr_status.specs.Forms.{Seen}
 
 -- ---- lists with one more
 

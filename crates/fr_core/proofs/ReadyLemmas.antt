@@ -11,7 +11,7 @@ use Rattle.fr_journal.proofs.HeldCommitLemmas.{pending_at, pending_is, held_is, 
 use Rattle.fr_journal.proofs.HeldCommitLemmas.{held-taken, pending_stands}
 use Rattle.fr_journal.proofs.LastCommitLemmas.{last_commit-below, last_commit-commit, last_commit-other, drop-front}
 use Rattle.fr_journal.proofs.LastCommitLemmas.{drop-next, payload_of-front}
-use Rattle.fr_journal.specs.declared.entry.Entry.{Entry}
+use Rattle.fr_journal.specs.Forms.{Entry}
 use Rattle.fr_journal.specs.Fate.{is_commit_on, last_commit, sends, takes_back, fate_of, is_pending, if_pending}
 use Rattle.fr_journal.specs.Fate.{pending_commit}
 use Rattle.fr_journal.specs.Offers.{ready, payload_of}

@@ -21,7 +21,7 @@ use Rattle.fr_guardian.proofs.AloneLemmas.{passes_alone, owner_passes}
 use Rattle.fr_interface.specs.State.{State, IsLegalInterface, received_in}
 use Rattle.fr_journal.specs.Counts.{seen_on}
 use Rattle.fr_journal.specs.declared.entry.Arrival.{Arrival}
-use Rattle.fr_journal.specs.declared.entry.Entry.{Entry}
+use Rattle.fr_journal.specs.Forms.{Entry}
 use Rattle.fr_journal.specs.declared.entry.Entry.TheVariants.{Observe}
 use Rattle.fr_journal.specs.Held.{with_data, held}
 use Rattle.fr_slots.specs.Plans.{buffer_at, is_receive}
@@ -34,7 +34,7 @@ use Rattle.fr_slots.specs.declared.plan.Buffer.{Buffer}
 use Rattle.fr_slots.specs.History.{each_after}
 use Rattle.fr_slots.specs.Parameters.{Parameters}
 use Rattle.fr_slots.specs.Windows.{Opportunity, slot_of}
-use Rattle.fr_status.specs.declared.seen.Seen.{Seen}
+use Rattle.fr_status.specs.Forms.{Seen}
 use Rattle.fr_status.specs.declared.seen.Seen.TheVariants.{Silence, Own, Conflict, Noise, Overrun, Bytes}
 use Rattle.fr_status.specs.Status.{passes as fits_slot, passed, frame_in}
 

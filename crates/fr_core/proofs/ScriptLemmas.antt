@@ -13,7 +13,7 @@ use Rattle.fr_core.specs.Scripts.{Scripted, AreLines, is_for, deed_in, deed_at, 
 use Rattle.fr_core.specs.Walks.{FindsTask, done_by, HasLine, HaveLines, IsCourse, AreCourses, CourseNext, IsWhole}
 use Rattle.fr_core.specs.Walks.{Suits, SuitsAt, AreScripts, new_courses}
 use Rattle.fr_interface.specs.State.{State}
-use Rattle.fr_journal.specs.declared.entry.Entry.{Entry}
+use Rattle.fr_journal.specs.Forms.{Entry}
 use Rattle.fr_journal.specs.declared.entry.Entry.TheVariants.{Commit, Withdraw, Read, Pop, Fetch, Observe}
 use Rattle.fr_slots.specs.History.{each_after}
 use Rattle.fr_slots.specs.Numbers.{last_task, most_tasks, most_entries}

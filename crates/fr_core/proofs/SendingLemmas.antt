@@ -14,7 +14,7 @@ use Rattle.fr_core.specs.Accounts.{left_over}
 use Rattle.fr_core.proofs.LeftOverLemmas.{Takes, IsTaking, left_over_is}
 use Rattle.fr_core.proofs.CaseLemmas.{both, both_first, both_rest, differ}
 use Rattle.fr_core.proofs.TakingLemmas.{unsent, sent_is_ready}
-use Rattle.fr_journal.specs.declared.entry.Entry.{Entry}
+use Rattle.fr_journal.specs.Forms.{Entry}
 use Rattle.fr_journal.specs.declared.entry.Entry.TheVariants.{Commit, Withdraw, Read, Pop, Fetch, Observe}
 use Rattle.fr_journal.specs.declared.entry.Offered.{Offered}
 use Rattle.fr_journal.specs.declared.entry.Offered.TheVariants.{Nothing, Null, Data}

@@ -32,7 +32,7 @@ use Rattle.fr_core.specs.Worlds.{WorldState, interface_at, carried_at, no_interf
 use Rattle.fr_core.specs.Worlds.{is_between}
 use Rattle.fr_guardian.specs.Guarding.{passes}
 use Rattle.fr_interface.specs.State.{State}
-use Rattle.fr_journal.specs.declared.entry.Entry.{Entry}
+use Rattle.fr_journal.specs.Forms.{Entry}
 use Rattle.fr_journal.specs.declared.entry.Entry.TheVariants.{Commit, Withdraw, Read, Pop, Fetch, Observe}
 use Rattle.fr_journal.specs.OpenWindow.{open_window}
 use Rattle.fr_schedule.specs.Clusters.{IsCluster}

@@ -11,7 +11,7 @@ use Rattle.fr_core.proofs.CaseLemmas.{both, both_first, both_rest, differ, kept,
 use Rattle.fr_slots.proofs.PlaceLemmas.{same_some, get-after, last_after-at}
 use Rattle.fr_core.proofs.HandingLemmas.{data_is}
 use Rattle.fr_core.proofs.ReadyLemmas.{ready_is_last}
-use Rattle.fr_journal.specs.declared.entry.Entry.{Entry}
+use Rattle.fr_journal.specs.Forms.{Entry}
 use Rattle.fr_journal.specs.declared.entry.Entry.TheVariants.{Commit, Withdraw, Read, Pop, Fetch, Observe}
 use Rattle.fr_journal.specs.declared.entry.Offered.{Offered}
 use Rattle.fr_journal.specs.declared.entry.Offered.TheVariants.{Nothing, Null, Data}

@@ -14,7 +14,7 @@ use Rattle.fr_core.proofs.HandingLemmas.{IsFetchOf, fetch_in}
 use Rattle.fr_slots.proofs.PlaceLemmas.{same_head, same_tail, get-append, map-get, each_after-cut, each_after-placed}
 use Rattle.fr_slots.proofs.PlaceLemmas.{AllAfter-take, front-map}
 use Rattle.fr_interface.specs.State.{State}
-use Rattle.fr_journal.specs.declared.entry.Entry.{Entry}
+use Rattle.fr_journal.specs.Forms.{Entry}
 use Rattle.fr_journal.specs.declared.entry.Entry.TheVariants.{Commit, Withdraw, Read, Pop, Fetch, Observe}
 use Rattle.fr_journal.specs.declared.entry.Offered.{Offered}
 use Rattle.fr_slots.specs.History.{AllAfter, each_after}

@@ -19,7 +19,7 @@ use Rattle.fr_core.specs.Walks.{handed_by, opened_after, sight_told, is_nothing,
 use Rattle.fr_interface.specs.Handing.{offered_on, bytes_in_entry, bytes_handed}
 use Rattle.fr_interface.specs.State.{State}
 use Rattle.fr_journal.proofs.OpenWindowLemmas.{open_window-snoc}
-use Rattle.fr_journal.specs.declared.entry.Entry.{Entry}
+use Rattle.fr_journal.specs.Forms.{Entry}
 use Rattle.fr_journal.specs.declared.entry.Entry.TheVariants.{Commit, Withdraw, Read, Pop, Fetch, Observe}
 use Rattle.fr_journal.specs.declared.entry.Offered.{Offered}
 use Rattle.fr_journal.specs.declared.entry.Offered.TheVariants.{Nothing, Null, Data}

@@ -9,7 +9,7 @@ use Rattle.fr_core.specs.Accounts.{Kept, commits, withdraws, turns, account, fra
 use Rattle.fr_core.specs.Accounts.{mute_of, babble_of}
 use Rattle.fr_core.specs.Receivers.{is_clean}
 use Rattle.fr_frame.specs.Fields.{Fields}
-use Rattle.fr_journal.specs.declared.entry.Entry.{Entry}
+use Rattle.fr_journal.specs.Forms.{Entry}
 use Rattle.fr_journal.specs.declared.entry.Entry.TheVariants.{Commit, Withdraw, Fetch, Observe}
 use Rattle.fr_journal.specs.declared.entry.Offered.TheVariants.{Nothing, Null, Data}
 use Rattle.fr_slots.specs.declared.channel.Channel.TheVariants.{A, B}
@@ -21,7 +21,7 @@ use Rattle.fr_slots.specs.History.{each_after}
 use Rattle.fr_slots.specs.Parameters.{Parameters}
 use Rattle.fr_slots.specs.Plans.{Plan, empty_plan}
 use Rattle.fr_slots.specs.Windows.{static_window}
-use Rattle.fr_status.specs.declared.seen.Seen.{Seen}
+use Rattle.fr_status.specs.Forms.{Seen}
 use Rattle.fr_status.specs.declared.seen.Seen.TheVariants.{Silence, Own as Owns, Conflict, Noise, Bytes}
 
 abbrev one_word : Parameters

@@ -11,7 +11,7 @@ use Rattle.fr_bus.specs.Windows.{opens_cycle, cycles_begun}
 use Rattle.fr_core.specs.Receivers.{IsOwner, is_muted}
 use Rattle.fr_frame.specs.Fields.{Fields}
 use Rattle.fr_interface.specs.State.{State}
-use Rattle.fr_journal.specs.declared.entry.Entry.{Entry}
+use Rattle.fr_journal.specs.Forms.{Entry}
 use Rattle.fr_journal.specs.declared.entry.Entry.TheVariants.{Commit, Withdraw, Read, Pop, Fetch, Observe}
 use Rattle.fr_journal.specs.declared.entry.Offered.{Offered}
 use Rattle.fr_journal.specs.Offers.{transmitter, null_frame, preamble_in, bytes_of}

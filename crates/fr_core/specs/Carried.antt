@@ -4,7 +4,7 @@ use Rattle.fr_core.specs.declared.controller.Due.{Due}
 use Rattle.fr_core.specs.declared.controller.Due.TheVariants as due
 use Rattle.fr_interface.specs.declared.interface.Offer.{Offer}
 use Rattle.fr_slots.specs.Windows.{Opportunity}
-use Rattle.fr_status.specs.declared.seen.Seen.{Seen}
+use Rattle.fr_status.specs.Forms.{Seen}
 
 -- Nothing: it looks next. The open window: it fetches next. The window, and the bytes that its interface handed out: it
 -- puts them next. The window, once its offer is put: it takes next. The window, and what it saw on A and on B: it

@@ -10,7 +10,7 @@ use Rattle.fr_core.specs.declared.script.Action.TheVariants as action
 use Rattle.fr_core.specs.declared.script.Deed.{Deed}
 use Rattle.fr_core.specs.declared.script.Line.{Line}
 use Rattle.fr_interface.specs.State.{State}
-use Rattle.fr_journal.specs.declared.entry.Entry.{Entry}
+use Rattle.fr_journal.specs.Forms.{Entry}
 use Rattle.fr_journal.specs.declared.entry.Entry.TheVariants.{Commit, Withdraw, Read, Pop, Fetch, Observe}
 use Rattle.fr_journal.specs.declared.entry.Origin.{Origin}
 use Rattle.fr_journal.specs.Held.{frame_named}

@@ -19,7 +19,7 @@ use Rattle.fr_core.specs.Scripts.{Scripted, ScriptAgrees}
 use Rattle.fr_core.specs.Worlds.{is_between}
 use Rattle.fr_guardian.specs.Guarding.{passes}
 use Rattle.fr_interface.specs.State.{State}
-use Rattle.fr_journal.specs.declared.entry.Entry.{Entry}
+use Rattle.fr_journal.specs.Forms.{Entry}
 use Rattle.fr_journal.specs.declared.entry.Entry.TheVariants.{Commit, Withdraw, Read, Pop, Fetch, Observe}
 use Rattle.fr_journal.specs.OpenWindow.{open_window}
 use Rattle.fr_schedule.specs.Descriptions.{Description}

@@ -20,7 +20,7 @@ use Rattle.fr_core.specs.Settling.{IsFirst, EachTask, IfThere, HasWindows, Windo
 use Rattle.fr_core.specs.Settling.{fetches_at, observes_at, windows_of}
 use Rattle.fr_interface.specs.Handing.{bytes_handed, offered_on}
 use Rattle.fr_interface.specs.State.{State}
-use Rattle.fr_journal.specs.declared.entry.Entry.{Entry}
+use Rattle.fr_journal.specs.Forms.{Entry}
 use Rattle.fr_journal.specs.declared.entry.Entry.TheVariants.{Commit, Withdraw, Read, Pop, Fetch, Observe}
 use Rattle.fr_journal.specs.declared.entry.Offered.{Offered}
 use Rattle.fr_journal.specs.declared.entry.Offered.TheVariants.{Nothing, Null, Data}

@@ -10,7 +10,7 @@ ghost use Rattle.fr_core.specs.Walks.{FindsNext, handed_by, window_at, FetchesNe
 ghost use Rattle.fr_core.specs.Walks.{AreFindings, AreFirstFindings, is_silent};
 ghost use Rattle.fr_interface.specs.Handing.{bytes_handed};
 ghost use Rattle.fr_journal.specs.Lent.{whole, HasPayload};
-ghost use Rattle.fr_status.specs.Lent.{whole_seen};
+ghost use Rattle.fr_status.specs.Forms.{whole_seen};
 ghost use Rattle.fr_slots.specs.declared.channel.Channel.TheVariants as channel;
 ghost use Rattle.fr_slots.specs.Numbers.{last_node, most_entries};
 

@@ -4,7 +4,7 @@ use Rattle.std.proofs.Common.{None, refl, ap, ◌∙◌, arith, option_map}
 use Rattle.fr_interface.specs.Known.{with_seen}
 use Rattle.fr_interface.specs.Seeing.{status_seen}
 use Rattle.fr_journal.specs.Counts.{bit_at, bit_in, has_bit, count_of, seen_on, counters_of}
-use Rattle.fr_journal.specs.declared.entry.Entry.{Entry}
+use Rattle.fr_journal.specs.Forms.{Entry}
 use Rattle.fr_journal.specs.declared.entry.Entry.TheVariants.{Observe}
 use Rattle.fr_journal.specs.OpenWindow.{open_window}
 use Rattle.fr_slots.specs.declared.channel.Channel.{Channel}
@@ -15,7 +15,7 @@ use Rattle.fr_slots.specs.Windows.{Opportunity, slot_of}
 use Rattle.fr_slots.proofs.HistoryLemmas.{count_after-snoc}
 use Rattle.fr_status.specs.Counting.{digit, with_bits, FitsBits, HasRoom}
 use Rattle.fr_status.specs.declared.counters.Counters.{Counters}
-use Rattle.fr_status.specs.declared.seen.Seen.{Seen}
+use Rattle.fr_status.specs.Forms.{Seen}
 use Rattle.fr_status.specs.declared.status.SlotStatus.{SlotStatus}
 use Rattle.fr_status.specs.Status.{status_in}
 

@@ -7,7 +7,7 @@ use Rattle.fr_interface.specs.declared.interface.Interface.TheInside.{Inside}
 use Rattle.fr_interface.specs.InterfaceFields.{state_in, IsLawful}
 use Rattle.fr_interface.specs.Standing.{Standing, IsHistory, KeepsTerms}
 use Rattle.fr_interface.specs.State.{State, with_entry}
-use Rattle.fr_journal.specs.declared.entry.Entry.{Entry}
+use Rattle.fr_journal.specs.Forms.{Entry}
 use Rattle.fr_journal.specs.Entries.{is_slot}
 use Rattle.fr_journal.specs.Kept.{Kept}
 use Rattle.fr_slots.specs.Faults.{plan_fault}

@@ -13,7 +13,7 @@ use Rattle.fr_interface.proofs.ChangeLemmas.{length-each, get_each}
 use Rattle.fr_interface.proofs.TransmitLemmas.{committed-most}
 use Rattle.fr_interface.proofs.WaitingLemmas.{waiting-none, waiting-other, waiting-pop, waiting-observe, lost-most}
 use Rattle.fr_journal.specs.Arrivals.{moves, moves_at, oldest, is_answered_pop}
-use Rattle.fr_journal.specs.declared.entry.Entry.{Entry}
+use Rattle.fr_journal.specs.Forms.{Entry}
 use Rattle.fr_journal.specs.declared.entry.Entry.TheVariants.{Pop, Observe}
 use Rattle.fr_journal.specs.declared.entry.Origin.{Origin}
 use Rattle.fr_journal.specs.Held.{held, frame_of, origin_of, data_frame_seen, IsReceivable}
@@ -26,7 +26,7 @@ use Rattle.fr_slots.specs.declared.plan.Queue.{Queue}
 use Rattle.fr_slots.specs.Parameters.{Parameters}
 use Rattle.fr_slots.specs.Plans.{Plan, is_receive, buffer_at}
 use Rattle.fr_slots.specs.Windows.{Opportunity}
-use Rattle.fr_status.specs.declared.seen.Seen.{Seen}
+use Rattle.fr_status.specs.Forms.{Seen}
 
 -- what a write through a loan leaves of a list
 pub written : {X : Type 0} (n : ℕ) (xs ys : List X) → n ≡ length xs → take n (xs ++ ys) ≡ xs

@@ -1,6 +1,6 @@
 -- A frame that an observe names, by the window that it closes.
 use Rattle.std.proofs.Common.{◌≡◌, List, refl}
-use Rattle.fr_journal.specs.declared.entry.Entry.{Entry}
+use Rattle.fr_journal.specs.Forms.{Entry}
 use Rattle.fr_journal.specs.declared.entry.Entry.TheVariants.{Commit, Withdraw, Read, Pop, Fetch, Observe}
 use Rattle.fr_journal.specs.Held.{frame_in_entry}
 use Rattle.fr_journal.specs.OpenWindow.{open_window, closed_window}

@@ -1,6 +1,6 @@
 -- What is known of the windows, with one more entry.
 use Rattle.std.proofs.Common.{◌≡◌, ℕ, List, [], ◌∷◌, ◌++◌, Option, Some, None, refl}
-use Rattle.fr_journal.specs.declared.entry.Entry.{Entry}
+use Rattle.fr_journal.specs.Forms.{Entry}
 use Rattle.fr_journal.specs.declared.entry.Entry.TheVariants.{Commit, Withdraw, Read, Pop, Fetch, Observe}
 use Rattle.fr_journal.specs.declared.entry.Offered.{Offered}
 use Rattle.fr_journal.specs.declared.entry.Origin.{Origin}
@@ -9,7 +9,7 @@ use Rattle.fr_journal.proofs.OpenWindowLemmas.{open_window-snoc, last_number-sno
 use Rattle.fr_interface.specs.Known.{opening_of}
 use Rattle.fr_slots.specs.History.{last_after}
 use Rattle.fr_slots.specs.Windows.{Opportunity}
-use Rattle.fr_status.specs.declared.seen.Seen.{Seen}
+use Rattle.fr_status.specs.Forms.{Seen}
 
 pub opening-none : opening_of [] ≡ record { window = None; last = None }
 unfolding last_after

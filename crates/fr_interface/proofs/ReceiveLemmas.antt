@@ -5,7 +5,7 @@ use Rattle.std.specs.Option.{option_and_then, option_or}
 use Rattle.fr_frame.specs.Fields.{Fields}
 use Rattle.fr_interface.specs.Known.{held_in, taken_by, stored_all}
 use Rattle.fr_journal.specs.declared.entry.Arrival.{Arrival}
-use Rattle.fr_journal.specs.declared.entry.Entry.{Entry}
+use Rattle.fr_journal.specs.Forms.{Entry}
 use Rattle.fr_journal.specs.declared.entry.Entry.TheVariants.{Observe}
 use Rattle.fr_journal.specs.Held.{held, arrival_at, arrival_in, data_frame_seen}
 use Rattle.fr_journal.specs.OpenWindow.{open_window}
@@ -17,7 +17,7 @@ use Rattle.fr_slots.specs.Parameters.{Parameters}
 use Rattle.fr_slots.specs.Plans.{is_receive}
 use Rattle.fr_slots.specs.Windows.{Opportunity}
 use Rattle.fr_slots.proofs.HistoryLemmas.{last_after-snoc}
-use Rattle.fr_status.specs.declared.seen.Seen.{Seen}
+use Rattle.fr_status.specs.Forms.{Seen}
 
 -- ---- one buffer
 

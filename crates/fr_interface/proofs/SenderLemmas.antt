@@ -14,7 +14,7 @@ use Rattle.fr_interface.specs.Sending.{offered_by, owner_on, outgoing_on, held_p
 use Rattle.fr_interface.specs.Sending.{frame_at, frame_by, send_offered, after_sender}
 use Rattle.fr_interface.proofs.ChangeLemmas.{change_each, each-same_there, get_each}
 use Rattle.fr_interface.proofs.TransmitLemmas.{offer-ready, tally-other, tally_after, same_commit, IsOther}
-use Rattle.fr_journal.specs.declared.entry.Entry.{Entry}
+use Rattle.fr_journal.specs.Forms.{Entry}
 use Rattle.fr_journal.specs.declared.entry.Entry.TheVariants.{Fetch}
 use Rattle.fr_journal.specs.declared.entry.Offered.{Offered}
 use Rattle.fr_journal.specs.declared.entry.Offered.TheVariants.{Nothing, Null}

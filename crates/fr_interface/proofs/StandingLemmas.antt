@@ -45,7 +45,7 @@ use Rattle.fr_interface.proofs.SenderLemmas.{frame-place, frame-nothing}
 use Rattle.fr_interface.proofs.TestLemmas.{fetchable}
 use Rattle.fr_interface.proofs.TransmitLemmas.{transmitters-withdraw, transmitters-commit, transmitters-other}
 use Rattle.fr_journal.specs.Counts.{counters_of}
-use Rattle.fr_journal.specs.declared.entry.Entry.{Entry}
+use Rattle.fr_journal.specs.Forms.{Entry}
 use Rattle.fr_journal.specs.declared.entry.Entry.TheVariants.{Commit, Read, Fetch, Observe}
 use Rattle.fr_journal.specs.declared.entry.Offered.{Offered}
 use Rattle.fr_journal.specs.declared.entry.Origin.{Origin}
@@ -77,7 +77,7 @@ use Rattle.fr_slots.specs.Plans.{Plan, is_receive, buffer_at}
 use Rattle.fr_slots.specs.Parameters.{Parameters}
 use Rattle.fr_slots.specs.declared.plan.Own.{Own}
 use Rattle.fr_slots.specs.Windows.{Opportunity, IsInRange, slot_of}
-use Rattle.fr_status.specs.declared.seen.Seen.{Seen}
+use Rattle.fr_status.specs.Forms.{Seen}
 
 -- ---- counts
 

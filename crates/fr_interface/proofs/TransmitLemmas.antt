@@ -12,7 +12,7 @@ use Rattle.fr_buffers.specs.Transmitting.{Transmitter, new_transmitter, with_com
 use Rattle.fr_buffers.specs.Transmitting.{emptied, after_withdraw}
 use Rattle.fr_interface.specs.Known.{commit_of, transmitter_of, transmitters, change_at}
 use Rattle.fr_interface.proofs.ChangeLemmas.{changed, change_each, each-same, each-mapped}
-use Rattle.fr_journal.specs.declared.entry.Entry.{Entry}
+use Rattle.fr_journal.specs.Forms.{Entry}
 use Rattle.fr_journal.specs.declared.entry.Entry.TheVariants.{Commit, Withdraw}
 use Rattle.fr_journal.specs.declared.fate.Fate.{Fate}
 use Rattle.fr_journal.specs.declared.fate.Fate.TheVariants.{Pending}

@@ -14,7 +14,7 @@ use Rattle.fr_journal.specs.Arrivals.{Move, arrives, pops, arrive_all, moves_at,
 use Rattle.fr_journal.specs.Arrivals.{queue_length, queue_content, queue_lost, oldest, is_answered_pop, is_for_queue}
 use Rattle.fr_journal.specs.Arrivals.{queue_arrival_on, queue_arrivals_in}
 use Rattle.fr_journal.specs.declared.entry.Arrival.{Arrival}
-use Rattle.fr_journal.specs.declared.entry.Entry.{Entry}
+use Rattle.fr_journal.specs.Forms.{Entry}
 use Rattle.fr_journal.specs.declared.entry.Entry.TheVariants.{Commit, Withdraw, Read, Pop, Fetch, Observe}
 use Rattle.fr_journal.specs.declared.entry.Origin.{Origin}
 use Rattle.fr_journal.specs.Held.{arrival_of, data_frame_seen, origin_of}
@@ -30,7 +30,7 @@ use Rattle.fr_slots.specs.History.{each_after}
 use Rattle.fr_slots.specs.Parameters.{Parameters}
 use Rattle.fr_slots.specs.Plans.{Plan}
 use Rattle.fr_slots.specs.Windows.{Opportunity}
-use Rattle.fr_status.specs.declared.seen.Seen.{Seen}
+use Rattle.fr_status.specs.Forms.{Seen}
 
 -- ---- after some moves and answered pops
 

@@ -8,7 +8,7 @@ use Rattle.fr_frame.specs.Fields.{Fields}
 use Rattle.fr_interface.specs.declared.opening.Opening.{Opening}
 use Rattle.fr_journal.specs.Arrivals.{moves, queue_content, queue_lost, is_for_queue}
 use Rattle.fr_journal.specs.declared.entry.Arrival.{Arrival}
-use Rattle.fr_journal.specs.declared.entry.Entry.{Entry}
+use Rattle.fr_journal.specs.Forms.{Entry}
 use Rattle.fr_journal.specs.Fate.{held_commit, tally_of}
 use Rattle.fr_journal.specs.Held.{held, arrival_of}
 use Rattle.fr_journal.specs.Offers.{payload_of}

@@ -7,7 +7,7 @@ use Rattle.fr_journal.specs.Arrivals.{Move, pops, arrive_all, moves_at, moves, a
 use Rattle.fr_journal.specs.Arrivals.{queue_length, queue_content, oldest, is_answered_pop, queue_arrivals_in}
 use Rattle.fr_journal.specs.Arrivals.{queue_lost}
 use Rattle.fr_journal.specs.declared.entry.Arrival.{Arrival}
-use Rattle.fr_journal.specs.declared.entry.Entry.{Entry}
+use Rattle.fr_journal.specs.Forms.{Entry}
 use Rattle.fr_journal.specs.declared.entry.Entry.TheVariants.{Commit, Withdraw, Read, Pop, Fetch, Observe}
 use Rattle.fr_journal.specs.declared.entry.Origin.{Origin}
 use Rattle.fr_journal.specs.Held.{origin_of}

@@ -5,7 +5,7 @@ use Rattle.std.specs.Prelude.{IfSome, IsSomeAnd, slice_get}
 use Rattle.std.specs.List.{list_any}
 use Rattle.std.specs.Option.{option_or}
 use Rattle.std.proofs.lemmas.List.{append_assoc}
-use Rattle.fr_journal.specs.declared.entry.Entry.{Entry}
+use Rattle.fr_journal.specs.Forms.{Entry}
 use Rattle.fr_journal.specs.declared.entry.Entry.TheVariants.{Commit}
 use Rattle.fr_journal.specs.Fate.{is_commit_on, commit_on, last_commit}
 use Rattle.fr_journal.specs.Offers.{payload_in, payload_of}

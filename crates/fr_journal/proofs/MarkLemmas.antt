@@ -6,9 +6,8 @@ use Rattle.std.specs.Option.{option_and_then, option_or}
 use Rattle.std.proofs.lemmas.Bool.{cases_lt}
 use Rattle.std.proofs.lemmas.List.{take-append-le, take_all}
 use Rattle.std.proofs.lemmas.Option.{slice_get_past}
-use Rattle.fr_journal.specs.declared.entry.Entry.{Entry}
-use Rattle.fr_journal.specs.declared.short.ShortEntry.{ShortEntry}
-use Rattle.fr_journal.specs.declared.short.ShortEntry.TheVariants as short
+use Rattle.fr_journal.specs.Forms.{Entry, ShortEntry}
+use Rattle.fr_journal.specs.declared.entry.Entry.TheVariants as entries
 use Rattle.fr_journal.specs.Entries.{is_host}
 use Rattle.fr_journal.specs.Marks.{fetched_window, fetched_at, last_mark, AreMarked, TellsOpen}
 use Rattle.fr_journal.specs.OpenWindow.{open_window, window_mark, closed_window}
@@ -25,45 +24,45 @@ pub record IsUnmarked (s : ShortEntry) (e : Entry) : Type 0 where
   pub says : (before : List Entry) → window_mark before e ≡ None
 
 pub host_unmarked : (pool : List ℕ) (s : ShortEntry) → is_host (restored pool s) ≡ true → IsUnmarked s (restored pool s)
-host_unmarked pool (short.Commit task buffer payload) kind =
+host_unmarked pool (entries.Commit task buffer payload) kind =
     record { fetched = refl; says = λ before. refl }
-host_unmarked pool (short.Withdraw task buffer of) kind =
+host_unmarked pool (entries.Withdraw task buffer of) kind =
     record { fetched = refl; says = λ before. refl }
-host_unmarked pool (short.Read task buffer from) kind =
+host_unmarked pool (entries.Read task buffer from) kind =
     record { fetched = refl; says = λ before. refl }
-host_unmarked pool (short.Pop task from) kind =
+host_unmarked pool (entries.Pop task from) kind =
     record { fetched = refl; says = λ before. refl }
-host_unmarked pool (short.Fetch window a b) kind = absurd cc
-host_unmarked pool (short.Observe window mark a b) kind = absurd cc
+host_unmarked pool (entries.Fetch window a b) kind = absurd cc
+host_unmarked pool (entries.Observe window a b) kind = absurd cc
 
 -- and knows no mark
 pub host_knows : (pool : List ℕ) (s : ShortEntry) (P : ℕ → Type 0) → is_host (restored pool s) ≡ true
     → IfSome (last_mark s) P
-host_knows pool (short.Commit task buffer payload) P kind = tt
-host_knows pool (short.Withdraw task buffer of) P kind = tt
-host_knows pool (short.Read task buffer from) P kind = tt
-host_knows pool (short.Pop task from) P kind = tt
-host_knows pool (short.Fetch window a b) P kind = tt
-host_knows pool (short.Observe window mark a b) P kind = absurd cc
+host_knows pool (entries.Commit task buffer payload) P kind = tt
+host_knows pool (entries.Withdraw task buffer of) P kind = tt
+host_knows pool (entries.Read task buffer from) P kind = tt
+host_knows pool (entries.Pop task from) P kind = tt
+host_knows pool (entries.Fetch window a b) P kind = tt
+host_knows pool (entries.Observe window a b) P kind = absurd cc
 
 -- one of the controller marks that its window is open, or that none is
 pub slot_marked : (pool : List ℕ) (s : ShortEntry) (before : List Entry) → is_host (restored pool s) ≡ false
     → window_mark before (restored pool s) ≡ Some (fetched_window s)
-slot_marked pool (short.Commit task buffer payload) before kind = absurd cc
-slot_marked pool (short.Withdraw task buffer of) before kind = absurd cc
-slot_marked pool (short.Read task buffer from) before kind = absurd cc
-slot_marked pool (short.Pop task from) before kind = absurd cc
-slot_marked pool (short.Fetch window a b) before kind = refl
-slot_marked pool (short.Observe window mark a b) before kind = refl
+slot_marked pool (entries.Commit task buffer payload) before kind = absurd cc
+slot_marked pool (entries.Withdraw task buffer of) before kind = absurd cc
+slot_marked pool (entries.Read task buffer from) before kind = absurd cc
+slot_marked pool (entries.Pop task from) before kind = absurd cc
+slot_marked pool (entries.Fetch window a b) before kind = refl
+slot_marked pool (entries.Observe window a b) before kind = refl
 
 -- what knows of a mark fetched nothing
 nothing_fetched : (s : ShortEntry) (mark : ℕ) → last_mark s ≡ Some mark → fetched_window s ≡ None
-nothing_fetched (short.Commit task buffer payload) mark is = refl
-nothing_fetched (short.Withdraw task buffer of) mark is = refl
-nothing_fetched (short.Read task buffer from) mark is = refl
-nothing_fetched (short.Pop task from) mark is = refl
-nothing_fetched (short.Fetch window a b) mark is = absurd cc
-nothing_fetched (short.Observe window m a b) mark is = refl
+nothing_fetched (entries.Commit task buffer payload) mark is = refl
+nothing_fetched (entries.Withdraw task buffer of) mark is = refl
+nothing_fetched (entries.Read task buffer from) mark is = refl
+nothing_fetched (entries.Pop task from) mark is = refl
+nothing_fetched (entries.Fetch window a b) mark is = absurd cc
+nothing_fetched (entries.Observe window a b) mark is = refl
 
 -- ---- the open window after one more entry
 
@@ -197,12 +196,12 @@ module _ (shorts : List ShortEntry) (xs : List Entry) (s : ShortEntry) (e : Entr
 pub closes : (pool : List ℕ) (shorts : List ShortEntry) (xs before : List Entry) (place mark : ℕ) (s : ShortEntry)
     → before ≡ take place xs → last_mark s ≡ Some mark → TellsOpen shorts xs place mark
     → fetched_at shorts mark ≡ closed_window before (restored pool s)
-closes pool shorts xs before place mark (short.Commit task buffer payload) is knows last = absurd cc
-closes pool shorts xs before place mark (short.Withdraw task buffer of) is knows last = absurd cc
-closes pool shorts xs before place mark (short.Read task buffer from) is knows last = absurd cc
-closes pool shorts xs before place mark (short.Pop task from) is knows last = absurd cc
-closes pool shorts xs before place mark (short.Fetch window a b) is knows last = absurd cc
-closes pool shorts xs before place mark (short.Observe window m a b) is knows last =
+closes pool shorts xs before place mark (entries.Commit task buffer payload) is knows last = absurd cc
+closes pool shorts xs before place mark (entries.Withdraw task buffer of) is knows last = absurd cc
+closes pool shorts xs before place mark (entries.Read task buffer from) is knows last = absurd cc
+closes pool shorts xs before place mark (entries.Pop task from) is knows last = absurd cc
+closes pool shorts xs before place mark (entries.Fetch window a b) is knows last = absurd cc
+closes pool shorts xs before place mark (entries.Observe window a b) is knows last =
     last.opens ∙ ap open_window (sym is)
 
 -- ---- no entries

@@ -1,7 +1,7 @@
 -- The open window and the last number, with one more entry.
 use Rattle.std.proofs.Common.{◌≡◌, List, [], ◌∷◌, ◌++◌, ap}
 use Rattle.std.specs.Option.{option_and_then, option_or}
-use Rattle.fr_journal.specs.declared.entry.Entry.{Entry}
+use Rattle.fr_journal.specs.Forms.{Entry}
 use Rattle.fr_journal.specs.OpenWindow.{open_window, window_mark, last_number, fetched_number}
 use Rattle.fr_slots.specs.History.{last_after}
 use Rattle.fr_slots.proofs.HistoryLemmas.{last_after-snoc}

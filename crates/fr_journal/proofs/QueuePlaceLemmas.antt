@@ -6,7 +6,7 @@ use Rattle.fr_frame.specs.Fields.{Fields}
 use Rattle.fr_journal.specs.Arrivals.{Move, is_for_queue, queue_arrival_on, queue_arrivals_in, moves_at, moves, arrived}
 use Rattle.fr_journal.specs.Arrivals.{queue_length, oldest}
 use Rattle.fr_journal.specs.declared.entry.Arrival.{Arrival}
-use Rattle.fr_journal.specs.declared.entry.Entry.{Entry}
+use Rattle.fr_journal.specs.Forms.{Entry}
 use Rattle.fr_journal.specs.declared.entry.Entry.TheVariants.{Commit, Withdraw, Read, Pop, Fetch, Observe}
 use Rattle.fr_journal.specs.Entries.{IsOrigin}
 use Rattle.fr_journal.specs.Held.{arrival_of, data_frame_seen, origin_of}
@@ -19,7 +19,7 @@ use Rattle.fr_slots.specs.History.{each_after}
 use Rattle.fr_slots.specs.Parameters.{Parameters}
 use Rattle.fr_slots.specs.Plans.{Plan}
 use Rattle.fr_slots.specs.Windows.{Opportunity}
-use Rattle.fr_status.specs.declared.seen.Seen.{Seen}
+use Rattle.fr_status.specs.Forms.{Seen}
 
 -- each arrival comes from an entry below the bound
 abbrev AreBelow : ℕ → List Arrival → Type 0

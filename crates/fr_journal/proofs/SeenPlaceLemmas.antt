@@ -11,7 +11,7 @@ use Rattle.fr_journal.specs.Arrivals.{is_for_queue, queue_arrival_on, queue_arri
 use Rattle.fr_journal.specs.Arrivals.{queue_content, queue_length, oldest}
 use Rattle.fr_journal.specs.Counts.{seen_on}
 use Rattle.fr_journal.specs.declared.entry.Arrival.{Arrival}
-use Rattle.fr_journal.specs.declared.entry.Entry.{Entry}
+use Rattle.fr_journal.specs.Forms.{Entry}
 use Rattle.fr_journal.specs.declared.entry.Entry.TheVariants.{Commit, Withdraw, Read, Pop, Fetch, Observe}
 use Rattle.fr_journal.specs.Entries.{IsEntry}
 use Rattle.fr_journal.specs.Held.{held, arrival_at, arrival_in, arrival_on, arrival_of, data_frame_seen, with_data}
@@ -32,7 +32,7 @@ use Rattle.fr_slots.specs.Numbers.{IsSlot}
 use Rattle.fr_slots.specs.Parameters.{Parameters}
 use Rattle.fr_slots.specs.Plans.{Plan}
 use Rattle.fr_slots.specs.Windows.{Opportunity, IsInRange, IsSlotOrNone, slot_of}
-use Rattle.fr_status.specs.declared.seen.Seen.{Seen}
+use Rattle.fr_status.specs.Forms.{Seen}
 use Rattle.fr_status.specs.declared.seen.Seen.TheVariants.{Silence, Own, Conflict, Noise, Overrun, Bytes}
 use Rattle.fr_status.specs.Status.{frame_in, passed, passes, fits_static_slot, fits_dynamic_slot}
 

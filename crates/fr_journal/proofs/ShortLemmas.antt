@@ -10,14 +10,10 @@ use Rattle.std.proofs.lemmas.List.Elements.{All-head, All-tail, All-push, All-we
 use Rattle.std.proofs.lemmas.List.Sums.{sum_by-append}
 use Rattle.std.proofs.lemmas.Option.{slice_get-map}
 use Rattle.fr_frame.specs.Payload.{most_payload_bytes}
-use Rattle.fr_journal.specs.declared.entry.Entry.{Entry}
+use Rattle.fr_journal.specs.Forms.{Entry, ShortEntry, ShortSeen}
 use Rattle.fr_journal.specs.declared.entry.Entry.TheVariants as entries
 use Rattle.fr_journal.specs.declared.journal.Journal.TheInside.{Inside}
 use Rattle.fr_journal.specs.declared.short.Stretch.{Stretch}
-use Rattle.fr_journal.specs.declared.short.ShortEntry.{ShortEntry}
-use Rattle.fr_journal.specs.declared.short.ShortEntry.TheVariants as short
-use Rattle.fr_journal.specs.declared.short.ShortSeen.{ShortSeen}
-use Rattle.fr_journal.specs.declared.short.ShortSeen.TheVariants as short_seen
 use Rattle.fr_journal.specs.Entries.{is_host, is_slot}
 use Rattle.fr_journal.specs.JournalFields.{kept_in, pool_room, IsCounted}
 use Rattle.fr_journal.specs.Kept.{Kept, host_room, slot_room}
@@ -49,42 +45,42 @@ stretch-more pool more most s h = record {
 }
 
 seen-more : (pool more : List ℕ) (s : ShortSeen) → IsShortSeen (length pool) s → IsShortSeen (length (pool ++ more)) s
-seen-more pool more short_seen.Silence h = tt
-seen-more pool more short_seen.Own h = tt
-seen-more pool more short_seen.Conflict h = tt
-seen-more pool more short_seen.Noise h = tt
-seen-more pool more short_seen.Overrun h = tt
-seen-more pool more (short_seen.Bytes s) h = stretch-more pool more _ s h
+seen-more pool more seen.Silence h = tt
+seen-more pool more seen.Own h = tt
+seen-more pool more seen.Conflict h = tt
+seen-more pool more seen.Noise h = tt
+seen-more pool more seen.Overrun h = tt
+seen-more pool more (seen.Bytes s) h = stretch-more pool more _ s h
 
 short-more : (pool more : List ℕ) (s : ShortEntry) → IsShort (length pool) s → IsShort (length (pool ++ more)) s
-short-more pool more (short.Commit task buffer payload) h = (stretch-more pool more _ payload h.0, h.1)
-short-more pool more (short.Withdraw task buffer of) h = tt
-short-more pool more (short.Read task buffer from) h = tt
-short-more pool more (short.Pop task from) h = tt
-short-more pool more (short.Fetch window a b) h = tt
-short-more pool more (short.Observe window mark a b) h = (seen-more pool more a h.0, seen-more pool more b h.1)
+short-more pool more (entries.Commit task buffer payload) h = (stretch-more pool more _ payload h.0, h.1)
+short-more pool more (entries.Withdraw task buffer of) h = tt
+short-more pool more (entries.Read task buffer from) h = tt
+short-more pool more (entries.Pop task from) h = tt
+short-more pool more (entries.Fetch window a b) h = tt
+short-more pool more (entries.Observe window a b) h = (seen-more pool more a h.0, seen-more pool more b h.1)
 
 restored_seen-append : (pool more : List ℕ) (s : ShortSeen) → IsShortSeen (length pool) s
     → restored_seen (pool ++ more) s ≡ restored_seen pool s
-restored_seen-append pool more short_seen.Silence h = refl
-restored_seen-append pool more short_seen.Own h = refl
-restored_seen-append pool more short_seen.Conflict h = refl
-restored_seen-append pool more short_seen.Noise h = refl
-restored_seen-append pool more short_seen.Overrun h = refl
-restored_seen-append pool more (short_seen.Bytes s) h =
+restored_seen-append pool more seen.Silence h = refl
+restored_seen-append pool more seen.Own h = refl
+restored_seen-append pool more seen.Conflict h = refl
+restored_seen-append pool more seen.Noise h = refl
+restored_seen-append pool more seen.Overrun h = refl
+restored_seen-append pool more (seen.Bytes s) h =
     ap (λ (bytes : List ℕ). seen.Bytes (record { items = bytes }))
     (slice_range-append pool more s.start s.end h.order h.within)
 
 pub restored-append : (pool more : List ℕ) (s : ShortEntry) → IsShort (length pool) s
     → restored (pool ++ more) s ≡ restored pool s
-restored-append pool more (short.Commit task buffer payload) h =
+restored-append pool more (entries.Commit task buffer payload) h =
     ap (λ (bytes : List ℕ). entries.Commit task buffer bytes)
     (slice_range-append pool more payload.start payload.end h.0.order h.0.within)
-restored-append pool more (short.Withdraw task buffer of) h = refl
-restored-append pool more (short.Read task buffer from) h = refl
-restored-append pool more (short.Pop task from) h = refl
-restored-append pool more (short.Fetch window a b) h = refl
-restored-append pool more (short.Observe window mark a b) h =
+restored-append pool more (entries.Withdraw task buffer of) h = refl
+restored-append pool more (entries.Read task buffer from) h = refl
+restored-append pool more (entries.Pop task from) h = refl
+restored-append pool more (entries.Fetch window a b) h = refl
+restored-append pool more (entries.Observe window a b) h =
     let first = restored_seen-append pool more a h.0 in
     let second = restored_seen-append pool more b h.1 in
     cc

@@ -5,7 +5,7 @@ use Rattle.std.specs.Prelude.{count_by, IsSomeAnd, is_some}
 use Rattle.std.specs.List.{list_any}
 use Rattle.std.specs.Option.{option_and_then, option_or}
 use Rattle.std.proofs.lemmas.List.Sums.{sum_by-cons, sum_by-append}
-use Rattle.fr_journal.specs.declared.entry.Entry.{Entry}
+use Rattle.fr_journal.specs.Forms.{Entry}
 use Rattle.fr_journal.specs.declared.fate.Fate.{Fate}
 use Rattle.fr_journal.specs.declared.fate.Fate.TheVariants.{Sent, Withdrawn, Overwritten, Pending}
 use Rattle.fr_journal.specs.Fate.{is_commit_on, commit_on, last_commit, sends, takes_back, fate_of, fates_from, fates}

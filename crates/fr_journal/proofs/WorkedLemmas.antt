@@ -6,7 +6,7 @@ use Rattle.fr_frame.specs.Crc.{xor_front, divide_once, divide}
 use Rattle.fr_frame.specs.Decoding.{decoded}
 use Rattle.fr_frame.specs.Encoding.{encoded}
 use Rattle.fr_frame.specs.Spelling.{covered, header}
-use Rattle.fr_journal.specs.declared.entry.Entry.{Entry}
+use Rattle.fr_journal.specs.Forms.{Entry}
 use Rattle.fr_journal.specs.declared.entry.Entry.TheVariants.{Commit, Withdraw, Pop, Fetch, Observe}
 use Rattle.fr_journal.specs.declared.entry.Offered.{Offered}
 use Rattle.fr_journal.specs.declared.entry.Offered.TheVariants.{Nothing, Null, Data}
@@ -31,7 +31,7 @@ use Rattle.fr_slots.specs.History.{last_after, each_after}
 use Rattle.fr_slots.specs.Parameters.{Parameters}
 use Rattle.fr_slots.specs.Plans.{Plan}
 use Rattle.fr_slots.specs.Windows.{Opportunity, static_window}
-use Rattle.fr_status.specs.declared.seen.Seen.{Seen}
+use Rattle.fr_status.specs.Forms.{Seen}
 use Rattle.fr_status.specs.declared.seen.Seen.TheVariants.{Silence, Bytes}
 use Rattle.fr_status.specs.Status.{frame_in}
 

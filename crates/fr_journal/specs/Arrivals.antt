@@ -3,7 +3,7 @@ use Rattle.std.specs.Prelude.{ℕ, ◌+◌, ◌-◌, min, Bool, false, not, ◌&
 use Rattle.std.specs.Prelude.{None, is_some, if◌then◌else◌, option_map, count_by, option_to_list, slice_get}
 use Rattle.std.specs.List.{fold, list_any}
 use Rattle.fr_journal.specs.declared.entry.Arrival.{Arrival}
-use Rattle.fr_journal.specs.declared.entry.Entry.{Entry}
+use Rattle.fr_journal.specs.Forms.{Entry}
 use Rattle.fr_journal.specs.declared.entry.Entry.TheVariants.{Commit, Withdraw, Read, Pop, Fetch, Observe}
 use Rattle.fr_journal.specs.Held.{data_frame_seen, arrival_of}
 use Rattle.fr_journal.specs.OpenWindow.{open_window}
@@ -15,7 +15,7 @@ use Rattle.fr_slots.specs.History.{each_after}
 use Rattle.fr_slots.specs.Parameters.{Parameters}
 use Rattle.fr_slots.specs.Plans.{Plan, queue_admits, is_receive, admits_window}
 use Rattle.fr_slots.specs.Windows.{Opportunity, slot_of}
-use Rattle.fr_status.specs.declared.seen.Seen.{Seen}
+use Rattle.fr_status.specs.Forms.{Seen}
 
 -- ---- arrivals
 

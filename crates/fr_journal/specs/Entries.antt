@@ -2,13 +2,13 @@
 use Rattle.std.specs.Prelude.{ℕ, ◌<◌, ◌≤◌, ◌^◌, Bool, true, false, not, List, length, slice_index, Option, Some, None}
 use Rattle.std.specs.Prelude.{IfSome}
 use Rattle.fr_frame.specs.Payload.{IsPayload, most_frame_bytes}
-use Rattle.fr_journal.specs.declared.entry.Entry.{Entry}
+use Rattle.fr_journal.specs.Forms.{Entry}
 use Rattle.fr_journal.specs.declared.entry.Entry.TheVariants.{Commit, Withdraw, Read, Pop, Fetch, Observe}
 use Rattle.fr_journal.specs.declared.entry.Offered.{Offered}
 use Rattle.fr_journal.specs.declared.entry.Offered.TheVariants as offered
 use Rattle.fr_journal.specs.declared.entry.Origin.{Origin}
 use Rattle.fr_slots.specs.Windows.{Opportunity, IsInRange}
-use Rattle.fr_status.specs.declared.seen.Seen.{Seen}
+use Rattle.fr_status.specs.Forms.{Seen}
 use Rattle.fr_status.specs.declared.seen.Seen.TheVariants as seen
 
 -- ---- the host's and the controller's

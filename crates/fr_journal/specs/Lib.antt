@@ -2,6 +2,7 @@ pub mod Arrivals
 pub mod Counts
 pub mod Entries
 pub mod Fate
+pub mod Forms
 pub mod Held
 pub mod JournalFields
 pub mod Kept

@@ -1,9 +1,8 @@
 -- Fetches and observes mark where a window opens and closes. What short entries know of marks.
 use Rattle.std.specs.Prelude.{◌≡◌, ℕ, ◌≤◌, List, take, slice_get, Option, Some, None, IfSome}
 use Rattle.std.specs.Option.{option_and_then}
-use Rattle.fr_journal.specs.declared.entry.Entry.{Entry}
-use Rattle.fr_journal.specs.declared.short.ShortEntry.{ShortEntry}
-use Rattle.fr_journal.specs.declared.short.ShortEntry.TheVariants.{Commit, Withdraw, Read, Pop, Fetch, Observe}
+use Rattle.fr_journal.specs.Forms.{Entry, ShortEntry}
+use Rattle.fr_journal.specs.declared.entry.Entry.TheVariants.{Commit, Withdraw, Read, Pop, Fetch, Observe}
 use Rattle.fr_journal.specs.OpenWindow.{open_window}
 use Rattle.fr_slots.specs.Windows.{Opportunity}
 
@@ -14,7 +13,7 @@ fetched_window (Withdraw task buffer of) = None
 fetched_window (Read task buffer from) = None
 fetched_window (Pop task from) = None
 fetched_window (Fetch window a b) = Some window
-fetched_window (Observe window mark a b) = None
+fetched_window (Observe window a b) = None
 
 -- what an observe knows of the last mark before it
 abbrev pub last_mark : ShortEntry → Option ℕ
@@ -23,7 +22,7 @@ last_mark (Withdraw task buffer of) = None
 last_mark (Read task buffer from) = None
 last_mark (Pop task from) = None
 last_mark (Fetch window a b) = None
-last_mark (Observe window mark a b) = Some mark
+last_mark (Observe window a b) = Some window.last_mark
 
 abbrev pub fetched_at : List ShortEntry → ℕ → Option Opportunity
 fetched_at shorts place = option_and_then fetched_window (slice_get shorts place)

@@ -1,7 +1,7 @@
 -- The window that is open after some entries: a fetch opens it, and an observe closes it.
 use Rattle.std.specs.Prelude.{ℕ, List, [], Option, Some, None}
 use Rattle.std.specs.Option.{option_and_then}
-use Rattle.fr_journal.specs.declared.entry.Entry.{Entry}
+use Rattle.fr_journal.specs.Forms.{Entry}
 use Rattle.fr_journal.specs.declared.entry.Entry.TheVariants.{Commit, Withdraw, Read, Pop, Fetch, Observe}
 use Rattle.fr_slots.specs.History.{last_after}
 use Rattle.fr_slots.specs.Windows.{Opportunity}

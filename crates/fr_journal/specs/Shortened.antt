@@ -1,34 +1,20 @@
 -- What short entries are short for: their numbers, and bytes that stand in a pool.
 use Rattle.std.specs.Prelude.{◌≡◌, ℕ, ◌+◌, ◌*◌, ◌-◌, ◌%◌, ◌≤◌, List, [], ◌++◌, length, slice_range}
 use Rattle.fr_frame.specs.Payload.{most_payload_bytes, most_frame_bytes}
-use Rattle.fr_journal.specs.declared.entry.Entry.{Entry}
+use Rattle.fr_journal.specs.Forms.{Entry, ShortEntry, ShortSeen, with_parts}
 use Rattle.fr_journal.specs.declared.entry.Entry.TheVariants.{Commit, Withdraw, Read, Pop, Fetch, Observe}
 use Rattle.fr_journal.specs.declared.short.Stretch.{Stretch}
-use Rattle.fr_journal.specs.declared.short.ShortEntry.{ShortEntry}
-use Rattle.fr_journal.specs.declared.short.ShortEntry.TheVariants as short
-use Rattle.fr_journal.specs.declared.short.ShortSeen.{ShortSeen}
-use Rattle.fr_journal.specs.declared.short.ShortSeen.TheVariants as short_seen
-use Rattle.fr_status.specs.declared.seen.Seen.{Seen}
+use Rattle.fr_status.specs.Forms.{Seen, with_seen_bytes}
 use Rattle.fr_status.specs.declared.seen.Seen.TheVariants as seen
 
 abbrev pub bytes_at : List ℕ → Stretch → List ℕ
 bytes_at pool s = slice_range pool s.start s.end
 
 abbrev pub restored_seen : List ℕ → ShortSeen → Seen
-restored_seen pool short_seen.Silence = seen.Silence
-restored_seen pool short_seen.Own = seen.Own
-restored_seen pool short_seen.Conflict = seen.Conflict
-restored_seen pool short_seen.Noise = seen.Noise
-restored_seen pool short_seen.Overrun = seen.Overrun
-restored_seen pool (short_seen.Bytes s) = seen.Bytes (record { items = bytes_at pool s })
+restored_seen pool seen = with_seen_bytes (λ s. record { items = bytes_at pool s }) seen
 
 abbrev pub restored : List ℕ → ShortEntry → Entry
-restored pool (short.Commit task buffer payload) = Commit task buffer (bytes_at pool payload)
-restored pool (short.Withdraw task buffer of) = Withdraw task buffer of
-restored pool (short.Read task buffer from) = Read task buffer from
-restored pool (short.Pop task from) = Pop task from
-restored pool (short.Fetch window a b) = Fetch window a b
-restored pool (short.Observe window mark a b) = Observe window (restored_seen pool a) (restored_seen pool b)
+restored pool entry = with_parts (bytes_at pool) (restored_seen pool) (λ m. m.number) entry
 
 -- ---- what stands in the pool
 
@@ -51,22 +37,22 @@ pub record IsStretch (size most : ℕ) (s : Stretch) : Type 0 where
   pub few : s.end ≤ s.start + most
 
 abbrev pub IsShortSeen : ℕ → ShortSeen → Type 0
-IsShortSeen size short_seen.Silence = Unit {0}
-IsShortSeen size short_seen.Own = Unit {0}
-IsShortSeen size short_seen.Conflict = Unit {0}
-IsShortSeen size short_seen.Noise = Unit {0}
-IsShortSeen size short_seen.Overrun = Unit {0}
-IsShortSeen size (short_seen.Bytes s) = IsStretch size most_frame_bytes s
+IsShortSeen size seen.Silence = Unit {0}
+IsShortSeen size seen.Own = Unit {0}
+IsShortSeen size seen.Conflict = Unit {0}
+IsShortSeen size seen.Noise = Unit {0}
+IsShortSeen size seen.Overrun = Unit {0}
+IsShortSeen size (seen.Bytes s) = IsStretch size most_frame_bytes s
 
 -- the stretches of the entry stand in a pool of this size, and are of a size that its bytes may have
 abbrev pub IsShort : ℕ → ShortEntry → Type 0
-IsShort size (short.Commit task buffer payload) =
+IsShort size (Commit task buffer payload) =
     IsStretch size most_payload_bytes payload × ((payload.end - payload.start) % 2 ≡ 0)
-IsShort size (short.Withdraw task buffer of) = Unit {0}
-IsShort size (short.Read task buffer from) = Unit {0}
-IsShort size (short.Pop task from) = Unit {0}
-IsShort size (short.Fetch window a b) = Unit {0}
-IsShort size (short.Observe window mark a b) = IsShortSeen size a × IsShortSeen size b
+IsShort size (Withdraw task buffer of) = Unit {0}
+IsShort size (Read task buffer from) = Unit {0}
+IsShort size (Pop task from) = Unit {0}
+IsShort size (Fetch window a b) = Unit {0}
+IsShort size (Observe window a b) = IsShortSeen size a × IsShortSeen size b
 
 -- ---- what becomes of the pool
 

@@ -37,14 +37,16 @@ pub enum Offered {
 
 /// An entry of a journal: one accepted call. Entries are numbered from 0 in their order.
 ///
-/// Commits, withdraws, reads and pops are the host's, fetches and observes the controller's (chapter 9).
-#[derive(Drop, PartialEq, Eq)]
-pub enum Entry {
+/// Commits, withdraws, reads and pops are the host's, fetches and observes the controller's (chapter 9). The parameters
+/// are the forms of a payload, of an observation and of an observed window's number: `Entry` has its bytes, and a
+/// [`LentEntry`](crate::lent::LentEntry) lends them.
+#[derive(Drop, Clone, Copy, PartialEq, Eq)]
+pub enum Entry<P = Payload, S = Seen, W = u32> {
     /// A task gave a payload to a transmit buffer.
     Commit {
         task: TaskId,
         buffer: u8,
-        payload: Payload,
+        payload: P,
     },
     /// A task took a transmit buffer's last commit back: the one of this number, which was pending, or none where none
     /// was (project-defined).
@@ -73,9 +75,9 @@ pub enum Entry {
     },
     /// The controller closed the window of this number, in which it had seen this.
     Observe {
-        window: u32,
-        a: Seen,
-        b: Seen,
+        window: W,
+        a: S,
+        b: S,
     },
 }
 

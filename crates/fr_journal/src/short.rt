@@ -9,7 +9,7 @@ ghost use Rattle.fr_journal.specs.Marks.{last_mark, fetched_at, mark_at};
 ghost use Rattle.fr_journal.specs.Shortened.{bytes_at, restored_seen, restored, bytes_in_seen, most_seen_bytes};
 ghost use Rattle.fr_journal.specs.Shortened.{IsShortSeen, IsShort, IsShortened};
 ghost use Rattle.fr_journal.specs.declared.entry.Entry.TheVariants as entries;
-ghost use Rattle.fr_status.specs.Lent.{whole_seen};
+ghost use Rattle.fr_status.specs.Forms.{whole_seen};
 
 use crate::entry::{Entry, Offered, Origin};
 use crate::lent::{LentEntry, payload_of};
@@ -28,53 +28,21 @@ pub(crate) struct Stretch {
     pub end: u32,
 }
 
-/// What was seen, with its bytes in a pool.
-#[derive(Clone, Copy)]
-pub(crate) enum ShortSeen {
-    Silence,
-    Own,
-    Conflict,
-    Noise,
-    Overrun,
-    Bytes(Stretch),
-}
+/// An observation, with its bytes in a pool.
+pub(crate) type ShortSeen = Seen<Stretch>;
 
 /// An entry, with its bytes in a pool.
+pub(crate) type ShortEntry = Entry<Stretch, ShortSeen, Marked>;
+
+// A search back to the fetch of its window took 64 ms for 16,384 reads, and takes 4.5 ms by the mark. A fetch needs as
+// many bytes, so no entry is longer for it.
+/// The number of an observed window, and where it was opened.
 #[derive(Clone, Copy)]
-pub(crate) enum ShortEntry {
-    Commit {
-        task: TaskId,
-        buffer: u8,
-        payload: Stretch,
-    },
-    Withdraw {
-        task: TaskId,
-        buffer: u8,
-        of: Option<u32>,
-    },
-    Read {
-        task: TaskId,
-        buffer: u8,
-        from: Option<Origin>,
-    },
-    Pop {
-        task: TaskId,
-        from: Option<Origin>,
-    },
-    Fetch {
-        window: Window,
-        a: Offered,
-        b: Offered,
-    },
-    Observe {
-        window: u32,
-        // A search back to the fetch of its window took 64 ms for 16,384 reads, and takes 4.5 ms by this number. A
-        // fetch needs as many bytes, so no entry is longer for it.
-        /// Where the last fetch or observe before it stands, or 0 where none does.
-        last_mark: u32,
-        a: ShortSeen,
-        b: ShortSeen,
-    },
+pub(crate) struct Marked {
+    /// The number of the window.
+    pub number: u32,
+    /// The place of the last fetch or observe before the entry, or 0 if there is none.
+    pub last_mark: u32,
 }
 
 impl ShortEntry {
@@ -101,7 +69,7 @@ impl ShortEntry {
         ensures { result ≡ last_mark self.now }
     {
         match self {
-            ShortEntry::Observe { last_mark, .. } => Some(*last_mark),
+            ShortEntry::Observe { window, .. } => Some(window.last_mark),
             ShortEntry::Commit { .. }
             | ShortEntry::Withdraw { .. }
             | ShortEntry::Read { .. }
@@ -205,12 +173,11 @@ pub(crate) fn shortened_observe(
 {
     let a = shortened_seen(pool, a);
     let b = shortened_seen(pool, b);
-    ShortEntry::Observe {
-        window,
+    let window = Marked {
+        number: window,
         last_mark: mark,
-        a,
-        b,
-    }
+    };
+    ShortEntry::Observe { window, a, b }
 }
 
 /// Returns an entry of the host in short form, its bytes at the end of the pool.
@@ -338,8 +305,8 @@ pub(crate) fn lent_entry(pool: &[u8], entry: ShortEntry) -> LentEntry<'_>
         ShortEntry::Read { task, buffer, from } => LentEntry::Read { task, buffer, from },
         ShortEntry::Pop { task, from } => LentEntry::Pop { task, from },
         ShortEntry::Fetch { window, a, b } => LentEntry::Fetch { window, a, b },
-        ShortEntry::Observe { window, a, b, .. } => LentEntry::Observe {
-            window,
+        ShortEntry::Observe { window, a, b } => LentEntry::Observe {
+            window: window.number,
             a: lent_seen(pool, a),
             b: lent_seen(pool, b),
         },
@@ -365,8 +332,8 @@ pub(crate) fn whole_entry(pool: &[u8], entry: ShortEntry) -> Entry
         ShortEntry::Read { task, buffer, from } => Entry::Read { task, buffer, from },
         ShortEntry::Pop { task, from } => Entry::Pop { task, from },
         ShortEntry::Fetch { window, a, b } => Entry::Fetch { window, a, b },
-        ShortEntry::Observe { window, a, b, .. } => Entry::Observe {
-            window,
+        ShortEntry::Observe { window, a, b } => Entry::Observe {
+            window: window.number,
             a: restored_seen(pool, a),
             b: restored_seen(pool, b),
         },

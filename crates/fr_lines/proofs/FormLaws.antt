@@ -7,7 +7,7 @@ use Rattle.std.proofs.lemmas.Bool.{cases_Bool, and_parts}
 use Rattle.std.specs.Prelude.{nat_le, not, ◌&&◌, ◌||◌}
 use Rattle.std.specs.Result.{result_ok}
 use Rattle.std.specs.Str.{bytes_eq}
-use Rattle.fr_journal.specs.declared.entry.Entry.{Entry}
+use Rattle.fr_journal.specs.Forms.{Entry}
 use Rattle.fr_lines.proofs.PartLemmas.{word_or}
 use Rattle.fr_lines.specs.declared.forms.WordForm.{WordForm}
 use Rattle.fr_lines.specs.declared.forms.WordForm.TheVariants as form

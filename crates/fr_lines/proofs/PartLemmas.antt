@@ -25,7 +25,7 @@ use Rattle.fr_slots.specs.declared.channel.Channels.{Channels}
 use Rattle.fr_slots.specs.declared.channel.Channels.TheVariants as channels
 use Rattle.fr_slots.specs.Numbers.{IsSlot, number_within}
 use Rattle.fr_slots.specs.Windows.{IsSlotOrNone}
-use Rattle.fr_status.specs.declared.seen.Seen.{Seen}
+use Rattle.fr_status.specs.Forms.{Seen}
 use Rattle.fr_status.specs.declared.seen.Seen.TheVariants as seen
 use Rattle.fr_text.proofs.BindLemmas.{bind_some}
 use Rattle.fr_text.proofs.HexTextLemmas.{bytes_takes, bytes_again}

@@ -17,7 +17,7 @@ use Rattle.fr_slots.specs.declared.channel.Channels.{Channels}
 use Rattle.fr_slots.specs.declared.channel.Channels.TheVariants as channels
 use Rattle.fr_slots.specs.Plans.{words_fit}
 use Rattle.fr_slots.specs.Windows.{IsSlotOrNone}
-use Rattle.fr_status.specs.declared.seen.Seen.{Seen}
+use Rattle.fr_status.specs.Forms.{Seen}
 use Rattle.fr_status.specs.declared.seen.Seen.TheVariants as seen
 use Rattle.fr_text.proofs.HexTextLemmas.{length-hex_text}
 use Rattle.fr_text.proofs.PlainLemmas.{IsPlain-decimal, IsPlain-hex_text, IsPlain-append}

@@ -18,7 +18,7 @@ use Rattle.fr_slots.specs.declared.plan.Mode.{Mode}
 use Rattle.fr_slots.specs.declared.plan.Mode.TheVariants as mode
 use Rattle.fr_slots.specs.Numbers.{number_within, last_slot}
 use Rattle.fr_slots.specs.Windows.{Opportunity, static_window, dynamic_window}
-use Rattle.fr_status.specs.declared.seen.Seen.{Seen}
+use Rattle.fr_status.specs.Forms.{Seen}
 use Rattle.fr_status.specs.declared.seen.Seen.TheVariants as seen
 use Rattle.fr_text.specs.Reading.{◌>>=◌, number_in, bytes_in}
 

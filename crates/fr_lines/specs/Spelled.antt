@@ -1,6 +1,6 @@
 -- What the lines that are read can spell.
 use Rattle.std.specs.Prelude.{◌≡◌, ◌<◌, ℤ, pos, true, List, [], ◌∷◌}
-use Rattle.fr_journal.specs.declared.entry.Entry.{Entry}
+use Rattle.fr_journal.specs.Forms.{Entry}
 use Rattle.fr_journal.specs.declared.entry.Entry.TheVariants.{Commit, Withdraw, Read, Pop, Fetch, Observe}
 use Rattle.fr_journal.specs.Entries.{IsEntry}
 use Rattle.fr_slots.specs.declared.plan.Buffer.{Buffer}

@@ -1,7 +1,7 @@
 -- The lines of a trace, each as its words. Only the first and those of ownership differ between versions.
 use Rattle.std.specs.Prelude.{ℕ, List, [], ◌∷◌, ◌++◌, codes, if◌then◌else◌}
 use Rattle.std.specs.Fmt.{decimal}
-use Rattle.fr_journal.specs.declared.entry.Entry.{Entry}
+use Rattle.fr_journal.specs.Forms.{Entry}
 use Rattle.fr_journal.specs.declared.entry.Entry.TheVariants.{Commit, Withdraw, Read, Pop, Fetch, Observe}
 use Rattle.fr_lines.specs.declared.versions.Version.{Version}
 use Rattle.fr_lines.specs.declared.versions.Version.TheVariants.{One, Two, Three}

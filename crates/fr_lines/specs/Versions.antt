@@ -1,6 +1,6 @@
 -- The versions of the format, and what each has a line for.
 use Rattle.std.specs.Prelude.{Bool, true, false, ◌||◌}
-use Rattle.fr_journal.specs.declared.entry.Entry.{Entry}
+use Rattle.fr_journal.specs.Forms.{Entry}
 use Rattle.fr_journal.specs.declared.entry.Entry.TheVariants.{Commit, Withdraw, Read, Pop, Fetch, Observe}
 use Rattle.fr_lines.specs.declared.versions.Version.{Version}
 use Rattle.fr_lines.specs.declared.versions.Version.TheVariants.{One, Two, Three}

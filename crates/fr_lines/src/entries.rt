@@ -1,7 +1,7 @@
 //! The lines of entries.
 
 ghost use Rattle.std.specs.Prelude.{◌≡◌, true, Some, IfSome, option_map, drop};
-ghost use Rattle.fr_journal.specs.declared.entry.Entry.{Entry};
+ghost use Rattle.fr_journal.specs.Forms.{Entry};
 ghost use Rattle.fr_text.specs.Reading.{number_in, first_in};
 ghost use Rattle.fr_text.specs.Spaces.{words_of, line_of};
 ghost use Rattle.fr_lines.specs.PartReading.{optional_slot_in, offered_in};
@@ -44,6 +44,7 @@ fn commit_of(words: &mut Words<'_>, bytes: &mut EntryBytes) -> Option<BareEntry>
     Some(BareEntry::Commit {
         task,
         buffer: buffer as u8,
+        payload: (),
     })
 }
 
@@ -175,6 +176,8 @@ fn observe_of(words: &mut Words<'_>, bytes: &mut EntryBytes) -> Option<BareEntry
     words.end()?;
     Some(BareEntry::Observe {
         window: window as u32,
+        a: (),
+        b: (),
     })
 }
 

@@ -11,7 +11,7 @@ use Rattle.fr_slots.specs.declared.channel.Channel.TheVariants.{A, B}
 use Rattle.fr_slots.specs.History.{each_after}
 use Rattle.fr_slots.specs.Parameters.{Parameters}
 use Rattle.fr_slots.specs.Windows.{Opportunity}
-use Rattle.fr_status.specs.declared.seen.Seen.{Seen}
+use Rattle.fr_status.specs.Forms.{Seen}
 use Rattle.fr_status.specs.declared.seen.Seen.TheVariants.{Silence, Own, Conflict, Noise, Overrun, Bytes}
 
 -- when a window of this cycle of the run begins

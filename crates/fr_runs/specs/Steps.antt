@@ -3,7 +3,7 @@ use Rattle.std.specs.Prelude.{◌≡◌, ℕ, ◌≤◌, List, length, take, sli
 use Rattle.fr_bus.specs.Record.{Recorded}
 use Rattle.fr_bus.specs.Windows.{cycles_begun}
 use Rattle.fr_core.specs.declared.script.Line.{Line}
-use Rattle.fr_journal.specs.declared.entry.Entry.{Entry}
+use Rattle.fr_journal.specs.Forms.{Entry}
 use Rattle.fr_runs.specs.declared.stepping.Progress.{Progress}
 use Rattle.fr_runs.specs.Stepping.{is_fetch, is_observe, is_by, is_beginning}
 use Rattle.fr_slots.specs.Numbers.{most_tasks}

@@ -6,7 +6,7 @@ use Rattle.std.specs.List.{flat_map, range_with_len}
 use Rattle.std.proofs.lemmas.Option.{get_or_from_slice_get, slice_get_read}
 use Rattle.fr_core.specs.Worlds.{WorldState, interface_at, no_interface}
 use Rattle.fr_interface.specs.State.{State}
-use Rattle.fr_journal.specs.declared.entry.Entry.{Entry}
+use Rattle.fr_journal.specs.Forms.{Entry}
 use Rattle.fr_journal.specs.declared.entry.Entry.TheVariants.{Commit, Withdraw, Read, Pop, Fetch, Observe}
 use Rattle.fr_showing.proofs.GoingLemmas.{one_list_more}
 use Rattle.fr_showing.specs.CommitSteps.{is_takeable, node_text}

@@ -13,7 +13,7 @@ use Rattle.fr_journal.proofs.HeldCommitLemmas.{pending_is, held_is, held-some, h
 use Rattle.fr_journal.proofs.HeldCommitLemmas.{withdrawn_at, same_entry, last_there}
 use Rattle.fr_journal.proofs.LastCommitLemmas.{IsCommitAt, last_commit-commit, last_commit-other, drop-front}
 use Rattle.fr_journal.proofs.LastCommitLemmas.{slice_get-front}
-use Rattle.fr_journal.specs.declared.entry.Entry.{Entry}
+use Rattle.fr_journal.specs.Forms.{Entry}
 use Rattle.fr_journal.specs.declared.entry.Entry.TheVariants.{Commit, Withdraw, Read, Pop, Fetch, Observe}
 use Rattle.fr_journal.specs.declared.entry.Offered.{Offered}
 use Rattle.fr_journal.specs.declared.entry.Offered.TheVariants.{Nothing, Null}

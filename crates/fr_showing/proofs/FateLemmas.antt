@@ -12,10 +12,10 @@ use Rattle.fr_core.specs.Worlds.{WorldState}
 use Rattle.fr_interface.specs.State.{State, IsLegalInterface}
 use Rattle.fr_journal.proofs.FateStepLemmas.{fate_by}
 use Rattle.fr_journal.proofs.LastCommitLemmas.{IsCommitAt, slice_get-front}
-use Rattle.fr_journal.specs.declared.entry.Entry.{Entry}
+use Rattle.fr_journal.specs.Forms.{Entry}
 use Rattle.fr_journal.specs.declared.entry.Entry.TheVariants.{Commit, Withdraw, Read, Pop, Fetch, Observe}
 use Rattle.fr_journal.specs.Fate.{is_commit_on, is_data_of, sends, takes_back}
-use Rattle.fr_journal.specs.declared.lent.LentEntry.{LentEntry}
+use Rattle.fr_journal.specs.Forms.{LentEntry}
 use Rattle.fr_journal.specs.Legal.{IsLegal}
 use Rattle.fr_journal.specs.Lent.{whole}
 use Rattle.fr_showing.proofs.DecidedLemmas.{undone, gone_by_commit, gone_by_withdraw}

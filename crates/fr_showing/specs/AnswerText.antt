@@ -9,7 +9,7 @@ use Rattle.fr_core.specs.declared.script.Action.TheVariants as action
 use Rattle.fr_core.specs.Worlds.{WorldState}
 use Rattle.fr_frame.specs.Fields.{Fields}
 use Rattle.fr_interface.specs.State.{State}
-use Rattle.fr_journal.specs.declared.entry.Entry.{Entry}
+use Rattle.fr_journal.specs.Forms.{Entry}
 use Rattle.fr_journal.specs.declared.entry.Entry.TheVariants as entry
 use Rattle.fr_journal.specs.declared.entry.Origin.{Origin}
 use Rattle.fr_lines.specs.Parts.{absent}

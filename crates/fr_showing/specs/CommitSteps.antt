@@ -3,7 +3,7 @@
 use Rattle.std.specs.Prelude.{ℕ, Bool, true, false, List, [], ◌++◌, Option, Some}
 use Rattle.std.specs.List.{flat_map}
 use Rattle.fr_core.specs.Worlds.{WorldState}
-use Rattle.fr_journal.specs.declared.entry.Entry.{Entry}
+use Rattle.fr_journal.specs.Forms.{Entry}
 use Rattle.fr_journal.specs.declared.entry.Entry.TheVariants.{Commit, Withdraw, Read, Pop, Fetch, Observe}
 use Rattle.fr_showing.specs.CommitText.{commit_by, line_in, sending_text, Committed}
 use Rattle.fr_showing.specs.declared.commits.Commitment.{Commitment}

@@ -4,7 +4,7 @@ use Rattle.std.specs.Fmt.{decimal}
 use Rattle.std.specs.List.{flat_map, range_with_len}
 use Rattle.fr_bus.specs.Record.{Recorded}
 use Rattle.fr_core.specs.Worlds.{WorldState, interface_at}
-use Rattle.fr_journal.specs.declared.entry.Entry.{Entry}
+use Rattle.fr_journal.specs.Forms.{Entry}
 use Rattle.fr_journal.specs.declared.entry.Entry.TheVariants.{Commit, Withdraw, Read, Pop, Fetch, Observe}
 use Rattle.fr_lines.specs.Parts.{optional_number}
 use Rattle.fr_lines.specs.Spelling.{line_text}

@@ -1,7 +1,7 @@
 -- What one entry does to a commit that was pending before it, as the code goes along a journal. That the first entry
 -- which does something to it decides stands in the proofs.
 use Rattle.std.specs.Prelude.{ℕ, Bool, true, false, if◌then◌else◌}
-use Rattle.fr_journal.specs.declared.entry.Entry.{Entry}
+use Rattle.fr_journal.specs.Forms.{Entry}
 use Rattle.fr_journal.specs.Fate.{is_commit_on, sends, takes_back}
 use Rattle.fr_showing.specs.declared.fates.Became.{Became}
 use Rattle.fr_showing.specs.declared.fates.Became.TheVariants.{Sent, Withdrawn, Overwritten, Pending}

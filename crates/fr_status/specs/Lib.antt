@@ -1,3 +1,3 @@
 pub mod Counting
+pub mod Forms
 pub mod Status
-pub mod Lent

@@ -5,7 +5,7 @@ use Rattle.fr_slots.specs.declared.channel.Channel.{Channel}
 use Rattle.fr_slots.specs.Parameters.{Parameters, is_static_slot}
 use Rattle.fr_frame.specs.Decoding.{decoded}
 use Rattle.fr_frame.specs.Fields.{Fields}
-use Rattle.fr_status.specs.declared.seen.Seen.{Seen}
+use Rattle.fr_status.specs.Forms.{Seen}
 use Rattle.fr_status.specs.declared.seen.Seen.TheVariants.{Silence, Own, Conflict, Noise, Overrun, Bytes}
 use Rattle.fr_status.specs.declared.status.SlotStatus.{SlotStatus}
 

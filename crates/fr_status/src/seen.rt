@@ -1,12 +1,14 @@
-//! What a node sees on a channel in a slot.
+//! Observations: what a node received on a channel in a slot.
 
 ghost use Rattle.std.specs.Prelude.{◌≡◌};
 
 use fr_frame::frame::{Bytes, duplicate_bytes};
 
-/// What a node sees on a channel in one slot, of the transmissions that came through (project-defined).
-#[derive(Drop, PartialEq, Eq)]
-pub enum Seen {
+/// What a node receives on a channel in one slot, of the transmissions that came through (project-defined).
+///
+/// The parameter is the form of the bytes: `Seen` has them, and a [`LentSeen`] lends them.
+#[derive(Drop, Clone, Copy, PartialEq, Eq)]
+pub enum Seen<B = Bytes> {
     /// No transmission came through, or the channel has no slot.
     Silence,
     /// The node's own transmission came through, and no other.
@@ -18,11 +20,14 @@ pub enum Seen {
     /// One of another node came through, too long for its slot or for the rest of the dynamic segment.
     Overrun,
     /// One of another node came through, with these bytes. They needn't be a frame.
-    Bytes(Bytes),
+    Bytes(B),
 }
 
+/// An observation whose bytes stay where they lie, so that none are moved where it is read and dropped.
+pub type LentSeen<'a> = Seen<&'a [u8]>;
+
 impl Seen {
-    /// Returns a copy of what was seen.
+    /// Returns a copy of the observation.
     pub fn duplicate(&self) -> Seen
         ensures { result ≡ self.now }
     {
@@ -35,21 +40,4 @@ impl Seen {
             Seen::Bytes(bytes) => Seen::Bytes(duplicate_bytes(bytes)),
         }
     }
-}
-
-/// What a node sees, whose bytes stay where they lie, so that none are moved where it is looked at and let go.
-#[derive(Clone, Copy)]
-pub enum LentSeen<'a> {
-    /// No transmission came through, or the channel has no slot.
-    Silence,
-    /// The node's own transmission came through, and no other.
-    Own,
-    /// Several came through, the node's own among them.
-    Conflict,
-    /// Several came through, none of them the node's own.
-    Noise,
-    /// One of another node came through, too long for its slot or for the rest of the dynamic segment.
-    Overrun,
-    /// One of another node came through, with these bytes. They needn't be a frame.
-    Bytes(&'a [u8]),
 }

@@ -7,7 +7,7 @@ use Rattle.std.proofs.lemmas.List.{append-nil, flat_map_more}
 use Rattle.std.proofs.lemmas.Slice.Eq.{bytes_eq-Decides}
 use Rattle.std.specs.List.{flat_map}
 use Rattle.std.specs.Str.{bytes_eq}
-use Rattle.fr_journal.specs.declared.entry.Entry.{Entry}
+use Rattle.fr_journal.specs.Forms.{Entry}
 use Rattle.fr_interface.specs.State.{State, with_entry}
 use Rattle.fr_lines.specs.Reading.{version_in, params_in, node_in, own_in, buffer_in, queue_in, plan_line_in, entry_in}
 use Rattle.fr_lines.specs.Spelling.{begin_line, end_line, node_words, queue_words, entry_words}

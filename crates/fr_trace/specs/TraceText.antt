@@ -1,7 +1,7 @@
 -- The text of a trace: in each version of the format the one spelling of parameters, a plan and a journal.
 use Rattle.std.specs.Prelude.{◌≡◌, ℕ, true, List, [], ◌++◌, Option, Some, None}
 use Rattle.std.specs.List.{flat_map}
-use Rattle.fr_journal.specs.declared.entry.Entry.{Entry}
+use Rattle.fr_journal.specs.Forms.{Entry}
 use Rattle.fr_interface.specs.State.{State}
 use Rattle.fr_lines.specs.declared.versions.Version.{Version}
 use Rattle.fr_lines.specs.Spelling.{line_feed, line_text, first_line, begin_line, end_line, params_words, node_words}

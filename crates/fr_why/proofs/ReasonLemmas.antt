@@ -9,7 +9,7 @@ use Rattle.fr_interface.specs.declared.errors.HostError.{HostError}
 use Rattle.fr_interface.specs.declared.errors.SlotError.{SlotError}
 use Rattle.fr_interface.specs.State.{State, commit_refusal, withdraw_refusal, read_refusal, pop_refusal, fetch_refusal}
 use Rattle.fr_interface.specs.State.{observe_refusal}
-use Rattle.fr_journal.specs.declared.entry.Entry.{Entry}
+use Rattle.fr_journal.specs.Forms.{Entry}
 use Rattle.fr_journal.specs.declared.entry.Entry.TheVariants as entries
 use Rattle.fr_lines.specs.declared.plan_lines.PlanLine.{PlanLine}
 use Rattle.fr_lines.specs.declared.plan_lines.PlanLine.TheVariants as plan_line

@@ -5,7 +5,7 @@ use Rattle.std.proofs.lemmas.List.{take_min, take_more, get_or_default}
 use Rattle.std.proofs.lemmas.List.Sums.{fold-append}
 use Rattle.std.specs.Io.KnownBytes.{Appends}
 use Rattle.std.specs.List.{flat_map}
-use Rattle.fr_journal.specs.declared.entry.Entry.{Entry}
+use Rattle.fr_journal.specs.Forms.{Entry}
 use Rattle.fr_trace.proofs.WritingLemmas.{written-more}
 use Rattle.fr_why.specs.Faults.{is_fetch, window_count}
 use Rattle.fr_why.specs.WhyText.{byte_text, after_space}

@@ -4,7 +4,7 @@ use Rattle.std.specs.Prelude.{option_map, Result, Ok, Err, if◌then◌else◌}
 use Rattle.std.specs.Str.{bytes_eq}
 use Rattle.fr_interface.specs.State.{State, commit_refusal, withdraw_refusal, read_refusal, pop_refusal, fetch_refusal}
 use Rattle.fr_interface.specs.State.{observe_refusal}
-use Rattle.fr_journal.specs.declared.entry.Entry.{Entry}
+use Rattle.fr_journal.specs.Forms.{Entry}
 use Rattle.fr_journal.specs.declared.entry.Entry.TheVariants as entry
 use Rattle.fr_lines.specs.declared.forms.WordPlace.{WordPlace}
 use Rattle.fr_lines.specs.declared.plan_lines.PlanLine.{PlanLine}

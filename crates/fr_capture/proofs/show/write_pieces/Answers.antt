@@ -4,7 +4,7 @@ use Rattle.std.specs.Prelude.{OnOk}
 use Rattle.fr_capture.specs.Shows.{heading, shown_of}
 use Rattle.fr_capture.specs.declared.moment.Moment.{Moment}
 use Rattle.fr_capture.specs.Clocks.{moment_after}
-use Rattle.fr_journal.specs.declared.entry.Entry.{Entry}
+use Rattle.fr_journal.specs.Forms.{Entry}
 use Rattle.fr_slots.specs.Parameters.{Parameters}
 use Rattle.fr_trace.proofs.WritingLemmas.{there_is, none_behind}
 use Rattle.fr_capture.proofs.ShowLemmas.{IsShown, shown_none, shown_entry, shown_handed, shown_all, shown_rounds}

@@ -1,5 +1,5 @@
 use Rattle.std.proofs.Common.{sym, subst}
-use Rattle.fr_journal.specs.declared.lent.LentEntry.{LentEntry}
+use Rattle.fr_journal.specs.Forms.{LentEntry}
 use Rattle.fr_journal.specs.Lent.{whole}
 use Rattle.fr_showing.specs.CommitSteps.{entry_text}
 use Rattle.fr_text.specs.Writing.{Writes}

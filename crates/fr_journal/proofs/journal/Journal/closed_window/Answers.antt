@@ -1,5 +1,5 @@
 use Rattle.std.proofs.Common.{ap, sym, ◌∙◌, List}
-use Rattle.fr_journal.specs.declared.short.ShortEntry.{ShortEntry}
+use Rattle.fr_journal.specs.Forms.{ShortEntry}
 use Rattle.fr_journal.specs.Marks.{fetched_at, mark_at}
 use Rattle.fr_journal.proofs.ShortLemmas.{closed-known}
 use Rattle.fr_journal.proofs.journal.Journal.closed_window.Goals as goal
