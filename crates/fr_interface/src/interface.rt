@@ -7,6 +7,7 @@ ghost use Rattle.fr_frame.specs.Payload.{IsPayload};
 ghost use Rattle.fr_interface.specs.State.{is_not_above, has_words};
 ghost use Rattle.fr_slots.specs.Windows.{IsInRange, IsSlotOrNone};
 
+use crate::call::{Answer, Call};
 use crate::errors::{HostError, InterfaceError, SlotError};
 use crate::handing::bytes_in_entry;
 use crate::naming::frame_named;
@@ -73,6 +74,7 @@ impl Interface {
     ghost use Rattle.fr_journal.specs.Held.{frame_named, frame_of, origin_of, IsReceivable};
     ghost use Rattle.fr_journal.specs.Entries.{IsOffered};
     ghost use Rattle.fr_journal.specs.Offers.{offered, frame_offered, IsHandedOut, bytes_of};
+    ghost use Rattle.fr_interface.specs.Calls.{call_refusal, call_answer, call_entry};
     ghost use Rattle.fr_interface.specs.Handing.{bytes_handed};
     ghost use Rattle.fr_interface.specs.Sending.{outgoing_in};
     ghost use Rattle.fr_interface.specs.State.{with_entry, withdraw_entry, read_entry, pop_entry, fetch_entry};
@@ -150,10 +152,20 @@ impl Interface {
         ensures accepted { OnOk result (self.new ≡ with_entry self.old (read_entry self.old task buffer)) }
         ensures refused { OnErr result (self.new ≡ self.old) }
     {
+        Ok(frame_in(self.read_arrival(task, buffer)?))
+    }
+
+    /// The same as `read`, with the origin of the frame.
+    fn read_arrival(&mut self, task: TaskId, buffer: u8) -> Result<Option<Arrival>, HostError>
+        ensures refusal { result_err result ≡ read_refusal self.old task buffer }
+        ensures answer { IfOk result (λ a. a ≡ received_by self.old buffer) }
+        ensures accepted { OnOk result (self.new ≡ with_entry self.old (read_entry self.old task buffer)) }
+        ensures refused { OnErr result (self.new ≡ self.old) }
+    {
         let held = self.state.read(task, buffer)?;
         let from = origin_in(&held);
         self.journal.push_host(Entry::Read { task, buffer, from });
-        Ok(frame_in(held))
+        Ok(held)
     }
 
     /// Takes the oldest frame of the receive queue for a task, if the queue holds one (project-defined).
@@ -167,10 +179,48 @@ impl Interface {
         ensures accepted { OnOk result (self.new ≡ with_entry self.old (pop_entry self.old task)) }
         ensures refused { OnErr result (self.new ≡ self.old) }
     {
+        Ok(frame_in(self.pop_arrival(task)?))
+    }
+
+    /// The same as `pop`, with the origin of the frame.
+    fn pop_arrival(&mut self, task: TaskId) -> Result<Option<Arrival>, HostError>
+        ensures refusal { result_err result ≡ pop_refusal self.old task }
+        ensures answer { IfOk result (λ a. a ≡ oldest_of self.old) }
+        ensures accepted { OnOk result (self.new ≡ with_entry self.old (pop_entry self.old task)) }
+        ensures refused { OnErr result (self.new ≡ self.old) }
+    {
         let oldest = self.state.pop(task)?;
         let from = origin_in(&oldest);
         self.journal.push_host(Entry::Pop { task, from });
-        Ok(frame_in(oldest))
+        Ok(oldest)
+    }
+
+    /// Makes a call for a task, as `commit`, `withdraw`, `read` or `pop` does, and returns its answer with the origin
+    /// of a frame (chapter 9). Refused as those are.
+    pub fn call(&mut self, task: TaskId, call: &Call) -> Result<Answer, HostError>
+        ensures refusal { result_err result ≡ call_refusal self.old task call.now }
+        ensures answer { IfOk result (λ a. a ≡ call_answer self.old task call.now) }
+        ensures accepted { OnOk result (self.new ≡ with_entry self.old (call_entry self.old task call.now)) }
+        ensures refused { OnErr result (self.new ≡ self.old) }
+    {
+        match call {
+            Call::Commit { buffer, payload } => {
+                let receipt = self.commit(task, *buffer, payload)?;
+                Ok(Answer::Committed(receipt))
+            }
+            Call::Withdraw { buffer } => {
+                let of = self.withdraw(task, *buffer)?;
+                Ok(Answer::Withdrawn(of))
+            }
+            Call::Read { buffer } => {
+                let arrival = self.read_arrival(task, *buffer)?;
+                Ok(Answer::Frame(arrival))
+            }
+            Call::Pop => {
+                let arrival = self.pop_arrival(task)?;
+                Ok(Answer::Frame(arrival))
+            }
+        }
     }
 
     /// Opens a window, and hands out what the node sends in it (chapters 5 and 9): on each channel the data frame

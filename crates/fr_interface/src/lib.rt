@@ -14,6 +14,7 @@
 //!
 //! # Definitions
 //!
+//! - `Calls`: the calls of a host, as one kind: their refusals, answers and entries.
 //! - `State`, `Commits`: the state of an interface, its refusals, the invariant; its commits and their fates.
 //! - `Handing`: the bytes that a fetch handed to the bus, by its entry.
 //! - `ErrorNames`: the printed names of refusals.
@@ -41,6 +42,7 @@
 //! The proofs have a lemma for each kind of entry and each part.
 #![tactic(auto)]
 
+pub mod call;
 pub mod errors;
 mod handing;
 mod index;

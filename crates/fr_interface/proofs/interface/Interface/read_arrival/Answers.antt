@@ -1,0 +1,22 @@
+use Rattle.std.proofs.Common.{◌≡◌, List, [], ◌∷◌, ◌++◌, Option, ap, ◌∙◌, option_map}
+use Rattle.fr_interface.specs.InterfaceFields.{state_in}
+use Rattle.fr_interface.specs.State.{read_entry, received_by}
+use Rattle.fr_interface.proofs.InterfaceLemmas.{lawful-more}
+use Rattle.fr_journal.specs.declared.entry.Entry.TheVariants.{Read}
+use Rattle.fr_journal.specs.declared.entry.Origin.{Origin}
+use Rattle.fr_journal.specs.Kept.{Kept}
+use Rattle.fr_journal.specs.Held.{origin_of}
+use Rattle.fr_interface.proofs.interface.Interface.read_arrival.Goals as goal
+
+pub invariant_of-self-2 : goal.invariant_of-self-2
+invariant_of-self-2 c =
+    let s = state_in c.self.inside in
+    let from_is : c.origin_in-from.result ≡ option_map origin_of (received_by s c.args.buffer) =
+    c.origin_in-from.ensures.value ∙ ap (option_map origin_of)
+    (c.in_ok-held.ensures.answer s c.self.invariant.history) in
+    let pushed : Option Origin → Kept = λ from. record c.self.inside.journal
+    { entries = c.self.inside.journal.entries ++ Read c.args.task c.args.buffer from ∷ [] } in
+    lawful-more c.self.inside c.read.new.self c.push_host.new.self
+    (read_entry s c.args.task c.args.buffer) c.self.invariant
+    (c.push_host.ensures ∙ ap pushed from_is) c.in_ok-held.ensures.terms
+    (c.in_ok-held.ensures.history s c.self.invariant.history)
