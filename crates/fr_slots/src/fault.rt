@@ -33,8 +33,8 @@ pub enum PlanFault {
     /// one node sends there, from one buffer (chapter 5).
     #[error("Overlap {0} {1} {2}")]
     Overlap(SlotId, Channel, Cycle),
-    /// A dynamic transmit buffer whose frame, begun at pLatestTx of its channel, would end after the dynamic segment.
-    /// The minislots that stay idle after the frame don't count (project-defined).
+    /// A dynamic transmit buffer whose frame could end after the dynamic segment (project-defined). The frame begins at
+    /// pLatestTx of its channel, and the minislots that stay idle after it don't count.
     #[error("TooLong {0}")]
     TooLong(u8),
     /// A plan that doesn't fit the parameters (project-defined). An owned slot isn't static, pLatestTx is above the
@@ -154,7 +154,7 @@ fn not_owned(params: &Params, owned: &[Own], buffer: &Buffer) -> bool
             || is_unowned_on(owned, &buffer.filter, Channel::B))
 }
 
-/// Returns whether the channel is among the filter's, and its slot isn't owned there in an admitted cycle.
+/// Returns whether the channel is the filter's, and the slot isn't owned there in an admitted cycle.
 fn is_unowned_on(owned: &[Own], filter: &Filter, channel: Channel) -> bool
     ensures { result ≡ is_unowned_on owned.now filter.now channel }
 {
@@ -218,7 +218,7 @@ fn dynamic_both(params: &Params, buffer: &Buffer) -> bool
         && channels.includes(Channel::B)
 }
 
-/// Returns the first slot, channel and cycle of two ownership lines or of two transmit buffers, as a fault.
+/// Returns the fault of the first overlap of two ownership lines or of two transmit buffers.
 fn first_overlap(owned: &[Own], buffers: &[Buffer]) -> Option<PlanFault>
     requires few_owned { length owned.now ≤ most_lines }
     requires few_buffers { length buffers.now ≤ most_lines }
@@ -244,7 +244,7 @@ pub fn transmit_filters(buffers: &[Buffer]) -> ArrayVec<Filter, LINES>
     filters
 }
 
-/// Returns the place of the first dynamic transmit buffer whose frame would end after the dynamic segment.
+/// Returns the place of the first dynamic transmit buffer whose frame would end too late.
 pub(crate) fn too_long_place(params: &Params, plan: &NodePlan, buffers: &[Buffer]) -> Option<usize>
     ensures value { result ≡ position (too_long params.now plan.now) buffers.now }
     ensures within { IfSome result (λ place. place < length buffers.now) }
@@ -263,8 +263,8 @@ fn too_long(params: &Params, plan: &NodePlan, buffer: &Buffer) -> bool
             || ends_late_on(params, plan, buffer, Channel::B))
 }
 
-/// Returns whether the channel is the buffer's, and its frame would end after the dynamic segment there. The frame
-/// begins at pLatestTx of the channel.
+/// Returns whether the channel is the buffer's, and its frame would end too late there. The frame begins at pLatestTx
+/// of the channel.
 fn ends_late_on(params: &Params, plan: &NodePlan, buffer: &Buffer, channel: Channel) -> bool
     ensures { result ≡ ends_late_on params.now plan.now buffer.now channel }
 {

@@ -325,7 +325,7 @@ impl NodePlan {
         }
     }
 
-    /// Returns whether the two plans have the same numbers, lines, buffers and receive FIFO, in the same order.
+    /// Returns whether the plans have the same numbers, lines, buffers and receive FIFO, in the same order.
     pub fn is_same(&self, other: &NodePlan) -> bool
         ensures { IsTrue result ↔ (self.now ≡ other.now) }
     {

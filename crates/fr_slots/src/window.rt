@@ -7,7 +7,7 @@ use crate::numbers::{Cycle, SlotId};
 use crate::params::LAST_MINISLOT;
 use std::marker::Model;
 
-/// One transmission opportunity: a static slot, or a minislot at which a channel opens a slot (project-defined).
+/// One transmission opportunity (project-defined): a static slot, or a minislot at which a slot opens.
 #[derive(Clone, Copy, PartialEq, Eq)]
 pub struct Window {
     /// The window's number in its run, from 0.
