@@ -148,7 +148,8 @@ fn plan_of(params: &Params, node: NodeId, value: &Value) -> Result<NodePlan, Con
     with_buffers_of(params, node, buffers, plan)
 }
 
-/// For the prover: the same plan as `plan_of`, with a clause that it is lawful.
+// For the prover: `plans_of` needs that the plan is lawful.
+/// Returns the plan of a node, with the clause that it is lawful.
 fn lawful_plan(params: &Params, node: NodeId, value: &Value) -> Result<NodePlan, ConfigError>
     ensures value { result ≡ plan_of params.now node (view value.now) }
     ensures lawful { IfOk result IsPlan }

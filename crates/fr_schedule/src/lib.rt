@@ -27,8 +27,8 @@
 //!
 //! 1. `from_table` (`fr_params`) reads the table `params`. Then come the guarded channels and the nodes: values
 //!    (`table`), the tables of a node (`node`), the file (`file`).
-//! 2. `claims` has the lines of all nodes. They are entered in tables by slot, channel and cycle (`senders`), which give
-//!    the first conflict of two lines, and so the faults among the nodes (`faults`).
+//! 2. `claims` has the lines of all nodes. They are entered in tables by slot, channel and cycle (`senders`). The
+//!    tables give the first conflict of two lines, and so the faults among the nodes (`faults`).
 //! 3. `sender` reads from that table. The type of a cluster states that each slot, channel and cycle has at most one
 //!    sender.
 #![tactic(auto)]
