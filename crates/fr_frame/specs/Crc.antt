@@ -25,7 +25,7 @@ unfoldable pub divide_once : List Bool → List Bool → List Bool
 divide_once divisor [] = []
 divide_once divisor (bit ∷ bits) = drop 1 (if bit then xor_front divisor (bit ∷ bits) else bit ∷ bits)
 
--- that many steps
+-- so many steps
 unfoldable pub divide : List Bool → ℕ → List Bool → List Bool
 divide divisor zero bits = bits
 divide divisor (suc steps) bits = divide divisor steps (divide_once divisor bits)
