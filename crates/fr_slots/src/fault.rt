@@ -22,7 +22,7 @@ use thiserror::Error;
 /// Reasons to refuse a plan. A buffer is named by its number.
 #[derive(Clone, Copy, Debug, PartialEq, Eq, Error)]
 pub enum PlanFault {
-    /// A static transmit buffer whose slot the node doesn't own. The node owns the slot on all of the buffer's
+    /// A static transmit buffer whose slot the node doesn't own. The node has to own it on all of the buffer's
     /// channels, in all cycles that the buffer admits (chapter 5; the division by cycles is project-defined).
     #[error("NotOwned {0}")]
     NotOwned(u8),
