@@ -64,7 +64,7 @@ header_read h bytes long e =
     let five : 40 ≡ 8 * length (take 5 bytes) = omega (arith, length-take 5 bytes) in
     ap (λ (m : ℕ). bits_of m h) five ∙ e
 
--- ---- the four tests, from what the code compares
+-- ---- the four tests, by the code's comparisons
 
 pub length_test : (h : ℕ) (bytes : List ℕ) → bits_of 40 h ≡ bits_of_bytes (take 5 bytes)
     → length bytes ≡ 8 + 2 * bit_and (h / 131072) 127 → eqb (length bytes) (8 + 2 * number_at 16 7 bytes) ≡ true
