@@ -31,7 +31,7 @@ pub enum ConfigError {
     /// A key of the buffer that is missing or has a wrong value.
     #[error("BadBuffer {} {}", .0.number(), .1)]
     BadBuffer(NodeId, u8),
-    /// A static transmit buffer whose slot its node doesn't own. The node owns the slot on all of the buffer's
+    /// A static transmit buffer whose slot its node doesn't own. The node has to own it on all of the buffer's
     /// channels, in all cycles that the buffer admits (chapter 5; the division by cycles is project-defined).
     #[error("NotOwned {} {}", .0.number(), .1)]
     NotOwned(NodeId, u8),
