@@ -23,7 +23,7 @@ use Rattle.fr_status.specs.declared.seen.Seen.TheVariants.{Silence, Own, Conflic
 
 -- ---- transmissions
 
--- a muted offer is lost before the guardian; of everything else, the guardian passes what its rule lets pass
+-- a muted offer is lost before the guardian; every other transmission passes if the guardian lets it pass
 abbrev pub fate_of : Bool → Bool → Fate
 fate_of muted let_pass = if muted then Muted else if let_pass then Passed else Blocked
 

@@ -222,6 +222,7 @@ impl Bus {
         ensures run { IsRun self.now }
         ensures one_sender { OneSenderEach self.now.cluster self.now.sealed }
     {
+        // For the prover: the clause of this call.
         self.known();
         self.record.as_slice()
     }
@@ -402,7 +403,7 @@ impl Bus {
         self.record.get(place)
     }
 
-    /// Writes what the node observes on the channel of the last sealed window to `seen`.
+    /// Writes the node's observation on the channel of the last sealed window to `seen`.
     fn see_last(&self, node: NodeId, channel: Channel, seen: &mut Seen)
         ensures { seen.new ≡ seen_last self.now channel node }
     {
@@ -412,7 +413,7 @@ impl Bus {
         }
     }
 
-    /// Returns what the node observes in the sealed window, which has this number, on channel A and on B.
+    /// Returns the node's observations on channel A and on B in the sealed window, which has this number.
     ///
     /// Fails, in this order, with `UnknownNode`, `NotSealed`, `WrongWindow` if another window is open, and
     /// `AlreadyTaken`. A refusal leaves the bus unchanged.

@@ -114,7 +114,7 @@ impl Course {
         requires { cycles ≤ 1024 }
         ensures { result ≡ course_of params.now cycles [] }
     {
-        // The copy is field by field, since reading a field states the properties of parameters.
+        // For the prover: a copy field by field, since reading a field states the properties of parameters.
         let params = Params { ..*params };
         Course {
             params,

@@ -501,7 +501,7 @@ impl Sealed {
         }
     }
 
-    /// Returns what the node observes on the channel (project-defined). It follows from the transmissions that passed
+    /// Returns the node's observation on the channel (project-defined). It follows from the transmissions that passed
     /// there, the flipped bit and the parameters.
     pub fn seen(&self, params: &Params, channel: Channel, node: NodeId) -> Seen
         ensures { result ≡ seen_by params.now self.now channel node }
@@ -511,8 +511,8 @@ impl Sealed {
         seen
     }
 
-    /// Writes what the node observes on the channel to `seen`, with the result of `Sealed::seen`. Bytes are written
-    /// over the old ones.
+    /// Writes the node's observation on the channel, the result of `Sealed::seen`, to `seen`. Bytes are written over
+    /// the old ones.
     pub fn see(&self, params: &Params, channel: Channel, node: NodeId, seen: &mut Seen)
         ensures { seen.new ≡ seen_by params.now self.now channel node }
     {
@@ -528,8 +528,8 @@ impl Sealed {
         );
     }
 
-    /// Returns what a node that sends nothing on the channel observes there (project-defined). If one transmission
-    /// passed alone, these are its bytes with the flipped bit.
+    /// Returns the observation on the channel of a node that sends nothing there (project-defined). If one transmission
+    /// passed alone, it is the bytes of this transmission with the flipped bit.
     pub fn heard(&self, params: &Params, channel: Channel) -> Seen
         ensures { result ≡ heard params.now self.now channel }
     {

@@ -87,7 +87,7 @@ impl Sides {
     }
 }
 
-// Kept in one list of stations, these made the run of the car take 6 % longer.
+// With flags and transmissions in one list, the run of the car took 6 % longer.
 /// The stations of all nodes in the open window, at most 16.
 ///
 /// The flags are beside the bus's counts, since each call of a node writes them. They are apart from the transmissions,
@@ -254,7 +254,7 @@ impl Side {
     }
 }
 
-/// Replaces what is kept by the offer. Bytes are written over the old ones, and nothing is written if nothing is kept
+/// Replaces the kept bytes by the offer. Bytes are written over the old ones, and nothing is written if nothing is kept
 /// or offered.
 fn keep(kept: &mut Option<Bytes>, offered: &Option<Bytes>)
     ensures { kept.new ≡ offered.now }
@@ -265,7 +265,7 @@ fn keep(kept: &mut Option<Bytes>, offered: &Option<Bytes>)
     }
 }
 
-/// Replaces what is kept by a copy of these bytes.
+/// Replaces the kept bytes by a copy of these.
 fn keep_bytes(kept: &mut Option<Bytes>, bytes: &Bytes)
     ensures { kept.new ≡ Some bytes.now }
 {
@@ -285,7 +285,7 @@ pub(crate) fn write_over(place: &mut Bytes, bytes: &Bytes)
     prove!(fits);
 }
 
-/// Clears what is kept, and writes only if something is.
+/// Clears the kept bytes, and writes only if there are some.
 fn forget(kept: &mut Option<Bytes>)
     ensures { kept.new ≡ None }
 {
