@@ -20,6 +20,7 @@ pub fn run_events(world: &mut World, events: &[Event]) -> u64
     for event in events {
         accepted += u64::from(world.step(event).is_ok());
     }
+    // For the prover: the clause of this call.
     world.known();
     accepted
 }

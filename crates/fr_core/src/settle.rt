@@ -297,7 +297,7 @@ fn number_at(recorded: &[Sealed], place: usize) -> u32
     sealed.window.number
 }
 
-/// Returns the number of windows of the record, which an interface observed completely.
+/// Returns the number of windows of the record. One interface observed all of them.
 fn count_windows(interfaces: &[Interface], recorded: &[Sealed]) -> u32
     requires there { 0 < length interfaces.now }
     requires agree { WindowsAgree interfaces.now recorded.now 0 }

@@ -75,7 +75,7 @@ pub(crate) fn entries_of(interface: &Interface) -> u32
     interface.journal().len()
 }
 
-/// Returns the entry of this number, once for each walk along a journal.
+/// Returns the entry of this number. A walk along a journal asks for each entry once.
 fn entry_at(interface: &Interface, number: u32) -> Option<LentEntry<'_>>
     ensures entry { option_map whole result ≡ slice_get interface.now.entries number }
     ensures payload { IfSome result HasPayload }

@@ -67,6 +67,7 @@ impl World {
         ensures headline { Headline self.new }
     {
         let answer = self.machine.step(event);
+        // For the prover: the clause of this call.
         self.known();
         answer
     }
@@ -80,6 +81,7 @@ impl World {
         ensures headline { Headline self.new }
     {
         let outcome = self.machine.apply(event);
+        // For the prover: the clause of this call.
         self.known();
         outcome
     }
@@ -89,6 +91,7 @@ impl World {
         ensures value { result.now ≡ self.now.interfaces }
         ensures headline { Headline self.now }
     {
+        // For the prover: the clause of this call.
         self.known();
         self.machine.interfaces()
     }
@@ -98,6 +101,7 @@ impl World {
         ensures value { result.now ≡ self.now.bus }
         ensures headline { Headline self.now }
     {
+        // For the prover: the clause of this call.
         self.known();
         self.machine.bus()
     }
@@ -124,7 +128,8 @@ impl World {
     pub fn known(&self)
         ensures headline { Headline self.now }
     {
-        // `World::known`, `interfaces`, `bus` and `run_events` all state the whole `Headline`, so one call is enough.
+        // For the prover: the clauses of these calls. `interfaces`, `bus` and `run_events` state the whole `Headline`
+        // too, so a caller needs only one of them.
         legal::known(self.machine.interfaces());
         self.machine.bus().known();
     }
@@ -136,6 +141,7 @@ impl World {
     pub fn alike(&self, other: &World)
         ensures { WorldsAlike self.now other.now }
     {
+        // For the prover: the clauses of these calls.
         self.known();
         other.known();
     }
