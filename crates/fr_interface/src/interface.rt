@@ -313,7 +313,7 @@ impl Interface {
         Ok(())
     }
 
-    /// Returns the origin of the buffer's content (chapter 9). Returns none for an empty buffer, and for one that the
+    /// Returns the source of the buffer's content (chapter 9). Returns none for an empty buffer, and for one that the
     /// plan doesn't have.
     pub fn held(&self, buffer: u8) -> Option<Source>
         ensures { result ≡ source_of self.now buffer }

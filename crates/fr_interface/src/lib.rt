@@ -9,8 +9,8 @@
 //! let frame = interface.read(task, 1)?; // the last one that buffer 1 admitted
 //! ```
 //!
-//! A chapter in parentheses is one of the FlexRay Protocol Specification 2.1, revision A. *(project-defined)* marks a
-//! rule of this project, where the standard has none or a different one.
+//! A chapter in parentheses is one of the FlexRay Protocol Specification 2.1, revision A.
+//! *(project-defined)* marks a rule of this project, and makes no claim about the standard.
 //!
 //! # Definitions
 //!

@@ -8,7 +8,7 @@
 //! let posts = gather(&mut book, desk, tasks); // 2, from the book as from the shares
 //! ```
 //!
-//! *(project-defined)* marks a rule of this project, where the standard has none or a different one.
+//! *(project-defined)* marks a rule of this project, and makes no claim about the standard.
 //!
 //! # Definitions
 //!
