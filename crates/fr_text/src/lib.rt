@@ -14,8 +14,8 @@
 //!
 //! # Definitions
 //!
-//! - `Spaces`, `Words`, `Plain`, `Reading`, `Spelling`, `Writing`: the words of a line and the words that are left;
-//!   words without a space or line feed; the one spelling of numbers and bytes; the effect of a function that writes.
+//! - `Spaces`, `Words`, `Plain`: the words of a line and the words that are left; words without a space or line feed.
+//! - `Reading`, `Spelling`, `Writing`: the one spelling of numbers and bytes; the effect of a function that writes.
 //!
 //! Modules that follow the steps of the code, for private functions, with the module that has the meaning:
 //!
