@@ -100,7 +100,7 @@ fn write_text<W: Write>(writer: &mut W, interface: &Interface) -> io::Result<()>
 pub fn write_trace<W: Write>(interface: &Interface, writer: &mut W) -> Result<(), TraceError>
     ensures written { Writes W.contents writer.old writer.new result (trace_text Three interface.now) }
     ensures refused { IfErr result (λ e. e ≡ TraceError.Write) }
-    // That text is accepted, and gives this interface.
+    // The text is accepted, and gives this interface.
     ensures again { outcome_of (take_bytes fresh (trace_text Three interface.now)) ≡ Ok interface.now }
 {
     match write_text(writer, interface) {
