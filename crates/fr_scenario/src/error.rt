@@ -1,4 +1,4 @@
-//! Why a text is no scenario.
+//! Reasons to reject a text as a scenario.
 
 ghost use Rattle.std.specs.Prelude.{◌≡◌};
 ghost use Rattle.fr_scenario.specs.declared.error.ScenarioError.TheVariants as error;
@@ -6,7 +6,7 @@ ghost use Rattle.fr_scenario.specs.declared.error.ScenarioError.TheVariants as e
 use std::alloc::AllocError;
 use thiserror::Error;
 
-/// Why a text is no scenario. A number is that of the line at fault, counted from 1.
+/// Reasons to reject a text as a scenario. A number is that of the line at fault, counted from 1.
 #[derive(Clone, Copy, Debug, PartialEq, Eq, Error)]
 pub enum ScenarioError {
     /// The first line isn't `frscenario 1` or `frscenario 2` with its line feed.
@@ -22,7 +22,7 @@ pub enum ScenarioError {
     /// The text ends before the line feed of `end`.
     #[error("Truncated")]
     Truncated,
-    /// Memory was refused.
+    /// An allocation failed.
     #[error("Memory")]
     Memory,
 }
