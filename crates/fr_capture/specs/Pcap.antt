@@ -47,8 +47,8 @@ abbrev pub channel_mark : Channel → ℕ
 channel_mark A = 0x01
 channel_mark B = 0x81
 
--- The second byte: the reason why the bytes are no frame, if they are none. A frame whose end isn't where its header
--- says, and bytes that are too few for a frame, have a wrong end.
+-- The second byte: the reason why the bytes are no frame, if they are none. A frame whose end isn't at the place that
+-- its header gives, and bytes that are too few for a frame, have a wrong end.
 abbrev pub error_flags : Option DecodeError → ℕ
 error_flags None = 0
 error_flags (Some FrameCrc) = 0x10

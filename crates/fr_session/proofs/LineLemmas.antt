@@ -45,7 +45,7 @@ front_of zero xs ys = refl
 front_of (suc n) [] ys = refl
 front_of (suc n) (x ∷ xs) ys = ap (λ l. x ∷ l) (front_of n xs ys)
 
--- the front of a line that goes on
+-- the front of a line that continues
 front_more : (line more : List ℕ) → line_front (line_front line ++ more) ≡ line_front (line ++ more)
 front_more line more = front_of 1201 line more
 
