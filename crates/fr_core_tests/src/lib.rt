@@ -1,6 +1,6 @@
-//! The tests of frames, lanes, macroticks, the sender table, guardians, the bus, and the world over events. They include
-//! runs that no scenario can request. `tests/commands` tests everything that a command or a session shows. They stand in
-//! a crate of their own, since a crate with tests is proved twice.
+//! The tests of frames, lanes, macroticks, the sender table, guardians, the bus, and the world over events. They
+//! include runs that no scenario can request. `tests/commands` tests everything that a command or a session shows. They
+//! stand in a crate of their own, since a crate with tests is proved twice.
 #![tactic(auto)]
 
 #[cfg(test)]
