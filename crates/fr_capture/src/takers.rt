@@ -105,7 +105,9 @@ fn write_any<W: Write>(
     write_if(writer, any, takes, Taker::Queue)
 }
 
-/// Writes the receivers of the frame: the buffers and the receive FIFO, with commas between them, or a dash.
+/// Writes the receivers of the frame with commas between them, or a dash.
+///
+/// They are the buffers and the receive FIFO.
 pub(crate) fn write_takers<W: Write>(writer: &mut W, takers: &Takers<'_>) -> io::Result<()>
     ensures { Writes W.contents writer.old writer.new result (takers_word takers.now) }
 {

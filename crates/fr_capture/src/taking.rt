@@ -46,7 +46,7 @@ fn is_taken(lines: &[Buffer], window: &Window, channel: Channel) -> bool
     lines.iter().any(|line| takes_window(window, channel, line))
 }
 
-/// Returns whether the receive FIFO, and no receive buffer, is for the frame of the window on the channel.
+/// Returns whether the receive FIFO, and no receive buffer, is for the window on the channel.
 fn is_for_queue(plan: &NodePlan, queue: &Queue, window: &Window, channel: Channel) -> bool
     ensures { result ≡ is_for_queue plan.now queue.now window.now channel }
 {

@@ -35,7 +35,7 @@ fn crcs_of_the_digits(rt: HostRuntime) -> Result<(), Fail> {
     Ok(())
 }
 
-/// Returns whether the frame is spelled in this number of bytes, which begin with these, and read from them again.
+/// Returns whether the frame has this length and these first bytes, and is read from them again.
 fn is_spelled(frame: &Frame, channel: Channel, length: usize, front: &[u8]) -> Result<bool, Fail> {
     let bytes = encode(frame, channel);
     let again = decode(bytes.as_slice(), channel)?;

@@ -8,7 +8,7 @@ use std::test::Fail;
 /// The largest number of static slots, and more minislots than there are dynamic slots.
 const LAST_SLOT: [i64; 10] = [1023, 2000, 0, 1, 1, 0, 1, 3024, 0, 1];
 
-/// The answers of a lane: its next minislot, its slot at a minislot, and the refusal of more bytes than a frame has.
+/// The next minislot of a lane, its slot at a minislot, and its refusal of too many bytes.
 type Opened = (Option<u16>, Option<u16>, Option<LaneError>);
 
 /// Returns the answers of a new lane whose first slots were closed.

@@ -27,7 +27,7 @@ slot_entries = 56
 tasks = 1
 ";
 
-/// Returns the result of a run of this number of cycles with an empty script for each of these nodes and tasks.
+/// Returns the result of a run with an empty script for each of these nodes and tasks.
 fn answer(alloc: Global, tasks: &[(u8, u8)], cycles: u16) -> Result<Result<(), RunRefusal>, Fail> {
     let cluster = Cluster::from_text(alloc, TWO_NODES)?;
     let mut scripts = Vec::new(alloc);

@@ -60,7 +60,9 @@ fn settle_told(
     Ok(settled.map(|settled| settled.windows))
 }
 
-/// Returns the result of a cross-check of the interfaces of one world with the record of another, without scripts.
+/// Returns the result of a cross-check of one world's interfaces with another's record.
+///
+/// There are no scripts.
 fn told_between(
     alloc: Global,
     interfaces: Kind,
@@ -114,7 +116,7 @@ fn told_again(alloc: Global, world: &World, places: &[usize]) -> Result<Vec<Inte
     Ok(interfaces)
 }
 
-/// Returns the result of a cross-check of the interfaces of these places of an idle world with its own record.
+/// Returns the result of a cross-check of these interfaces of an idle world with its own record.
 fn told_of_places(alloc: Global, places: &[usize]) -> Result<Result<u32, SettleError>, Fail> {
     let idle = world_of(alloc, Kind::Idle)?;
     let interfaces = told_again(alloc, &idle, places)?;
@@ -135,7 +137,7 @@ fn interfaces_of_other_nodes_differ(rt: HostRuntime) -> Result<(), Fail> {
     Ok(())
 }
 
-/// Returns the script of the one commit of node 0, with the entry of this number as its answer, if one is given.
+/// Returns the script of the one commit of node 0, with this entry as its answer, if one is given.
 fn script(alloc: Global, entry: Option<u32>) -> Result<Script, Fail> {
     let task = task(0)?;
     let mut lines = Vec::new(alloc);
@@ -154,7 +156,7 @@ fn script(alloc: Global, entry: Option<u32>) -> Result<Script, Fail> {
     })
 }
 
-/// Returns the result of a cross-check of the world in which node 0 committed, with this expected answer.
+/// Returns the result of a cross-check after a commit of node 0, with this expected answer.
 fn told_with(alloc: Global, entry: Option<u32>) -> Result<Result<u32, SettleError>, Fail> {
     let sent = world_of(alloc, Kind::Sent)?;
     settle_told(alloc, sent.interfaces(), &sent, &[script(alloc, entry)?])

@@ -11,7 +11,9 @@ use fr_testing::{node, task};
 use std::alloc::Global;
 use std::test::Fail;
 
-/// Three static slots of one word, of which nodes 0 and 1 own one each, four minislots, and a guard on channel A.
+/// Three static slots, two of them owned, four minislots, and a guard on channel A.
+///
+/// Static slots have one word. Nodes 0 and 1 own one each.
 const THREE_NODES: &str = "guard = \"A\"
 [params]
 static_slots = 3

@@ -64,7 +64,9 @@ impl<L: Ledger> TaskPass<L> {
     }
 }
 
-/// The state behind a desk's lock: the book counts the interface's commits, and the desk's own share counts none.
+/// The state behind a desk's lock.
+///
+/// The book counts the interface's commits, and the desk's own share counts none.
 #[derive(Drop)]
 struct Counted<L: Ledger> {
     interface: Interface,
@@ -167,7 +169,7 @@ impl<L: Ledger> Counted<L> {
     }
 }
 
-/// A node's host interface behind a lock, for the calls of its tasks and its controller (project-defined).
+/// A node's host interface behind a lock, for its tasks and its controller (project-defined).
 ///
 /// When the lock is free, the interface is legal, and a book beside it counts its commits. The journal of the interface
 /// that `close` returns has the calls in their order.

@@ -33,9 +33,14 @@ pub struct Point {
     pub side: Side,
 }
 
-/// A gate that calls pass, so that a test can hold one call until another has come far enough (project-defined).
+/// A gate that calls pass (project-defined).
+///
+/// A test can hold one call there until another has come far enough.
 pub trait Gate {
-    /// Is called Before, Inside and After each call of a desk, and Before and After each seal of a wire. It may wait.
+    /// Passes the point.
+    ///
+    /// It is called Before, Inside and After each call of a desk, and Before and After each seal of a wire. It may
+    /// wait.
     fn pass(&self, point: Point);
 }
 

@@ -29,7 +29,9 @@ impl Stage {
         }
     }
 
-    /// Returns whether a next, a put or an inject needn't wait: the open window collects, or the run is over.
+    /// Returns whether a next, a put or an inject needn't wait.
+    ///
+    /// This holds if the open window collects, or the run is over.
     pub(crate) fn lets_offer(self) -> bool {
         !matches!(self, Stage::Sealed | Stage::AllTaken)
     }

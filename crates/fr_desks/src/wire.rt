@@ -21,7 +21,7 @@ use std::thread;
 use std::time::Clock;
 use thiserror::Error;
 
-/// The number of times that a call that isn't due yields to other threads and polls again before it sleeps.
+/// The number of times that a call yields and polls again before it sleeps.
 ///
 /// A window takes some ten microseconds, and so does the wake-up of a thread.
 const LOOKS: u32 = 400;
@@ -244,7 +244,7 @@ fn microseconds<R: Clock>(rt: &R) -> u128 {
     }
 }
 
-/// The bus behind a lock, for the calls of the controllers and of the thread that moves it on (project-defined).
+/// The bus behind a lock, for the controllers and the thread that moves it on (project-defined).
 ///
 /// When the lock is free, the bus is one to which its own calls lead: no static slot of a guarded channel carries two
 /// senders. Each call waits for its phase, but not once the run is over. After `stop`, each call returns `Stopped`. A

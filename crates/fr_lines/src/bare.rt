@@ -14,7 +14,7 @@ pub enum BareEntry {
         task: TaskId,
         buffer: u8,
     },
-    /// A task withdrew the last commit of a transmit buffer: the one of this number, or none if none was pending.
+    /// A task withdrew the last commit of a transmit buffer: this one, or none if none was pending.
     Withdraw {
         task: TaskId,
         buffer: u8,

@@ -305,7 +305,9 @@ fn forms_of(version: Version, kind: &[u8]) -> Option<&'static [WordForm]>
     }
 }
 
-/// Returns the number, from 0, of the first word that has the wrong form, that is one too many, or that is missing.
+/// Returns the number, from 0, of the first word that is wrong.
+///
+/// A word is wrong if it has the wrong form, is one too many, or is missing.
 fn wrong_at(forms: &[WordForm], words: &mut Words<'_>) -> Option<usize>
     ensures place { result ≡ wrong_at forms.now words.old }
     ensures within { IfSome result (λ n. n ≤ length forms.now) }
@@ -338,7 +340,7 @@ fn wrong_in(version: Version, line: &[u8]) -> Option<usize>
     Some(place + 1)
 }
 
-/// Returns the column, from 1, at which the word of this number begins, or would begin if it is missing.
+/// Returns the column, from 1, at which the word of this number begins or would begin.
 fn column_of(line: &[u8], place: usize) -> usize
     ensures { result ≡ room_of (take place (words_of line.now)) + 1 }
 {

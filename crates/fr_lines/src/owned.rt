@@ -29,7 +29,9 @@ fn last_cycles_of(words: &mut Words<'_>) -> Option<CycleFilter>
     cycles_of(base, repetition)
 }
 
-/// Returns the cycles of an ownership: those that the words spell, or every cycle in a version whose line has none.
+/// Returns the cycles of an ownership.
+///
+/// They are those that the words spell, or every cycle in a version whose line has none.
 #[tactic(auto, unfolding(crate::specs::Reading::own_cycles_in))]
 fn own_cycles_of(version: Version, words: &mut Words<'_>) -> Option<CycleFilter>
     ensures { result ≡ own_cycles_in version words.old }

@@ -21,7 +21,7 @@ pub enum PlanLine {
     Queue(Queue),
 }
 
-/// Returns the ownership line, the buffer or the receive FIFO that the line spells in a text of this version.
+/// Returns the ownership line, the buffer or the receive FIFO that the line spells in this version.
 ///
 /// Each is read as its own function reads it. `None` for a line of another form, or with a number out of its range.
 #[tactic(auto, unfolding(crate::specs::Reading::plan_line_in))]

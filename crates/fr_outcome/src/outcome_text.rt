@@ -37,9 +37,10 @@ fn write_settled<W: Write>(writer: &mut W, windows: usize) -> io::Result<()>
     writeln!(writer, "settled")
 }
 
-/// Writes the outcome of a run: each node's report, the number of windows and `settled` (project-defined).
+/// Writes the outcome of a run (project-defined).
 ///
-/// Fails if the writer fails. Then a part of the text may have gone out.
+/// It is each node's report, the number of windows and `settled`. Fails if the writer fails. Then a part of the text
+/// may have gone out.
 pub fn write_outcome<W: Write>(
     writer: &mut W,
     interfaces: &[Interface],

@@ -12,8 +12,9 @@ pub enum ScenarioError {
     /// The first line isn't `frscenario 1` or `frscenario 2` with its line feed.
     #[error("BadMagic")]
     BadMagic,
-    /// The line has no form of the format's version, has a number out of its range or more than 1200 bytes before its
-    /// line feed, or stands after the line `end`.
+    /// The line has no form of the version, a number out of its range, or too many bytes.
+    ///
+    /// It may have 1200 bytes before its line feed. A line after the line `end` also gives this error.
     #[error("BadLine {0}")]
     BadLine(u32),
     /// Line 4097 begins, and no line before it is `end`.

@@ -179,10 +179,10 @@ pub(crate) fn line_of(version: Version, line: &[u8]) -> Option<SpelledLine>
     None
 }
 
-/// Returns the fault line that a line of the newest version spells, given without its line feed (project-defined).
+/// Returns the fault line that a line of the newest version spells (project-defined).
 ///
-/// `None` if it spells none: it is the line of a task, has no form of a line, or has a number out of its range. The
-/// line may have any length.
+/// The line is given without its line feed. `None` if it spells none: it is the line of a task, has no form of a line,
+/// or has a number out of its range. The line may have any length.
 pub fn fault_line_of(line: &[u8]) -> Option<FaultLine>
     ensures { result ≡ fault_line_in (words_of line.now) }
 {

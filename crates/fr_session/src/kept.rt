@@ -33,7 +33,9 @@ impl Model for KeptLines {
     ghost view = { λ k. k.lines.items };
 }
 
-/// Returns the marks with those of one more line, whose own mark this is, or none if an allocation fails.
+/// Returns the marks with those of one more line, or none if an allocation fails.
+///
+/// The own mark of the line is given.
 fn marks_with(marks: Option<Marks>, own: Mark) -> Option<Marks>
     ensures { (lines : List Line) (line : Line) → own ≡ mark_of line → ForSome marks (AreMarksOf lines)
         → ForSome result (AreMarksOf (lines ++ line ∷ [])) }

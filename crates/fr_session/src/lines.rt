@@ -39,7 +39,7 @@ fn keep(line: &mut Line, more: &[u8])
     prove!(is_kept);
 }
 
-/// Takes the bytes that the reader has, up to the next line feed and with it, and keeps the front of the line.
+/// Takes the bytes that the reader has, with the next line feed, and keeps the line's front.
 fn take_piece<R: BufRead>(reader: &mut R, line: &mut Line) -> io::Result<Piece>
     ensures taken { IfOk result (λ piece. TakesPiece piece (R.remaining reader.old) (R.remaining reader.new)
         line.old.items line.new.items) }
@@ -65,9 +65,9 @@ fn take_piece<R: BufRead>(reader: &mut R, line: &mut Line) -> io::Result<Piece>
     }
 }
 
-/// Takes the next line from the reader, with its line feed, and replaces the front of the line before by its own.
+/// Takes the next line from the reader, with its line feed, and keeps its front.
 ///
-/// Returns whether there was a whole line. An interrupted read is repeated.
+/// The front replaces that of the line before. Returns whether there was a whole line. An interrupted read is repeated.
 pub(crate) fn next_line<R: BufRead>(reader: &mut R, line: &mut Line) -> io::Result<bool>
     ensures { IfOk result (λ more. ComesFront more (R.remaining reader.old) (R.remaining reader.new) line.new.items) }
 {

@@ -114,7 +114,9 @@ impl Reach {
     ghost use Rattle.std.specs.Prelude.{◌≡◌};
     ghost use Rattle.fr_session.specs.Marks.{first_by, other_by};
 
-    /// Returns the first of two keys under which each reach is found that has something in common with this one.
+    /// Returns the first of two keys.
+    ///
+    /// Each reach that has something in common with this one is found under one of them.
     fn first(self) -> Reach
         ensures { result ≡ first_by self }
     {

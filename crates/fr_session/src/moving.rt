@@ -92,7 +92,7 @@ fn push_whole(events: &mut Vec<Event>, nodes: u8) -> Result<(), AllocError>
     push_sights(events, nodes)
 }
 
-/// Returns the events that are due in a window of at most 16 nodes, if none was executed yet (project-defined).
+/// Returns the events that are due in an untouched window of at most 16 nodes (project-defined).
 ///
 /// They are the look, fetch and put of each node, the seal, and the take and observe of each node. The bus's advance
 /// isn't among them. Fails if an allocation fails.

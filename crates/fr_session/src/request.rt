@@ -23,7 +23,7 @@ pub enum Request {
     Report(NodeId),
     /// The trace of the node's interface.
     Trace(NodeId),
-    /// The origin of the frame that the last entry of the node's journal returned, if it is a read or a pop.
+    /// The origin of the frame of the node's last entry, if it is a read or a pop.
     Origin(NodeId),
     /// The window of this number in the bus's record.
     Record(u32),

@@ -160,9 +160,10 @@ fn write_handed<W: Write>(
     }
 }
 
-/// Writes the windows in which the commit on the buffer was sent, given the number of cycles that began before it.
+/// Writes the windows in which the commit on the buffer was sent.
 ///
-/// After the next commit on its buffer, a legal journal no longer sends it.
+/// The number of cycles that began before it is given. After the next commit on its buffer, a legal journal no longer
+/// sends it.
 fn write_sendings<W: Write>(
     writer: &mut W,
     world: &World,
@@ -319,8 +320,9 @@ fn write_node<W: Write>(
 
 // Commits come from journals, not from scripts, so each has its line by construction. Receivers come from the record
 // and the plans: it is proved that each node observed this.
-/// Writes a line for each commit of each node's journal, in the order of the nodes and of the entries
-/// (project-defined).
+/// Writes a line for each commit of each node's journal (project-defined).
+///
+/// They are in the order of the nodes and of the entries.
 ///
 /// A line has the node, the buffer, the task, the cycle of the run, the entry, the payload, `=`, and the fate. The fate
 /// is `pending`; `withdrawn` or `overwritten`, with the cycle and the entry that decided it; or `sent`.

@@ -13,7 +13,7 @@ use fr_journal::lent::LentEntry;
 use fr_slots::channel::Channel;
 use fr_slots::window::Window;
 
-/// The fate of a commit, and the entry that decided it: its cycle of the run, and its number in the journal.
+/// The fate of a commit, with the cycle of the run and the number of the entry that decided it.
 #[derive(Clone, Copy)]
 pub(crate) enum Became {
     /// A later fetch handed it to the bus.
@@ -37,7 +37,7 @@ pub(crate) struct Sending {
     pub(crate) channel: Channel,
 }
 
-/// Returns the number of cycles of the run that began up to this entry and with it, from the number before it.
+/// Returns the number of cycles that began up to this entry and with it, from the number before.
 pub(crate) fn begun_with(begun: u32, entry: &LentEntry<'_>) -> u32
     requires { begun + 1 < 2 ^ 32 }
     ensures { result ≡ begun + (if begins_cycle_at (whole entry.now) then 1 else 0) }
@@ -99,10 +99,10 @@ fn is_pending(became: Became) -> bool
     matches!(became, Became::Pending)
 }
 
-/// Returns the fate of the commit of this number on the buffer, given the number of cycles that began before it.
+/// Returns the fate of the commit of this number on the buffer.
 ///
-/// The first later entry that changes it decides. In a legal journal no entry after that changes it, except that it may
-/// be sent again.
+/// The number of cycles that began before it is given. The first later entry that changes it decides. In a legal
+/// journal no entry after that changes it, except that it may be sent again.
 pub(crate) fn became_of(interface: &Interface, buffer: u8, commit: u32, begun: u32) -> Became
     requires there { IsSomeAnd (slice_get interface.now.entries commit) (λ e. is_commit_on buffer e ≡ true) }
     requires cycle { begun ≡ cycles_of (take commit interface.now.entries) }

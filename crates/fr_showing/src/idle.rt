@@ -37,7 +37,9 @@ fn is_shown(params: &Params, sealed: &Sealed, fault: &Fault) -> bool
     sent.iter().any(|t| shows(params, sealed, fault, t))
 }
 
-/// Returns whether the line had an effect in the window, which lies in the cycle of this number of the run.
+/// Returns whether the line had an effect in the window.
+///
+/// The window lies in the cycle of this number of the run.
 fn has_struck_in(params: &Params, line: &FaultLine, cycle: usize, sealed: &Sealed) -> bool
     ensures { result ≡ has_struck_in params.now line.now cycle sealed.now }
 {
@@ -77,7 +79,7 @@ fn idle_numbers(
     Ok(idle)
 }
 
-/// Returns the numbers of the scenario's fault lines that had no effect in the run, in their order (project-defined).
+/// Returns the numbers of the scenario's fault lines without effect, in order (project-defined).
 ///
 /// A line had an effect if a transmission shows it, in a window in which the fault of the line comes:
 /// - a babble line by a babble of its node on its channel;

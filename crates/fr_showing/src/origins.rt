@@ -12,7 +12,9 @@ use fr_slots::channel::Channel;
 use fr_slots::numbers::NodeId;
 use fr_slots::window::Window;
 
-/// Returns whether the fault of the line comes in the window, which lies in the cycle of this number of the run.
+/// Returns whether the fault of the line takes effect in the window.
+///
+/// The window lies in the cycle of this number of the run.
 pub(crate) fn strikes(line: &FaultLine, cycle: usize, window: &Window) -> bool
     ensures { result ≡ strikes line.now cycle window.now }
 {

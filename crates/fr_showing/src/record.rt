@@ -37,7 +37,9 @@ fn write_minislot<W: Write>(writer: &mut W, window: &Window) -> io::Result<()>
     }
 }
 
-/// Writes the place of a transmission: the window, the cycle of the run, the minislot, the slot and the channel.
+/// Writes the place of a transmission.
+///
+/// It is the window, the cycle of the run, the minislot, the slot and the channel.
 #[tactic(auto, unfolding(crate::specs::RecordText::place_text))]
 fn write_place<W: Write>(
     writer: &mut W,
@@ -99,8 +101,9 @@ fn write_origin<W: Write>(writer: &mut W, number: Option<u32>) -> io::Result<()>
     }
 }
 
-/// Writes the end of the line of a transmission: the frame, its bytes, and the number of the scenario's line from which
-/// it comes.
+/// Writes the end of the line of a transmission.
+///
+/// It is the frame, its bytes, and the number of the scenario's line from which it comes.
 #[tactic(auto, unfolding(crate::specs::RecordText::bytes_line))]
 fn write_bytes<W: Write>(writer: &mut W, number: Option<u32>, sent: &Sent) -> io::Result<()>
     ensures { Writes W.contents writer.old writer.new result (bytes_line number sent.now) }
@@ -150,7 +153,9 @@ fn write_transmissions<W: Write>(
     Ok(())
 }
 
-/// Writes the end of the line of a bit: its number, and the number of the scenario's line from which it comes.
+/// Writes the end of the line of a bit.
+///
+/// It is its number, and the number of the scenario's line from which it comes.
 #[tactic(auto, unfolding(crate::specs::RecordText::turned_line))]
 fn write_turned<W: Write>(writer: &mut W, number: Option<u32>, bit: u16) -> io::Result<()>
     ensures { Writes W.contents writer.old writer.new result (turned_line number bit) }
@@ -198,7 +203,7 @@ fn write_window<W: Write>(
     write_bit(writer, scenario, cycle, sealed, Channel::B)
 }
 
-/// Returns the number of cycles of the run that began up to this window and with it, from the number before it.
+/// Returns the number of cycles that began up to this window and with it, from the number before.
 pub(crate) fn begun_with(begun: usize, sealed: &Sealed) -> usize
     requires { begun + 1 < 2 ^ 64 }
     ensures { result ≡ begun + (if begins_cycle sealed.now then 1 else 0) }

@@ -26,8 +26,9 @@ fn idle_in(alloc: Global, file: &PlayedFile) -> Result<Vec<u32>, PlayError>
     }
 }
 
-/// Reads a scenario file to its end, executes a run of the cluster with it, and writes a view of the run
-/// (project-defined).
+/// Runs the cluster with the scenario of a file, and writes a view of the run (project-defined).
+///
+/// The scenario file is read to its end.
 ///
 /// It returns the numbers of the scenario's fault lines without effect in the run, in their order, as `idle_lines`
 /// does.

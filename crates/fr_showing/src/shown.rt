@@ -42,8 +42,7 @@ pub enum Shown {
     Answers,
     /// A line for each commit, with its fate.
     Commits,
-    /// A line for each transmission and each flipped bit of the bus's record, with the number of the scenario's line
-    /// from which it comes.
+    /// A line for each transmission and each flipped bit, with the number of the scenario's line.
     Record,
     /// A capture of the frames at a passive listener on the bus.
     Heard,
@@ -131,7 +130,7 @@ fn drawn_in(alloc: Global, world: &World, view: &View) -> Result<Vec<u8>, PlayEr
     }
 }
 
-/// Returns the matrix of the record, unless it needs the observations of a node that the cluster doesn't have.
+/// Returns the matrix of the record, unless its node isn't one of the cluster.
 fn matrix_in(alloc: Global, world: &World, view: &View) -> Result<Vec<u8>, PlayError>
     ensures viewer { OnOk result (HasViewer view.now.node world.now) }
     ensures text { IfOk result (λ text.

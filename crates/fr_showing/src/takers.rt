@@ -112,7 +112,7 @@ fn write_if<W: Write>(
     }
 }
 
-/// Writes the buffers of the node that store the frame of the channel, and returns whether any was written by then.
+/// Writes the node's buffers that store the frame, and returns whether any was written by then.
 fn write_buffers<W: Write>(
     writer: &mut W,
     any: bool,
@@ -156,7 +156,9 @@ fn write_node<W: Write>(
     write_if(writer, any, takes, node, None)
 }
 
-/// Writes the receivers of the transmission on the channel of the window, and returns whether there were any.
+/// Writes the receivers of the transmission, and returns whether there were any.
+///
+/// It was on the channel of the window.
 fn write_nodes<W: Write>(
     writer: &mut W,
     params: &Params,
@@ -178,8 +180,9 @@ fn write_nodes<W: Write>(
     Ok(any)
 }
 
-/// Writes the receivers of the transmission on the channel of the window: buffers and receive FIFOs, with commas
-/// between them, or a dash.
+/// Writes the receivers of the transmission, with commas between them, or a dash.
+///
+/// They are the buffers and receive FIFOs that stored it on the channel of the window.
 pub(crate) fn write_takers<W: Write>(
     writer: &mut W,
     params: &Params,

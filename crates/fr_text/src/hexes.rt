@@ -44,7 +44,7 @@ fn packed_bytes(values: &[u8; BLOCK]) -> [u8; BLOCK_BYTES]
     bytes
 }
 
-/// Returns the values of the digits of a block, and the number of digits before the first byte that is no digit.
+/// Returns the values of the digits of a block, and the number of digits at its front.
 ///
 /// Each byte gets a value and the loop has no early return, so the compiler vectorises it.
 fn values_in_front(digits: &[u8; BLOCK]) -> ([u8; BLOCK], u8)
@@ -63,9 +63,10 @@ fn values_in_front(digits: &[u8; BLOCK]) -> ([u8; BLOCK], u8)
     (values, front)
 }
 
-/// Returns the bytes that the digits at the front of a block spell, and the number of these digits, at most `most`.
+/// Returns the bytes that the digits at the front of a block spell, and the number of these digits.
 ///
-/// It is inlined, so that the compiler keeps the constants of the comparisons between blocks.
+/// The number of digits is at most `most`. The function is inlined, so that the compiler keeps the constants of the
+/// comparisons between blocks.
 #[inline(always)]
 fn front_of(digits: &[u8; BLOCK], most: usize) -> ([u8; BLOCK_BYTES], usize)
     ensures few { (result.1 ≤ BLOCK) × (result.1 ≤ most) }
@@ -147,7 +148,7 @@ fn finish<const N: usize>(
     Some(2 * bytes.len() + 1)
 }
 
-/// Replaces the bytes by those that a word at the front of the text spells, and returns the length of this word.
+/// Replaces the bytes by those of a word at the front of the text, and returns its length.
 ///
 /// The word ends with its digits, whatever follows. `None` if the text begins with no such word; the bytes are then
 /// unspecified.
@@ -214,7 +215,9 @@ pub fn bytes_of<const N: usize>(word: &[u8]) -> Option<ArrayVec<u8, N>>
     }
 }
 
-/// Writes the word of at most `MOST_BYTES` bytes: the letter `x`, and two lower-case digits for each byte.
+/// Writes the word of at most `MOST_BYTES` bytes.
+///
+/// It is the letter `x`, and two lower-case digits for each byte.
 pub fn write_hex<W: Write>(writer: &mut W, bytes: &[u8]) -> io::Result<()>
     requires { length bytes.now ≤ MOST_BYTES }
     ensures { Writes W.contents writer.old writer.new result (hex_text bytes.now) }

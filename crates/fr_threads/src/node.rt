@@ -29,7 +29,7 @@ use std::thread;
 use std::thread::{JoinHandle, Scope, Threads};
 use std::time::Clock;
 
-/// The results of a node: its interface, the posts of all its shares, and the answers of each of its tasks.
+/// The results of a node: its interface, the posts of its shares, and the answers of its tasks.
 ///
 /// The posts are the interface's commits.
 #[derive(Drop)]
@@ -148,7 +148,7 @@ fn join_tasks<L: Ledger, R: Threads>(
     }
 }
 
-/// Keeps the answers of the tasks that didn't fail, and returns the failure of the others that is reported.
+/// Keeps the answers of tasks that didn't fail, and returns the failure that is reported.
 ///
 /// There is room for all answers.
 fn keep_answers(
@@ -168,9 +168,9 @@ fn keep_answers(
     told
 }
 
-/// Returns the results of the tasks, or the failure that is reported if one of them or their controller failed.
+/// Returns the results of the tasks, or the failure that is reported.
 ///
-/// There is room for their answers.
+/// It is reported if one of the tasks or their controller failed. There is room for their answers.
 fn all_answered<L: Ledger>(
     joined: TasksJoined<L>,
     ended: Result<(), Failure>,
@@ -235,7 +235,7 @@ fn run_in_scope<L: Ledger + Send + Sync, R: Threads + Wait + Clock + Sync, G: Ga
     )
 }
 
-/// Opens the node's `Desk`, runs its tasks and its controller, closes the `Desk` and gathers the shares.
+/// Opens the node's `Desk`, runs its tasks and its controller, and gathers the shares.
 fn run_desk<L: Ledger + Send + Sync, R: Threads + Wait + Clock + Sync, G: Gate + Sync>(
     alloc: Global,
     common: &Common<'_, R, G>,

@@ -17,7 +17,9 @@ use std::sync::Wait;
 use std::thread::Threads;
 use std::time::Clock;
 
-/// Reads a scenario file to its end, runs the cluster with it, and writes the outcome of the run (project-defined).
+/// Runs the cluster with the scenario of a file, and writes the outcome (project-defined).
+///
+/// The scenario file is read to its end.
 ///
 /// The outcome is each node's report, the number of windows and `settled`. In a free-running run a task's lines are
 /// executed at any moment, in a lockstep run each in its cycle.

@@ -16,8 +16,7 @@ use thiserror::Error;
 /// An error prints as its name. An error of a crate below prints as the names and values of that error.
 #[derive(Clone, Copy, Debug, Drop, PartialEq, Eq, Error)]
 pub enum OutcomeError {
-    /// The cluster file is rejected, an input couldn't be read or was too long, the output couldn't be written, or an
-    /// allocation failed.
+    /// The cluster file is rejected, a stream failed, an input is too long, or an allocation failed.
     #[error("{0}")]
     Text(BenchError),
     /// The scenario file is rejected.

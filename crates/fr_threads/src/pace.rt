@@ -73,7 +73,9 @@ impl Progress {
         true
     }
 
-    /// Counts a task that has executed its lines of the cycle that came due last, and returns whether it is the last.
+    /// Counts a task that has executed its lines of the cycle, and returns whether it is the last.
+    ///
+    /// The cycle is the one whose lines came due last.
     fn finish_task(&mut self) -> bool
         ensures none_left { result ≡ (self.new.busy == 0) }
         ensures after { self.new ≡ task_done self.old }
@@ -98,7 +100,9 @@ pub(crate) struct Pace {
     nodes: u8,
     turns: Vec<Turn>,
     progress: Mutex<Progress>,
-    /// The signal that all tasks have executed their lines of the cycle that came due last, or the run was stopped.
+    /// The signal that all tasks have executed their lines, or the run was stopped.
+    ///
+    /// The lines are those of the cycle that came due last.
     done: Condvar,
 }
 
@@ -173,9 +177,9 @@ impl Pace {
         }
     }
 
-    /// Waits, as a controller that has observed all cycles before, until all lines of the cycle are executed.
+    /// Waits, as a controller, until all lines of the cycle are executed.
     ///
-    /// Returns false if the run was stopped.
+    /// The controller has observed all cycles before. Returns false if the run was stopped.
     pub(crate) fn wait_done<R: Wait>(&self, rt: &R, cycle: u16) -> bool {
         let Some(turn) = self.turns.get(usize::from(cycle)) else {
             return true;

@@ -140,7 +140,7 @@ fn join_nodes<R: Threads>(
     }
 }
 
-/// Adds the results of the nodes that didn't fail, and returns the failure of the others that is reported.
+/// Adds the results of nodes that didn't fail, and returns the failure that is reported.
 ///
 /// There is room for the results.
 fn keep_nodes(answers: Vec<Result<NodeDone, Failure>>, nodes: &mut NodesDone) -> Option<Failure>
@@ -259,8 +259,9 @@ fn count_cycles(recorded: &[Sealed]) -> usize
     count
 }
 
-/// Returns whether the bus came to its end after this number of cycles, and the faults of its windows are exactly those
-/// of the lines.
+/// Returns whether the bus came to its end after this number of cycles, with these faults.
+///
+/// The faults of its windows are exactly those of the lines.
 fn is_at_end(alloc: Global, bus: &Bus, faults: &[FaultLine], cycles: u16) -> Result<bool, Failure>
     ensures finished { IfOk result (λ answer. IsTrue answer → bus.now.phase ≡ Finished) }
     ensures cycles { IfOk result (λ answer. IsTrue answer → cycles_begun bus.now.sealed ≡ cycles) }

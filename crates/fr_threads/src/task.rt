@@ -12,7 +12,9 @@ use std::alloc::Global;
 use std::sync::Wait;
 use std::sync::ledger::Ledger;
 
-/// The results of a task: its share, and its answers in the order of its lines, if it has executed all of them.
+/// The results of a task: its share, and its answers in the order of its lines.
+///
+/// It has answers only if it has executed all its lines.
 #[derive(Drop)]
 pub(crate) struct TaskDone<L: Ledger> {
     pub share: Share<L>,

@@ -174,8 +174,9 @@ fn desk_answers_the_queued_frames(rt: HostRuntime) -> Result<(), Fail> {
     Ok(())
 }
 
-/// Returns the journal's entry of a commit through a desk, and the frame that the next window of slot 1 is offered on
-/// A.
+/// Returns the journal's entry of a commit through a desk, and the frame that is sent for it.
+///
+/// The frame is that of the next window of slot 1, on channel A.
 fn left_by_commit<L: Ledger, R: Wait>(
     rt: &R,
     alloc: Global,

@@ -10,7 +10,7 @@ use std::thread;
 /// The number of times that the gate yields to other threads before it gives up.
 const TURNS: u32 = 1_000_000;
 
-/// A gate that holds an actor at its first pass of a point, until another actor has passed a point of its own.
+/// A gate that holds an actor at a point until another actor has passed a point of its own.
 ///
 /// Until then the other actor is held before its first call, so that it can't go first accidentally.
 #[derive(Drop)]
@@ -83,7 +83,7 @@ pub(crate) struct Late {
 }
 
 impl Late {
-    /// Returns a gate that holds the actor of the point there, and records whether the other actor continues meanwhile.
+    /// Returns a gate that holds the actor of the point, and watches whether the other continues.
     pub(crate) fn new(held: Point, other: Actor) -> Late {
         Late {
             held,

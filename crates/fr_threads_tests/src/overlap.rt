@@ -13,7 +13,7 @@ use std::test::Fail;
 use std::thread::Threads;
 use std::time::Clock;
 
-/// Returns whether a run of four cycles ends while the gate holds an actor until another has come far enough.
+/// Returns whether a run of four cycles ends while the gate holds an actor.
 fn overlaps<R: Threads + Wait + Clock + Sync>(
     rt: &R,
     alloc: Global,
@@ -36,7 +36,7 @@ fn overlaps<R: Threads + Wait + Clock + Sync>(
     Ok(gate.was_kept() && run.settled.windows == 28)
 }
 
-/// Returns whether the other task goes first if a task of a node is held at this side of its first call.
+/// Returns whether the other task goes first if a task is held at this side of its first call.
 fn tasks_overlap<R: Threads + Wait + Clock + Sync>(
     rt: &R,
     alloc: Global,
@@ -54,7 +54,7 @@ fn tasks_overlap<R: Threads + Wait + Clock + Sync>(
     overlaps(rt, alloc, stepped, &gate)
 }
 
-/// Returns whether the other node's controller goes first if a node's controller is held before its first call.
+/// Returns whether the other controller goes first if one is held before its first call.
 fn controllers_overlap<R: Threads + Wait + Clock + Sync>(
     rt: &R,
     alloc: Global,

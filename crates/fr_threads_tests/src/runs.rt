@@ -28,7 +28,7 @@ fn answer<R: Threads + Wait + Clock + Sync>(
     ))
 }
 
-/// Returns the numbers of commits and of windows in four cycles of the three nodes, while node 2 babbles.
+/// Returns the numbers of commits and of windows in four cycles, while node 2 babbles.
 fn counts<R: Threads + Wait + Clock + Sync>(
     rt: &R,
     alloc: Global,
@@ -71,7 +71,9 @@ fn late_mute(alloc: Global) -> Result<Vec<FaultLine>, Fail> {
     Ok(faults)
 }
 
-/// Returns the refusal of a run of this number of cycles, with or without the script of a task that doesn't exist.
+/// Returns the refusal of a run of this number of cycles.
+///
+/// With `third`, it has the script of a task that doesn't exist.
 fn refusal<R: Threads + Wait + Clock + Sync>(
     rt: &R,
     alloc: Global,

@@ -142,7 +142,7 @@ fn stop_late<R: Wait>(rt: &R, wire: &Wire) {
     wire.stop(rt);
 }
 
-/// Returns the results of a node's call and of a call of the bus whose wires are stopped while they wait.
+/// Returns the results of a node's call and of a bus call that wait while their wires are stopped.
 fn ended_by_stop<R: Threads + Wait + Clock + Sync>(
     rt: &R,
     alloc: Global,

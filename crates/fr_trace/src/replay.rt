@@ -61,7 +61,7 @@ fn answers_as_told(interface: &mut Interface, told: &BareEntry, bytes: &EntryByt
     }
 }
 
-/// Makes the call of the entry on the line of this number, and compares its answers with those of the entry.
+/// Makes the call of the entry on the line of this number, and compares its answers.
 pub(crate) fn replay(
     interface: &mut Interface,
     told: &BareEntry,

@@ -92,7 +92,9 @@ fn write_text<W: Write>(writer: &mut W, interface: &Interface) -> io::Result<()>
     writeln!(writer, "end")
 }
 
-/// Writes the trace of an interface: the one text of version 3 of its parameters, its plan and its journal.
+/// Writes the trace of an interface.
+///
+/// It is the one text of version 3 of its parameters, its plan and its journal.
 ///
 /// An interface that was read in version 1 or 2 is also written in version 3.
 ///

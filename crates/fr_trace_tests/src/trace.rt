@@ -68,7 +68,7 @@ const WITHDRAWN: [&[u8]; 17] = [
     b"end\n",
 ];
 
-/// The lines of a trace in state mode, in which a withdraw leaves the sent commit, and a later one withdraws a commit.
+/// The lines of a trace in state mode, with withdraws of a sent and of a pending commit.
 const WITHDRAWN_STATE: [&[u8]; 14] = [
     b"frtrace 2\n",
     b"params 3 4 1 20 5 0 10 90 0 5\n",
@@ -86,7 +86,7 @@ const WITHDRAWN_STATE: [&[u8]; 14] = [
     b"end\n",
 ];
 
-/// The lines of a trace whose node sends in a static slot in odd cycles, and reads another node's frame of an even one.
+/// The lines of a trace whose node shares a static slot: it sends in odd cycles.
 const DIVIDED: [&[u8]; 18] = [
     b"frtrace 3\n",
     b"params 3 4 1 20 5 0 10 90 0 5\n",
@@ -108,7 +108,7 @@ const DIVIDED: [&[u8]; 18] = [
     b"end\n",
 ];
 
-/// The lines of a trace with buffers of each mode, frames on both channels, and a receive FIFO that loses one of three.
+/// The lines of a trace with buffers of each mode, both channels, and a frame lost by the FIFO.
 const SEVERAL_BUFFERS: [&[u8]; 62] = [
     b"frtrace 1\n",
     b"params 4 6 2 20 5 5 15 130 1 4\n",
@@ -174,7 +174,7 @@ const SEVERAL_BUFFERS: [&[u8]; 62] = [
     b"end\n",
 ];
 
-/// The lines of a trace in which a receive FIFO of two frames loses the first of three, and the others are popped.
+/// The lines of a trace in which a receive FIFO of two frames loses the first of three.
 const QUEUE: [&[u8]; 14] = [
     b"frtrace 1\n",
     b"params 3 4 1 20 5 0 10 90 0 5\n",
@@ -390,7 +390,9 @@ fn trace_of(alloc: Global, lines: &[&[u8]]) -> Result<Vec<u8>, Fail> {
     Ok(text)
 }
 
-/// Returns these lines as a text of version 3: with its first line, and with cycles at the end of each ownership line.
+/// Returns these lines as a text of version 3.
+///
+/// It has its first line, and cycles at the end of each ownership line.
 fn in_version_3(alloc: Global, lines: &[&[u8]]) -> Result<Vec<u8>, Fail> {
     let mut text = Vec::with_capacity(alloc, 2048)?;
     for line in lines {
@@ -405,7 +407,7 @@ fn in_version_3(alloc: Global, lines: &[&[u8]]) -> Result<Vec<u8>, Fail> {
     Ok(text)
 }
 
-/// Returns whether the trace written of these lines is their text in version 3, and is written again from that text.
+/// Returns whether the trace of these lines is their text in version 3, also when read again.
 fn is_written(alloc: Global, lines: &[&[u8]]) -> Result<bool, Fail> {
     let text = in_version_3(alloc, lines)?;
     let first = trace_of(alloc, lines)?;
@@ -451,7 +453,9 @@ fn an_error_is_answered_again(rt: HostRuntime) -> Result<(), Fail> {
     Ok(())
 }
 
-/// Returns the answers of an auditor that has read these lines to 1,200 bytes of a further line, and to its next byte.
+/// Returns the answers of an auditor after these lines to 1,200 bytes, and to the next byte.
+///
+/// The bytes are those of one further line.
 fn at_1201_bytes(alloc: Global, lines: &[&[u8]]) -> Result<[Option<TraceError>; 2], Fail> {
     let mut auditor = fed_with(alloc, lines)?;
     Ok([auditor.feed(&[b'a'; 1200]).err(), auditor.feed(b"a").err()])

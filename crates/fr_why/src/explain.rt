@@ -118,7 +118,7 @@ fn explained(alloc: Global, text: &[u8]) -> Result<(Verdict, Vec<u8>), TraceErro
     }
 }
 
-/// Reads a trace to its end, and writes why an audit rejects it, or that it accepts it (project-defined).
+/// Reads a trace to its end, and writes why an audit rejects it, if it does (project-defined).
 ///
 /// For an accepted trace these lines are written:
 ///
