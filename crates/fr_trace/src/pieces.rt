@@ -45,8 +45,8 @@ pub fn audit_pieces(alloc: Global, pieces: &[&[u8]]) -> Result<Interface, TraceE
     lawful(auditor.finish())
 }
 
-/// Returns the result of an auditor unchanged.
 // For the prover: an interface that an auditor returns is legal, and has few lines.
+/// Returns the result of an auditor unchanged.
 pub(crate) fn lawful(outcome: Result<Interface, TraceError>) -> Result<Interface, TraceError>
     ensures same { result ≡ outcome }
     ensures legal { IfOk result IsLegalInterface }
