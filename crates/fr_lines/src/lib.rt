@@ -14,8 +14,8 @@
 //! write_buffer(&mut out, &buffer)?; // the same line, with its line feed
 //! ```
 //!
-//! A chapter in parentheses is the chapter of the FlexRay Protocol Specification 2.1, revision A, that has the rule.
-//! *(project-defined)* marks a rule of this project, which the standard doesn't have.
+//! A chapter in parentheses is one of the FlexRay Protocol Specification 2.1, revision A.
+//! *(project-defined)* marks a rule of this project, and makes no claim about the standard.
 //!
 //! # Definitions
 //!

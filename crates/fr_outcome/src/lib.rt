@@ -6,7 +6,7 @@
 //! write_outcome(&mut output, interfaces, windows)?; // node 0, its report, node 1 and so on
 //! ```
 //!
-//! *(project-defined)* marks a rule of this project, which the standard doesn't have.
+//! *(project-defined)* marks a rule of this project, and makes no claim about the standard.
 //!
 //! # Definitions
 //!

@@ -8,7 +8,7 @@
 //! play_file(alloc, &cluster, &mut scenario_file, cycles)?.played; // the same with the scenario of a file
 //! ```
 //!
-//! *(project-defined)* marks a rule of this project, which the standard doesn't have.
+//! *(project-defined)* marks a rule of this project, and makes no claim about the standard.
 //!
 //! # Definitions
 //!

@@ -11,7 +11,7 @@
 //! // cycle                   open 7 1 0 1 1
 //! ```
 //!
-//! *(project-defined)* marks a rule of this project, which the standard doesn't have.
+//! *(project-defined)* marks a rule of this project, and makes no claim about the standard.
 //!
 //! # Definitions
 //!

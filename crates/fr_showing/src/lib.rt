@@ -8,7 +8,7 @@
 //! let text = text_of(alloc, Shown::Record, &file)?; // of an earlier run of a scenario file
 //! ```
 //!
-//! *(project-defined)* marks a rule of this project, which the standard doesn't have.
+//! *(project-defined)* marks a rule of this project, and makes no claim about the standard.
 //!
 //! # Definitions
 //!

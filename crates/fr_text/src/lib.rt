@@ -9,8 +9,8 @@
 //! write_hex(&mut out, bytes.as_slice())?; // x0a0b
 //! ```
 //!
-//! A chapter in parentheses is the chapter of the FlexRay Protocol Specification 2.1, revision A, that has the rule.
-//! *(project-defined)* marks a rule of this project, which the standard doesn't have.
+//! A chapter in parentheses is one of the FlexRay Protocol Specification 2.1, revision A.
+//! *(project-defined)* marks a rule of this project, and makes no claim about the standard.
 //!
 //! # Definitions
 //!

@@ -54,9 +54,8 @@ pub(crate) fn lawful(outcome: Result<Interface, TraceError>) -> Result<Interface
 {
     match outcome {
         Ok(interface) => {
-            // For the prover: the clause of this call.
+            // For the prover: the clauses of these calls.
             let _ = interface.params();
-            // For the prover: the clause of this call.
             let _ = lines_of(&interface);
             Ok(interface)
         }

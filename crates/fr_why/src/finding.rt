@@ -53,9 +53,8 @@ fn accepted(interface: Interface, lines: usize) -> Found
     ensures legal { IsLegalInterface interface }
     ensures few { HasFewLines interface }
 {
-    // For the prover: the clause of this call.
+    // For the prover: the clauses of these calls.
     let _ = interface.params();
-    // For the prover: the clause of this call.
     let _ = interface.journal().len();
     Found::Accepted(interface, lines)
 }

@@ -5,7 +5,7 @@
 //! show_until_fault(alloc, Form::Table { all: false }, &mut trace, &mut output)?; // the observations before it
 //! ```
 //!
-//! *(project-defined)* marks a rule of this project, which the standard doesn't have.
+//! *(project-defined)* marks a rule of this project, and makes no claim about the standard.
 //!
 //! # Definitions
 //!
