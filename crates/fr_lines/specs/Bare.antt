@@ -1,4 +1,4 @@
--- What an entry is that is read without its bytes, and these beside it.
+-- The entry that consists of a bare entry and the bytes beside it.
 use Rattle.fr_journal.specs.declared.entry.Entry.{Entry}
 use Rattle.fr_journal.specs.declared.entry.Entry.TheVariants as entries
 use Rattle.fr_lines.specs.declared.bare.BareEntry.{BareEntry}

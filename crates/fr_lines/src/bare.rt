@@ -1,4 +1,4 @@
-//! Entries without their bytes, which stand in a place of their own that one line after another is read into.
+//! Entries without their bytes. The bytes stand in one place, which is reused for each line.
 
 use fr_frame::payload::Payload;
 use fr_journal::entry::{Offered, Origin};
@@ -6,15 +6,15 @@ use fr_slots::numbers::TaskId;
 use fr_slots::window::Window;
 use fr_status::seen::Seen;
 
-/// An entry of a journal without what was committed or seen (project-defined).
+/// An entry of a journal without its payload or its observations (project-defined).
 #[derive(Clone, Copy, PartialEq, Eq)]
 pub enum BareEntry {
-    /// A task gave a payload to a transmit buffer.
+    /// A task wrote a payload to a transmit buffer.
     Commit {
         task: TaskId,
         buffer: u8,
     },
-    /// A task took a transmit buffer's last commit back: the one of this number, or none where none was pending.
+    /// A task withdrew the last commit of a transmit buffer: this one, or none if none was pending.
     Withdraw {
         task: TaskId,
         buffer: u8,
@@ -26,12 +26,12 @@ pub enum BareEntry {
         buffer: u8,
         from: Option<Origin>,
     },
-    /// A task took the oldest frame of the receive queue, which had this origin, or got none.
+    /// A task took the oldest frame of the receive FIFO, which had this origin, or got none.
     Pop {
         task: TaskId,
         from: Option<Origin>,
     },
-    /// The controller opened a window, and handed this to the bus.
+    /// The controller opened a window, and handed these offers to the bus.
     Fetch {
         window: Window,
         a: Offered,
@@ -43,14 +43,16 @@ pub enum BareEntry {
     },
 }
 
-/// What was committed or seen by the entry that was read last. What an entry has no use for is left from those before.
+/// The payload or the observations of the entry that was read last.
+///
+/// A field that this entry doesn't need keeps its value of an earlier entry.
 #[derive(Drop)]
 pub struct EntryBytes {
-    /// What was committed.
+    /// The payload that was committed.
     pub payload: Payload,
-    /// What was seen on channel A.
+    /// The observation on channel A.
     pub a: Seen,
-    /// What was seen on channel B.
+    /// The observation on channel B.
     pub b: Seen,
 }
 
@@ -58,7 +60,7 @@ impl EntryBytes {
     ghost use Rattle.std.specs.Prelude.{◌≡◌, []};
     ghost use Rattle.fr_status.specs.declared.seen.Seen.TheVariants as seen;
 
-    /// Returns the place before an entry was read: a payload without bytes, and silence on both channels.
+    /// Returns the value before any entry was read: a payload without bytes, and silence on both channels.
     pub fn new() -> EntryBytes
         ensures { result ≡ record { payload = []; a = seen.Silence; b = seen.Silence } }
     {
